@@ -7,7 +7,7 @@ from concurrent.futures import ThreadPoolExecutor
 
 from chance import BEGIN, SECONDS, play_of
 from checks import expect
-from into_plays import Into, follows, laid, parts_of, probed_play
+from into_plays import Into, follows, laid, parts_of, probed_play, series
 from test_plays import quiet_node, report_of
 
 PLAYS = 16
@@ -107,6 +107,28 @@ def test_what_a_trace_begins_with():
            [{"name": "app", "attempt": 0, "state": "CONTAINER_EXITED", "exitCode": 3, "since": BEGIN + 6}])
     pods = {line["pod"]["metadata"]["name"]: line["pod"]["spec"]["containers"][0] for line in lines[1:8]}
     expect("a delay that is over is left out", pods["late"]["readinessProbe"], {"periodSeconds": 5})
+    into.clean()
+
+
+def test_what_was_before():
+    """A pod that is met as it runs: what its status says of its probes is in the first tick, in the first trace too."""
+    probes = {"startupProbe": {"periodSeconds": 1}, "readinessProbe": {"initialDelaySeconds": 20, "periodSeconds": 10}}
+    names = {"ready": (0, True, True), "started": (0, True, False), "other": (1, True, True)}
+    made = [{"id": f"c{number}", "pod": f"shop/{name}", "name": "app", "attempt": 0, "created": -100, "started": -99,
+             "told": 10 ** 6, "shown": dict(zip(("restartCount", "started", "ready"), names[name]))}
+            for number, name in enumerate(names)]
+    into = Into({"begin": BEGIN, "containers": made, "samples": {"-1": {"memory": 4294967296}},
+                 "pods": {f"shop/{name}": {"spec": {"containers": [{"name": "app", **probes}]}} for name in names},
+                 "probes": series("shop/started", "app", "readiness", [14])})
+    answer = into.into("--for", "20", "--each", "10s")
+    texts = into.texts()
+    told = [event.split(" ")[1:] for event in told_in(report_of(texts[0])[1]) if " ready" in event]
+    expect("a pod that is met as it runs", (answer, told, [follows(text) is None for text in texts]),
+           ((0, "", ""), [[str(BEGIN), "shop/ready", "app", "ready"]], [True, False]))
+    told = [event.split(" ")[1:] for event in told_in(report_of(texts[1])[1]) if " ready" in event]
+    expect("it is so at the border, and the other one is ready as its probe finds it",
+           sorted(told), sorted([[str(BEGIN + 10), "shop/ready", "app", "ready"],
+                                 [str(BEGIN + 14), "shop/started", "app", "ready"]]))
     into.clean()
 
 

@@ -37,6 +37,8 @@ class Traces(Output):
         self.most_bytes = min(MOST_BYTES, folder.most // PARTS)
         self.say = say
         self.standing = Standing()
+        # what the pods' statuses say at the first look
+        self.probed = {}
         self.part = None
         # the second at which the newest trace begins, its name, and up to when it has all that happened
         self.begun = self.last = self.until = None
@@ -59,8 +61,24 @@ class Traces(Output):
 
     def take(self, lines):
         """Takes the lines of a second, one of which is a tick."""
-        records, data = [json.loads(line) for line in lines], "".join(f"{line}\n" for line in lines).encode()
-        second = next(record["at"] for record in records if record["kind"] == "tick")
+        records = [json.loads(line) for line in lines]
+        place = next(place for place, record in enumerate(records) if record["kind"] == "tick")
+        if self.standing.at is None:
+            self.take_first(records[:place + 1], lines[:place + 1])
+            records, lines = records[place + 1:], lines[place + 1:]
+        self.take_next(records, "".join(f"{line}\n" for line in lines).encode())
+
+    def take_first(self, records, lines):
+        """Takes the lines up to the first tick of all. It shows what was before it too, where the pods' statuses say
+        that."""
+        for record in records:
+            self.standing.take(record)
+        has_past = self.standing.assume(self.probed)
+        self.begin(self.standing.at, None if has_past else [line_of(self.standing.node), *lines])
+
+    def take_next(self, records, data):
+        ticks = [record["at"] for record in records if record["kind"] == "tick"]
+        second = ticks[0] if ticks else self.standing.at
         arrivals = sum(record["kind"] == "pod" for record in records)
         if self.part is not None:
             border = self.border(second)
@@ -68,10 +86,10 @@ class Traces(Output):
                 self.turn(border)
             elif self.is_full(len(data), arrivals):
                 self.turn(self.standing.at)
-        if self.part is None:
+        else:
             self.go_on(second)
         if self.part is not None and self.put(data, second):
-            self.part.ticks += 1
+            self.part.ticks += len(ticks)
             self.part.pods += arrivals
             self.until = second
         for record in records:
@@ -148,21 +166,15 @@ class Traces(Output):
                     self.say(f"{name}.part can't be packed yet: {why(error)}")
                     return False
 
-    def begin(self, second):
-        """Begins a trace at a second, with what is known then."""
-        follows = {"trace": self.last, "until": self.until, "at": second}
-        lines = list(self.standing.beginning(second, follows))
+    def begin(self, second, lines=None):
+        """Begins a trace at a second, with what is known then, or with these lines."""
+        follows = None if self.until is None else {"trace": self.last, "until": self.until, "at": second}
+        lines = lines or list(self.standing.beginning(second, follows))
         data = "".join(f"{line}\n" for line in lines).encode()
         if self.open(second) and self.put(data, second):
             self.part.pods, self.part.head = len(self.standing.pods), len(data)
             self.part.ticks = len(lines) - 1 - self.part.pods
             self.until = second
-
-    def begin_first(self, second):
-        """Begins the first trace, whose ticks are to come."""
-        data = f"{line_of(self.standing.node)}\n".encode()
-        if self.open(second) and self.put(data, second):
-            self.part.head = len(data)
 
     def open(self, second):
         """Makes the file of a trace; whether it could be made."""
@@ -212,10 +224,8 @@ class Traces(Output):
             self.leave()
 
     def go_on(self, second):
-        """Begins a trace: the first one, or where nothing could be written."""
-        if self.standing.at is None:
-            self.begin_first(second)
-        elif not 0 <= second - self.tried_at < AGAIN_SECONDS:
+        """Begins a trace where nothing could be written."""
+        if not 0 <= second - self.tried_at < AGAIN_SECONDS:
             self.tried_at = second
             self.pack()
             if self.can_write():
@@ -238,6 +248,10 @@ class LastingRecording(Recording):
         super().__init__(words, sources, clock, output, say)
         self.say = say
         self.recorder = LastingRecorder(words.format, words.every, say)
+
+    def begin(self):
+        super().begin()
+        self.output.probed = {pod.key: pod.probed for pod in self.recorder.listed}
 
     def go_on(self):
         moment = self.begun

@@ -22,7 +22,7 @@ class Pod:
     """A pod as a source lists it; `fault` says why the formats do not take its manifest, or is None. `decision` is what
     the kubelet did to it, `is_deleted` that it was told to go; `ends` has the instances that its status says have
     ended, by their ids, and is None where its status has no container; `waits` why its containers wait, by their
-    names."""
+    names; `probed` has of each container that runs its restarts, whether it has started, and whether it is ready."""
     key: str
     uid: str
     manifest: dict
@@ -32,6 +32,7 @@ class Pod:
     is_deleted: bool = False
     ends: Optional[dict] = field(default=None, compare=False)
     waits: dict = field(default_factory=dict, compare=False)
+    probed: dict = field(default_factory=dict, compare=False)
 
     def containers(self):
         """The names of its containers, init containers first."""
@@ -76,7 +77,7 @@ def pod_of(item):
         manifest, volumes, fault = {}, frozenset(), "no manifest"
     return Pod(f"{metadata.get('namespace') or 'default'}/{metadata.get('name')}", str(uid_of(metadata)), manifest,
                fault, volumes, decision_of(status), metadata.get("deletionTimestamp") is not None, ends_in(status),
-               waits_in(item))
+               waits_in(item), probed_in(status))
 
 
 def ends_in(status):
@@ -89,6 +90,13 @@ def ends_in(status):
                                                          reason_of({"reason": end.get("reason")}))
              for end in ended if end and end.get("containerID") and not code_fault(end.get("exitCode"))}
     return found if listed else None
+
+
+def probed_in(status):
+    """What a status says that the probes of its containers have come to: {name: (restarts, started, ready)}."""
+    listed = [*(status.get("initContainerStatuses") or []), *(status.get("containerStatuses") or [])]
+    return {each.get("name"): (each.get("restartCount"), each.get("started") is True, each.get("ready") is True)
+            for each in listed if (each.get("state") or {}).get("running") is not None}
 
 
 def uid_of(metadata):

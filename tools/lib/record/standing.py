@@ -109,6 +109,19 @@ class Container:
         for run in self.runs.values() if self.is_running() else ():
             run.delay = 0
 
+    def assume(self, restarts, is_started, is_ready, second):
+        """What its pod's status says of it where it is met running, whose results were before the recording; whether
+        that changes what is known."""
+        if not self.is_running() or self.listing["attempt"] != restarts:
+            return False
+        held = [run for run, holds in ((self.runs.get("startup"), is_started), (self.runs.get("readiness"), is_ready))
+                if run is not None and holds and not run.holds]
+        for run in held:
+            run.holds = True
+        if "startup" in self.runs and is_started:
+            self.passed = second - 1
+        return bool(held) or any(run.delay for run in self.runs.values())
+
     def carried(self):
         """The results that show once more what is known, one behind the other: a list of {probe: result}."""
         if not self.is_running():
@@ -159,10 +172,11 @@ class Pod:
                 for name in ("initContainers", "containers") if spec.get(name)}
         return {**self.fields, "spec": {**spec, **made}}
 
-    def entry(self, back):
+    def entry(self, second, back):
         """Its entry of a tick that stands so many before the border: usage in that of the border alone."""
-        containers = [{**each.listing, "since": each.since} for _, each in sorted(self.containers.items())
-                      if each.listing is not None]
+        border = second + back
+        containers = [without_nones({**each.listing, "since": each.since if each.since < border else None})
+                      for _, each in sorted(self.containers.items()) if each.listing is not None]
         rows = [(name, each.carried()) for name, each in self.containers.items()]
         probes = [{"container": name, "probe": probe, "result": result} for name, carried in rows
                   if len(carried) > back for probe, result in carried[-1 - back].items()]
@@ -206,14 +220,21 @@ class Standing:
                 if decision["pod"] in self.pods and not decision.get("leftOut"):
                     self.pods[decision["pod"]].decisions.append((kind, decision))
 
+    def assume(self, probed):
+        """Takes what the statuses of the pods say at the first tick, {key: {container: (restarts, started, ready)}};
+        whether that is more than the tick shows."""
+        return any([container.assume(*probed[key][name], self.at) for key, pod in self.pods.items()
+                    for name, container in pod.containers.items() if name in probed.get(key, {})])
+
     def beginning(self, second, follows):
-        """The lines that a trace begins with at a border: its node and pods, and the ticks that show what is known, the
-        last of which is that of the border. It has one, but where what probes have shown wants more."""
+        """The lines that a trace begins with at a border, or at the first tick of all: its node and pods, and the ticks
+        that show what is known, the last of which is that of the border. It has one, but where what probes have shown
+        wants more."""
         containers = [each for pod in self.pods.values() for each in pod.containers.values()]
         for container in containers:
             container.go_over()
         count = max([1, *(len(container.carried()) for container in containers)])
-        yield line_of({**self.node, "follows": follows})
+        yield line_of(without_nones({**self.node, "follows": follows}))
         for pod in self.pods.values():
             yield line_of({"kind": "pod", "pod": pod.manifest()})
         for back in reversed(range(count)):
@@ -221,7 +242,7 @@ class Standing:
 
     def tick(self, second, back):
         """One of the ticks that show what is known; signals, and what the kubelet did, are in that of the border."""
-        entries = [pod.entry(back) for pod in self.pods.values()]
+        entries = [pod.entry(second, back) for pod in self.pods.values()]
         told = {}
         for pod in self.pods.values():
             for kind, decision in pod.decisions if back == 0 else ():

@@ -33,8 +33,9 @@ class Play:
                 key may have a list of them, one after the other; `condition` is the moment that an evicted pod's status
                 says, and `waits` a list of {"container", "from", "until", "reason", "message"}, of its status too
     containers  {"id", "pod", "name", "attempt", "created", "started", "exited", "code", "removed", "lost", "told",
-                "reason", "message", "env", "told_reason"}: `lost` is when `crictl inspect` no longer knows it while a
-                list still has it, and `told` when its pod's status has its exit, for `told_reason` where it is another
+                "reason", "message", "env", "told_reason", "shown"}: `lost` is when `crictl inspect` no longer knows it
+                while a list still has it, and `told` when its pod's status has its exit, for `told_reason` where it is
+                another; until then that has `shown` of it too
     probes      {"pod", "container", "probe", "result", "at": [moments that rise]}
     samples     {moment: {signal: value}} of the node, as the kubelet takes them
     fails       {"kind", "from", "until", "text"}: answers that do not come
@@ -152,7 +153,7 @@ class Play:
     def told(self, each, moment):
         """What a pod's status says of an instance."""
         if moment < each["told"]:
-            return {"name": each["name"], "state": {"running": {}}}
+            return {"name": each["name"], "state": {"running": {}}, **each.get("shown", {})}
         started = self.begin + each["started"] if "started" in each else None
         return {"name": each["name"], "state": {"terminated": {
             "containerID": f"containerd://{each['id']}", "startedAt": moment_text(started),
