@@ -1,0 +1,52 @@
+"""Tests of bench/recorder: the made-up node answers as the recorder reads it, and a short run measures."""
+import json
+import os
+import shutil
+import sys
+import unittest
+
+from common import TOP, Case, run
+
+sys.path.insert(0, os.path.join(TOP, "tools/lib"))
+import quiet_node
+from record.node import node_line_of
+from record.pods import pods_of
+from record.probes import counters_of
+from record.runtime import inspected_of, instances_of
+from record.summary import summary_of
+from record.trace import extended
+
+BEGUN = 1767225600
+LINES = r"""30 pods, 3 s, no words
+processor seconds a minute: [0-9.]+ of the recorder, [0-9.]+ of crictl
+peak of memory: [0-9.]+ MB
+an hour: [0-9.]+ MB of lines, [0-9]+ kB packed
+"""
+
+
+class Answers(Case):
+    def test_the_recorder_reads_them(self):
+        node, now = quiet_node.Node(3, BEGUN), BEGUN + 130
+        instances = instances_of(json.dumps(node.ps(now)))
+        self.assertEqual([(each.container, each.attempt, each.state[10:]) for each in instances],
+                         [("app", 0, "RUNNING"), ("app", 0, "RUNNING"), ("app", 1, "EXITED"), ("app", 2, "RUNNING")])
+        inspections = dict(node.inspections(now))
+        ended = inspected_of(json.dumps(inspections[instances[2].id]), instances[2])
+        self.assertEqual((ended.finished, ended.exit_code), (BEGUN + 40, 1))
+        self.assertEqual([pod.fault for pod in pods_of(node.pods_answer(now), "pods")], [None] * 3)
+        self.assertEqual(len(counters_of(node.probes(now))), 6)
+        summary = summary_of(node.summary(now))
+        self.assertEqual(len(summary.pods), 3)
+        line = node_line_of(node.configuration(now), "worker-1", summary, extended())
+        self.assertEqual((line.notes, line.fields["evictionHard"]["nodefs.available"]), ([], "10%"))
+
+
+class Measured(Case):
+    @unittest.skipUnless(shutil.which("openssl"), "openssl is missing")
+    def test_a_short_run(self):
+        status, out, said = run("recorder", "3")
+        self.assertEqual((status, said), (0, ""))
+        self.assertRegex(out, f"^{LINES}$")
+
+    def test_words(self):
+        self.assertEqual(run("recorder", "long"), (3, "", "usage: bench/recorder [SECONDS [WORD ..]]\n"))
