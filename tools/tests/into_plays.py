@@ -75,23 +75,28 @@ def series(pod, container, probe, moments, failures=()):
         ("success", [moment for moment in moments if moment not in failures]), ("failure", list(failures))) if at]
 
 
+DELAYED = {"initialDelaySeconds": 30, "periodSeconds": 5}
+PROBED = {
+    "slow": {"containers": [{"name": "app", "startupProbe": {"periodSeconds": 1, "failureThreshold": 30},
+                             "readinessProbe": {"periodSeconds": 4}, "livenessProbe": {"periodSeconds": 4}}]},
+    "never": {"containers": [{"name": "app", "startupProbe": {"periodSeconds": 2, "failureThreshold": 8}}]},
+    "late": {"containers": [{"name": "app", "readinessProbe": DELAYED, "livenessProbe": DELAYED}]},
+    "fails": {"containers": [{"name": "app", "livenessProbe": {"periodSeconds": 4, "failureThreshold": 4}}]},
+    "twice": {"containers": [{"name": "app", "readinessProbe": {"periodSeconds": 3, "successThreshold": 2,
+                                                                "failureThreshold": 3}}]},
+    "inits": {"initContainers": [{"name": "setup"}], "containers": [{"name": "app"}]},
+    "once": {"restartPolicy": "Never", "containers": [{"name": "app"}]},
+    "aside": {"initContainers": [{"name": "side", "restartPolicy": "Always",
+                                  "startupProbe": {"periodSeconds": 1, "initialDelaySeconds": 3}}],
+              "containers": [{"name": "app"}]}}
+
+
 def probed_play():
     """What a border could lose: startup that has passed, one that fails over it, a delay that is over, failures before
-    it that order a kill behind it, readiness that wants two successes, a container that the runtime has removed, and
-    one that is unknown."""
-    delayed = {"initialDelaySeconds": 30, "periodSeconds": 5}
-    specs = {
-        "slow": {"containers": [{"name": "app", "startupProbe": {"periodSeconds": 1, "failureThreshold": 30},
-                                 "readinessProbe": {"periodSeconds": 4}, "livenessProbe": {"periodSeconds": 4}}]},
-        "never": {"containers": [{"name": "app", "startupProbe": {"periodSeconds": 2, "failureThreshold": 8}}]},
-        "late": {"containers": [{"name": "app", "readinessProbe": delayed, "livenessProbe": delayed}]},
-        "fails": {"containers": [{"name": "app", "livenessProbe": {"periodSeconds": 4, "failureThreshold": 4}}]},
-        "twice": {"containers": [{"name": "app", "readinessProbe": {"periodSeconds": 3, "successThreshold": 2,
-                                                                    "failureThreshold": 3}}]},
-        "inits": {"initContainers": [{"name": "setup"}], "containers": [{"name": "app"}]},
-        "once": {"restartPolicy": "Never", "containers": [{"name": "app"}]}}
+    it that order a kill behind it, readiness that wants two successes, a sidecar that was started and has exited, a
+    container that the runtime has removed, and one that is unknown."""
     made = [{"id": f"c{number}", "pod": f"shop/{name}", "name": "app", "attempt": 0, "created": 2, "started": 3}
-            for number, name in enumerate(specs)]
+            for number, name in enumerate(PROBED)]
     by_pod = {each["pod"]: each for each in made}
     by_pod["shop/fails"].update(exited=29, code=137)
     by_pod["shop/never"].update(exited=23, code=137)
@@ -99,7 +104,10 @@ def probed_play():
     made.append({"id": "d1", "pod": "shop/fails", "name": "app", "attempt": 1, "created": 29, "started": 30})
     made.append({"id": "s1", "pod": "shop/inits", "name": "setup", "attempt": 0, "created": 1, "started": 1.2,
                  "exited": 2, "code": 0, "removed": 12})
-    results = [*series("shop/slow", "app", "startup", range(4, 8), range(4, 7)),
+    made += [{"id": f"t{attempt}", "pod": "shop/aside", "name": "side", "attempt": attempt, "created": start,
+              "started": start + 0.2, "exited": start + 8, "code": 4} for attempt, start in enumerate((1, 17, 36))]
+    results = [*series("shop/aside", "side", "startup", (5, 20, 39)),
+               *series("shop/slow", "app", "startup", range(4, 8), range(4, 7)),
                *series("shop/slow", "app", "readiness", range(8, 60, 4), (40, 44, 48)),
                *series("shop/slow", "app", "liveness", range(9, 60, 4)),
                *series("shop/never", "app", "startup", (), range(5, 21, 2)),
@@ -107,6 +115,6 @@ def probed_play():
                *series("shop/late", "app", "liveness", range(35, 60, 5), (50,)),
                *series("shop/fails", "app", "liveness", range(5, 28, 4), (13, 17, 21, 25)),
                *series("shop/twice", "app", "readiness", range(8, 60, 3), (26, 29, 32, 44))]
-    return {"begin": BEGIN, "pods": {f"shop/{name}": {"from": 1, "spec": spec} for name, spec in specs.items()},
+    return {"begin": BEGIN, "pods": {f"shop/{name}": {"from": 1, "spec": spec} for name, spec in PROBED.items()},
             "containers": made, "probes": results, "samples": {"-1": {"memory": 4294967296}},
             "fails": [{"kind": "ps", "from": 45, "until": 58, "text": "failed with status 1: no answer"}]}

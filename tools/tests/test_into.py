@@ -101,11 +101,11 @@ def test_what_a_trace_begins_with():
            (0, None, {"trace": "n1.2026-01-01T00-00-00Z.trace.gz", "until": at, "at": at}))
     lines = [json.loads(line) for line in parts_of(second)[0].splitlines()]
     expect("a trace begins with its node, its pods and ticks", [line["kind"] for line in lines],
-           ["node", *["pod"] * 7, "tick", "tick"])
+           ["node", *["pod"] * 8, "tick", "tick"])
     entries = {entry["pod"]: entry for entry in lines[-1]["pods"]}
     expect("the first tick has what was removed", entries["shop/once"]["containers"],
            [{"name": "app", "attempt": 0, "state": "CONTAINER_EXITED", "exitCode": 3, "since": BEGIN + 6}])
-    pods = {line["pod"]["metadata"]["name"]: line["pod"]["spec"]["containers"][0] for line in lines[1:8]}
+    pods = {line["pod"]["metadata"]["name"]: line["pod"]["spec"]["containers"][0] for line in lines[1:9]}
     expect("a delay that is over is left out", pods["late"]["readinessProbe"], {"periodSeconds": 5})
     into.clean()
 

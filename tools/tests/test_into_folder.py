@@ -212,12 +212,12 @@ def a_trace():
     return text.encode()
 
 
-def test_what_was_left():
-    """Parts and traces that a recorder has left, and what is not its own."""
+def left_files():
+    """What may lie in a folder: what it is, the files, what is said, and what is there behind the start."""
     whole = a_trace()
     cut, name = whole[:whole.rindex(b"\n", 0, -9) + 50], "n1.2025-12-31T23-00-00Z.trace"
     ended = f"record: {name}.part was left by a recorder that did not end: it is"
-    for what, files, said, kept in (
+    return (
         ("a part that is whole", {f"{name}.part": whole}, f"{ended} {name}.gz now\n", {f"{name}.gz": whole}),
         ("a part that is cut", {f"{name}.part": cut},
          f"{ended} {name}.gz now, without the 49 bytes behind its last whole line\n",
@@ -243,7 +243,12 @@ def test_what_was_left():
         ("a damaged trace", {f"{name}.gz": b"\x1f\x8b" + bytes(60)},
          f"record: {name}.gz is damaged, and is left as it is: Unknown compression method\n",
          {f"{name}.gz": b"\x1f\x8b" + bytes(60)}),
-    ):
+    )
+
+
+def test_what_was_left():
+    """Parts and traces that a recorder has left, and what is not its own."""
+    for what, files, said, kept in left_files():
         into = Into(quiet_node(1, 30))
         for path, data in files.items():
             into.put(path, data)

@@ -53,8 +53,11 @@ class Run:
 class Container:
     """One container of a pod: its newest instance as it was listed, since when, and its probes."""
 
-    def __init__(self, fields):
+    def __init__(self, fields, is_sidecar):
         self.fields = fields
+        self.is_sidecar = is_sidecar
+        # whether some instance of a sidecar was started, without which its pod is pending
+        self.was_started = False
         self.listing = None
         self.since = None
         self.is_listed = False
@@ -85,6 +88,15 @@ class Container:
         self.listing, self.since = listing, second
         if listing["state"] == RUNNING:
             self.started = second
+
+    def end_tick(self):
+        """All of a tick is taken."""
+        if self.is_running() and ("startup" not in self.runs or self.runs["startup"].holds):
+            self.was_started = True
+
+    def is_waiting(self):
+        """Whether it is a sidecar that was started, and has exited."""
+        return self.is_sidecar and self.was_started and self.listing is not None and self.listing["state"] == EXITED
 
     def take(self, probe, result, second):
         """A result of a tick, behind what the tick lists."""
@@ -124,6 +136,8 @@ class Container:
 
     def carried(self):
         """The results that show once more what is known, one behind the other: a list of {probe: result}."""
+        if self.is_waiting():
+            return [{"startup": "success"} if "startup" in self.runs else {}, {}]
         if not self.is_running():
             return []
         found = {probe: run.results(probe)[-MOST_CARRIED:] for probe, run in self.runs.items()}
@@ -135,10 +149,16 @@ class Container:
                  if place >= count - len(results)} for place in range(count)]
         return [{"startup": result} for result in early] + rows
 
+    def listed(self, second, back):
+        """What a tick that stands so many before the border lists of it. A sidecar that has exited ran before."""
+        if self.is_waiting() and back:
+            return {"name": self.listing["name"], "attempt": self.listing["attempt"], "state": RUNNING}
+        return without_nones({**self.listing, "since": self.since if self.since < second + back else None})
+
     def manifest(self):
         """Its part of the manifest. The kubelet itself has waited for the delay of a probe of what runs, and its start
         is not in the next trace, so that delay is left out."""
-        if not self.is_running():
+        if not self.is_running() and not self.is_waiting():
             return self.fields
         probes = {field: {name: value for name, value in self.fields[field].items() if name != DELAY}
                   for field in FIELDS.values() if self.fields.get(field)}
@@ -152,8 +172,9 @@ class Pod:
         metadata, spec = manifest["metadata"], manifest["spec"]
         self.key = f"{metadata['namespace']}/{metadata['name']}"
         self.fields = manifest
-        self.containers = {each["name"]: Container(each)
-                           for each in (spec.get("initContainers") or []) + spec["containers"]}
+        inits = spec.get("initContainers") or []
+        self.containers = {each["name"]: Container(each, each in inits and each.get("restartPolicy") == "Always")
+                           for each in inits + spec["containers"]}
         self.usage = {}
         self.decisions = []
 
@@ -164,6 +185,8 @@ class Pod:
             container.show(listed.get(name), second)
         for each in entry.get("probes") or []:
             self.containers[each["container"]].take(each["probe"], each["result"], second)
+        for container in self.containers.values():
+            container.end_tick()
         self.usage.update(entry.get("usage") or {})
 
     def manifest(self):
@@ -174,9 +197,8 @@ class Pod:
 
     def entry(self, second, back):
         """Its entry of a tick that stands so many before the border: usage in that of the border alone."""
-        border = second + back
-        containers = [without_nones({**each.listing, "since": each.since if each.since < border else None})
-                      for _, each in sorted(self.containers.items()) if each.listing is not None]
+        containers = [each.listed(second, back) for _, each in sorted(self.containers.items())
+                      if each.listing is not None]
         rows = [(name, each.carried()) for name, each in self.containers.items()]
         probes = [{"container": name, "probe": probe, "result": result} for name, carried in rows
                   if len(carried) > back for probe, result in carried[-1 - back].items()]
