@@ -151,6 +151,22 @@ def test_many_pods():
     into.clean()
 
 
+def test_more_pods_than_a_trace_has():
+    """Of 258 pods two are left out; where others have gone they are there behind the next border."""
+    spec = {"containers": [{"name": "app"}]}
+    lives = {f"shop/p{number:03}": {"spec": spec, **({"until": 14} if number < 20 else {})} for number in range(258)}
+    made = [{"id": f"c{number}", "pod": f"shop/p{number:03}", "name": "app", "attempt": 0, "created": -2, "started": -1,
+             **({"exited": 12, "code": 0, "removed": 13} if number < 20 else {})} for number in range(258)]
+    into = Into({"begin": BEGIN, "pods": lives, "containers": made, "samples": {"-1": {"memory": 4294967296}}})
+    status, _, said = into.into("--for", "50", "--each", "10s")
+    left = "".join(f"record: shop/p{number} is left out: a trace has at most 256 pods\n" for number in (256, 257))
+    keys = [{line["pod"]["metadata"]["name"] for line in map(json.loads, text.splitlines()) if line["kind"] == "pod"}
+            for text in into.texts()]
+    expect("258 pods", (status, said, len(keys[0]), len(keys[-1]), keys[-1] >= {"p256", "p257"}),
+           (0, left, 256, 238, True))
+    into.clean()
+
+
 def test_limits_of_a_trace():
     """A trace ends at its ticks, and at a part of the bytes that are kept."""
     into = Into(quiet_node(30, 200))

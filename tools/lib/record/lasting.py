@@ -41,6 +41,8 @@ class LastingRecorder(Recorder):
     def __init__(self, trace_format, every, say):
         super().__init__(trace_format, every, say)
         self.timeline = LastingTimeline(trace_format)
+        # pods that are left out as long as there is no room for them
+        self.waiting = set()
 
     def take(self, seen):
         self.timeline.now = seen.moment
@@ -50,8 +52,15 @@ class LastingRecorder(Recorder):
         """Pods that have gone have no line in the next trace."""
         return self.timeline.pods() < MOST_PODS
 
+    def reason_to_leave_out(self, pod):
+        if not self.has_room():
+            self.waiting.add(pod.uid)
+        return super().reason_to_leave_out(pod)
+
     def forget(self):
-        """Forgets pods that have gone and are no longer listed."""
+        """Forgets pods that have gone and are no longer listed, and that there was no room for some."""
+        self.left_out -= self.waiting
+        self.waiting = set()
         listed = {pod.uid for pod in self.listed}
         self.recorded = {uid: recorded for uid, recorded in self.recorded.items()
                          if recorded.is_followed or uid in listed}
