@@ -3,12 +3,16 @@ one before it ended."""
 
 import json
 import random
+import sys
 from concurrent.futures import ThreadPoolExecutor
 
 from chance import BEGIN, SECONDS, play_of
-from checks import expect
+from checks import TOOLS, expect
 from into_plays import Into, follows, laid, parts_of, probed_play, series
 from test_plays import quiet_node, report_of
+
+sys.path.insert(0, f"{TOOLS}/lib")
+from record.standing import Standing  # noqa: E402
 
 PLAYS = 16
 TOLD = ("started", "died", "kill", "ready", "unready")
@@ -108,6 +112,32 @@ def test_what_a_trace_begins_with():
     pods = {line["pod"]["metadata"]["name"]: line["pod"]["spec"]["containers"][0] for line in lines[1:9]}
     expect("a delay that is over is left out", pods["late"]["readinessProbe"], {"periodSeconds": 5})
     into.clean()
+
+
+def test_reasons_that_are_carried():
+    """Why an instance ended and why a container waits, whose messages a trace has once, are in the first tick too."""
+    standing = Standing()
+    for line in (
+        {"kind": "node", "version": 3, "name": "n1"},
+        {"kind": "pod", "pod": {"metadata": {"name": "a", "namespace": "shop"}, "spec": {"containers": [
+            {"name": "app"}, {"name": "side"}]}}},
+        {"kind": "tick", "at": 5, "pods": [{"pod": "shop/a", "containers": [
+            {"name": "app", "attempt": 1, "state": "CONTAINER_RUNNING", "ended": {"attempt": 0, "exitCode": 1}},
+            {"name": "side", "attempt": 0, "state": "CONTAINER_EXITED", "exitCode": 137, "reason": "Error",
+             "message": "killed"}],
+            "waiting": [{"container": "side", "reason": "CrashLoopBackOff", "message": "back-off 10s"}]}]},
+        {"kind": "tick", "at": 9, "pods": [{"pod": "shop/a", "containers": [
+            {"name": "app", "attempt": 1, "state": "CONTAINER_RUNNING"},
+            {"name": "side", "attempt": 0, "state": "CONTAINER_EXITED", "exitCode": 137, "reason": "OOMKilled"}],
+            "waiting": [{"container": "side", "reason": "CrashLoopBackOff"}]}]},
+    ):
+        standing.take(line)
+    [entry] = json.loads(list(standing.beginning(9, None))[-1])["pods"]
+    expect("reasons that are carried", (entry["containers"], entry["waiting"]), (
+        [{"name": "app", "attempt": 1, "state": "CONTAINER_RUNNING", "since": 5},
+         {"name": "side", "attempt": 0, "state": "CONTAINER_EXITED", "exitCode": 137, "reason": "OOMKilled",
+          "message": "killed", "since": 5}],
+        [{"container": "side", "reason": "CrashLoopBackOff", "message": "back-off 10s"}]))
 
 
 def test_what_was_before():

@@ -81,11 +81,15 @@ class Container:
         elif self.listing is None or listing["attempt"] != self.listing["attempt"]:
             self.begin()
             self.change(listing, second)
-        elif listing["state"] not in (UNKNOWN, self.listing["state"]) and self.listing["state"] != EXITED:
+        elif self.listing["state"] == EXITED:
+            # why it ended may be known later than its code
+            self.listing |= {name: listing[name] for name in ("reason", "message") if name in listing}
+        elif listing["state"] not in (UNKNOWN, self.listing["state"]):
             self.change(listing, second)
 
     def change(self, listing, second):
-        self.listing, self.since = listing, second
+        """It is listed otherwise from a second on; of its exit before that tells, and no later one."""
+        self.listing, self.since = {name: value for name, value in listing.items() if name != "ended"}, second
         if listing["state"] == RUNNING:
             self.started = second
 
@@ -176,6 +180,7 @@ class Pod:
         self.containers = {each["name"]: Container(each, each in inits and each.get("restartPolicy") == "Always")
                            for each in inits + spec["containers"]}
         self.usage = {}
+        self.waiting = {}
         self.decisions = []
 
     def take(self, entry, second):
@@ -188,6 +193,11 @@ class Pod:
         for container in self.containers.values():
             container.end_tick()
         self.usage.update(entry.get("usage") or {})
+        # a message stands in the first tick alone
+        before, self.waiting = self.waiting, {}
+        for each in entry.get("waiting") or []:
+            known = before.get(each["container"], {})
+            self.waiting[each["container"]] = known | each if known.get("reason") == each.get("reason") else each
 
     def manifest(self):
         spec = self.fields["spec"]
@@ -196,17 +206,18 @@ class Pod:
         return {**self.fields, "spec": {**spec, **made}}
 
     def entry(self, second, back):
-        """Its entry of a tick that stands so many before the border: usage in that of the border alone."""
+        """Its entry of a tick that stands so many before the border: usage, and why it waits, are in that of the border
+        alone."""
         containers = [each.listed(second, back) for _, each in sorted(self.containers.items())
                       if each.listing is not None]
         rows = [(name, each.carried()) for name, each in self.containers.items()]
         probes = [{"container": name, "probe": probe, "result": result} for name, carried in rows
                   if len(carried) > back for probe, result in carried[-1 - back].items()]
-        usage = self.usage if back == 0 else {}
-        if not containers and not probes and not usage:
+        usage, waiting = (self.usage, list(self.waiting.values())) if back == 0 else ({}, [])
+        if not containers and not probes and not usage and not waiting:
             return None
         return without_nones({"pod": self.key, "containers": containers, "probes": probes or None,
-                              "usage": usage or None})
+                              "usage": usage or None, "waiting": waiting or None})
 
 
 class Standing:
