@@ -113,6 +113,18 @@ def test_a_full_file_system():
     into.clean()
 
 
+def test_lines_that_are_written_in_part():
+    """Where a file takes a part of a line that part goes, and the trace ends before it; nothing is lost."""
+    into = Into(quiet_node(30, 100))
+    whole = into.record("--for", "60", "--every", "1", "--extended")[1]
+    limited = ["sh", "-c", 'ulimit -f 100; exec "$@"', "sh"]
+    answer = into.into("--for", "60", "--every", "1", before=limited)
+    sizes = [len(text) for text in into.texts()]
+    expect("lines that are written in part", (answer, max(sizes) <= 51200, len(sizes) > 3, laid(into.texts()) == whole),
+           ((0, "", ""), True, True, True))
+    into.clean()
+
+
 class Clock:
     """One that stands but for its waits."""
 
