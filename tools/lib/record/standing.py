@@ -65,7 +65,8 @@ class Container:
 
     def begin(self):
         """Another instance begins without any result."""
-        self.runs = {probe: Run(self.fields[field]) for probe, field in FIELDS.items() if self.fields.get(field)}
+        self.runs = {probe: Run(self.fields[field]) for probe, field in FIELDS.items()
+                     if self.fields.get(field) is not None}
         self.started = self.passed = None
 
     def is_running(self):
@@ -165,7 +166,7 @@ class Container:
         if not self.is_running() and not self.is_waiting():
             return self.fields
         probes = {field: {name: value for name, value in self.fields[field].items() if name != DELAY}
-                  for field in FIELDS.values() if self.fields.get(field)}
+                  for field in FIELDS.values() if self.fields.get(field) is not None}
         return {**self.fields, **probes}
 
 
