@@ -129,11 +129,12 @@ def test_reasons_that_are_carried():
         {"kind": "tick", "at": 9, "pods": [{"pod": "shop/a", "containers": [
             {"name": "app", "attempt": 1, "state": "CONTAINER_RUNNING"},
             {"name": "side", "attempt": 0, "state": "CONTAINER_EXITED", "exitCode": 137, "reason": "OOMKilled"}],
-            "waiting": [{"container": "side", "reason": "CrashLoopBackOff"}]}]},
+            "waiting": [{"container": "side", "reason": "CrashLoopBackOff"}], "unsampled": True}]},
     ):
         standing.take(line)
     [entry] = json.loads(list(standing.beginning(9, None))[-1])["pods"]
-    expect("reasons that are carried", (entry["containers"], entry["waiting"]), (
+    expect("reasons that are carried", (entry["unsampled"], entry["containers"], entry["waiting"]), (
+        True,
         [{"name": "app", "attempt": 1, "state": "CONTAINER_RUNNING", "since": 5},
          {"name": "side", "attempt": 0, "state": "CONTAINER_EXITED", "exitCode": 137, "reason": "OOMKilled",
           "message": "killed", "since": 5}],

@@ -181,6 +181,7 @@ class Pod:
         self.containers = {each["name"]: Container(each, each in inits and each.get("restartPolicy") == "Always")
                            for each in inits + spec["containers"]}
         self.usage = {}
+        self.is_unsampled = False
         self.waiting = {}
         self.decisions = []
 
@@ -193,7 +194,10 @@ class Pod:
             self.containers[each["container"]].take(each["probe"], each["result"], second)
         for container in self.containers.values():
             container.end_tick()
-        self.usage.update(entry.get("usage") or {})
+        if entry.get("usage"):
+            self.usage, self.is_unsampled = {**self.usage, **entry["usage"]}, False
+        elif entry.get("unsampled"):
+            self.usage, self.is_unsampled = {}, True
         # a message stands in the first tick alone
         before, self.waiting = self.waiting, {}
         for each in entry.get("waiting") or []:
@@ -214,11 +218,13 @@ class Pod:
         rows = [(name, each.carried()) for name, each in self.containers.items()]
         probes = [{"container": name, "probe": probe, "result": result} for name, carried in rows
                   if len(carried) > back for probe, result in carried[-1 - back].items()]
-        usage, waiting = (self.usage, list(self.waiting.values())) if back == 0 else ({}, [])
-        if not containers and not probes and not usage and not waiting:
+        said = {"probes": probes or None}
+        if back == 0:
+            said |= {"usage": self.usage or None, "unsampled": self.is_unsampled or None,
+                     "waiting": list(self.waiting.values()) or None}
+        if not containers and not any(said.values()):
             return None
-        return without_nones({"pod": self.key, "containers": containers, "probes": probes or None,
-                              "usage": usage or None, "waiting": waiting or None})
+        return without_nones({"pod": self.key, "containers": containers, **said})
 
 
 class Standing:
