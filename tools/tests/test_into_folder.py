@@ -12,7 +12,7 @@ import sys
 import time
 
 from chance import BEGIN, SECONDS
-from checks import HERE, LONGEST, TOOLS, expect, read, run
+from checks import HERE, LONGEST, TOOLS, expect, expect_refused, read, run
 from into_plays import Into, follows, laid, parts_of, probed_play, unpacked
 from test_into import told_in
 from test_plays import quiet_node, report_of
@@ -323,7 +323,7 @@ def test_crictl_words():
     answer = run([f"{TOOLS}/record", "--check", "--node", "worker-3", "--crictl", "env X=1 crictl"],
                  **recorder.settings)
     expect("--crictl: other words start it", (answer[0], answer[1]), (0, read(f"{HERE}/checked/all")))
-    answer = run([f"{TOOLS}/record", "--check", "--node", "worker-3", "--crictl", "chroot-of-none /host crictl"],
+    answer = run([f"{TOOLS}/record", "--node", "worker-3", "--crictl", "chroot-of-none /host crictl"],
                  **recorder.settings)
-    expect("--crictl: a command that is missing", answer, (127, "", "record: not on the PATH: chroot-of-none\n"))
+    expect_refused("--crictl: a command that is missing", answer, 127, "not on the PATH: chroot-of-none")
     recorder.clean()
