@@ -27,7 +27,7 @@ def told_in(report, behind=-1):
 def known_in(report):
     """What a report says at its end of each pod and its containers, by their keys; the last one of a key counts."""
     found, keys = {}, {}
-    for line in report.split("\n"):
+    for line in report.splitlines():
         word, number, *rest = line.split(" ")
         if word == "pod":
             keys[number] = rest[0]
@@ -105,7 +105,7 @@ def test_what_a_trace_begins_with():
            (0, None, {"trace": "n1.2026-01-01T00-00-00Z.trace.gz", "until": at, "at": at}))
     lines = [json.loads(line) for line in parts_of(second)[0].splitlines()]
     expect("a trace begins with its node, its pods and ticks", [line["kind"] for line in lines],
-           ["node", *["pod"] * 8, "tick", "tick"])
+           ["node", *["pod"] * 8, *["tick"] * 8])
     entries = {entry["pod"]: entry for entry in lines[-1]["pods"]}
     expect("the first tick has what was removed", entries["shop/once"]["containers"],
            [{"name": "app", "attempt": 0, "state": "CONTAINER_EXITED", "exitCode": 3, "since": BEGIN + 6}])

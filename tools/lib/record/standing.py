@@ -39,9 +39,10 @@ class Run:
         self.is_over = self.is_over or self.failures >= self.failures_wanted
 
     def results(self, probe):
-        """The fewest results that show the same once more. A kill that was ordered is not ordered again."""
+        """The fewest results that show the same once more. A kill that was ordered stands until the next instance, so
+        that failures behind it order none."""
         if self.is_over:
-            return []
+            return ["failure"] * self.failures_wanted
         if probe == "startup":
             return ["success"] if self.holds else ["failure"] * self.failures
         if probe == "liveness":
@@ -58,7 +59,8 @@ class Container:
         self.is_sidecar = is_sidecar
         # whether some instance of a sidecar was started, without which its pod is pending
         self.was_started = False
-        self.listing = None
+        # the newest instance, and the one before it as it ended
+        self.listing = self.previous = None
         self.since = None
         self.is_listed = False
         self.begin()
@@ -77,9 +79,10 @@ class Container:
         self.is_listed = listing is not None
         if listing is None:
             if self.listing is not None and self.listing["state"] != EXITED:
-                self.change({"name": self.listing["name"], "attempt": self.listing["attempt"], "state": EXITED,
-                             "exitCode": LOST_CODE}, second)
+                self.change(self.lost(), second)
         elif self.listing is None or listing["attempt"] != self.listing["attempt"]:
+            has_ended = self.listing is None or self.listing["state"] == EXITED
+            self.previous = self.listing if has_ended else self.lost()
             self.begin()
             self.change(listing, second)
         elif self.listing["state"] == EXITED:
@@ -87,6 +90,11 @@ class Container:
             self.listing |= {name: listing[name] for name in ("reason", "message") if name in listing}
         elif listing["state"] not in (UNKNOWN, self.listing["state"]):
             self.change(listing, second)
+
+    def lost(self):
+        """Its newest instance, as one that is no longer listed ended."""
+        return {"name": self.listing["name"], "attempt": self.listing["attempt"], "state": EXITED,
+                "exitCode": LOST_CODE}
 
     def change(self, listing, second):
         """It is listed otherwise from a second on; of its exit before that tells, and no later one."""
@@ -99,9 +107,21 @@ class Container:
         if self.is_running() and ("startup" not in self.runs or self.runs["startup"].holds):
             self.was_started = True
 
-    def is_waiting(self):
-        """Whether it is a sidecar that was started, and has exited."""
-        return self.is_sidecar and self.was_started and self.listing is not None and self.listing["state"] == EXITED
+    def has_started_before(self):
+        """Whether it is a sidecar of which an instance was started, and the newest does not show that: it has exited,
+        or its startup has not passed."""
+        if not self.is_sidecar or not self.was_started:
+            return False
+        return self.listing["state"] == EXITED or (self.previous is not None and "startup" in self.runs
+                                                   and not self.runs["startup"].holds)
+
+    def history(self):
+        """The listings before the newest that show that, the last one first."""
+        if not self.has_started_before():
+            return []
+        ended = [] if self.listing["state"] == EXITED else [self.previous]
+        of = ended[0] if ended else self.listing
+        return [*ended, {"name": of["name"], "attempt": of["attempt"], "state": RUNNING}]
 
     def take(self, probe, result, second):
         """A result of a tick, behind what the tick lists."""
@@ -141,8 +161,13 @@ class Container:
 
     def carried(self):
         """The results that show once more what is known, one behind the other: a list of {probe: result}."""
-        if self.is_waiting():
-            return [{"startup": "success"} if "startup" in self.runs else {}, {}]
+        before = [{} for _ in self.history()]
+        if before and "startup" in self.runs:
+            before[0] = {"startup": "success"}
+        newest = self.carried_of_newest()
+        return before + (newest or [{}]) if before else newest
+
+    def carried_of_newest(self):
         if not self.is_running():
             return []
         found = {probe: run.results(probe)[-MOST_CARRIED:] for probe, run in self.runs.items()}
@@ -155,15 +180,16 @@ class Container:
         return [{"startup": result} for result in early] + rows
 
     def listed(self, second, back):
-        """What a tick that stands so many before the border lists of it. A sidecar that has exited ran before."""
-        if self.is_waiting() and back:
-            return {"name": self.listing["name"], "attempt": self.listing["attempt"], "state": RUNNING}
+        """What a tick that stands so many before the border lists of it: what was before where that counts."""
+        before, place = self.history(), back - max(len(self.carried_of_newest()), 1)
+        if before and place >= 0:
+            return before[min(place, len(before) - 1)]
         return without_nones({**self.listing, "since": self.since if self.since < second + back else None})
 
     def manifest(self):
         """Its part of the manifest. The kubelet itself has waited for the delay of a probe of what runs, and its start
         is not in the next trace, so that delay is left out."""
-        if not self.is_running() and not self.is_waiting():
+        if not self.is_running() and not self.has_started_before():
             return self.fields
         probes = {field: {name: value for name, value in self.fields[field].items() if name != DELAY}
                   for field in FIELDS.values() if self.fields.get(field) is not None}
