@@ -100,7 +100,7 @@ pub(crate) const PLACES: [(&str, &str); 37] = [
         "}}]}",
     ),
     (
-        r#"{"kind":"tick","at":7,"pods":[{"pod":"a","unsampled":"#,
+        r#"{"kind":"tick","at":99,"pods":[{"pod":"a","unsampled":"#,
         "}]}",
     ),
     (
