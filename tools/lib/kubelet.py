@@ -155,12 +155,14 @@ def other_causes(trace, report, decision, limit, usages):
     before = [eviction for eviction in report.evictions if eviction.at <= trace.ticks[place].at]
     candidates = why.candidates_of(trace, report, place, limit.signal, decision.number, usages)
     ours = next((each for each in candidates if each.victim), None)
-    found = [["the pod had no sample, which counts as 0"]] if ours is not None and ours.usage is None else []
+    counts = ours is not None and ours.usage is None and ours.unsampled_at is None
+    found = [["the pod had no sample, which counts as 0"]] if counts else []
     if before and before[-1].at >= decision.at - NEAR:
         return [*found, [f"they evict {before[-1].pod} in its place, at", before[-1].at]]
-    if trace.pause() and before and before[-1].at + trace.pause() > decision.at - NEAR:
+    if trace.pause() and before and trace.pause_end(before[-1]) > decision.at - NEAR:
+        over = " or until it has ended" if trace.pauses_until_gone() else ""
         return [*found, [f"they had evicted {before[-1].pod} at", before[-1].at,
-                         f"and then evict no pod for {trace.pause()} s"]]
+                         f"and then evict no pod for {trace.pause()} s{over}"]]
     if candidates and ours is not candidates[0]:
         found.append([f"{candidates[0].pod.key} ranks first in the samples"])
     return found
@@ -193,7 +195,7 @@ def around(trace, report, decision):
     candidates = why.candidates_of(trace, report, place, limit.signal, decision.number,
                                    why.usages_at(trace, {place})[place])
     return why.Evicted(limit.signal, limit, since, why.samples_of(trace, at, limit.signal, first), candidates,
-                       trace.pause(), before[-1] if before else None)
+                       trace.pause(), trace.pauses_until_gone(), before[-1] if before else None)
 
 
 # --- in words ---

@@ -190,6 +190,29 @@ class Trace:
         """evictionPauseSeconds, which version 3 alone has."""
         return number_at(self.settings, "evictionPauseSeconds", 0) if self.settings.get("version") == 3 else 0
 
+    def pauses_until_gone(self):
+        """Whether the pause is over once the evicted pod has ended or gone."""
+        return self.pause() > 0 and self.settings.get("evictionPauseUntilGone") is True
+
+    def pause_end(self, eviction):
+        """The moment from which on the rules may evict again after an eviction."""
+        end = eviction.at + self.pause()
+        for place in range(self.places[eviction.at] + 1, len(self.ticks)) if self.pauses_until_gone() else ():
+            if self.ticks[place].at >= end:
+                break
+            if self.is_over(self.pods[eviction.number], place):
+                return self.ticks[place].at
+        return end
+
+    def is_over(self, pod, place):
+        """Whether a pod is gone at a tick, or all its containers are listed as exited there or not at all."""
+        listed = (self.listing(pod, container.name, place) for container in pod.containers)
+        return not pod.is_present(place) or all(one is None or one.state == STATES[2] for one in listed)
+
+    def heeds_unsampled(self):
+        """Whether an entry may say that its pod has no sample."""
+        return self.settings.get("version") == 3
+
     def tells(self):
         """Whether the trace says what the kubelet did: where it then says nothing, the kubelet did nothing."""
         return self.settings.get("recordsKubelet") is True or bool(self.decisions)

@@ -13,6 +13,8 @@ import trace as traces
 
 # an exit behind a run this long, in seconds, begins the count of exits anew
 LONG_RUN = 600
+# the member by which an entry says that its pod has no sample
+UNSAMPLED = "unsampled"
 
 
 @dataclass
@@ -57,6 +59,8 @@ class Candidate:
     request: int | None
     qos: str
     victim: bool
+    unsampled_at: int | None = None
+    """the tick that said that it has no sample from there on, where none came since"""
 
     @property
     def above(self):
@@ -73,6 +77,8 @@ class Evicted:
     candidates: list[Candidate]
     pause: int
     """evictionPauseSeconds of the extended format"""
+    until_gone: bool
+    """evictionPauseUntilGone of the extended format"""
     before: int | None
     """the moment of the eviction before"""
 
@@ -174,9 +180,9 @@ class Ticks:
         """Takes a trace's last tick, as it is read."""
         tick = trace.ticks[-1]
         self.take(trace, tick, present)
-        if tick.may_have(b"usage"):
+        if may_sample(tick):
             for key, entry in tick.entries.items():
-                take_usage(self.usages.setdefault(present[key].number, {}), entry)
+                take_usage(self.usages.setdefault(present[key].number, {}), entry, tick.at, trace.heeds_unsampled())
         if tick.at in self.usages_at:
             self.usages_at[tick.at] = {number: dict(usage) for number, usage in self.usages.items()}
 
@@ -263,7 +269,8 @@ def gather_evictions(trace, report, moments, usages=None):
         found[eviction.at] = Evicted(eviction.signal, threshold, since,
                                      samples_of(trace, eviction.at, eviction.signal, since),
                                      candidates_of(trace, report, place, eviction.signal, eviction.number,
-                                                   usages[eviction.at]), trace.pause(), before and before.at)
+                                                   usages[eviction.at]), trace.pause(),
+                                     trace.pauses_until_gone(), before and before.at)
     return found
 
 
@@ -285,8 +292,8 @@ def usages_at(trace, places):
     found = {}
     for place, (tick, present) in enumerate(zip(trace.ticks, traces.present_at_each(trace))):
         # most ticks have no sample, and to read them takes long
-        for key, entry in tick.entries.items() if tick.may_have(b"usage") else ():
-            take_usage(usages[present[key].number], entry)
+        for key, entry in tick.entries.items() if may_sample(tick) else ():
+            take_usage(usages[present[key].number], entry, tick.at, trace.heeds_unsampled())
         if place in places:
             found[place] = {number: dict(usage) for number, usage in usages.items()}
         if len(found) == len(places):
@@ -294,7 +301,19 @@ def usages_at(trace, places):
     return found
 
 
-def take_usage(usage, entry):
+def may_sample(tick):
+    """Whether a tick may say something of a pod's samples."""
+    return tick.may_have(b"usage") or tick.may_have(UNSAMPLED.encode())
+
+
+def take_usage(usage, entry, at, heeds_unsampled):
+    """Takes what a tick says of a pod's samples: some, or that it has none from there on."""
+    if entry.get("usage") is not None:
+        usage.pop(UNSAMPLED, None)
+    elif heeds_unsampled and entry.get(UNSAMPLED) is True:
+        since = usage.get(UNSAMPLED, at)
+        usage.clear()
+        usage[UNSAMPLED] = since
     for resource, value in traces.dict_at(entry, "usage").items():
         if resource in traces.USAGES and value is not None:
             usage[resource] = traces.amounts.quantity(value)
@@ -308,16 +327,19 @@ def candidates_of(trace, report, place, signal, number, usages):
         ended = reports.end_of(status)
         if not pod.is_present(place) or (ended and ended[0] <= at and ended != (at, "Evicted")):
             continue
-        usage = used(usages.get(pod.number, {}), signal, trace.dedicated())
-        found.append(Candidate(pod, usage, requested(pod, signal), status.qos, pod.number == number))
-    return sorted(found, key=order)
+        usage = usages.get(pod.number, {})
+        found.append(Candidate(pod, used(usage, signal, trace.dedicated()), requested(pod, signal), status.qos,
+                               pod.number == number, usage.get(UNSAMPLED)))
+    return sorted(found, key=lambda candidate: order(candidate, signal))
 
 
-def order(candidate):
-    """Above the request first, then lower priority, more usage above the request, lower number; without requests by
-    priority and usage alone."""
+def order(candidate, signal):
+    """Without a sample first; above the request first, then lower priority, more usage above the request, lower number;
+    without requests by priority and usage alone. Of processes the priority goes before that there is no sample."""
     exceeds = candidate.request is not None and candidate.above > 0
-    return not exceeds, candidate.pod.priority, -candidate.above, candidate.pod.number
+    is_sampled = candidate.unsampled_at is None
+    return (is_sampled or signal == "pid.available", not exceeds, candidate.pod.priority, is_sampled, -candidate.above,
+            candidate.pod.number)
 
 
 def used(usage, signal, dedicated):

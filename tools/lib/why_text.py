@@ -152,10 +152,10 @@ def evicted_lines(evicted, show, is_kubelets=False):
     lines = threshold_lines(evicted, of_bytes, show) + pause_lines(evicted, show, is_kubelets)
     lines += sample_lines(evicted, of_bytes, show, is_kubelets)
     with_requests = any(candidate.request is not None for candidate in evicted.candidates)
-    rows = [candidate_row(place, candidate, of_bytes) for place, candidate in enumerate(evicted.candidates, 1)]
+    rows = [candidate_row(place, candidate, of_bytes, show) for place, candidate in enumerate(evicted.candidates, 1)]
     lines += table("pods that were present and had not ended:",
                    ["place", "pod", "usage", "request", "above", "priority", "class", ""], rows)[:-1]
-    lines += [f"their order: {ORDERS[with_requests]}"]
+    lines += [f"their order: {order_words(evicted, with_requests)}"]
     if not evicted.is_victim_first:
         lines += ["the evicted pod does not come first in it"]
     return lines
@@ -171,7 +171,18 @@ def pause_lines(evicted, show, is_kubelets):
         return []
     whose = "the rules' eviction" if is_kubelets else "the eviction"
     before = "no eviction before" if evicted.before is None else f"{whose} before was at {show(evicted.before)}"
-    return [f"evictionPauseSeconds {evicted.pause}; {before}"]
+    return [f"{pause_words(evicted)}; {before}"]
+
+
+def pause_words(evicted):
+    return f"evictionPauseSeconds {evicted.pause}{', or until the evicted pod has ended' if evicted.until_gone else ''}"
+
+
+def order_words(evicted, with_requests):
+    """How the rules rank the pods; of processes the priority goes before that there is no sample."""
+    has_one = any(candidate.unsampled_at is not None for candidate in evicted.candidates)
+    first = "without a sample first, then " if has_one and evicted.signal != "pid.available" else ""
+    return first + ORDERS[with_requests]
 
 
 def threshold_words(evicted, of_bytes):
@@ -203,9 +214,12 @@ def sample_lines(evicted, of_bytes, show, is_kubelets):
     return lines
 
 
-def candidate_row(place, candidate, of_bytes):
+def candidate_row(place, candidate, of_bytes, show=None):
+    """A pod's row; `show` makes the moment from which on it has no sample a text."""
     request = "-" if candidate.request is None else amount_text(candidate.request, of_bytes)
     above = "-" if candidate.request is None else amount_text(candidate.above, of_bytes)
     usage = "no sample" if candidate.usage is None else amount_text(candidate.usage, of_bytes)
+    if candidate.unsampled_at is not None:
+        usage = "none any more" if show is None else f"none since {show(candidate.unsampled_at)}"
     return [str(place), candidate.pod.key, usage, request, above,
             str(candidate.pod.priority), candidate.qos, "evicted" if candidate.victim else ""]

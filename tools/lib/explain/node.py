@@ -33,6 +33,8 @@ def config_faults(node, is_extended):
         yield from duration_fault(node, (PERIOD,), node[PERIOD])
     if node.get("version") == 3:
         yield from whole_fault(node, "evictionPauseSeconds", 0, MOST_SECONDS)
+        if not isinstance(node.get("evictionPauseUntilGone"), (bool, type(None))):
+            yield is_(("evictionPauseUntilGone",), node["evictionPauseUntilGone"], "it is true or false, without quotes")
 
 
 def version_fault(node, is_extended):

@@ -33,13 +33,15 @@ def moment_faults(line, before):
 # --- 46 Usage ---
 
 
-def field_faults(line, _):
+def field_faults(line, before):
     """Fields with other values than a tick line has."""
     pods = line.get("pods")
     if pods is not None and not isinstance(pods, list):
         yield is_(("pods",), pods, "it is an array of the pods' entries")
     for index, entry in enumerate(pods if isinstance(pods, list) else []):
         yield from entry_faults(entry, ("pods", index))
+        if before.version == 3 and isinstance(entry, dict):
+            yield from unsampled_faults(entry, ("pods", index, "unsampled"))
     yield from signal_faults(line, "signals", SIGNALS)
     yield from signal_faults(line, "afterReclaim", FREED)
 
@@ -77,6 +79,11 @@ def entry_faults(entry, path):
             where = (*path, field, index)
             yield from fault_of(item, where) if isinstance(item, dict) else [is_(where, item, "it is an object")]
     yield from usage_faults(entry.get("usage"), (*path, "usage"))
+
+
+def unsampled_faults(entry, path):
+    if not isinstance(entry.get("unsampled"), (bool, type(None))):
+        yield is_(path, entry["unsampled"], "it is true or false, without quotes")
 
 
 def missing_or(around, path, wanted):

@@ -208,10 +208,11 @@ def around_of(evicted, span):
     with_requests = any(candidate.request is not None for candidate in evicted.candidates)
     return {
         "threshold": why_text.threshold_words(evicted, of_bytes),
-        "pause": evicted.pause, "before": span.of(evicted.before), "since": span.of(evicted.since), "rows": rows,
+        "pause": why_text.pause_words(evicted) if evicted.pause else None, "before": span.of(evicted.before),
+        "since": span.of(evicted.since), "rows": rows,
         "more": len(evicted.candidates) - len(rows),
         "after": [[span.of(at), units(after)] for at, _, after in evicted.samples if after is not None][-MOST_ROWS:],
-        "order": why_text.ORDERS[with_requests], "first": evicted.is_victim_first,
+        "order": why_text.order_words(evicted, with_requests), "first": evicted.is_victim_first,
     }
 
 

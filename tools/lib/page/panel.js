@@ -253,7 +253,7 @@ function evictedParts(pod) {
   const since = around.since === null ? '' : `; active since ${moment(around.since)}`;
   const before = around.before === null ? 'no eviction before' : `the eviction before was at ${moment(around.before)}`;
   const parts = [said(around.threshold + since),
-    ...(around.pause ? [said(`evictionPauseSeconds ${around.pause}; ${before}`)] : []),
+    ...(around.pause ? [said(`${around.pause}; ${before}`)] : []),
     ...sampleParts(signal, around, at),
     said('Pods that were present and had not ended:'),
     tableOf(['place', 'pod', 'usage', 'request', 'above', 'priority', 'class', ''], around.rows,

@@ -43,3 +43,11 @@ class Nearness:
 
     def is_near(self, moment):
         return bool(self.low) or self.is_pressed(moment)
+
+    def outlasts_gap(self, signal, following):
+        """Whether a threshold of a signal would be over where a tick has no value, though it goes on in the next one
+        with a value, which may be unknown: its grace period has begun, or it is active until the reclaim."""
+        limits = [limit for limit in self.thresholds if limit.signal == signal]
+        if following is None:
+            return any(limit.grace or limit.reclaim for limit in limits)
+        return any(limit.grace or 0 <= 1000 * following - limit.limit < limit.reclaim for limit in limits)

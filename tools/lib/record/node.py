@@ -145,12 +145,17 @@ def node_line_of(text, name, summary, node_format):
         raise Failed(f"{fault}; a node line of your own can be given with --node-line")
     line = {"kind": "node", "version": node_format.version, "name": name, "maxRestartDelay": delay,
             "capacity": summary.capacity, "dedicatedImagefs": summary.has_dedicated_image_fs, **fields,
-            "evictionPauseSeconds": node_format.eviction_pause, **TELLS}
+            **pause_of(node_format), **TELLS}
     return NodeLine(without_nones(line), reader.notes)
 
 
+def pause_of(node_format):
+    """How long no pod is evicted after an eviction: a kubelet waits for the evicted one."""
+    seconds = node_format.eviction_pause
+    return {"evictionPauseSeconds": seconds, "evictionPauseUntilGone": None if seconds is None else True}
+
+
 def own_node_line(fields, node_format):
-    """A node line that the operator gives, in the version that is recorded."""
-    pause = fields.get("evictionPauseSeconds", node_format.eviction_pause)
-    return NodeLine(without_nones({**fields, "kind": "node", "version": node_format.version,
-                                   "evictionPauseSeconds": pause, **TELLS}), [])
+    """A node line that the operator gives, in the version that is recorded; its own pause goes before."""
+    pause = {} if "evictionPauseSeconds" in fields else pause_of(node_format)
+    return NodeLine(without_nones({**pause, **fields, "kind": "node", "version": node_format.version, **TELLS}), [])

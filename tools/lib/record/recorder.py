@@ -42,13 +42,16 @@ class Seen:
 @dataclass
 class Recorded:
     """A pod of the trace, the second of its line, that from which on its containers change, what was seen of them, and
-    what is not planned yet; `usage` has its newest samples, and `waits` why its containers wait."""
+    what is not planned yet; `usage` has its newest samples, `sampled_at` is when a summary had it last, `unsampled_at`
+    since when none has it, and `waits` says why its containers wait."""
     pod: object
     arrived: int
     changes_from: int
     containers: dict = field(default_factory=dict)
     changes: dict = field(default_factory=dict)
     usage: dict = field(default_factory=dict)
+    sampled_at: float = 0
+    unsampled_at: Optional[float] = None
     waits: dict = field(default_factory=dict)
     is_followed: bool = True
     going_since: Optional[float] = None
@@ -79,6 +82,7 @@ class Recorder:
         """The first line."""
         for note in node_line.notes:
             self.say(note)
+        self.timeline.near.know(node_line.fields)
         return line_of(node_line.fields)
 
     def take(self, seen):
@@ -310,14 +314,30 @@ class Recorder:
                 self.take_signals({}, seen, False)
             return
         self.sampled_at = seen.moment
+        newest = self.newest_moment(seen)
         self.take_signals(seen.summary.signals, seen, True)
         for recorded in self.followed():
             usage = seen.summary.usage(recorded.pod, self.has_running(recorded))
             for resource, sample in usage.items():
                 if sample != recorded.usage.get(resource):
-                    moment = max(self.sampled_moment(sample, seen), recorded.arrived)
+                    moment = max(self.sampled_moment(sample, seen), recorded.arrived, recorded.unsampled_at or 0)
                     self.timeline.place_usage(recorded.pod, moment, resource, sample.value)
             recorded.usage = usage
+            self.see_unsampled(recorded, newest, seen)
+
+    def newest_moment(self, seen):
+        """When the newest sample of the node was taken."""
+        return max((self.sampled_moment(sample, seen) for sample in seen.summary.signals.values()
+                    if sample.moment is not None), default=seen.moment)
+
+    def see_unsampled(self, recorded, newest, seen):
+        """A summary without a pod that has run: the kubelet has no sample of it, and evicts it before all others. That
+        is said once, until a sample comes, and of the newest sample of the node on, by which the kubelet decides."""
+        if recorded.pod.uid in seen.summary.pods:
+            recorded.sampled_at, recorded.unsampled_at = seen.moment, None
+        elif recorded.unsampled_at is None and self.format.says_gone and self.has_run(recorded):
+            recorded.unsampled_at = max(newest, recorded.sampled_at, recorded.arrived)
+            self.timeline.place_unsampled(recorded.pod, recorded.unsampled_at)
 
     def take_signals(self, samples, seen, is_wanted):
         """Places the samples that are others than before; a signal that is no longer there has no value. In the
@@ -337,6 +357,11 @@ class Recorder:
     def sampled_moment(self, sample, seen):
         """When a sample was taken, within what is recorded."""
         return seen.moment if sample.moment is None else max(self.begun, min(sample.moment, seen.moment))
+
+    @staticmethod
+    def has_run(recorded):
+        return any(container.newest is not None and container.newest.state in (RUNNING, EXITED)
+                   for container in recorded.containers.values())
 
     @staticmethod
     def has_running(recorded):

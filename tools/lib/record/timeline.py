@@ -10,9 +10,11 @@ A success behind as many as its probe wants changes nothing, so it wants no tick
 from dataclasses import dataclass, field, replace
 
 from .asides import Asides
+from .decisions import EVICTED
 from .formats import without_nones
+from .near import Nearness
 from .runtime import CREATED, EXITED, LOST_CODE, RUNNING, Change
-from .trace import entry_of, gone_line, pod_line, tick_line, told, unknown
+from .trace import EVICTION_PAUSE, entry_of, gone_line, pod_line, tick_line, told, unknown
 
 # a pod's sync that kills a container starts its successor; what the kubelet shows has nothing between the two
 SYNC_SECONDS = 1.0
@@ -28,6 +30,7 @@ class Tick:
     listings: dict = field(default_factory=dict)
     results: dict = field(default_factory=dict)
     usages: dict = field(default_factory=dict)
+    unsampled: set = field(default_factory=set)
     waits: dict = field(default_factory=dict)
     signals: dict = field(default_factory=dict)
     decisions: list = field(default_factory=list)
@@ -96,7 +99,11 @@ class Timeline:
         self.listings = {}
         self.results = {}
         self.usages = {}
+        self.unsampled = set()
         self.signals = {}
+        # when the kubelet evicted a pod last, and the signals that were not sampled since
+        self.evicted_at, self.outdated = None, set()
+        self.near = Nearness()
         self.asides = Asides()
 
     def tick(self, second, is_wanted):
@@ -147,7 +154,15 @@ class Timeline:
         self.tick(self.second_of(moment), False).waits[pod.uid] = waits
 
     def place_usage(self, pod, moment, resource, value):
-        self.tick(self.second_of(moment), False).usages.setdefault(pod.uid, {})[resource] = value
+        tick = self.tick(self.second_of(moment), False)
+        tick.usages.setdefault(pod.uid, {})[resource] = value
+        tick.unsampled.discard(pod.uid)
+
+    def place_unsampled(self, pod, moment):
+        """From this moment on a pod has no sample, until one comes."""
+        tick = self.tick(self.second_of(moment), False)
+        tick.usages.pop(pod.uid, None)
+        tick.unsampled.add(pod.uid)
 
     def place_container(self, pod, container, changes, results, arrived):
         """What happened to one container of a pod that arrived at a second."""
@@ -225,21 +240,49 @@ class Timeline:
             # what was found on an instance that is no more changes nothing, and must not count for the next one
             self.results = {place: result for place, result in self.results.items() if place[:2] != (uid, container)}
         self.results.update(tick.results)
-        for uid, usage in tick.usages.items():
-            self.usages.setdefault(uid, {}).update(usage)
+        self.take_usages(tick)
         for uid, waits in tick.waits.items():
             self.asides.take_waits(uid, waits)
         self.signals = without_nones({**self.signals, **tick.signals})
+        signals = self.shown_signals(second, tick)
         if tick.is_wanted:
             changed = set(tick.listings) if is_silent else None
             entries = [self.entry(pod, changed) for pod in self.present]
             entries = [entry for entry in entries if entry is not None]
-            lines.append(tick_line(second, entries, self.signals, told(second, tick.decisions)))
-            self.results, self.usages = {}, {}
+            lines.append(tick_line(second, entries, signals, told(second, tick.decisions)))
+            self.results, self.usages, self.unsampled = {}, {}, set()
         if self.format.says_gone:
             lines += [gone_line(pod) for pod in tick.departures]
             self.depart(tick.departures)
         return lines
+
+    def shown_signals(self, second, tick):
+        """The signals of a tick, as last sampled. What was left before the kubelet evicted a pod is not what is left
+        behind it, and the kubelet takes a new sample before it evicts the next: until then a signal has no value, or
+        that of the new sample where a threshold goes on over the gap."""
+        if self.format.says_gone and any(decision.kind == EVICTED for _, decision, _ in tick.decisions):
+            self.evicted_at, outdated = second, set(self.signals) - set(tick.signals)
+            self.outdated = set(self.signals)
+        else:
+            is_late = self.evicted_at is not None and second - self.evicted_at > EVICTION_PAUSE
+            self.outdated = outdated = set() if is_late else self.outdated - set(tick.signals)
+        return without_nones({**self.signals, **{signal: self.ahead(second, signal) for signal in outdated}})
+
+    def ahead(self, second, signal):
+        """The value of a signal between an eviction and its next sample, or None."""
+        later = (self.ticks[each].signals.get(signal) for each in sorted(self.ticks) if each > second)
+        following = next((value for value in later if value is not None), None)
+        if not self.near.outlasts_gap(signal, following):
+            return None
+        return self.signals[signal] if following is None else following
+
+    def take_usages(self, tick):
+        """The samples of a second, and the pods that have none from it on."""
+        for uid in tick.unsampled:
+            self.usages.pop(uid, None)
+        self.unsampled = (self.unsampled - set(tick.usages)) | tick.unsampled
+        for uid, usage in tick.usages.items():
+            self.usages.setdefault(uid, {}).update(usage)
 
     def depart(self, pods):
         for pod in pods:
@@ -254,4 +297,4 @@ class Timeline:
                     for name, listing in self.listings.get(pod.uid, {}).items() if listing is not None}
         of_pod = {(container, probe): result for (uid, container, probe), result in self.results.items()
                   if uid == pod.uid}
-        return entry_of(pod, listings, of_pod, self.usages.get(pod.uid), self.asides)
+        return entry_of(pod, listings, of_pod, self.usages.get(pod.uid), pod.uid in self.unsampled, self.asides)

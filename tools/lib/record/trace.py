@@ -13,16 +13,16 @@ class TooLong(Exception):
 
 @dataclass(frozen=True)
 class Format:
-    """A version of the formats: whether it says that a pod has gone, and for how many seconds no pod is evicted after
-    an eviction (None where it can't say so)."""
+    """A version of the formats: whether it says that a pod has gone or has no sample, and for how many seconds no pod
+    is evicted after an eviction unless the evicted one has ended (None where it can't say so)."""
     version: int
     says_gone: bool
     eviction_pause: Optional[int]
 
 
 STANDARD = Format(2, False, None)
-# after an eviction a kubelet waits for the pod's clean-up, and its next round comes 10 s later
-EVICTION_PAUSE = 10
+# so long a kubelet waits at most for the pod that it evicted
+EVICTION_PAUSE = 30
 
 
 def extended(eviction_pause=EVICTION_PAUSE):
@@ -59,19 +59,19 @@ def container_fields(name, listing):
                           "exitCode": listing.exit_code})
 
 
-def entry_of(pod, listings, results, usage, asides):
-    """One pod's entry of a tick: {container: listing}, {(container, probe): result}, its usage or None, and what stands
-    beside; None where there is nothing to say of it."""
+def entry_of(pod, listings, results, usage, is_unsampled, asides):
+    """One pod's entry of a tick: {container: listing}, {(container, probe): result}, its usage or None, whether it has
+    no sample from here on, and what stands beside; None where there is nothing to say of it."""
     containers = [container_fields(name, listing) | asides.of_listing(pod.uid, name, listing)
                   for name, listing in sorted(listings.items())]
     probes = [{"container": name, "probe": probe, "result": results[name, probe]}
               for name in pod.containers() for probe in ("startup", "liveness", "readiness")
               if (name, probe) in results]
     waiting = asides.of_waits(pod, listings)
-    if not containers and not probes and not usage and not waiting:
+    if not containers and not probes and not usage and not is_unsampled and not waiting:
         return None
     return without_nones({"pod": pod.key, "containers": containers, "probes": probes or None, "usage": usage,
-                          "waiting": waiting})
+                          "unsampled": is_unsampled or None, "waiting": waiting})
 
 
 def told(second, decisions):

@@ -56,7 +56,8 @@ The kubelet may evict while a signal is below twice its threshold, and while the
 why instances ended and why containers wait stands in the ticks, for the tools; the program does not read it.
 
 --standard writes version 2, --extended version 3 with a line for a pod that goes, its new line where its name comes
-again, and evictionPauseSeconds (10, or --eviction-pause); without either it is --{default}.
+again, evictionPauseSeconds (30, or --eviction-pause) until the evicted pod has ended, and which pods a summary has no
+sample of, which a kubelet evicts first; without either it is --{default}.
 
 It leaves out
   - an instance that came and went between two looks and was removed by then, and the code of an exit that neither the
