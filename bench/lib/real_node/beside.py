@@ -49,17 +49,21 @@ def instances_of(status):
                 yield name, container.get("containerID"), seconds_of(running["startedAt"]), None, None
 
 
-def instance_facts(statuses):
-    """Starts and exits with their codes, each instance numbered in the order in which it was shown."""
+def instance_facts(statuses, exits=None):
+    """Starts and exits with their codes, each instance of a pod numbered in the order in which it was shown. `exits`
+    has those that the runtime told, by the instances' ids, for an instance whose exit no status has."""
     found, numbers = {}, {}
     for key, uid, status in statuses:
         for container, identity, start, exit_at, code in instances_of(status):
-            of_container = numbers.setdefault((key, container), {})
+            of_container = numbers.setdefault((uid, container), {})
             number = of_container.setdefault(identity, len(of_container))
+            place = uid, container, number
+            if exit_at is None and identity is not None:
+                exit_at, code = (exits or {}).get(identity.split("//")[-1], (None, None))
             if start:
-                found[key, container, number, "started"] = Fact(key, container, f"started {number}", start)
+                found[place, "started"] = Fact(key, container, f"started {number}", start)
             if exit_at:
-                found[key, container, number, "died"] = Fact(key, container, f"died {number} {code}", exit_at)
+                found[place, "died"] = Fact(key, container, f"died {number} {code}", exit_at)
     return list(found.values())
 
 

@@ -1,0 +1,227 @@
+"""What a kubelet with an API server did beside what a report says, counted: starts, exits, kills, changes of Ready,
+evictions and pods that went; what it evicted beside what a recording of it tells."""
+
+import calendar
+import json
+import re
+import time
+from dataclasses import dataclass
+
+import report as reports
+import trace as traces
+from beside import NEAR, Fact, at, instance_facts, kill_facts, ready_facts, statuses_of
+
+# what is further apart is another thing, in seconds
+FAR = 30
+# a pod's object may stay for longer than it was there
+GONE_FAR = 300
+KINDS = {"starts": "started", "exits with their codes": "died", "kills by a liveness probe": "kill", "ready": "ready",
+         "unready": "unready", "evictions by the rules": "evicted", "evictions told as a fact": "told",
+         "pods that went": "gone"}
+END = "ends"
+EVICTED = re.compile(r"[IWEF](\d\d)(\d\d) (\d\d):(\d\d):(\d\d)\.\d+.*eviction manager: pod ([^_ ]+)_(\S+?)\((\S+)\) "
+                     r"is evicted successfully")
+EXIT = re.compile(r"^\S+ \S+ \S+ \S+ \S+ /tasks/exit (\{.*\})$", re.MULTILINE)
+
+
+@dataclass
+class Row:
+    """The counts of a kind, with each fact that is not near one of the other side: as text."""
+    name: str
+    real: int
+    near: int
+    later: int
+    missing: int
+    false: int
+    differences: list
+
+
+# --- what the kubelet did ---
+
+
+def exits_of(text):
+    """The exits that the runtime told, {id: (moment, code)}; what was run for a probe is none."""
+    found = {}
+    for line in EXIT.findall(text):
+        told = json.loads(line)
+        if told["container_id"] == told["id"]:
+            moment = calendar.timegm(time.strptime(told["exited_at"][:19], "%Y-%m-%dT%H:%M:%S"))
+            found[told["id"]] = moment, told.get("exit_status", 0)
+    return found
+
+
+def evictions_of(log, year):
+    """Each eviction that the kubelet's log has: (uid, fact)."""
+    for *moment, name, namespace, uid in EVICTED.findall(log):
+        yield uid, Fact(f"{namespace}/{name}", "-", "evicted", calendar.timegm((year, *map(int, moment))))
+
+
+def has_run(status):
+    """Whether a status shows that a container of the pod has started."""
+    return any((container.get(state) or {}).get(kind) for role in ("initContainerStatuses", "containerStatuses")
+               for container in status.get(role) or []
+               for state in ("state", "lastState") for kind in ("running", "terminated"))
+
+
+def going_facts(shown, evicted):
+    """When each pod that had run was shown no more, or was evicted."""
+    last, ran = {}, set()
+    lines = [json.loads(line) for line in shown.splitlines()]
+    for line in lines:
+        for pod in line["pods"]:
+            uid = pod["metadata"]["uid"]
+            last[uid] = f"{pod['metadata']['namespace']}/{pod['metadata']['name']}", line["at"]
+            ran |= {uid} if has_run(pod["status"]) else set()
+    end = lines[-1]["at"] if lines else 0
+    for uid, (key, moment) in last.items():
+        if uid in evicted:
+            yield Fact(key, "-", "gone", evicted[uid].moment)
+        elif uid in ran and moment < end:
+            yield Fact(key, "-", "gone", int(moment))
+
+
+def unready_by_eviction(statuses, evicted):
+    """A pod that was Ready until its eviction is so no more; the status of an evicted pod has no conditions."""
+    is_ready = {}
+    for _, uid, status in statuses:
+        values = [each["status"] for each in status.get("conditions") or [] if each["type"] == "Ready"]
+        is_ready[uid] = values[0] == "True" if values else is_ready.get(uid, False)
+    return [Fact(fact.pod, "-", "unready", fact.moment) for uid, fact in evicted.items() if is_ready.get(uid)]
+
+
+def ends_of(statuses, exits, evicted):
+    """The exits of evicted pods behind their evictions, of which the report of an evicted pod says nothing."""
+    for uid, fact in evicted.items():
+        of_pod = instance_facts([each for each in statuses if each[1] == uid], exits)
+        yield from (each for each in of_pod if each.what.startswith("died") and each.moment >= fact.moment - 1)
+
+
+def real_facts(shown, log, exits):
+    """All that the kubelet did, of /pods, its log, and the runtime's exits."""
+    statuses, exits = list(statuses_of(shown)), exits_of(exits)
+    year = time.gmtime(json.loads(shown.split("\n", 1)[0])["at"]).tm_year
+    evicted = dict(evictions_of(log, year))
+    kills = [fact for fact in kill_facts(log, year) if fact.what.endswith("liveness")]
+    ends = list(ends_of(statuses, exits, evicted))
+    return [*(fact for fact in instance_facts(statuses, exits) if fact not in ends), *ready_facts(statuses),
+            *(Fact(fact.pod, fact.container, fact.what.replace("died", END), fact.moment) for fact in ends),
+            *unready_by_eviction(statuses, evicted), *map(unnumbered, kills), *evicted.values(),
+            *(Fact(fact.pod, "-", "told", fact.moment) for fact in evicted.values()), *going_facts(shown, evicted)]
+
+
+def unnumbered(fact):
+    """A kill without its instance's number, which the log does not say."""
+    word, _, probe = fact.what.split()
+    return Fact(fact.pod, fact.container, f"{word} {probe}", fact.moment)
+
+
+# --- what report and trace say ---
+
+
+def said_facts(report, trace):
+    """What a report and its trace say of each pod, and whom the trace says that the kubelet evicted."""
+    facts = []
+    for pod in report.pods:
+        facts += pod_facts(pod)
+        gone = trace.pods[pod.number].gone
+        if gone is not None:
+            # the last tick with it: its line stands behind that
+            facts.append(Fact(pod.key, "-", "gone", trace.ticks[gone - 1].at))
+    facts += [Fact(eviction.pod, "-", "evicted", eviction.at) for eviction in report.evictions]
+    return facts + [Fact(each.pod, "-", "told", each.at) for each in trace.decisions if each.kind == "evicted"]
+
+
+def pod_facts(pod):
+    for event in pod.events:
+        if event.word in ("started", "died"):
+            yield Fact(pod.key, event.container, " ".join([event.word, *event.rest]), event.at)
+        elif event.word == "kill" and event.rest[1] == "liveness":
+            yield Fact(pod.key, event.container, "kill liveness", event.at)
+    was_ready = False
+    for span in reports.ready_spans(pod):
+        if (span.value == "True") != was_ready and span.since is not None:
+            yield Fact(pod.key, "-", "unready" if was_ready else "ready", span.since)
+        was_ready = span.value == "True"
+
+
+# --- beside each other ---
+
+
+def matched(real, said):
+    """Facts and what is said of the same, nearest first: {place of the fact: place of what is said}."""
+    found, taken = {}, set()
+    pairs = sorted((abs(one.moment - other.moment), here, there) for here, one in enumerate(real)
+                   for there, other in enumerate(said)
+                   if (one.pod, one.container, one.what) == (other.pod, other.container, other.what))
+    for apart, here, there in pairs:
+        if here not in found and there not in taken and apart <= (GONE_FAR if real[here].what == "gone" else FAR):
+            found[here] = there
+            taken.add(there)
+    return found
+
+
+def of_kind(facts, kind):
+    return [fact for fact in facts if fact.what.split()[0] == kind]
+
+
+def row_of(name, kind, real, said):
+    """A kind's counts. An exit behind an eviction may be said, and need not be."""
+    ends = [Fact(fact.pod, fact.container, fact.what.replace(END, "died"), fact.moment) for fact in of_kind(real, END)]
+    real, said = of_kind(real, kind), of_kind(said, kind)
+    told = set(matched(ends, said).values())
+    said = [fact for there, fact in enumerate(said) if there not in told]
+    found = matched(real, said)
+    apart = {here: said[there].moment - real[here].moment for here, there in found.items()}
+    near = sum(abs(seconds) <= NEAR for seconds in apart.values())
+    left = [fact for there, fact in enumerate(said) if there not in found.values()]
+    differences = [words_of(fact, f"in the report {apart[here]:+d} s" if here in apart else "missing")
+                   for here, fact in enumerate(real) if abs(apart.get(here, FAR)) > NEAR]
+    differences += [words_of(fact, "in the report alone") for fact in left]
+    return Row(name, len(real), near, len(found) - near, len(real) - len(found), len(left), sorted(differences))
+
+
+def words_of(fact, words):
+    return f"{at(fact.moment)} {fact.pod} {fact.container} {fact.what}: {words}"
+
+
+def rows_of(real, said, begun, ended):
+    """A row for each kind, over what happened while it was recorded."""
+    real = [fact for fact in real if begun <= fact.moment <= ended]
+    return [row_of(name, kind, real, said) for name, kind in KINDS.items()]
+
+
+def false_codes(real, said):
+    """Exits that have another code than the one that the kubelet or the runtime told."""
+    others = {(fact.pod, fact.container, fact.what.rsplit(" ", 1)[0], fact.moment): fact.what
+              for fact in real if fact.what.startswith("died")}
+    for fact in said:
+        if not fact.what.startswith("died"):
+            continue
+        near = [what for (pod, container, head, moment), what in others.items()
+                if (pod, container, head) == (fact.pod, fact.container, fact.what.rsplit(" ", 1)[0])
+                and abs(moment - fact.moment) <= NEAR]
+        if near and fact.what not in near:
+            yield words_of(fact, f"it was {near[0]}")
+
+
+def read_run(trace_path, report_text):
+    """A trace and its report, each event with its pod."""
+    report, trace = reports.read_report(report_text), traces.read_trace(trace_path)
+    traces.check_belongs(trace, report, trace_path)
+    return report, trace
+
+
+def counts_of(real, trace_path, report_text):
+    """The rows of a recording beside what the kubelet did, and its false codes."""
+    report, trace = read_run(trace_path, report_text)
+    said = said_facts(report, trace)
+    return rows_of(real, said, trace.ticks[0].at, trace.ticks[-1].at), list(false_codes(real, said))
+
+
+HEAD = ("", "real", "within 2 s", "later", "missing", "false")
+
+
+def table_of(rows):
+    """The counts as lines of a table."""
+    cells = [HEAD, *((row.name, *map(str, (row.real, row.near, row.later, row.missing, row.false))) for row in rows)]
+    return [f"{line[0]:26}" + "".join(f"{cell:>12}" for cell in line[1:]) for line in cells]

@@ -1,0 +1,179 @@
+"""Runs a kubelet whose pods come by an API server, and evicts them; records it in both formats, and counts what it did
+beside what each report says."""
+
+import json
+import os
+import shutil
+import subprocess
+import sys
+import time
+
+import ending
+from beside import text_of
+from cluster import ADDRESS, ADMIN, KUBELET, RECORDER, Changes, Cluster
+from counted import counts_of, real_facts, table_of
+from kit import PARTS, Kit, call, read, write
+from machine import NODE, Machine
+from scenario import RUNS
+
+COMMANDS = ("openssl", "ip", "mkfs.ext4", "mount", "umount")
+RECORD = f"{PARTS}/../../../tools/record"
+DISK_BYTES = 4 * 2 ** 30
+MEMORY = "/sys/fs/cgroup/memory"
+# of the files below the folder those that a run keeps as its own
+KEPT = ("kubelet.log", "exits.log", "shown.jsonl")
+# each of these has to be in the report of the extended format within two seconds
+WANTED = ("starts", "exits with their codes", "evictions told as a fact")
+
+
+def available():
+    """The bytes of memory that the kubelet counts as available."""
+    total = next(int(line.split()[1]) * 1024 for line in read("/proc/meminfo").split("\n")
+                 if line.startswith("MemTotal"))
+    inactive = next(int(line.split()[1]) for line in read(f"{MEMORY}/memory.stat").split("\n")
+                    if line.startswith("total_inactive_file "))
+    return total - int(read(f"{MEMORY}/memory.usage_in_bytes")) + inactive
+
+
+def configuration_of(scenario):
+    """The kubelet's configuration; JSON is YAML too."""
+    anyone = {"anonymous": {"enabled": True}, "webhook": {"enabled": False}}
+    return json.dumps({
+        "apiVersion": "kubelet.config.k8s.io/v1beta1", "kind": "KubeletConfiguration", "address": ADDRESS,
+        "port": 10250, "readOnlyPort": 0, "healthzBindAddress": "127.0.0.1", "authentication": anyone,
+        "authorization": {"mode": "AlwaysAllow"}, "failSwapOn": False, "cgroupDriver": "cgroupfs",
+        "cgroupsPerQOS": True, "enforceNodeAllocatable": ["pods"], "makeIPTablesUtilChains": False,
+        "evictionPressureTransitionPeriod": "30s", "evictionMaxPodGracePeriod": 7,
+        **scenario.configuration(available())}, indent=1)
+
+
+def make_small_disk(folder):
+    """A file system of its own for the kubelet, on which pods can fill it."""
+    with open(f"{folder}/disk", "wb") as file:
+        file.truncate(DISK_BYTES)
+    call(["mkfs.ext4", "-q", "-m", "0", f"{folder}/disk"])
+    shutil.rmtree(f"{folder}/kubelet", ignore_errors=True)
+    os.makedirs(f"{folder}/kubelet")
+    call(["mount", "-o", "loop", f"{folder}/disk", f"{folder}/kubelet"])
+
+
+# --- a run ---
+
+
+class Recorders:
+    """The recorders beside a run: what each wrote, and what it cost."""
+
+    def __init__(self, machine, cluster, scenario):
+        self.machine, self.cluster, self.scenario = machine, cluster, scenario
+        self.folder = f"{machine.folder}/{scenario.name}"
+        self.begun, self.processes = {}, {}
+
+    def start(self):
+        shutil.rmtree(self.folder, ignore_errors=True)
+        os.makedirs(self.folder)
+        write(f"{self.machine.folder}/curl.conf", "insecure\n")
+        for name in self.scenario.recorders:
+            self.begun[name] = time.monotonic()
+            with open(f"{self.folder}/{name}.trace", "wb") as trace:
+                self.processes[name] = self.machine.start(
+                    f"{self.scenario.name}/{name}", self.words(name), trace,
+                    KUBECONFIG=self.cluster.settings_of(RECORDER))
+
+    def words(self, name):
+        """What is run: the recorder of the extended format with its answers kept, the others as they are."""
+        keeps = name == "extended" and self.scenario.keeps_answers
+        program = [f"{PARTS}/captured.py", f"{self.folder}/answers.jsonl"] if keeps else [RECORD]
+        source = [] if name == "kubectl" else ["--kubelet", KUBELET, "--curl", f"{self.machine.folder}/curl.conf"]
+        return [sys.executable, *program, "--node", NODE, "--for", str(self.scenario.seconds), *source,
+                "--standard" if name == "standard" else "--extended"]
+
+    def costs(self, seconds=60):
+        """Waits for each; {name: processor seconds a minute, its children's with it}."""
+        found, until = {}, time.monotonic() + seconds
+        while len(found) < len(self.processes) and time.monotonic() < until:
+            for name, process in self.processes.items():
+                if name in found:
+                    continue
+                identity, status, usage = os.wait4(process.pid, os.WNOHANG)
+                if identity:
+                    process.returncode = os.waitstatus_to_exitcode(status)
+                    minutes = (time.monotonic() - self.begun[name]) / 60
+                    found[name] = (usage.ru_utime + usage.ru_stime) / minutes
+            time.sleep(0.1)
+        return found
+
+
+def run_once(kit, scenario):
+    """One run, from an empty cluster to its end; what each recorder cost."""
+    machine = Machine(kit, KUBELET)
+    cluster, costs = Cluster(machine), {}
+    try:
+        machine.start_runtime()
+        machine.start("exits", ["ctr", "-n", "k8s.io", "events"])
+        cluster.start()
+        if scenario.has_small_disk:
+            make_small_disk(kit.folder)
+        machine.start_kubelet(configuration_of(scenario), f"--kubeconfig={cluster.settings_of(ADMIN)}",
+                              f"--node-ip={ADDRESS}", "--register-node=true")
+        recorders = Recorders(machine, cluster, scenario)
+        recorders.start()
+        machine.watch(scenario.seconds, Changes(cluster, scenario.changes).act)
+        costs = recorders.costs()
+    finally:
+        ending.hear_no_interrupts()
+        machine.end()
+        cluster.end()
+        if os.path.exists(f"{kit.folder}/disk"):
+            os.remove(f"{kit.folder}/disk")
+    ending.hear_interrupts()
+    for name in KEPT:
+        shutil.copy(f"{kit.folder}/{name}", f"{kit.folder}/{scenario.name}/{name}")
+    return costs
+
+
+# --- what came of it ---
+
+
+def facts_of(folder):
+    """What the kubelet of a run did, which is kept as text too."""
+    real = real_facts(*(read(f"{folder}/{each}") for each in ("shown.jsonl", "kubelet.log", "exits.log")))
+    write(f"{folder}/shown", text_of(real))
+    return real
+
+
+def show_recording(real, folder, name, replay, show):
+    """Replays a recording and shows its counts; whether all that is wanted was found."""
+    trace = f"{folder}/{name}.trace"
+    words = [] if name == "standard" else ["--extended"]
+    with open(f"{folder}/{name}.report", "wb") as report:
+        subprocess.run([replay, "run", trace, *words], stdout=report, check=True)
+    rows, codes = counts_of(real, trace, read(f"{folder}/{name}.report"))
+    show(f"\n{os.path.basename(folder)}, {name}")
+    for line in [*table_of(rows), f"exits with a false code: {len(codes)}", *codes]:
+        show(f"  {line}")
+    write(f"{folder}/{name}.differences", "".join(f"{row.name}: {line}\n" for row in rows for line in row.differences))
+    return not codes and all(row.near == row.real and not row.false for row in rows if row.name in WANTED)
+
+
+def measured(folder, names, replay, show):
+    """Builds, and runs, records and counts each; whether all was found that is wanted of the extended format."""
+    os.makedirs(folder, exist_ok=True)
+    kit = Kit(folder, has_api=True)
+    ending.adopt_orphans()
+    ending.hear_interrupts()
+    try:
+        kit.build()
+    except ending.Interrupted:
+        ending.hear_no_interrupts()
+        ending.end_descendants()
+        raise
+    works = True
+    for name in names:
+        costs = run_once(kit, RUNS[name])
+        real = facts_of(f"{folder}/{name}")
+        for recorder in RUNS[name].recorders:
+            found = show_recording(real, f"{folder}/{name}", recorder, replay, show)
+            works = works and (found or recorder == "standard")
+        for recorder, seconds in costs.items():
+            show(f"  {name}: recording {recorder} took {seconds:.2f} s of a processor in a minute")
+    return works

@@ -1,0 +1,204 @@
+"""Tests of bench/real_node --api: what its kubelet did is found in what it leaves, counted beside a small report, and
+shown; what is done to its pods, and when. Its run is tried on a throw-away machine alone."""
+import json
+import os
+import sys
+import tempfile
+
+from common import TOP, Case, run, write
+
+sys.path[:0] = [os.path.join(TOP, "bench/lib/real_node"), os.path.join(TOP, "tools/lib")]
+import counted  # noqa: E402
+import scenario  # noqa: E402
+from beside import Fact  # noqa: E402
+from cluster import Changes  # noqa: E402
+
+BEGIN = 1767225600
+NODE = {"kind": "node", "version": 3, "name": "n1", "evictionHard": {"memory.available": "100Mi"},
+        "recordsKubelet": True}
+REPORT = f"""\
+node n1 pods=2 ticks=4
+event {BEGIN} shop/a app started 0
+event {BEGIN} shop/a app ready
+event {BEGIN} shop/a - phase Running
+event {BEGIN} shop/b app started 0
+event {BEGIN} shop/b app ready
+event {BEGIN} shop/b - phase Running
+event {BEGIN + 5} node threshold memory.available hard active
+event {BEGIN + 5} node pressure MemoryPressure True
+event {BEGIN + 5} node evicted shop/a memory.available hard 0
+event {BEGIN + 9} shop/b app died 0 137
+event {BEGIN + 9} shop/b app unready
+event {BEGIN + 9} shop/b app restart 0
+pod 0 shop/a phase=Failed reason=Evicted qos=BestEffort
+condition 0 PodScheduled True {BEGIN}
+condition 0 Initialized True {BEGIN}
+condition 0 ContainersReady False {BEGIN + 5}
+condition 0 Ready False {BEGIN + 5}
+condition 0 DisruptionTarget True {BEGIN + 5} TerminationByKubelet
+container 0 app state=Running code=- restarts=0 ready=false started=false
+pod 1 shop/b phase=Running reason=- qos=BestEffort
+condition 1 PodScheduled True {BEGIN}
+condition 1 Initialized True {BEGIN}
+condition 1 ContainersReady False {BEGIN + 9}
+condition 1 Ready False {BEGIN + 9}
+container 1 app state=Terminated code=137 restarts=0 ready=false started=false
+nodecondition MemoryPressure True {BEGIN + 5}
+nodecondition DiskPressure False {BEGIN}
+nodecondition PIDPressure False {BEGIN}
+eviction {BEGIN + 5} shop/a memory.available hard 0
+totals updates=6 events=9 orders=1
+"""
+LOG = """\
+I0101 00:00:06.500000    9 eviction_manager.go:574] eviction manager: pod a_shop(1) is evicted successfully
+I0101 00:00:07.500000    9 eviction_manager.go:574] eviction manager: pods ranked for eviction: b_shop(2)
+I0101 00:00:08.000000    9 event.go:291] "Event occurred" object="shop/b" kind="Pod" apiVersion="v1" type="Normal" \
+reason="Killing" message="Container app failed liveness probe, will be restarted"
+"""
+
+
+def listed(pod, state, **fields):
+    container = {"name": "app", "attempt": 0, "state": f"CONTAINER_{state}", **fields}
+    return {"pod": f"shop/{pod}", "containers": [container]}
+
+
+def trace_text():
+    """Two pods that run; one is evicted at 5 and gone behind 7, the other exits at 9."""
+    both = [listed("a", "RUNNING"), listed("b", "RUNNING")]
+    evicted = {"evicted": [{"pod": "shop/a", "at": BEGIN + 6, "reason": "Evicted", "message": ""}]}
+    pods = [{"kind": "pod", "pod": {"metadata": {"name": name, "namespace": "shop"},
+                                    "spec": {"containers": [{"name": "app"}]}}} for name in "ab"]
+    lines = [NODE, *pods, {"kind": "tick", "at": BEGIN, "pods": both, "signals": {"memory.available": 2 ** 30}},
+             {"kind": "tick", "at": BEGIN + 5, "pods": both, "signals": {"memory.available": 2 ** 20},
+              "kubelet": evicted},
+             {"kind": "tick", "at": BEGIN + 7, "pods": [listed("a", "EXITED", exitCode=137), listed("b", "RUNNING")]},
+             {"kind": "gone", "pod": "shop/a"},
+             {"kind": "tick", "at": BEGIN + 9, "pods": [listed("b", "EXITED", exitCode=137)]}]
+    return "".join(json.dumps(line) + "\n" for line in lines)
+
+
+def status(name, uid, number, is_ready, exited=None):
+    """A pod as /pods shows it, with one instance that runs or has exited: (when, code)."""
+    identity = f"containerd://{name}{number}"
+    state = {"running": {"startedAt": "2026-01-01T00:00:00Z"}}
+    if exited:
+        state = {"terminated": {"containerID": identity, "startedAt": "2026-01-01T00:00:00Z",
+                                "finishedAt": f"2026-01-01T00:00:0{exited[0]}Z", "exitCode": exited[1]}}
+    return {"metadata": {"name": name, "namespace": "shop", "uid": uid}, "status": {
+        "phase": "Running", "conditions": [{"type": "Ready", "status": str(is_ready), "lastTransitionTime":
+                                            f"2026-01-01T00:00:0{exited[0] if exited else 0}Z"}],
+        "containerStatuses": [{"name": "app", "restartCount": 0, "containerID": identity, "state": state}]}}
+
+
+def shown_text():
+    lost = {"metadata": {"name": "a", "namespace": "shop", "uid": "1"},
+            "status": {"phase": "Failed", "reason": "Evicted"}}
+    refused = {**lost, "metadata": {"name": "c", "namespace": "shop", "uid": "3"}}
+    looks = [(0.4, [status("a", "1", 0, True), status("b", "2", 0, True)]), (6.9, [lost, status("b", "2", 0, True)]),
+             (7.4, [refused, status("b", "2", 0, True)]), (9.6, [status("b", "2", 0, False, (9, 0))])]
+    return "".join(json.dumps({"at": BEGIN + at, "pods": pods}) + "\n" for at, pods in looks)
+
+
+def exits_text():
+    line = '2026-01-01 00:00:07.1 +0000 UTC k8s.io /tasks/exit {{"container_id":"a0","id":"{}","exited_at":' \
+           '"2026-01-01T00:00:07.1Z"{}}}\n'
+    return "2026-01-01 00:00:07.1 +0000 UTC k8s.io /tasks/delete {}\n" + line.format("a0", ',"exit_status":137') + \
+           line.format("probe", "")
+
+
+class Counted(Case):
+    def rows(self):
+        with tempfile.TemporaryDirectory() as folder:
+            write(trace_text(), folder, "trace")
+            real = counted.real_facts(shown_text(), LOG, exits_text())
+            return counted.counts_of(real, f"{folder}/trace", REPORT)
+
+    def test_exits_of_the_runtime(self):
+        self.assertEqual(counted.exits_of(exits_text()), {"a0": (BEGIN + 7, 137)})
+
+    def test_evictions_of_the_log(self):
+        self.assertEqual(list(counted.evictions_of(LOG, 2026)), [("1", Fact("shop/a", "-", "evicted", BEGIN + 6))])
+
+    def test_pods_that_went(self):
+        """One that was evicted goes by that, and one that the kubelet refused was never there."""
+        evicted = dict(counted.evictions_of(LOG, 2026))
+        self.assertEqual(list(counted.going_facts(shown_text(), evicted)), [Fact("shop/a", "-", "gone", BEGIN + 6)])
+
+    def test_counts(self):
+        rows, codes = self.rows()
+        counts = {row.name: (row.real, row.near, row.later, row.missing, row.false) for row in rows}
+        self.assertEqual(counts, {
+            "starts": (2, 2, 0, 0, 0), "exits with their codes": (1, 0, 0, 1, 1),
+            "kills by a liveness probe": (1, 0, 0, 1, 0), "ready": (2, 2, 0, 0, 0), "unready": (2, 2, 0, 0, 0),
+            "evictions by the rules": (1, 1, 0, 0, 0), "evictions told as a fact": (1, 1, 0, 0, 0),
+            "pods that went": (1, 1, 0, 0, 0)})
+        self.assertEqual(codes, ["00:00:09 shop/b app died 0 137: it was died 0 0"])
+        self.assertEqual(rows[1].differences, [
+            "00:00:09 shop/b app died 0 0: missing", "00:00:09 shop/b app died 0 137: in the report alone"])
+
+    def test_exits_behind_an_eviction(self):
+        """One that the report says is not false, and one that it does not say is not missing."""
+        real = [Fact("shop/a", "app", "ends 0 137", 7)]
+        for said in ([], [Fact("shop/a", "app", "died 0 137", 8)]):
+            row = counted.row_of("exits", "died", real, said)
+            self.assertEqual((row.real, row.missing, row.false), (0, 0, 0))
+
+    def test_nearest_first(self):
+        """Of two evictions of a name each has the nearest one, and none is later than half a minute."""
+        real = [Fact("shop/a", "-", "evicted", moment) for moment in (10, 20, 60)]
+        said = [Fact("shop/a", "-", "evicted", moment) for moment in (18, 25, 100)]
+        row = counted.row_of("evictions", "evicted", real, said)
+        self.assertEqual((row.real, row.near, row.later, row.missing, row.false), (3, 1, 1, 1, 1))
+        self.assertEqual(row.differences, [
+            "00:00:10 shop/a - evicted: in the report +15 s", "00:01:00 shop/a - evicted: missing",
+            "00:01:40 shop/a - evicted: in the report alone"])
+
+    def test_table(self):
+        lines = counted.table_of([counted.Row("starts", 12, 11, 1, 0, 2, [])])
+        self.assertEqual([line.split() for line in lines], [
+            ["real", "within", "2", "s", "later", "missing", "false"], ["starts", "12", "11", "1", "0", "2"]])
+        self.assertEqual(len(set(map(len, lines))), 1)
+
+
+class StandInCluster:
+    """An API server whose pods go a second look after they were deleted."""
+
+    def __init__(self):
+        self.done, self.looks = [], {}
+
+    def create(self, pod):
+        self.done.append(("create", pod))
+
+    def delete(self, pod, grace):
+        self.done.append(("delete", pod, grace))
+        self.looks[pod] = 2
+
+    def is_there(self, pod):
+        self.looks[pod] -= 1
+        return self.looks[pod] > 0
+
+
+class Scenarios(Case):
+    def test_changes(self):
+        """What is due is done in its order; a pod comes again once the one before it has gone."""
+        cluster = StandInCluster()
+        changes = Changes(cluster, [(5, "again", "b", 0), (1, "create", "a", None), (9, "delete", "a", None)])
+        for passed in (0.5, 1.2, 5.1, 5.6, 9.5):
+            changes.act(passed)
+        self.assertEqual(cluster.done, [("create", "a"), ("delete", "b", 0), ("create", "b"), ("delete", "a", None)])
+
+    def test_runs(self):
+        """Each run has pods that are there before they go, and thresholds that a kubelet takes."""
+        for name, each in scenario.RUNS.items():
+            there = set()
+            for second, what, pod, _ in sorted(each.changes, key=lambda change: change[0]):
+                self.assertLess(second, each.seconds)
+                key = pod["metadata"]["name"]
+                self.assertEqual(key in there, what != "create", f"{name}: {key} at {second}")
+                there = there - {key} if what == "delete" else there | {key}
+        self.assertEqual(scenario.hard_memory(2 ** 34), {"evictionHard": {"memory.available": "11384Mi"}})
+
+    def test_words(self):
+        for words in ((), ("--api",), ("--api", "folder", "hard", "other"), ("folder", "some"), ("a", "1", "2")):
+            code, out, said = run("real_node", *words)
+            self.assertEqual((code, out, said.count("\n")), (2, "", 1), words)
