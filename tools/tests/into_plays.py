@@ -14,8 +14,9 @@ from checks import HERE, LONGEST, run
 class Into:
     """A folder that plays are recorded into."""
 
-    def __init__(self, play):
+    def __init__(self, play, recording=None):
         self.run = tempfile.mkdtemp()
+        self.recording = recording or self.run
         self.folder = f"{self.run}/traces"
         os.mkdir(self.folder)
         with open(f"{self.run}/play.json", "w", encoding="utf-8") as file:
@@ -24,7 +25,7 @@ class Into:
     def record(self, *words, before=(), longest=LONGEST):
         """The answer of a recording of the play, which another command may start."""
         return run([*before, f"{HERE}/commands/played_record", "--node", "n1", *words], longest=longest,
-                   PATH=f"{HERE}/commands:{os.environ['PATH']}", RECORDING=self.run, RUN=self.run)
+                   PATH=f"{HERE}/commands:{os.environ['PATH']}", RECORDING=self.recording, RUN=self.run)
 
     def into(self, *words, **how):
         return self.record("--into", self.folder, *words, **how)

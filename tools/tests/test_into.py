@@ -7,7 +7,7 @@ import sys
 from concurrent.futures import ThreadPoolExecutor
 
 from chance import BEGIN, SECONDS, play_of
-from checks import TOOLS, expect
+from checks import HERE, TOOLS, expect, read
 from into_plays import Into, follows, laid, parts_of, probed_play, series
 from test_plays import quiet_node, report_of
 
@@ -51,9 +51,9 @@ def border_fault(before, text):
     return f"{other[0]} is {known[other[0]]} and was {wanted.get(other[0])}" if other else None
 
 
-def borders_fault(play, *words, each="10s"):
+def borders_fault(play, *words, each="10s", recording=None):
     """What traces one behind the other say otherwise than one trace of the same play, or None."""
-    into = Into(play)
+    into = Into(play, recording)
     whole, made = into.record(*words, "--extended"), into.into(*words, "--each", each)
     texts = into.texts()
     into.clean()
@@ -93,6 +93,14 @@ def test_borders_of_probes():
     for each in (10, 11, 13, 17):
         expect(f"borders of what probes have shown, each {each} s",
                borders_fault(play, "--for", str(SECONDS), each=f"{each}s"), None)
+
+
+def test_borders_of_a_real_kubelet():
+    """The answers of a real kubelet, whose recordings have one trace."""
+    for name in ("real_node", "real_kills"):
+        folder = f"{HERE}/recordings/{name}"
+        words = [word for word in read(f"{folder}/words").split() if word not in ("--standard", "--extended")]
+        expect(f"borders of {name}", borders_fault({}, *words, each="23s", recording=folder), None)
 
 
 def test_what_a_trace_begins_with():
