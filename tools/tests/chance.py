@@ -132,7 +132,8 @@ def lives_of(chance, play, number, look):
 def play_of(chance, look):
     """A play of some pods, for a recorder that looks each this many seconds."""
     play = {"begin": BEGIN, "pods": {}, "containers": [], "probes": [], "fails": faults(chance),
-            "samples": {"-1": {"memory": 4294967296}, "9": {"memory": 4294967290}}}
+            # a kubelet takes a new sample once a pod that it evicted is cleaned up
+            "samples": {str(moment): {"memory": 4294967296 - moment} for moment in range(-1, SECONDS, 3)}}
     for number in range(chance.randint(1, 4)):
         play["pods"][f"shop/p{number}"] = lives_of(chance, play, number, look)
     for number in range(chance.randint(0, 2)):

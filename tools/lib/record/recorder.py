@@ -55,6 +55,7 @@ class Recorded:
     waits: dict = field(default_factory=dict)
     is_followed: bool = True
     going_since: Optional[float] = None
+    evicted_at: Optional[int] = None
 
 
 class Recorder:
@@ -74,7 +75,7 @@ class Recorder:
         self.is_first = True
         self.is_behind = False
         self.begun = self.planned_at = self.listed_at = self.sampled_at = None
-        self.wanted_at = float("-inf")
+        self.wanted_at = self.newest = float("-inf")
         self.samples = {}
         self.counters = self.planned_counters = {}
 
@@ -196,6 +197,7 @@ class Recorder:
             second = self.timeline.place_decision(pod, self.decided_at(pod, seen), recorded)
         if recorded is not None:
             recorded.changes_from = second + 1
+            recorded.evicted_at = second
 
     def decided_at(self, pod, seen):
         """When the kubelet decided: as the pod's status says, else when that or an exit that it led to was seen."""
@@ -205,8 +207,8 @@ class Recorder:
 
     def see_going(self, recorded, is_listed, seen):
         """A pod is no longer listed, was told to go, or the kubelet ended it. It is gone once each of its containers
-        has exited with a code that is known, or is no more; where a new pod of its name waits for that, at the latest
-        after some seconds."""
+        has exited with a code that is known, or is no more, and one that was evicted once the kubelet goes on behind
+        it; where a new pod of its name waits for that, at the latest after some seconds."""
         if not self.format.says_gone:
             if not is_listed and not any(pod.key == recorded.pod.key for pod in self.listed):
                 self.say(f"{recorded.pod.key} is gone, and the replay goes on with it: cut the trace where pods go")
@@ -215,9 +217,15 @@ class Recorder:
             return
         recorded.going_since = seen.moment if recorded.going_since is None else recorded.going_since
         instances = seen.instances.get(recorded.pod.uid, [])
-        is_late = seen.moment - recorded.going_since > GOING_SECONDS and self.has_next(recorded.pod)
-        if is_late or all(instance.exit_code is not None for instance in instances):
+        has_next, is_late = self.has_next(recorded.pod), seen.moment - recorded.going_since > GOING_SECONDS
+        has_ended = all(instance.exit_code is not None for instance in instances)
+        if (is_late and has_next) or (has_ended and (is_late or has_next or self.is_cleaned_up(recorded))):
             self.depart(recorded, seen)
+
+    def is_cleaned_up(self, recorded):
+        """Whether the kubelet has gone on behind the pod's eviction, which it does once the pod is cleaned up: by a new
+        sample."""
+        return recorded.evicted_at is None or self.newest > recorded.evicted_at
 
     def has_next(self, pod):
         """Whether a pod of its name waits for its line."""
@@ -314,7 +322,7 @@ class Recorder:
                 self.take_signals({}, seen, False)
             return
         self.sampled_at = seen.moment
-        newest = self.newest_moment(seen)
+        self.newest = max(self.newest, self.newest_moment(seen))
         self.take_signals(seen.summary.signals, seen, True)
         for recorded in self.followed():
             usage = seen.summary.usage(recorded.pod, self.has_running(recorded))
@@ -323,20 +331,28 @@ class Recorder:
                     moment = max(self.sampled_moment(sample, seen), recorded.arrived, recorded.unsampled_at or 0)
                     self.timeline.place_usage(recorded.pod, moment, resource, sample.value)
             recorded.usage = usage
-            self.see_unsampled(recorded, newest, seen)
+            self.see_unsampled(recorded, seen)
 
     def newest_moment(self, seen):
         """When the newest sample of the node was taken."""
         return max((self.sampled_moment(sample, seen) for sample in seen.summary.signals.values()
                     if sample.moment is not None), default=seen.moment)
 
-    def see_unsampled(self, recorded, newest, seen):
+    def see_unsampled(self, recorded, seen):
         """A summary without a pod that has run: the kubelet has no sample of it, and evicts it before all others. That
-        is said once, until a sample comes, and of the newest sample of the node on, by which the kubelet decides."""
+        is said once, until a sample comes, and from the newest sample of the node on, by which the kubelet decides; but
+        behind an exit since, as an eviction leads to."""
         if recorded.pod.uid in seen.summary.pods:
             recorded.sampled_at, recorded.unsampled_at = seen.moment, None
-        elif recorded.unsampled_at is None and self.format.says_gone and self.has_run(recorded):
-            recorded.unsampled_at = max(newest, recorded.sampled_at, recorded.arrived)
+            return
+        newest = [container.newest for container in recorded.containers.values() if container.newest is not None]
+        ran = [each for each in newest if each.state in (RUNNING, EXITED)]
+        if ran and recorded.unsampled_at is None and self.format.says_gone:
+            # one that was sampled and is listed as running has exited since
+            exits = [each.finished or seen.moment for each in ran
+                     if each.state == EXITED or 0 < (each.started or 1) <= recorded.sampled_at]
+            behind = [int(moment) + 1 for moment in exits if int(moment) >= int(self.newest)]
+            recorded.unsampled_at = max(self.newest, recorded.sampled_at, recorded.arrived, *behind)
             self.timeline.place_unsampled(recorded.pod, recorded.unsampled_at)
 
     def take_signals(self, samples, seen, is_wanted):
@@ -357,11 +373,6 @@ class Recorder:
     def sampled_moment(self, sample, seen):
         """When a sample was taken, within what is recorded."""
         return seen.moment if sample.moment is None else max(self.begun, min(sample.moment, seen.moment))
-
-    @staticmethod
-    def has_run(recorded):
-        return any(container.newest is not None and container.newest.state in (RUNNING, EXITED)
-                   for container in recorded.containers.values())
 
     @staticmethod
     def has_running(recorded):
