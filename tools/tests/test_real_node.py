@@ -17,10 +17,12 @@ PARTS = f"{TOP}/bench/lib/real_node"
 sys.path.insert(0, PARTS)
 sys.path.append(f"{TOP}/bench/lib")
 import beside  # noqa: E402
+import counted  # noqa: E402
 import ending  # noqa: E402
 import trimmed  # noqa: E402
 
 RECORDING = f"{HERE}/recordings/real_node"
+EVICTIONS = f"{HERE}/recordings/real_evictions"
 PAGE = f"{TOP}/docs/real.md"
 KINDS = {"starts": "started", "exits": "died", "kills by a liveness probe": "kill", "ready": "ready",
          "unready": "unready"}
@@ -31,8 +33,8 @@ STARTUP_SECONDS = (45, 71)
 # --- what a kubelet showed beside the report ---
 
 
-def recorded_facts():
-    with gzip.open(f"{RECORDING}/shown.gz", "rt", encoding="utf-8") as file:
+def recorded_facts(recording=RECORDING):
+    with gzip.open(f"{recording}/shown.gz", "rt", encoding="utf-8") as file:
         return beside.facts_from(file.read())
 
 
@@ -70,6 +72,28 @@ def test_real_counts():
     for page in ("real", "profile"):
         expect(f"real_node: their delay in docs/{page}.md", f"{least} to {most} s later" in
                " ".join(read(f"{TOP}/docs/{page}.md").split()), True)
+
+
+def test_real_evictions():
+    """What a kubelet did whose pods came by an API server is counted anew, as docs/real.md has it: each start and exit
+    is in the report, and each eviction is told."""
+    folder = tempfile.mkdtemp()
+    status, trace, _ = run([f"{HERE}/commands/played_record", *read(f"{EVICTIONS}/words").split()], RUN=folder,
+                           PATH=f"{HERE}/commands:{os.environ['PATH']}", RECORDING=EVICTIONS)
+    with open(f"{folder}/trace", "w", encoding="utf-8") as file:
+        file.write(trace)
+    rows, codes = counted.counts_of(recorded_facts(EVICTIONS), f"{folder}/trace", read(f"{EVICTIONS}/report"))
+    shutil.rmtree(folder)
+    expect("real evictions: the recording", (status, codes), (0, []))
+    table = "\n".join(counted.table_of(rows))
+    before, _, rest = read(PAGE).partition("<!-- the counts -->\n")
+    _, _, after = rest.partition("<!-- end of the counts -->\n")
+    expect_kept("real evictions: the counts in docs", f"{before}<!-- the counts -->\n```\n{table}\n```\n"
+                f"<!-- end of the counts -->\n{after}", PAGE)
+    by_name = {row.name: row for row in rows}
+    for name in ("starts", "exits with their codes", "evictions told as a fact"):
+        row = by_name[name]
+        expect(f"real evictions: {name}", (row.near, row.false), (row.real, 0))
 
 
 # --- the answers that a run keeps ---
