@@ -2,4 +2,5 @@ pub mod Usage
 pub mod Listings
 pub mod Piece
 pub mod Status
+pub mod Made
 pub mod Kept

@@ -1,5 +1,5 @@
 -- A pod, all that was handed to it, and its eviction.
-use Rattle.std.specs.Prelude.{ℕ, ◌-◌, Bool, true, false, List, [], ◌∷◌, ◌++◌, length, map, take, slice_get, nat_lt}
+use Rattle.std.specs.Prelude.{ℕ, zero, suc, ◌-◌, List, [], ◌∷◌, ◌++◌, length, map, take, slice_get, nat_lt}
 use Rattle.std.specs.Prelude.{Option, Some, None, option_map, if◌then◌else◌}
 use Rattle.manifest.specs.declared.pod.PodSpec.{PodSpec}
 use Rattle.pod_state.specs.Pods.{PodTick, pod_tick, HasEnded}
@@ -15,18 +15,21 @@ pub record Piece : Type 0 where
   pub max_restart_delay : ℕ
   -- every tick that was handed to it
   pub handed : List PodTick
-  -- the last of them is still to come into its status
-  pub is_pending : Bool
+  -- this many of the last of them are still to come into its status
+  pub waiting : ℕ
+  -- this many had come into it when its present round began
+  pub begun : ℕ
   pub eviction : Option EvictionRecord
 
 -- the piece of these fields, with its observations as ticks
-abbrev pub piece : ℕ → PodSpec → ℕ → List PodObs → Bool → Option EvictionRecord → Piece
-piece number pod max_restart_delay history is_pending eviction = record {
+abbrev pub piece : ℕ → PodSpec → ℕ → List PodObs → ℕ → ℕ → Option EvictionRecord → Piece
+piece number pod max_restart_delay history waiting begun eviction = record {
   number = number;
   pod = pod;
   max_restart_delay = max_restart_delay;
   handed = map pod_tick history;
-  is_pending = is_pending;
+  waiting = waiting;
+  begun = begun;
   eviction = eviction;
 }
 
@@ -42,14 +45,14 @@ before_last h = take (length h - 1) h
 abbrev pub last_of : List PodTick → Option PodTick
 last_of h = slice_get h (length h - 1)
 
--- the ticks of these that have come into a pod's status
-abbrev pub taken : Bool → List PodTick → List PodTick
-taken true handed = before_last handed
-taken false handed = handed
+-- the ticks of these that have come into a pod's status, where so many of the last are still to come
+abbrev pub taken : ℕ → List PodTick → List PodTick
+taken zero handed = handed
+taken (suc waiting) handed = take (length handed - suc waiting) handed
 
 -- the ticks that have come into the status of a piece
 abbrev pub ticks : Piece → List PodTick
-ticks p = taken p.is_pending p.handed
+ticks p = taken p.waiting p.handed
 
 -- the place of the tick that evicts a pod
 abbrev pub place_of : Option EvictionRecord → Option ℕ
@@ -70,15 +73,32 @@ Lives p = HasEnded p.pod (evicted_at p) (ticks p) → ⊥
 
 -- a pod that nothing was handed to
 abbrev pub new_piece : ℕ → PodSpec → ℕ → Piece
-new_piece number pod max_restart_delay = piece number pod max_restart_delay [] false None
+new_piece number pod max_restart_delay = piece number pod max_restart_delay [] 0 0 None
+
+-- where the round of a piece begins that is handed a tick: a new one, behind this many ticks, unless some wait
+abbrev pub begun_with : ℕ → ℕ → ℕ → ℕ
+begun_with zero handed begun = handed
+begun_with (suc waiting) handed begun = begun
 
 -- the piece once one tick more was handed to it
 abbrev pub with_tick : Piece → PodTick → Piece
-with_tick p tick = record p { handed = p.handed ++ tick ∷ []; is_pending = true }
+with_tick p tick = record p {
+  handed = p.handed ++ tick ∷ [];
+  waiting = suc p.waiting;
+  begun = begun_with p.waiting (length p.handed) p.begun;
+}
 
--- the piece once the tick that was handed to it has come into its status
+-- the piece once the next tick that was handed to it has come into its status
 abbrev pub updated : Piece → Piece
-updated p = record p { is_pending = false }
+updated p = record p { waiting = p.waiting - 1 }
+
+-- the piece once all have
+abbrev pub all_updated : Piece → Piece
+all_updated p = record p { waiting = 0 }
+
+-- the piece once its present round is over
+abbrev pub at_rest : Piece → Piece
+at_rest p = record p { begun = length (ticks p) }
 
 -- the piece once its last tick has evicted it
 abbrev pub with_eviction : Piece → EvictOrder → Piece

@@ -18,11 +18,13 @@
 #![tactic(auto)]
 
 mod listings;
+mod made;
 mod order;
 mod piece;
 mod status;
 mod usage;
 
+pub use made::MadeTick;
 pub use order::EvictOrder;
 pub use piece::{PodPiece, Refused};
 pub use pod_state::{ContainerStatus, PodEvent, PodEventKind};

@@ -1,16 +1,19 @@
 //! A pod with its history.
 
-ghost use Rattle.std.specs.Prelude.{◌≡◌, ◌↔◌, ◌^◌, ◌<◌, ◌≤◌, ℕ, [], length, map, take, Option, Some, None, false};
+ghost use Rattle.std.specs.Prelude.{◌≡◌, ◌↔◌, ◌<◌, ◌≤◌, ℕ, [], length, map, take, Option, Some, None};
 ghost use Rattle.std.specs.Prelude.{IsTrue, IfOk, IfErr, OnOk, OnErr};
+ghost use Rattle.quantity.specs.Duration.{end_of_time};
 ghost use Rattle.histories.specs.Histories.{last_moment};
 ghost use Rattle.pod_state.specs.Pods.{pod_tick};
 ghost use Rattle.pod_state.specs.States.{IsStateOf};
 ghost use Rattle.pod_piece.specs.Listings.{MayComeNext, IsNextTick};
 ghost use Rattle.pod_piece.specs.Piece.{Piece, ticks, Lives, new_piece, with_tick, updated, with_eviction};
-ghost use Rattle.pod_piece.specs.Piece.{with_number};
+ghost use Rattle.pod_piece.specs.Piece.{with_number, at_rest};
+ghost use Rattle.pod_piece.specs.Made.{round_length, AreEarlierEvents};
 ghost use Rattle.pod_piece.specs.Status.{IsStatusOf, AreLastEvents};
 
 use crate::listings::{are_acceptable, first_differs, follow};
+use crate::made::{MadeTick, add_tick};
 use crate::order::EvictOrder;
 use crate::status::{EffectiveRequests, PodStatus};
 use crate::usage::{newer_while, nothing};
@@ -24,6 +27,7 @@ use qos::qos_class;
 use state_diff::Differ;
 use std::alloc::{AllocError, Global};
 use std::marker::Model;
+use std::mem::replace;
 
 /// The eviction of a pod: the place of its tick in the pod's history, and the order.
 #[derive(Clone, Copy, Debug, PartialEq, Eq)]
@@ -40,11 +44,13 @@ struct Parts {
     pod: PodSpec,
     max_restart_delay: MaxRestartDelay,
     history: ChunkedList<PodObs>,
-    is_pending: bool,
+    waiting: usize,
+    begun: usize,
     eviction: Option<EvictionRecord>,
     differs: Vec<Differ>,
     state: PodState,
     status: PodStatus,
+    earlier: Vec<MadeTick>,
     events: Vec<PodEvent>,
 }
 
@@ -142,11 +148,13 @@ impl PodPiece {
             pod,
             max_restart_delay,
             history: ChunkedList::new(alloc),
-            is_pending: false,
+            waiting: 0,
+            begun: 0,
             eviction: None,
             differs,
             state,
             status,
+            earlier: Vec::new(alloc),
             events: Vec::new(alloc),
         };
         Ok(PodPiece {
@@ -163,9 +171,19 @@ impl PodPiece {
 
     /// Whether a tick was handed to it that has not come into its status yet.
     pub fn pending(&self) -> bool
-        ensures { result ≡ self.now.is_pending }
+        ensures { IsTrue result ↔ 0 < self.now.waiting }
     {
-        self.parts.is_pending
+        self.parts.waiting > 0
+    }
+
+    /// How many ticks have come into its status since its present round began. A round begins where a piece with no
+    /// tick waiting is handed one, and at `rest`.
+    pub fn round_length(&self) -> usize
+        ensures is { result ≡ round_length self.now }
+        ensures few { result ≤ end_of_time }
+    {
+        let parts = &*self.parts;
+        parts.history.len() - parts.waiting - parts.begun
     }
 
     /// The moment of the last update's tick, in seconds; none before the first.
@@ -173,17 +191,13 @@ impl PodPiece {
         ensures { result ≡ last_moment (ticks self.now) }
     {
         let parts = &*self.parts;
-        if parts.is_pending {
-            moment_before(&parts.history, parts.history.len() - 1)
-        } else {
-            moment_before(&parts.history, parts.history.len())
-        }
+        moment_before(&parts.history, parts.history.len() - parts.waiting)
     }
 
     /// Whether the observation has one entry for each container, each with a listing that may come
     /// after all earlier ones of its container.
     pub fn accepts(&self, observed: &PodObs) -> bool
-        requires { self.now.is_pending ≡ false }
+        requires { self.now.waiting ≡ 0 }
         ensures { IsTrue result ↔ MayComeNext self.now.pod self.now.handed observed.now.containers }
     {
         let parts = &*self.parts;
@@ -191,24 +205,26 @@ impl PodPiece {
             && are_acceptable(&parts.differs, observed)
     }
 
-    /// Hands it what a tick shows of the pod. An `Err` changes nothing.
+    /// Hands it what a tick shows of the pod, behind what was handed to it before. An `Err` changes nothing.
     pub fn hand(&mut self, observed: PodObs) -> Result<(), AllocError>
-        requires free { self.old.is_pending ≡ false }
-        requires next { IsNextTick self.old.pod self.old.handed (pod_tick observed) }
+        requires { IsNextTick self.old.pod self.old.handed (pod_tick observed) }
         ensures ok { OnOk result (self.new ≡ with_tick self.old (pod_tick observed)) }
         ensures err { OnErr result (self.new ≡ self.old) }
     {
         let parts = &mut *self.parts;
+        let handed = parts.history.len();
         parts.history.push(observed)?;
-        let last = parts.history.len() - 1;
-        follow(&mut parts.differs, parts.history.at(last));
-        parts.is_pending = true;
+        if parts.waiting == 0 {
+            parts.begun = handed;
+            parts.earlier.clear();
+        }
+        parts.waiting += 1;
         Ok(())
     }
 
-    /// Takes what was handed to it into its status. A refused growth of memory gives the piece back.
+    /// Takes the next tick that was handed to it into its status. A refused growth of memory gives the piece back.
     pub fn update(mut self) -> Result<PodPiece, Refused>
-        requires { IsTrue self.is_pending }
+        requires { 0 < self.waiting }
         ensures ok { IfOk result (λ piece. piece ≡ updated self) }
         ensures err { IfErr result (λ refused. refused.piece ≡ self) }
     {
@@ -218,32 +234,49 @@ impl PodPiece {
         }
     }
 
-    /// Takes what was handed to it into its status, in its place. An `Err` says that memory was refused, and changes
-    /// nothing, so it is still pending.
+    /// Takes the next tick that was handed to it into its status, in its place. An `Err` says that memory was refused,
+    /// and changes nothing, so it is still pending.
     pub fn update_in_place(&mut self) -> Result<(), AllocError>
-        requires { IsTrue self.old.is_pending }
+        requires { 0 < self.old.waiting }
         ensures ok { OnOk result (self.new ≡ updated self.old) }
         ensures err { OnErr result (self.new ≡ self.old) }
     {
         let parts = &mut *self.parts;
-        let last = parts.history.len() - 1;
-        let observed = parts.history.at(last);
+        let place = parts.history.len() - parts.waiting;
+        let goes_on = place > parts.begun;
+        if goes_on {
+            parts.earlier.try_reserve(1)?;
+        }
+        let observed = parts.history.at(place);
         let had_ended = parts.state.lifecycle().has_ended();
         let events = parts.state.take(parts.alloc, parts.pod.policy, observed)?;
+        follow(&mut parts.differs, observed);
         parts.status.usage = newer_while(!had_ended, parts.status.usage, observed.sampling());
         let is_evicted = parts.eviction.is_some();
         parts.state.show(is_evicted, &mut parts.status.containers);
         let lifecycle = parts.state.lifecycle();
         parts.status.phase = lifecycle.phase;
         parts.status.conditions = lifecycle.conditions;
-        parts.events = events;
-        parts.is_pending = false;
+        let before = replace(&mut parts.events, events);
+        if goes_on {
+            add_tick(&mut parts.earlier, parts.history.at(place - 1).at(), before);
+        }
+        parts.waiting -= 1;
         Ok(())
+    }
+
+    /// Its present round is over: the events of its ticks are `earlier_events` no longer. It takes no memory.
+    pub fn rest(&mut self)
+        ensures { self.new ≡ at_rest self.old }
+    {
+        let parts = &mut *self.parts;
+        parts.begun = parts.history.len() - parts.waiting;
+        parts.earlier.clear();
     }
 
     /// Evicts the pod by the tick that came last. It makes no event.
     pub fn evict(&mut self, order: EvictOrder)
-        requires free { self.old.is_pending ≡ false }
+        requires free { self.old.waiting ≡ 0 }
         requires lives { Lives self.old }
         requires last { last_moment self.old.handed ≡ Some order.at }
         ensures { self.new ≡ with_eviction self.old order }
@@ -273,6 +306,14 @@ impl PodPiece {
         ensures { IsStatusOf self.now result.now }
     {
         &self.parts.status
+    }
+
+    /// The events of the ticks that have come into its status since its present round began, but for those of the last
+    /// of them; a tick without events may be left out.
+    pub fn earlier_events(&self) -> &[MadeTick]
+        ensures { AreEarlierEvents self.now result.now }
+    {
+        &self.parts.earlier
     }
 
     /// The events of the last update.
