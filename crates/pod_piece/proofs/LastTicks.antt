@@ -1,10 +1,10 @@
 -- The last of some ticks, and those before it.
 use Rattle.std.proofs.Common.{◌≡◌, ◌∙◌, ℕ, suc, zero, ◌-◌, ◌<◌, ◌≤◌, List, [], ◌∷◌, ◌++◌}
-use Rattle.std.proofs.Common.{length, map, take, get_or, Option, Some, None, refl, ap, sym, subst, arith}
-use Rattle.std.specs.Prelude.{IsSomeAnd, option_map}
+use Rattle.std.proofs.Common.{length, map, take, get_or, Option, Some, None, refl, ap, sym, arith}
+use Rattle.std.specs.Prelude.{option_map}
 use Rattle.std.specs.Prelude.{slice_get}
-use Rattle.std.proofs.lemmas.List.{get_or-take, length-map, length-take-le, take-map, take_all}
-use Rattle.std.proofs.lemmas.Option.{slice_get-get_or, slice_get-map, slice_get_within}
+use Rattle.std.proofs.lemmas.List.{get_or-take, length-map, length-take-le, take_all}
+use Rattle.std.proofs.lemmas.Option.{slice_get-get_or, slice_get_within}
 use Rattle.std.proofs.Math.Seq.{take-append_seam, take-suc}
 use Rattle.histories.specs.Histories.{recorded, last_moment, moment_at}
 use Rattle.histories.proofs.Places.{length-more}
@@ -46,27 +46,6 @@ tick_at h m is = there (slice_get h (length h - 1)) refl (sym (moment_here h (le
     there (Some x) e at = let same : x.moment ≡ m = (let w : Some x.moment ≡ Some m = at in cc) in
         (x.entry, e ∙ ap (λ n. Some (recorded n x.entry)) same)
 
--- the observation that was handed last
-pub observed_last : (items : List PodObs) (n : ℕ) (observed : PodObs) → n ≡ length items → 0 < length items
-    → observed ≡ get_or items (n - 1) observed
-    → last_of (map pod_tick items) ≡ Some (pod_tick observed)
-observed_last items n observed long some is =
-    let k = length items - 1 in
-    let lt : k < length items = omega (arith, some) in
-    let here : observed ≡ get_or items k observed = is ∙ ap (λ m. get_or items (m - 1) observed) long in
-    ap (λ m. slice_get (map pod_tick items) (m - 1)) (length-map items pod_tick) ∙ slice_get-map pod_tick items k
-    ∙ ap (option_map pod_tick) (slice_get-get_or items k observed lt ∙ ap Some (sym here))
-
--- where something is known of the last tick, there is one
-pub some_last : (items : List PodObs) (Q : PodTick → Type 0) → IsSomeAnd (last_of (map pod_tick items)) Q
-    → 0 < length items
-some_last [] Q is = absurd is
-some_last (x ∷ xs) Q is = omega arith
-
-pub of_last : (h : List PodTick) (x : PodTick) (Q : PodTick → Type 0) → last_of h ≡ Some x → IsSomeAnd (last_of h) Q
-    → Q x
-of_last h x Q last is = subst (λ (o : Option PodTick). IsSomeAnd o Q) last is
-
 -- the last moment
 moment_of : (items : List PodObs) (i : ℕ) → moment_at (map pod_tick items) i ≡ option_map (λ (o : PodObs). o.at)
     (slice_get items i)
@@ -78,10 +57,6 @@ pub last_moment_of : (items : List PodObs) → last_moment (map pod_tick items) 
     (slice_get items (length items - 1))
 last_moment_of items = ap (λ m. moment_at (map pod_tick items) (m - 1)) (length-map items pod_tick)
     ∙ moment_of items (length items - 1)
-
-pub front_is : (items : List PodObs) → before_last (map pod_tick items) ≡ map pod_tick (take (length items - 1) items)
-front_is items = ap (λ m. take (m - 1) (map pod_tick items)) (length-map items pod_tick) ∙ take-map pod_tick
-    (length items - 1) items
 
 -- the moment before a place
 pub moment_taken : (items : List PodObs) (n : ℕ) (last : PodObs) → 0 < n → n ≤ length items
@@ -95,16 +70,3 @@ moment_taken items n last some within is =
     ∙ ap (λ m. option_map (λ (o : PodObs). o.at) (slice_get (take n items) (m - 1))) long
     ∙ ap (option_map (λ (o : PodObs). o.at)) (slice_get-get_or (take n items) (n - 1) last (omega (arith, long, some)))
     ∙ ap (λ (o : PodObs). Some o.at) (sym here))
-
--- what was pushed stands last
-pub pushed_last : (items : List PodObs) (observed : PodObs) (n : ℕ) (last : PodObs)
-    → n ≡ length (items ++ observed ∷ []) → last ≡ get_or (items ++ observed ∷ []) (n - 1) last → last ≡ observed
-pushed_last items observed n last long is =
-    let k = length items in
-    let e : n - 1 ≡ k = omega (arith, long, length-more items observed) in
-    let here : last ≡ get_or (items ++ observed ∷ []) k last = is ∙ ap (λ m. get_or (items ++ observed ∷ []) m last) e
-    in
-    let same : Some last ≡ Some observed =
-    ap Some here ∙ sym (slice_get-get_or (items ++ observed ∷ []) k last (omega (arith, length-more items observed)))
-    ∙ slice_get-new items observed in
-    cc

@@ -1,12 +1,13 @@
 -- What a piece keeps, from call to call.
-use Rattle.std.proofs.Common.{◌≡◌, ◌∙◌, ℕ, suc, ◌-◌, ◌<◌, ◌≤◌, Bool, true, false, List, [], ◌∷◌, ◌++◌}
-use Rattle.std.proofs.Common.{length, map, get_or, Option, Some, None, refl, ap, sym, subst, arith}
-use Rattle.std.specs.Prelude.{◌↔◌, IsTrue, IsSome, is_some, IfSome, IsSomeAnd, MatchOption, nat_lt}
+use Rattle.std.proofs.Common.{◌≡◌, ◌∙◌, inl, inr, ℕ, zero, suc, ◌+◌, ◌-◌, ◌<◌, ◌≤◌, Bool, true, false, List, [], ◌∷◌, ◌++◌}
+use Rattle.std.proofs.Common.{length, map, take, drop, get_or, Option, Some, None, refl, ap, sym, subst, arith}
+use Rattle.std.specs.Prelude.{◌↔◌, IsTrue, IsSome, is_some, IfSome, MatchOption, nat_lt, slice_get}
 use Rattle.std.specs.Prelude.{if◌then◌else◌}
-use Rattle.std.proofs.lemmas.Bool.{lt-ltb, ltb-true}
-use Rattle.std.proofs.lemmas.List.{map-append}
+use Rattle.std.proofs.lemmas.Bool.{lt-ltb, ltb-true, cases_lt}
+use Rattle.std.proofs.lemmas.List.{map-append, length-map, drop_all}
 use Rattle.histories.specs.Histories.{recorded, last_moment}
 use Rattle.histories.proofs.Places.{length-more}
+use Rattle.histories.proofs.Lists.{given_at}
 use Rattle.manifest.specs.declared.pod.PodSpec.{PodSpec}
 use Rattle.observations.specs.Pods.{PodObs}
 use Rattle.state_diff.specs.declared.differ.Differ.{Differ}
@@ -20,15 +21,20 @@ use Rattle.pod_state.specs.States.{before_of, HasContainers, IsStateOf}
 use Rattle.pod_state.proofs.EndLemmas.{end_old, ended_is, IsEnd-unique}
 use Rattle.pod_piece.specs.declared.order.EvictOrder.{EvictOrder}
 use Rattle.pod_piece.specs.declared.piece.EvictionRecord.{EvictionRecord}
+use Rattle.pod_piece.specs.declared.made.MadeTick.{MadeTick}
 use Rattle.pod_piece.specs.declared.piece.Parts.{Parts}
 use Rattle.pod_piece.specs.declared.status.PodStatus.{PodStatus}
 use Rattle.pod_piece.specs.Listings.{IsNextTick, AreListed}
-use Rattle.pod_piece.specs.Piece.{Piece, piece, before_last, last_of, taken, ticks, place_of, evicted_at, Lives}
-use Rattle.pod_piece.specs.Piece.{with_number}
+use Rattle.pod_piece.specs.Piece.{Piece, piece, before_last, last_of, ticks, place_of, evicted_at, Lives}
+use Rattle.pod_piece.specs.Piece.{with_number, at_rest, begun_with}
 use Rattle.pod_piece.specs.Piece.{evicted_before, new_piece, with_tick, updated, with_eviction}
 use Rattle.pod_piece.specs.Status.{IsStatusAfter, IsStatusOf, AreEventsAfter}
+use Rattle.pod_piece.specs.Made.{MadeEvent, made_at, made_of, AreMadeOver, round_of}
 use Rattle.pod_piece.specs.Kept.{MayBe, EndsAt, IsStateAfter, IsKept, AreKept, piece_of}
-use Rattle.pod_piece.proofs.LastTicks.{front_more, last_more, split_last, observed_last, some_last, of_last, tick_at}
+use Rattle.pod_piece.proofs.LastTicks.{front_more, last_more, split_last, tick_at}
+use Rattle.pod_piece.proofs.Waiting.{taken_is, taken_length, taken_next, taken_handed, ticks_free, next_is}
+use Rattle.pod_piece.proofs.Waiting.{none_spread, spread_more, wait_more, wait_less, observed_at}
+use Rattle.pod_piece.proofs.Rounds.{events_last, earlier_more, earlier_evicted, made_round, no_round, none_made}
 
 -- the eviction that is still to come, or was
 pub may_self : (o : Option ℕ) (n : ℕ) → MayBe o n o
@@ -106,10 +112,8 @@ pub events_evicted : (pod : PodSpec) (max_restart_delay : ℕ) (h : List PodTick
     → AreEventsAfter pod max_restart_delay None (h ++ x ∷ []) events
     → AreEventsAfter pod max_restart_delay (Some (length h)) (h ++ x ∷ []) events
 events_evicted pod max_restart_delay h x events are =
-    let P : List PodTick → Option PodTick → Type 0 = λ k o. MatchOption o (events ≡ [])
-    (λ tick. AreEventsOf pod max_restart_delay None k tick events) in
-    let made : AreEventsOf pod max_restart_delay None h x events = subst (λ (o : Option PodTick). P h o) (last_more h x)
-    (subst (λ (k : List PodTick). P k (last_of (h ++ x ∷ []))) (front_more h x) are) in
+    let made : AreEventsOf pod max_restart_delay None h x events =
+    events_last pod max_restart_delay None h x events are in
     events_after pod max_restart_delay (Some (length h)) h x events
     (subst (λ (o : Option ℕ). AreEventsOf pod max_restart_delay o h x events)
     (sym (not_before (length h) (nat_lt (length h) (length h)) refl)) made)
@@ -120,51 +124,95 @@ pub kept_new : (number : ℕ) (pod : PodSpec) (max_restart_delay : ℕ) (differs
     → ((e : Option ℕ) → IsStateOf pod max_restart_delay e [] state)
     → ((e : Option ℕ) → IsProgressOf pod e [] (before_of state))
     → IsStatusOf (new_piece number pod max_restart_delay) status
-    → IsKept (new_piece number pod max_restart_delay) differs state status []
+    → IsKept (new_piece number pod max_restart_delay) differs state status [] []
 kept_new number pod max_restart_delay differs state status listed is was shown = record {
+  within = omega arith;
+  begun = omega arith;
+  spread = none_spread;
   listed = listed;
-  next = λ t. absurd (let w : false ≡ true = t in cc);
+  next = λ place tick above at. absurd (cc);
   after = record { ended = tt; now = λ e may. is e; before = λ none e may. was e };
   shown = shown;
+  made_earlier = refl;
   made = refl;
 }
 
-pub taken_free : (b : Bool) (h : List PodTick) → b ≡ false → taken b h ≡ h
-taken_free false h e = refl
-taken_free true h e = absurd (let w : true ≡ false = e in cc)
+-- where the round begins of a piece that is handed one more
+begun_within : (waiting handed begun most : ℕ) → (waiting ≡ 0 → handed ≤ most) → begun ≤ most
+    → begun_with waiting handed begun ≤ most
+begun_within zero handed begun most all le = all refl
+begun_within (suc waiting) handed begun most all le = le
 
-taken_pending : (b : Bool) (h : List PodTick) → IsTrue b → taken b h ≡ before_last h
-taken_pending true h t = refl
-taken_pending false h t = absurd (let w : false ≡ true = t in cc)
+earlier_with : (waiting handed begun : ℕ) (pod : PodSpec) (max_restart_delay : ℕ) (evicted : Option ℕ)
+    (h : List PodTick) (old new : List MadeTick) → (waiting ≡ 0 → length h ≤ handed) → (waiting ≡ 0 → new ≡ [])
+    → ((waiting ≡ 0 → ⊥) → new ≡ old)
+    → AreMadeOver pod max_restart_delay evicted (take begun h) (before_last (drop begun h)) (made_of old)
+    → AreMadeOver pod max_restart_delay evicted (take (begun_with waiting handed begun) h)
+    (before_last (drop (begun_with waiting handed begun) h)) (made_of new)
+earlier_with zero handed begun pod max_restart_delay evicted h old new past fresh same earlier =
+    subst (λ (k : List PodTick). AreMadeOver pod max_restart_delay evicted (take handed h) (before_last k)
+    (made_of new)) (sym (drop_all handed h (past refl))) (ap made_of (fresh refl))
+earlier_with (suc waiting) handed begun pod max_restart_delay evicted h old new past fresh same earlier =
+    subst (λ (rows : List MadeTick). AreMadeOver pod max_restart_delay evicted (take begun h)
+    (before_last (drop begun h)) (made_of rows)) (sym (same (λ e. absurd (omega (arith, e))))) earlier
 
 -- one that a tick is handed to
-pub kept_handed : (p : Piece) (tick : PodTick) (old new : List Differ) (state : PodState) (status : PodStatus)
-    (events : List PodEvent) → p.is_pending ≡ false
-    → IsNextTick p.pod p.handed tick → AreListed p.pod (p.handed ++ tick ∷ []) new → IsKept p old state status events
-    → IsKept (with_tick p tick) new state status events
-kept_handed p tick old new state status events free next listed kept =
-    let front : before_last (p.handed ++ tick ∷ []) ≡ p.handed = front_more p.handed tick in
-    let same : ticks p ≡ before_last (p.handed ++ tick ∷ []) = taken_free p.is_pending p.handed free ∙ sym front in
+pub kept_handed : (p : Piece) (tick : PodTick) (differs : List Differ) (state : PodState) (status : PodStatus)
+    (old new : List MadeTick) (events : List PodEvent) → IsNextTick p.pod p.handed tick
+    → (p.waiting ≡ 0 → new ≡ []) → ((p.waiting ≡ 0 → ⊥) → new ≡ old) → IsKept p differs state status old events
+    → IsKept (with_tick p tick) differs state status new events
+kept_handed p tick differs state status old new events next fresh unchanged kept =
+    let same : ticks p ≡ ticks (with_tick p tick) = sym (taken_handed p.waiting p.handed tick) in
+    let long = taken_length p.waiting p.handed in
+    let here : begun_with p.waiting (length p.handed) p.begun ≤ length (ticks p) =
+    begun_within p.waiting (length p.handed) p.begun (length (ticks p)) (λ none. omega (arith, long, none)) kept.begun in
+    let earlier = earlier_with p.waiting (length p.handed) p.begun p.pod p.max_restart_delay (evicted_at p) (ticks p)
+    old new (λ none. omega (arith, long, none)) fresh unchanged kept.made_earlier in
+    let begun = begun_with p.waiting (length p.handed) p.begun in
     record {
-      listed = listed;
-      next = λ t. subst (λ (o : Option PodTick). IsSomeAnd o (IsNextTick p.pod (before_last (p.handed ++ tick ∷ []))))
-          (sym (last_more p.handed tick))
-          (subst (λ (h : List PodTick). IsNextTick p.pod h tick) (sym front) next);
+      within = omega (arith, kept.within, length-more p.handed tick);
+      begun = omega (arith, here, ap length same);
+      spread = spread_more p.handed tick kept.spread next.later next.bounded;
+      listed = subst (λ (h : List PodTick). AreListed p.pod h differs) same kept.listed;
+      next = wait_more p tick kept.next next;
       after = subst
           (λ (h : List PodTick). IsStateAfter p.pod p.max_restart_delay (evicted_at p) h state) same kept.after;
       shown = subst (λ (h : List PodTick). IsStatusAfter p.number p.pod p.eviction h status) same kept.shown;
+      made_earlier = subst (λ (h : List PodTick). AreMadeOver p.pod p.max_restart_delay (evicted_at p) (take begun h)
+          (before_last (drop begun h)) (made_of new)) same earlier;
       made = subst
           (λ (h : List PodTick). AreEventsAfter p.pod p.max_restart_delay (evicted_at p) h events) same kept.made;
     }
+
+-- one whose round is over
+pub kept_at_rest : (p : Piece) (differs : List Differ) (state : PodState) (status : PodStatus)
+    (earlier : List MadeTick) (events : List PodEvent) → IsKept p differs state status earlier events
+    → IsKept (at_rest p) differs state status [] events
+kept_at_rest p differs state status earlier events kept = record {
+  within = kept.within;
+  begun = omega arith;
+  spread = kept.spread;
+  listed = kept.listed;
+  next = kept.next;
+  after = kept.after;
+  shown = kept.shown;
+  made_earlier = subst (λ (k : List PodTick). AreMadeOver p.pod p.max_restart_delay (evicted_at p)
+      (take (length (ticks p)) (ticks p)) (before_last k) []) (sym (drop_all (length (ticks p)) (ticks p) (omega arith)))
+      refl;
+  made = kept.made;
+}
 
 abbrev numbered : PodStatus → ℕ → PodStatus
 numbered status n = record status { number = n }
 
 -- one that has another number
 pub kept_numbered : (p : Piece) (n : ℕ) (differs : List Differ) (state : PodState) (status : PodStatus)
-    (events : List PodEvent) → IsKept p differs state status events
-    → IsKept (with_number p n) differs state (numbered status n) events
-kept_numbered p n differs state status events kept = record {
+    (earlier : List MadeTick) (events : List PodEvent) → IsKept p differs state status earlier events
+    → IsKept (with_number p n) differs state (numbered status n) earlier events
+kept_numbered p n differs state status earlier events kept = record {
+  within = kept.within;
+  begun = kept.begun;
+  spread = kept.spread;
   listed = kept.listed;
   next = kept.next;
   after = kept.after;
@@ -178,6 +226,7 @@ kept_numbered p n differs state status events kept = record {
     priority = kept.shown.priority;
     order = kept.shown.order;
   };
+  made_earlier = kept.made_earlier;
   made = kept.made;
 }
 
@@ -197,47 +246,99 @@ pub has_containers : (pod : PodSpec) (max_restart_delay : ℕ) (e : Option ℕ) 
     → IsStateOf pod max_restart_delay e h state → HasContainers (length pod.containers) state
 has_containers pod max_restart_delay e h state is = sym is.containers.kept.as_many
 
--- one whose pending tick has come into its status
-pub kept_updated : (p : Piece) (x : PodTick) (differs : List Differ) (old new : PodState) (before after : PodStatus)
-    (olds news : List PodEvent) → IsTrue p.is_pending → last_of p.handed ≡ Some x
-    → IsKept p differs old before olds
-    → ((e : Option ℕ) → (e ≡ Some (length (before_last p.handed)) → ⊥)
-    → IsStateOf p.pod p.max_restart_delay e (before_last p.handed) old
-    → IsStateOf p.pod p.max_restart_delay e (before_last p.handed ++ x ∷ []) new)
-    → ((e : Option ℕ) → IsStateOf p.pod p.max_restart_delay e (before_last p.handed) old
-    → IsProgressOf p.pod e (before_last p.handed) (before_of new))
-    → ((e : Option ℕ) → (e ≡ Some (length (before_last p.handed)) → ⊥)
-    → IsStateOf p.pod p.max_restart_delay e (before_last p.handed) old
-    → AreEventsOf p.pod p.max_restart_delay e (before_last p.handed) x news)
-    → (IsStatusAfter p.number p.pod p.eviction (before_last p.handed) before
-    → IsStateAfter p.pod p.max_restart_delay (evicted_at p) (before_last p.handed) old
-    → IsStateAfter p.pod p.max_restart_delay (evicted_at p) (before_last p.handed ++ x ∷ []) new
-    → IsStatusAfter p.number p.pod p.eviction (before_last p.handed ++ x ∷ []) after)
-    → IsKept (updated p) differs new after news
-kept_updated p x differs old new before after olds news pending last kept step was made shown =
-    let h = before_last p.handed in
-    let whole : p.handed ≡ h ++ x ∷ [] = split_last p.handed x last in
-    let same : ticks p ≡ h = taken_pending p.is_pending p.handed pending in
-    let after_h =
-    subst (λ (k : List PodTick). IsStateAfter p.pod p.max_restart_delay (evicted_at p) k old) same kept.after in
-    let shown_h = subst (λ (k : List PodTick). IsStatusAfter p.number p.pod p.eviction k before) same kept.shown in
-    let state = state_more p.pod p.max_restart_delay (evicted_at p) h x old new after_h step was in
-    let within = ends_within p.pod h (evicted_at p) after_h.ended in
+-- one whose next tick has come into its status
+pub kept_updated : (p : Piece) (x : PodTick) (listed differs : List Differ) (old new : PodState)
+    (before after : PodStatus) (rows nows : List MadeTick) (olds news : List PodEvent) → 0 < p.waiting
+    → slice_get p.handed (length p.handed - p.waiting) ≡ Some x
+    → IsKept p listed old before rows olds
+    → AreListed p.pod (ticks p ++ x ∷ []) differs
+    → ((e : Option ℕ) → (e ≡ Some (length (ticks p)) → ⊥) → IsStateOf p.pod p.max_restart_delay e (ticks p) old
+    → IsStateOf p.pod p.max_restart_delay e (ticks p ++ x ∷ []) new)
+    → ((e : Option ℕ) → IsStateOf p.pod p.max_restart_delay e (ticks p) old
+    → IsProgressOf p.pod e (ticks p) (before_of new))
+    → ((e : Option ℕ) → (e ≡ Some (length (ticks p)) → ⊥) → IsStateOf p.pod p.max_restart_delay e (ticks p) old
+    → AreEventsOf p.pod p.max_restart_delay e (ticks p) x news)
+    → (IsStatusAfter p.number p.pod p.eviction (ticks p) before
+    → IsStateAfter p.pod p.max_restart_delay (evicted_at p) (ticks p) old
+    → IsStateAfter p.pod p.max_restart_delay (evicted_at p) (ticks p ++ x ∷ []) new
+    → IsStatusAfter p.number p.pod p.eviction (ticks p ++ x ∷ []) after)
+    → AreMadeOver p.pod p.max_restart_delay (evicted_at p) (take p.begun (ticks p)) (round_of p) (made_of nows)
+    → IsKept (updated p) differs new after nows news
+kept_updated p x listed differs old new before after rows nows olds news pending next kept lists step was made shown
+    over =
+    let h = ticks p in
+    let whole : ticks (updated p) ≡ h ++ x ∷ [] = taken_next p.waiting p.handed x pending kept.within next in
+    let state = state_more p.pod p.max_restart_delay (evicted_at p) h x old new kept.after step was in
+    let within = ends_within p.pod h (evicted_at p) kept.after.ended in
     let here = made (evicted_at p) (not_now (evicted_at p) (length h) (suc (length h)) (evicted_at p) (omega arith)
     within (may_self (evicted_at p) (suc (length h))))
-    (after_h.now (evicted_at p) (may_self (evicted_at p) (length h))) in
+    (kept.after.now (evicted_at p) (may_self (evicted_at p) (length h))) in
     record {
-      listed = kept.listed;
-      next = λ t. absurd (let w : false ≡ true = t in cc);
+      within = omega (arith, kept.within);
+      begun = omega (arith, kept.begun, ap length whole, length-more h x);
+      spread = kept.spread;
+      listed = subst (λ (k : List PodTick). AreListed p.pod k differs) (sym whole) lists;
+      next = wait_less p kept.next;
       after = subst (λ (k : List PodTick). IsStateAfter p.pod p.max_restart_delay (evicted_at p) k new)
           (sym whole) state;
       shown = subst (λ (k : List PodTick). IsStatusAfter p.number p.pod p.eviction k after) (sym whole)
-          (shown shown_h after_h state);
+          (shown kept.shown kept.after state);
+      made_earlier = subst (λ (k : List PodTick). AreMadeOver p.pod p.max_restart_delay (evicted_at p) (take p.begun k)
+          (before_last (drop p.begun k)) (made_of nows)) (sym whole)
+          (earlier_more p.pod p.max_restart_delay (evicted_at p) p.begun h x (made_of nows) kept.begun over);
       made = subst (λ (k : List PodTick). AreEventsAfter p.pod p.max_restart_delay (evicted_at p) k news) (sym whole)
           (events_after p.pod p.max_restart_delay (evicted_at p) h x news
           (subst (λ (o : Option ℕ). AreEventsOf p.pod p.max_restart_delay o h x news)
           (sym (before_is (evicted_at p) (length h) within)) here));
     }
+
+-- the events of a round that goes on, or begins
+pub moved_on : (parts : Parts) (place : ℕ) (nows : List MadeTick) → AreKept parts
+    → length (ticks (piece_of parts)) ≡ place
+    → (nat_lt parts.begun place ≡ true → (last : PodObs) → slice_get parts.history (place - 1) ≡ Some last
+    → made_of nows ≡ made_of parts.earlier.items ++ made_at last.at parts.events.items)
+    → (nat_lt parts.begun place ≡ false → nows ≡ parts.earlier.items)
+    → AreMadeOver parts.pod parts.max_restart_delay (place_of parts.eviction)
+    (take parts.begun (ticks (piece_of parts))) (round_of (piece_of parts)) (made_of nows)
+moved_on parts place nows kept long moved same = by (nat_lt parts.begun place) refl
+  where
+    h : List PodTick
+    h = ticks (piece_of parts)
+
+    goal : List MadeTick → Type 0
+    goal rows = AreMadeOver parts.pod parts.max_restart_delay (place_of parts.eviction) (take parts.begun h)
+        (drop parts.begun h) (made_of rows)
+
+    by : (b : Bool) → nat_lt parts.begun place ≡ b → goal nows
+    by false e =
+        let past : length h ≤ parts.begun = elim (cases_lt parts.begun place) [
+          | inl lt ↦ absurd (let w : true ≡ false = sym (lt-ltb parts.begun place lt) ∙ e in cc)
+          | inr le ↦ omega (arith, long, le)
+        ] in
+        let none = no_round parts.pod parts.max_restart_delay (place_of parts.eviction) parts.begun h
+        (made_of parts.earlier.items) past kept.made_earlier in
+        none_made parts.pod parts.max_restart_delay (place_of parts.eviction) parts.begun h (made_of nows) past
+        (ap made_of (same e) ∙ none)
+    by true e =
+        let lt : parts.begun < place = ltb-true parts.begun place e in
+        let y = given_at h (length h - 1) (omega (arith, long, lt)) in
+        let whole : h ≡ before_last h ++ y.0 ∷ [] = split_last h y.0 y.1 in
+        let last = observed_at parts.history parts.waiting (place - 1) y.0
+        (subst (λ n. slice_get h n ≡ Some y.0) (omega (arith, long)) y.1) in
+        let joined = made_round parts.pod parts.max_restart_delay (place_of parts.eviction) parts.begun (before_last h)
+        y.0 (made_of parts.earlier.items) parts.events.items
+        (omega (arith, long, lt, ap length whole, length-more (before_last h) y.0))
+        (subst (λ (k : List PodTick). AreMadeOver parts.pod parts.max_restart_delay (place_of parts.eviction)
+        (take parts.begun k) (before_last (drop parts.begun k)) (made_of parts.earlier.items)) whole kept.made_earlier)
+        (subst (λ (k : List PodTick). AreEventsAfter parts.pod parts.max_restart_delay (place_of parts.eviction) k
+        parts.events.items) whole kept.made) in
+        let back = subst (λ (k : List PodTick). AreMadeOver parts.pod parts.max_restart_delay (place_of parts.eviction)
+        (take parts.begun k) (drop parts.begun k)
+        (made_of parts.earlier.items ++ made_at (y.0).moment parts.events.items)) (sym whole) joined in
+        subst (λ (m : List MadeEvent). AreMadeOver parts.pod parts.max_restart_delay (place_of parts.eviction)
+        (take parts.begun h) (drop parts.begun h) m)
+        (ap (λ (x : PodTick). made_of parts.earlier.items ++ made_at x.moment parts.events.items) (sym last.2)
+        ∙ sym (moved e last.0 last.1)) back
 
 -- the end of a pod that was evicted
 pub end_is : (pod : PodSpec) (h : List PodTick) (o end : Option ℕ) → IfSome o (EndsAt pod h) → IsEnd pod o h end
@@ -267,25 +368,17 @@ pub goes_on : (pod : PodSpec) (max_restart_delay : ℕ) (e : Option ℕ) (h : Li
 goes_on pod max_restart_delay e h state is lives ended =
     lives ((ended_is pod e h state.lifecycle.phase is.progress.so_far.phase).0 ended)
 
--- the counters of a piece, while a tick is pending and while none is
-pub state_pending : (p : Piece) (differs : List Differ) (state : PodState) (status : PodStatus)
-    (events : List PodEvent) → IsTrue p.is_pending → IsKept p differs state status events
-    → IsStateAfter p.pod p.max_restart_delay (evicted_at p) (before_last p.handed) state
-state_pending p differs state status events pending kept =
-    subst (λ (k : List PodTick). IsStateAfter p.pod p.max_restart_delay (evicted_at p) k state)
-    (taken_pending p.is_pending p.handed pending) kept.after
-
-pub state_free : (p : Piece) (differs : List Differ) (state : PodState) (status : PodStatus) (events : List PodEvent)
-    → p.is_pending ≡ false → IsKept p differs state status events
+-- the counters of a piece with none that waits
+pub state_free : (p : Piece) (differs : List Differ) (state : PodState) (status : PodStatus) (earlier : List MadeTick)
+    (events : List PodEvent) → p.waiting ≡ 0 → IsKept p differs state status earlier events
     → IsStateAfter p.pod p.max_restart_delay (evicted_at p) p.handed state
-state_free p differs state status events free kept =
+state_free p differs state status earlier events free kept =
     subst (λ (k : List PodTick). IsStateAfter p.pod p.max_restart_delay (evicted_at p) k state)
-    (taken_free p.is_pending p.handed free) kept.after
+    (ticks_free p free) kept.after
 
-pub lives_free : (p : Piece) → p.is_pending ≡ false → Lives p → HasEnded p.pod (evicted_at p) p.handed → ⊥
+pub lives_free : (p : Piece) → p.waiting ≡ 0 → Lives p → HasEnded p.pod (evicted_at p) p.handed → ⊥
 lives_free p free lives ended =
-    lives (subst (λ (k : List PodTick). HasEnded p.pod (evicted_at p) k) (sym (taken_free p.is_pending p.handed free))
-    ended)
+    lives (subst (λ (k : List PodTick). HasEnded p.pod (evicted_at p) k) (sym (ticks_free p free)) ended)
 
 -- what an eviction by the last tick starts from: the ticks with the last one, the pod not evicted so far
 record IsEvictable (p : Piece) (x : PodTick) (old : PodState) : Type 0 where
@@ -298,12 +391,12 @@ record IsEvictable (p : Piece) (x : PodTick) (old : PodState) : Type 0 where
   pub lives : HasEnded p.pod None (before_last p.handed ++ x ∷ []) → ⊥
 
 evictable : (p : Piece) (x : PodTick) (differs : List Differ) (old : PodState) (status : PodStatus)
-    (events : List PodEvent) → p.is_pending ≡ false → Lives p → last_of p.handed ≡ Some x
-    → IsKept p differs old status events → IsEvictable p x old
-evictable p x differs old status events free lives last kept =
+    (earlier : List MadeTick) (events : List PodEvent) → p.waiting ≡ 0 → Lives p → last_of p.handed ≡ Some x
+    → IsKept p differs old status earlier events → IsEvictable p x old
+evictable p x differs old status earlier events free lives last kept =
     let h = before_last p.handed in
     let k = h ++ x ∷ [] in
-    let same : ticks p ≡ k = taken_free p.is_pending p.handed free ∙ split_last p.handed x last in
+    let same : ticks p ≡ k = ticks_free p free ∙ split_last p.handed x last in
     let front : before_last k ≡ h = front_more h x in
     let no_place : evicted_at p ≡ None = not_evicted p.pod (ticks p) (evicted_at p) kept.after.ended lives in
     let state_k : IsStateAfter p.pod p.max_restart_delay None k old =
@@ -324,21 +417,21 @@ evictable p x differs old status events free lives last kept =
     }
 
 pub evicted_state : (p : Piece) (x : PodTick) (differs : List Differ) (old new : PodState) (status : PodStatus)
-    (events : List PodEvent) → p.is_pending ≡ false → Lives p → last_of p.handed ≡ Some x
-    → IsKept p differs old status events
+    (earlier : List MadeTick) (events : List PodEvent) → p.waiting ≡ 0 → Lives p → last_of p.handed ≡ Some x
+    → IsKept p differs old status earlier events
     → (IsLifecycleOf p.pod None (before_last p.handed) (before_of old)
     → IsProgressOf p.pod (Some (length (before_last p.handed))) (before_last p.handed) (before_of old)
     → IsStateOf p.pod p.max_restart_delay None (before_last p.handed ++ x ∷ []) old
     → IsStateOf p.pod p.max_restart_delay (Some (length (before_last p.handed))) (before_last p.handed ++ x ∷ []) new)
     → IsStateOf p.pod p.max_restart_delay (Some (length (before_last p.handed))) (before_last p.handed ++ x ∷ []) new
-evicted_state p x differs old new status events free lives last kept evict =
-    let from = evictable p x differs old status events free lives last kept in
+evicted_state p x differs old new status earlier events free lives last kept evict =
+    let from = evictable p x differs old status earlier events free lives last kept in
     evict from.lifecycle from.progress from.now
 
 -- one that its last tick evicts
 pub kept_evicted : (p : Piece) (x : PodTick) (order : EvictOrder) (differs : List Differ) (old new : PodState)
-    (before after : PodStatus) (events : List PodEvent) → p.is_pending ≡ false → Lives p
-    → last_of p.handed ≡ Some x → IsKept p differs old before events
+    (before after : PodStatus) (earlier : List MadeTick) (events : List PodEvent) → p.waiting ≡ 0 → Lives p
+    → last_of p.handed ≡ Some x → IsKept p differs old before earlier events
     → (IsLifecycleOf p.pod None (before_last p.handed) (before_of old)
     → IsProgressOf p.pod (Some (length (before_last p.handed))) (before_last p.handed) (before_of old)
     → IsStateOf p.pod p.max_restart_delay None (before_last p.handed ++ x ∷ []) old
@@ -352,11 +445,11 @@ pub kept_evicted : (p : Piece) (x : PodTick) (order : EvictOrder) (differs : Lis
     (Some (length (before_last p.handed)))
     → IsStatusAfter p.number p.pod (Some (record { place = length (before_last p.handed); order = order }))
     (before_last p.handed ++ x ∷ []) after)
-    → IsKept (with_eviction p order) differs new after events
-kept_evicted p x order differs old new before after events free lives last kept evict shown =
+    → IsKept (with_eviction p order) differs new after earlier events
+kept_evicted p x order differs old new before after earlier events free lives last kept evict shown =
     let h = before_last p.handed in
     let k = h ++ x ∷ [] in
-    let from = evictable p x differs old before events free lives last kept in
+    let from = evictable p x differs old before earlier events free lives last kept in
     let is_place : length p.handed - 1 ≡ length h =
     omega (arith, ap length (split_last p.handed x last), length-more h x) in
     let both = evict from.lifecycle from.progress from.now in
@@ -373,9 +466,16 @@ kept_evicted p x order differs old new before after events free lives last kept 
       now = λ e may. subst (λ (o : Option ℕ). IsStateOf p.pod p.max_restart_delay o k new) (sym may) both.0;
       before = λ never. absurd (let w : Some (length h) ≡ None = never in cc);
     } in
+    let Made : Option ℕ → List PodTick → Type 0 = λ o t. AreMadeOver p.pod p.max_restart_delay o (take p.begun t)
+    (before_last (drop p.begun t)) (made_of earlier) in
+    let earlier_k : Made None k = subst (λ (o : Option ℕ). Made o k) from.no_place
+    (subst (λ (t : List PodTick). Made (evicted_at p) t) from.same kept.made_earlier) in
     record {
+      within = kept.within;
+      begun = kept.begun;
+      spread = kept.spread;
       listed = kept.listed;
-      next = λ t. absurd (not_free p.is_pending free t);
+      next = kept.next;
       after = subst (λ (t : List PodTick). IsStateAfter p.pod p.max_restart_delay (Some (length p.handed - 1)) t new)
           (sym from.same)
           (subst (λ (n : ℕ). IsStateAfter p.pod p.max_restart_delay (Some n) k new) (sym is_place) state');
@@ -384,16 +484,16 @@ kept_evicted p x order differs old new before after events free lives last kept 
           (subst (λ (n : ℕ). IsStatusAfter p.number p.pod (Some (record { place = n; order = order })) k after)
           (sym is_place)
           (shown status_k (still_lives p.pod None k phase.0 from.lives phase.1) both.0 both.1));
+      made_earlier = subst (λ (t : List PodTick). Made (Some (length p.handed - 1)) t) (sym from.same)
+          (subst (λ (n : ℕ). Made (Some n) k) (sym is_place)
+          (earlier_evicted p.pod p.max_restart_delay p.begun h x (made_of earlier)
+          (omega (arith, kept.begun, ap length from.same)) earlier_k));
       made = subst
           (λ (t : List PodTick). AreEventsAfter p.pod p.max_restart_delay (Some (length p.handed - 1)) t events)
           (sym from.same)
           (subst (λ (n : ℕ). AreEventsAfter p.pod p.max_restart_delay (Some n) k events) (sym is_place)
           (events_evicted p.pod p.max_restart_delay h x events made_k));
     }
-  where
-    not_free : (b : Bool) → b ≡ false → IsTrue b → ⊥
-    not_free false e t = let w : false ≡ true = t in absurd (cc)
-    not_free true e t = let w : true ≡ false = e in absurd (cc)
 
 -- whether there is an eviction
 pub flag_says : (o : Option EvictionRecord) (b : Bool) → b ≡ is_some o → (IsTrue b ↔ IsSome (place_of o))
@@ -401,60 +501,75 @@ flag_says None b e = ((λ t. sym e ∙ t), (λ w. e ∙ w))
 flag_says (Some eviction) b e = ((λ t. refl), (λ w. e))
 
 -- a piece that one more observation is handed to
-pub piece_handed : (number : ℕ) (pod : PodSpec) (max_restart_delay : ℕ) (items : List PodObs) (was_pending : Bool)
-    (eviction : Option EvictionRecord) (observed : PodObs)
-    → piece number pod max_restart_delay (items ++ observed ∷ []) true eviction ≡ with_tick
-    (piece number pod max_restart_delay items was_pending eviction) (pod_tick observed)
-piece_handed number pod max_restart_delay items was_pending eviction observed =
-    let old = piece number pod max_restart_delay items was_pending eviction in
-    ap (λ (h : List PodTick). record old { handed = h; is_pending = true }) (map-append pod_tick items (observed ∷ []))
+pub piece_handed : (number : ℕ) (pod : PodSpec) (max_restart_delay : ℕ) (items : List PodObs) (waiting begun now : ℕ)
+    (eviction : Option EvictionRecord) (observed : PodObs) → now ≡ begun_with waiting (length items) begun
+    → piece number pod max_restart_delay (items ++ observed ∷ []) (waiting + 1) now eviction
+    ≡ with_tick (piece number pod max_restart_delay items waiting begun eviction) (pod_tick observed)
+piece_handed number pod max_restart_delay items waiting begun now eviction observed is =
+    let old = piece number pod max_restart_delay items waiting begun eviction in
+    let h = map pod_tick items ++ pod_tick observed ∷ [] in
+    let count : waiting + 1 ≡ suc waiting = omega arith in
+    ap (λ (k : List PodTick). record old { handed = k; waiting = waiting + 1; begun = now })
+    (map-append pod_tick items (observed ∷ []))
+    ∙ ap (λ (w : ℕ). record old { handed = h; waiting = w; begun = now }) count
+    ∙ ap (λ (n : ℕ). record old { handed = h; waiting = suc waiting; begun = n })
+    (is ∙ ap (λ n. begun_with waiting n begun) (sym (length-map items pod_tick)))
 
--- what is known of the parts of a piece whose tick is pending, as its owner sees it
-pub record IsAtLast (parts : Parts) (observed : PodObs) : Type 0 where
+-- so many ticks have come
+pub come : (parts : Parts) (n : ℕ) → n ≡ length parts.history → length (ticks (piece_of parts)) ≡ n - parts.waiting
+come parts n is =
+    omega (arith, taken_length parts.waiting (map pod_tick parts.history), length-map parts.history pod_tick, is)
+
+-- what is known of the parts of a piece with a tick that waits, as its owner sees it
+pub record IsAtNext (parts : Parts) (place : ℕ) (observed : PodObs) : Type 0 where
   pub held : AreKept parts
-  pub pending : IsTrue parts.is_pending
-  pub last : last_of (map pod_tick parts.history) ≡ Some (pod_tick observed)
-  pub next : IsNextTick parts.pod (before_last (map pod_tick parts.history)) (pod_tick observed)
-  pub now : IsStateOf parts.pod parts.max_restart_delay (place_of parts.eviction)
-      (before_last (map pod_tick parts.history)) parts.state
-  pub not_now : place_of parts.eviction ≡ Some (length (before_last (map pod_tick parts.history))) → ⊥
+  pub pending : 0 < parts.waiting
+  pub long : length (ticks (piece_of parts)) ≡ place
+  pub is : slice_get (map pod_tick parts.history) (length (map pod_tick parts.history) - parts.waiting)
+      ≡ Some (pod_tick observed)
+  pub next : IsNextTick parts.pod (ticks (piece_of parts)) (pod_tick observed)
+  pub now : IsStateOf parts.pod parts.max_restart_delay (place_of parts.eviction) (ticks (piece_of parts)) parts.state
+  pub not_now : place_of parts.eviction ≡ Some (length (ticks (piece_of parts))) → ⊥
 
-pub at_last : (parts owned : Parts) (seen : Piece) (n : ℕ) (observed : PodObs) → parts ≡ owned → piece_of owned ≡ seen
-    → AreKept owned → IsTrue seen.is_pending → n ≡ length parts.history
-    → observed ≡ get_or parts.history (n - 1) observed → IsAtLast parts observed
-at_last parts owned seen n observed same view kept pending' long is =
+pub at_next : (parts owned : Parts) (seen : Piece) (place : ℕ) (observed : PodObs) → parts ≡ owned
+    → piece_of owned ≡ seen → AreKept owned → 0 < seen.waiting → place ≡ length parts.history - parts.waiting
+    → observed ≡ get_or parts.history place observed → IsAtNext parts place observed
+at_next parts owned seen place observed same view kept some placed is =
     let held : AreKept parts = subst AreKept (sym same) kept in
-    let pending : IsTrue parts.is_pending = ap (λ (q : Piece). q.is_pending) (ap piece_of same ∙ view) ∙ pending' in
-    let h = before_last (map pod_tick parts.history) in
-    let here = held.next pending in
-    let last = observed_last parts.history n observed long (some_last parts.history (IsNextTick parts.pod h) here) is in
-    let after = state_pending (piece_of parts) parts.differs.items parts.state parts.status parts.events.items pending
-    held in
+    let pending : 0 < parts.waiting = subst (λ w. 0 < w) (sym (ap (λ (q : Piece). q.waiting) (ap piece_of same ∙ view)))
+    some in
+    let handed = map pod_tick parts.history in
+    let many : length handed ≡ length parts.history = length-map parts.history pod_tick in
+    let within : parts.waiting ≤ length parts.history = omega (arith, held.within, many) in
+    let here = next_is parts.history parts.waiting place observed placed pending within is in
+    let h = ticks (piece_of parts) in
     record {
       held = held;
       pending = pending;
-      last = last;
-      next = of_last (map pod_tick parts.history) (pod_tick observed) (IsNextTick parts.pod h) last here;
-      now = after.now (place_of parts.eviction) (may_self (place_of parts.eviction) (length h));
+      long = omega (arith, taken_length parts.waiting handed, many, placed);
+      is = here;
+      next = subst (λ (k : List PodTick). IsNextTick parts.pod k (pod_tick observed)) (sym (taken_is parts.waiting handed))
+          (held.next (length handed - parts.waiting) (pod_tick observed) (omega (arith, within, many)) here);
+      now = held.after.now (place_of parts.eviction) (may_self (place_of parts.eviction) (length h));
       not_now = not_now (place_of parts.eviction) (length h) (suc (length h)) (place_of parts.eviction) (omega arith)
-          (ends_within parts.pod h (place_of parts.eviction) after.ended)
+          (ends_within parts.pod h (place_of parts.eviction) held.after.ended)
           (may_self (place_of parts.eviction) (suc (length h)));
     }
 
 -- what is known of those of one that is to be evicted at this moment
 pub record MayEvict (parts : Parts) (at : ℕ) : Type 0 where
   pub held : AreKept parts
-  pub free : parts.is_pending ≡ false
+  pub free : parts.waiting ≡ 0
   pub lives : Lives (piece_of parts)
   pub last : (entry : PodEntry) × (last_of (map pod_tick parts.history) ≡ Some (recorded at entry))
 
 pub may_evict : (parts owned : Parts) (seen : Piece) (at : ℕ) → parts ≡ owned → piece_of owned ≡ seen → AreKept owned
-    → seen.is_pending ≡ false → Lives seen → last_moment seen.handed ≡ Some at → MayEvict parts at
+    → seen.waiting ≡ 0 → Lives seen → last_moment seen.handed ≡ Some at → MayEvict parts at
 may_evict parts owned seen at same is kept free lives last =
     let view : piece_of parts ≡ seen = ap piece_of same ∙ is in
     record {
       held = subst AreKept (sym same) kept;
-      free = ap (λ (q : Piece). q.is_pending) view ∙ free;
+      free = ap (λ (q : Piece). q.waiting) view ∙ free;
       lives = subst (λ (q : Piece). Lives q) (sym view) lives;
       last = tick_at (map pod_tick parts.history) at (ap (λ (q : Piece). last_moment q.handed) view ∙ last);
     }

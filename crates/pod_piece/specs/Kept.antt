@@ -58,7 +58,7 @@ pub record IsKept (p : Piece) (differs : List Differ) (state : PodState) (status
   pub next : MayWait p
   pub after : IsStateAfter p.pod p.max_restart_delay (evicted_at p) (ticks p) state
   pub shown : IsStatusOf p status
-  pub earlier : AreEarlierEvents p earlier
+  pub made_earlier : AreEarlierEvents p earlier
   pub made : AreLastEvents p events
 
 -- the piece of these fields

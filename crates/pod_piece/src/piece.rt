@@ -13,7 +13,7 @@ ghost use Rattle.pod_piece.specs.Made.{round_length, AreEarlierEvents};
 ghost use Rattle.pod_piece.specs.Status.{IsStatusOf, AreLastEvents};
 
 use crate::listings::{are_acceptable, first_differs, follow};
-use crate::made::{MadeTick, add_tick};
+use crate::made::{MadeTick, begin_round, make_room, move_on};
 use crate::order::EvictOrder;
 use crate::status::{EffectiveRequests, PodStatus};
 use crate::usage::{newer_while, nothing};
@@ -214,10 +214,7 @@ impl PodPiece {
         let parts = &mut *self.parts;
         let handed = parts.history.len();
         parts.history.push(observed)?;
-        if parts.waiting == 0 {
-            parts.begun = handed;
-            parts.earlier.clear();
-        }
+        parts.begun = begin_round(parts.waiting, handed, parts.begun, &mut parts.earlier);
         parts.waiting += 1;
         Ok(())
     }
@@ -244,9 +241,7 @@ impl PodPiece {
         let parts = &mut *self.parts;
         let place = parts.history.len() - parts.waiting;
         let goes_on = place > parts.begun;
-        if goes_on {
-            parts.earlier.try_reserve(1)?;
-        }
+        make_room(&mut parts.earlier, goes_on)?;
         let observed = parts.history.at(place);
         let had_ended = parts.state.lifecycle().has_ended();
         let events = parts.state.take(parts.alloc, parts.pod.policy, observed)?;
@@ -258,9 +253,7 @@ impl PodPiece {
         parts.status.phase = lifecycle.phase;
         parts.status.conditions = lifecycle.conditions;
         let before = replace(&mut parts.events, events);
-        if goes_on {
-            add_tick(&mut parts.earlier, parts.history.at(place - 1).at(), before);
-        }
+        move_on(&mut parts.earlier, goes_on, &parts.history, place, before);
         parts.waiting -= 1;
         Ok(())
     }

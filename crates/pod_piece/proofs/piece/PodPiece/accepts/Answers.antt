@@ -1,10 +1,11 @@
 use Rattle.std.proofs.Common.{◌≡◌, ◌∙◌, List, length, map, ap, sym, subst, arith}
 use Rattle.std.specs.Prelude.{◌↔◌, IsTrue}
 use Rattle.state_diff.specs.declared.differ.Differ.{Differ}
-use Rattle.pod_state.specs.Pods.{pod_tick}
+use Rattle.pod_state.specs.Pods.{PodTick, pod_tick}
 use Rattle.pod_piece.specs.Kept.{AreKept, piece_of}
 use Rattle.pod_piece.specs.Listings.{AreListed, MayComeNext}
 use Rattle.pod_piece.specs.Piece.{Piece}
+use Rattle.pod_piece.proofs.Waiting.{ticks_free}
 use Rattle.pod_piece.proofs.piece.PodPiece.accepts.Goals as goal
 
 pub returns-then-container_count-as_slice : goal.returns-then-container_count-as_slice
@@ -14,8 +15,10 @@ returns-then-container_count-as_slice c =
     let held : AreKept i = subst AreKept (sym c.deref-parts.ensures) c.self.invariant in
     let h = map pod_tick i.history in
     let shown = c.args.observed.now.containers in
+    let free : i.waiting ≡ 0 = ap (λ (p : Piece). p.waiting) view ∙ c.requires in
     let listed : AreListed i.pod h c.deref.result.now = subst (λ (ds : List Differ). AreListed i.pod h ds)
-    (sym c.deref.ensures.value) held.listed in
+    (sym c.deref.ensures.value)
+    (subst (λ (k : List PodTick). AreListed i.pod k i.differs.items) (ticks_free (piece_of i) free) held.listed) in
     let is = c.are_acceptable.ensures i.pod h listed in
     let long : length shown ≡ length i.pod.containers =
     omega (

@@ -18,7 +18,7 @@ evict-requires c =
     let from = may_evict i _ c.args.self.now c.args.order.at c.deref_mut-parts.ensures.value c.self.view_is
     c.self.invariant c.requires.free c.requires.lives c.requires.last in
     let p = piece_of i in
-    let after = state_free p i.differs.items i.state i.status i.events.items from.free from.held in
+    let after = state_free p i.differs.items i.state i.status i.earlier.items i.events.items from.free from.held in
     goes_on i.pod i.max_restart_delay (place_of i.eviction) p.handed i.state
     (after.now (place_of i.eviction) (may_self (place_of i.eviction) (length p.handed)))
     (lives_free p from.free from.lives)
@@ -31,7 +31,7 @@ show-requires c =
     let p = piece_of i in
     let h = before_last p.handed in
     let now = evicted_state p (recorded c.args.order.at from.last.0) i.differs.items i.state c.evict.new.self i.status
-    i.events.items from.free from.lives from.last.1 from.held
+    i.earlier.items i.events.items from.free from.lives from.last.1 from.held
     (λ was before is. c.evict.ensures.state i.pod i.max_restart_delay h from.last.0 was before is) in
     from.held.shown.containers.as_many ∙ has_containers i.pod i.max_restart_delay (Some (length h))
     (h ++ recorded c.args.order.at from.last.0 ∷ []) c.evict.new.self now
@@ -53,8 +53,8 @@ invariant_of-self c =
       containers = c.show.new.statuses;
       order = Some c.args.order;
     } in
-    let kept = kept_evicted p x c.args.order i.differs.items i.state c.evict.new.self i.status status i.events.items
-    from.free from.lives from.last.1 from.held
+    let kept = kept_evicted p x c.args.order i.differs.items i.state c.evict.new.self i.status status i.earlier.items
+    i.events.items from.free from.lives from.last.1 from.held
     (λ was before is. (
       c.evict.ensures.state i.pod i.max_restart_delay h from.last.0 was before is,
       c.evict.ensures.ends i.pod
@@ -73,6 +73,6 @@ invariant_of-self c =
       order = refl;
     }) in
     subst (λ (n : ℕ). IsKept
-    (piece i.number i.pod i.max_restart_delay i.history i.is_pending
+    (piece i.number i.pod i.max_restart_delay i.history i.waiting i.begun
     (Some (record { place = n; order = c.args.order })))
-    i.differs.items c.evict.new.self status i.events.items) place kept
+    i.differs.items c.evict.new.self status i.earlier.items i.events.items) place kept

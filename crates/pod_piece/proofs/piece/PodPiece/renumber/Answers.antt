@@ -10,5 +10,5 @@ invariant_of-self c =
     let view : piece_of i ≡ c.args.self.now = ap piece_of c.deref_mut-parts.ensures.value ∙ c.self.view_is in
     let held : AreKept i = subst AreKept (sym c.deref_mut-parts.ensures.value) c.self.invariant in
     kept_numbered
-    (piece i.number i.pod i.max_restart_delay i.history i.is_pending i.eviction) c.args.number i.differs.items
-    i.state i.status i.events.items held
+    (piece i.number i.pod i.max_restart_delay i.history i.waiting i.begun i.eviction) c.args.number i.differs.items
+    i.state i.status i.earlier.items i.events.items held

@@ -1,66 +1,102 @@
-use Rattle.std.proofs.Common.{◌∙◌, ◌++◌, ◌∷◌, [], length, map, Option, refl, sym, subst}
+use Rattle.std.proofs.Common.{◌∙◌, ◌-◌, ◌<◌, ◌++◌, ◌∷◌, [], List, length, refl, ap, sym, subst, arith}
 use Rattle.std.specs.Prelude.{not, if◌then◌else◌}
+use Rattle.std.proofs.lemmas.List.{length-map}
 use Rattle.observations.specs.declared.usage.Sampling.{Sampling}
+use Rattle.pod_state.specs.declared.events.PodEvent.{PodEvent}
 use Rattle.pod_state.specs.declared.lifecycle.Lifecycle.{Lifecycle}
 use Rattle.pod_state.specs.Pods.{pod_tick}
+use Rattle.pod_state.specs.Events.{AreEventsOf}
 use Rattle.pod_state.specs.Lifecycles.{IsLifecycleOf, IsProgressOf}
+use Rattle.pod_piece.specs.declared.made.MadeTick.{MadeTick}
 use Rattle.pod_piece.specs.declared.status.NewestUsage.{NewestUsage}
 use Rattle.pod_piece.specs.Usage.{IsUsageOf, newer}
-use Rattle.pod_piece.specs.Piece.{piece, before_last, place_of}
-use Rattle.pod_piece.proofs.NextTicks.{may_take}
-use Rattle.pod_piece.proofs.PieceLemmas.{may_self, has_containers, kept_updated, by_eviction, end_is}
-use Rattle.pod_piece.proofs.PieceLemmas.{flag_says, IsAtLast, at_last}
+use Rattle.pod_piece.specs.Kept.{AreKept, piece_of}
+use Rattle.pod_piece.specs.Made.{made_of, made_at}
+use Rattle.pod_piece.specs.Piece.{piece, ticks, place_of}
+use Rattle.pod_piece.proofs.NextTicks.{may_take, all_follow}
+use Rattle.pod_piece.proofs.PieceLemmas.{may_self, has_containers, kept_updated, by_eviction, end_is, moved_on}
+use Rattle.pod_piece.proofs.PieceLemmas.{flag_says, at_next}
 use Rattle.pod_piece.proofs.UsageLemmas.{usage_more}
 use Rattle.pod_piece.proofs.piece.PodPiece.update_in_place.Goals as goal
 
-here : (c : goal.After-take-arg-3-1) → IsAtLast c.deref_mut-parts.result.now c.at-observed.result.now
-here c =
-    at_last c.deref_mut-parts.result.now _ c.args.self.now c.len-last.result c.at-observed.result.now
-    c.deref_mut-parts.ensures.value c.self.view_is c.self.invariant c.requires c.len-last.ensures c.at-observed.ensures
+pub at-observed-requires : goal.at-observed-requires
+at-observed-requires c =
+    let i = c.deref_mut-parts.result.now in
+    let held : AreKept i = subst AreKept (sym c.deref_mut-parts.ensures.value) c.self.invariant in
+    let some : 0 < i.waiting = subst (λ w. 0 < w)
+    (sym (ap (λ p. p.waiting) (ap piece_of c.deref_mut-parts.ensures.value ∙ c.self.view_is))) c.requires in
+    omega (arith, held.within, length-map i.history pod_tick, c.len.ensures, some)
 
 pub take-requires-clause-follows : goal.take-requires-clause-follows
 take-requires-clause-follows c =
     let i = c.deref_mut-parts.result.now in
-    may_take i.pod i.max_restart_delay (place_of i.eviction) (before_last (map pod_tick i.history)) i.state
-    c.at-observed.result.now (here c).now (here c).next
+    let from = at_next i _ c.args.self.now (c.len.result - i.waiting) c.at-observed.result.now
+    c.deref_mut-parts.ensures.value c.self.view_is c.self.invariant c.requires
+    (ap (λ n. n - i.waiting) c.len.ensures) c.at-observed.ensures in
+    may_take i.pod i.max_restart_delay (place_of i.eviction) (ticks (piece_of i)) i.state
+    c.at-observed.result.now from.now from.next
 
 pub take-requires-clause-bounded : goal.take-requires-clause-bounded
-take-requires-clause-bounded c = (here c).next.bounded
+take-requires-clause-bounded c =
+    let i = c.deref_mut-parts.result.now in
+    let from = at_next i _ c.args.self.now (c.len.result - i.waiting) c.at-observed.result.now
+    c.deref_mut-parts.ensures.value c.self.view_is c.self.invariant c.requires
+    (ap (λ n. n - i.waiting) c.len.ensures) c.at-observed.ensures in
+    from.next.bounded
+
+pub follow-requires : goal.follow-requires
+follow-requires c =
+    let i = c.deref_mut-parts.result.now in
+    let from = at_next i _ c.args.self.now (c.len.result - i.waiting) c.at-observed.result.now
+    c.deref_mut-parts.ensures.value c.self.view_is c.self.invariant c.requires
+    (ap (λ n. n - i.waiting) c.len.ensures) c.at-observed.ensures in
+    all_follow i.pod (ticks (piece_of i)) i.differs.items c.at-observed.result.now from.held.listed from.next
 
 pub show-requires : goal.show-requires
 show-requires c =
     let i = c.deref_mut-parts.result.now in
     let observed = c.at-observed.result.now in
-    let h = before_last (map pod_tick i.history) in
-    let here =
-    at_last i _ c.args.self.now c.len-last.result observed c.deref_mut-parts.ensures.value c.self.view_is
-    c.self.invariant c.requires c.len-last.ensures c.at-observed.ensures in
+    let from = at_next i _ c.args.self.now (c.len.result - i.waiting) observed
+    c.deref_mut-parts.ensures.value c.self.view_is c.self.invariant c.requires
+    (ap (λ n. n - i.waiting) c.len.ensures) c.at-observed.ensures in
+    let h = ticks (piece_of i) in
     let after =
-    c.in_ok-events.ensures.ok i.pod i.max_restart_delay (place_of i.eviction) h refl here.not_now here.now in
-    here.held.shown.containers.as_many ∙ has_containers i.pod i.max_restart_delay (place_of i.eviction)
+    c.in_ok-events.ensures.ok i.pod i.max_restart_delay (place_of i.eviction) h refl from.not_now from.now in
+    from.held.shown.containers.as_many ∙ has_containers i.pod i.max_restart_delay (place_of i.eviction)
     (h ++ pod_tick observed ∷ []) c.take.new.self after
 
 pub invariant_of-self-2 : goal.invariant_of-self-2
 invariant_of-self-2 c =
     let i = c.deref_mut-parts.result.now in
     let observed = c.at-observed.result.now in
-    let h = before_last (map pod_tick i.history) in
+    let place = c.len.result - i.waiting in
+    let from = at_next i _ c.args.self.now place observed
+    c.deref_mut-parts.ensures.value c.self.view_is c.self.invariant c.requires
+    (ap (λ n. n - i.waiting) c.len.ensures) c.at-observed.ensures in
+    let h = ticks (piece_of i) in
     let k = h ++ pod_tick observed ∷ [] in
     let e = place_of i.eviction in
-    let here =
-    at_last i _ c.args.self.now c.len-last.result observed c.deref_mut-parts.ensures.value c.self.view_is
-    c.self.invariant c.requires c.len-last.ensures c.at-observed.ensures in
-    kept_updated (piece i.number i.pod i.max_restart_delay i.history i.is_pending i.eviction) (pod_tick observed)
-    i.differs.items i.state c.take.new.self i.status _ i.events.items c.in_ok-events.events.items
-    here.pending here.last here.held
+    let earlier = moved_on i place c.move_on.new.earlier.items from.held from.long
+    (λ t last at. c.move_on.ensures.moved t last at
+    ∙ ap (λ (rows : List MadeTick). made_of rows ++ made_at last.at c.replace-before.result.items)
+    c.make_room.ensures.same
+    ∙ ap (λ (es : List PodEvent). made_of i.earlier.items ++ made_at last.at es) (ap (λ v. v.items) c.replace-before.ensures.value))
+    (λ f. c.move_on.ensures.same f ∙ c.make_room.ensures.same) in
+    kept_updated (piece i.number i.pod i.max_restart_delay i.history i.waiting i.begun i.eviction) (pod_tick observed)
+    i.differs.items c.follow.new.differs.items
+    i.state c.take.new.self i.status _ i.earlier.items c.move_on.new.earlier.items i.events.items
+    c.replace-before.new.dest.items from.pending from.is from.held
+    (c.follow.ensures i.pod h from.held.listed)
     (λ e not is. c.in_ok-events.ensures.ok i.pod i.max_restart_delay e h refl not is)
     (λ e is. subst (λ (l : Lifecycle). IsProgressOf i.pod e h l) (sym c.in_ok-events.ensures.before) is.progress)
-    (λ e not is. c.in_ok-events.ensures.events i.pod i.max_restart_delay e h refl not is)
+    (λ e not is. subst (λ (es : List PodEvent). AreEventsOf i.pod i.max_restart_delay e h (pod_tick observed) es)
+    (sym (ap (λ v. v.items) c.replace-before.ensures.after))
+    (c.in_ok-events.ensures.events i.pod i.max_restart_delay e h refl not is))
     (λ shown before after.
     let st = after.now e (may_self e (length k)) in
     let phase = st.progress.so_far.phase in
     let was : IsLifecycleOf i.pod e h c.lifecycle.result = subst (λ (l : Lifecycle). IsLifecycleOf i.pod e h l)
-    (sym c.lifecycle.ensures) here.now.progress.so_far in
+    (sym c.lifecycle.ensures) from.now.progress.so_far in
     record {
       number_is = shown.number_is;
       lifecycle = subst (λ (l : Lifecycle). IsLifecycleOf i.pod e k l) (sym c.lifecycle-lifecycle.ensures)
@@ -80,3 +116,4 @@ invariant_of-self-2 c =
       priority = shown.priority;
       order = shown.order;
     })
+    earlier
