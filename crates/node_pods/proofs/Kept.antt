@@ -1,10 +1,11 @@
 -- What the pods of a node keep, from call to call.
 use Rattle.std.proofs.Common.{◌≡◌, ◌∙◌, inl, inr, ℕ, ◌<◌, Bool, List, [], ◌∷◌, ◌++◌, length, map}
 use Rattle.std.proofs.Common.{Option, Some, None, refl, ap, sym, subst, arith}
-use Rattle.std.specs.Prelude.{◌≢◌, slice_get, IfSome, IsSome}
+use Rattle.std.specs.Prelude.{◌≢◌, slice_get, IfSome, IsSome, option_map}
 use Rattle.std.specs.Option.{option_flatten}
 use Rattle.std.proofs.lemmas.Bool.{cases_eq, cases_order}
-use Rattle.std.proofs.lemmas.Option.{slice_get_within, slice_get_past}
+use Rattle.std.proofs.lemmas.List.{length-map}
+use Rattle.std.proofs.lemmas.Option.{slice_get_within, slice_get_past, slice_get-map}
 use Rattle.histories.specs.Histories.{last_moment}
 use Rattle.histories.proofs.Moments.{last_moment-more}
 use Rattle.histories.proofs.Places.{length-more}
@@ -12,15 +13,17 @@ use Rattle.histories.proofs.Lists.{slice_get-old, slice_get-new, given_at}
 use Rattle.manifest.specs.declared.pod.PodSpec.{PodSpec}
 use Rattle.observations.specs.Pods.{PodObs}
 use Rattle.observations.specs.declared.tick.TickObs.{TickObs}
+use Rattle.observations.specs.Observations.{shown_of}
 use Rattle.pod_state.specs.Pods.{pod_tick}
 use Rattle.pod_piece.specs.declared.order.EvictOrder.{EvictOrder}
-use Rattle.pod_piece.specs.Piece.{Piece, new_piece, with_tick, updated, with_eviction}
-use Rattle.node_pods.specs.Pods.{Pods, pods_of, IsPlaced, ArePlaced, AreNext, Fits, handed_from, kept_of, joined_from}
-use Rattle.node_pods.specs.Pods.{AreAfter, awaited, joined, AreEvicted}
+use Rattle.pod_piece.specs.Piece.{Piece, new_piece, all_updated, at_rest, with_eviction}
+use Rattle.pod_piece.proofs.Waiting.{ticks_free}
+use Rattle.node_pods.specs.Pods.{pods_of, IsNumbered, AreNumbered, IsPlaced, ArePlaced, MayBeHanded, handed_one}
+use Rattle.node_pods.specs.Pods.{handed_each, sent_from, staying, after_tick, AreAfter, awaited, joined, AreEvicted}
 use Rattle.node_pods.specs.Laws.{CandidateIsShown}
 use Rattle.node_pods.specs.Steps.{AreFree}
 use Rattle.node_pods.proofs.Candidates.{same_piece}
-use Rattle.node_pods.proofs.Steps.{after_handed}
+use Rattle.node_pods.proofs.Steps.{shown_at, with_shown_length, with_shown_at, joined_updated}
 
 -- where each pod has its number
 pub free_all : (pieces : List Piece) (max_restart_delay : ℕ) (dedicated : Bool)
@@ -46,54 +49,86 @@ placed_arrived pieces max_restart_delay dedicated pod placed n piece at = elim (
       let x = new_piece (length pieces) pod max_restart_delay in
       let new = subst (λ (k : ℕ). slice_get (pieces ++ x ∷ []) k ≡ Some x) (sym same) (slice_get-new pieces x) in
       subst (λ (p : Piece). IsPlaced max_restart_delay n p) (same_piece (pieces ++ x ∷ []) n x piece new at)
-      (record { number_is = sym same; max_restart_delay_is = refl; free = refl })
+      (record { number_is = sym same; max_restart_delay_is = refl; free = refl; rested = refl })
   | inr apart ↦
       placed n piece (sym (others_arrived pieces (new_piece (length pieces) pod max_restart_delay) n apart) ∙ at)
 ]
 
--- after a tick
-pub placed_after : (old : List Piece) (max_restart_delay : ℕ) (dedicated : Bool) (shown : List (Option PodObs))
-    (new : List Piece) → ArePlaced (pods_of old max_restart_delay dedicated) → AreNext old shown
-    → AreAfter old shown new
-    → ArePlaced (pods_of new max_restart_delay dedicated)
-placed_after old max_restart_delay dedicated shown new placed next are n piece at =
+-- in the midst of a round each has its number still
+pub numbered_of : (pieces : List Piece) (max_restart_delay : ℕ) (dedicated : Bool)
+    → ArePlaced (pods_of pieces max_restart_delay dedicated) → AreNumbered (pods_of pieces max_restart_delay dedicated)
+numbered_of pieces max_restart_delay dedicated placed n piece at =
+    let was = placed n piece at in
+    record { number_is = was.number_is; max_restart_delay_is = was.max_restart_delay_is }
+
+-- pieces that f makes of others, each of the one at its place, which has the same number
+numbered_by : (f : ℕ → Piece → Piece) (old new : List Piece) (max_restart_delay : ℕ) (dedicated : Bool)
+    → length new ≡ length old
+    → ((n : ℕ) (p : Piece) → slice_get old n ≡ Some p → slice_get new n ≡ Some (f n p))
+    → ((n : ℕ) (p : Piece) → IsNumbered max_restart_delay n p → IsNumbered max_restart_delay n (f n p))
+    → AreNumbered (pods_of old max_restart_delay dedicated) → AreNumbered (pods_of new max_restart_delay dedicated)
+numbered_by f old new max_restart_delay dedicated long each same numbered n piece at =
     let lt = slice_get_within new n piece at in
-    let p = given_at old n (omega (arith, lt, are.as_many)) in
-    let o = given_at shown n (omega (arith, lt, are.as_many, next.as_many)) in
-    by p.0 p.1 o.0 o.1
+    let p = given_at old n (omega (arith, lt, long)) in
+    subst (λ (q : Piece). IsNumbered max_restart_delay n q) (same_piece new n (f n p.0) piece (each n p.0 p.1) at)
+    (same n p.0 (numbered n p.0 p.1))
+
+pub numbered_handed : (old : List Piece) (shown : List (Option PodObs)) (new : List Piece) (max_restart_delay : ℕ)
+    (dedicated : Bool) → new ≡ handed_each old shown → AreNumbered (pods_of old max_restart_delay dedicated)
+    → AreNumbered (pods_of new max_restart_delay dedicated)
+numbered_handed old shown new max_restart_delay dedicated is numbered =
+    subst (λ (ps : List Piece). AreNumbered (pods_of ps max_restart_delay dedicated)) (sym is)
+    (numbered_by (λ n p. handed_one p (option_flatten (slice_get shown n))) old (handed_each old shown)
+    max_restart_delay dedicated (with_shown_length handed_one old shown)
+    (λ n p at. with_shown_at handed_one (λ q. refl) old shown n p at)
+    (λ n p was. one n p (option_flatten (slice_get shown n)) was) numbered)
   where
-    by : (p : Piece) → slice_get old n ≡ Some p → (o : Option PodObs) → slice_get shown n ≡ Some o
-        → IsPlaced max_restart_delay n piece
-    by p was None there =
-        subst (λ (q : Piece). IsPlaced max_restart_delay n q) (same_piece new n p piece (are.absent n p was there) at)
-        (placed n p was)
-    by p was (Some o) there =
-        let before = placed n p was in
-        subst (λ (q : Piece). IsPlaced max_restart_delay n q)
-        (same_piece new n (updated (with_tick p (pod_tick o))) piece (are.each n p o was there) at)
-        (record { number_is = before.number_is; max_restart_delay_is = before.max_restart_delay_is; free = refl })
+    one : (n : ℕ) (p : Piece) (o : Option PodObs) → IsNumbered max_restart_delay n p
+        → IsNumbered max_restart_delay n (handed_one p o)
+    one n p None was = was
+    one n p (Some o) was =
+        record { number_is = was.number_is; max_restart_delay_is = was.max_restart_delay_is }
+
+numbered_updated : (old : List Piece) (max_restart_delay : ℕ) (dedicated : Bool)
+    → AreNumbered (pods_of old max_restart_delay dedicated)
+    → AreNumbered (pods_of (map all_updated old) max_restart_delay dedicated)
+numbered_updated old max_restart_delay dedicated numbered =
+    numbered_by (λ n p. all_updated p) old (map all_updated old) max_restart_delay dedicated (length-map old all_updated)
+    (λ n p at. slice_get-map all_updated old n ∙ ap (option_map all_updated) at)
+    (λ n p was. record { number_is = was.number_is; max_restart_delay_is = was.max_restart_delay_is }) numbered
 
 -- once the pieces that went out have come back
-pub placed_joined : (old : List Piece) (max_restart_delay : ℕ) (dedicated : Bool) (shown : List (Option PodObs))
-    → ArePlaced (pods_of old max_restart_delay dedicated) → AreNext old shown
-    → ArePlaced
-    (joined (awaited (kept_of old shown) max_restart_delay dedicated) (map updated (handed_from 0 old shown)))
-placed_joined old max_restart_delay dedicated shown placed next =
-    placed_after old max_restart_delay dedicated shown
-    (joined_from 0 (kept_of old shown) (map updated (handed_from 0 old shown))) placed next
-    (after_handed old shown next.as_many (λ n piece at. (placed n piece at).number_is))
+pub numbered_as_joined : (old : List Piece) (max_restart_delay : ℕ) (dedicated : Bool) (out : List Piece)
+    (kept : List (Option Piece)) → AreNumbered (pods_of old max_restart_delay dedicated) → out ≡ sent_from 0 old
+    → kept ≡ staying old
+    → AreNumbered (joined (awaited kept max_restart_delay dedicated) (map all_updated out))
+numbered_as_joined old max_restart_delay dedicated out kept numbered out_is kept_is =
+    let back = joined_updated old (λ n piece at. (numbered n piece at).number_is) in
+    subst (λ (k : List (Option Piece)). AreNumbered
+    (joined (awaited k max_restart_delay dedicated) (map all_updated out))) (sym kept_is)
+    (subst (λ (o : List Piece). AreNumbered
+    (joined (awaited (staying old) max_restart_delay dedicated) (map all_updated o))) (sym out_is)
+    (subst (λ (ps : List Piece). AreNumbered (pods_of ps max_restart_delay dedicated)) (sym back)
+    (numbered_updated old max_restart_delay dedicated numbered)))
 
-pub placed_as_joined : (old : List Piece) (max_restart_delay : ℕ) (dedicated : Bool) (shown : List (Option PodObs))
-    (out : List Piece) (kept : List (Option Piece)) → ArePlaced (pods_of old max_restart_delay dedicated)
-    → AreNext old shown
-    → out ≡ handed_from 0 old shown → kept ≡ kept_of old shown
-    → ArePlaced (joined (awaited kept max_restart_delay dedicated) (map updated out))
-placed_as_joined old max_restart_delay dedicated shown out kept placed next out_is kept_is =
-    subst (λ (k : List (Option Piece)). ArePlaced (joined (awaited k max_restart_delay dedicated) (map updated out)))
-    (sym kept_is)
-    (subst (λ (o : List Piece). ArePlaced
-    (joined (awaited (kept_of old shown) max_restart_delay dedicated) (map updated o)))
-    (sym out_is) (placed_joined old max_restart_delay dedicated shown placed next))
+-- once the round is over
+pub placed_at_rest : (old : List Piece) (max_restart_delay : ℕ) (dedicated : Bool)
+    → AreNumbered (pods_of old max_restart_delay dedicated) → AreFree old
+    → ArePlaced (pods_of (map at_rest old) max_restart_delay dedicated)
+placed_at_rest old max_restart_delay dedicated numbered free n piece at =
+    let lt = slice_get_within (map at_rest old) n piece at in
+    let p = given_at old n (omega (arith, lt, length-map old at_rest)) in
+    let was = numbered n p.0 p.1 in
+    let none = free n p.0 p.1 in
+    subst (λ (q : Piece). IsPlaced max_restart_delay n q)
+    (same_piece (map at_rest old) n (at_rest p.0) piece
+    (slice_get-map at_rest old n ∙ ap (option_map at_rest) p.1) at)
+    (record {
+      number_is = was.number_is;
+      max_restart_delay_is = was.max_restart_delay_is;
+      free = none;
+      rested = ap length (ticks_free p.0 none);
+    })
 
 -- after an eviction
 pub placed_evicted : (old : List Piece) (max_restart_delay : ℕ) (dedicated : Bool) (number : ℕ) (order : EvictOrder)
@@ -107,20 +142,19 @@ placed_evicted old max_restart_delay dedicated number order new placed are n pie
       let there = subst (λ (k : ℕ). slice_get old k ≡ Some p.0) same p.1 in
       let here = subst (λ (k : ℕ). slice_get new k ≡ Some (with_eviction p.0 order)) (sym same) (are.here p.0 there) in
       subst (λ (q : Piece). IsPlaced max_restart_delay n q) (same_piece new n (with_eviction p.0 order) piece here at)
-      (record { number_is = was.number_is; max_restart_delay_is = was.max_restart_delay_is; free = was.free })
+      (record { number_is = was.number_is; max_restart_delay_is = was.max_restart_delay_is; free = was.free; rested = was.rested })
   | inr apart ↦ placed n piece (sym (are.others n apart) ∙ at)
 ]
 
 -- a pod that is present after a tick, by its last moment, is shown by the tick
-pub present_shown : (pods : Pods) (tick : TickObs) (new : List Piece) (n : ℕ) (piece : Piece) → Fits pods tick
-    → AreAfter pods.pieces tick.pods new → slice_get new n ≡ Some piece
+pub present_shown : (pieces : List Piece) (tick : TickObs) (new : List Piece) (n : ℕ) (piece : Piece)
+    → MayBeHanded pieces tick → AreAfter pieces tick.pods new → slice_get new n ≡ Some piece
     → last_moment piece.handed ≡ Some tick.at
-    → (observed : PodObs) × (slice_get tick.pods n ≡ Some (Some observed))
-present_shown pods tick new n piece fits are at last =
+    → (observed : PodObs) × (shown_of tick n ≡ Some observed)
+present_shown pieces tick new n piece may are at last =
     let lt = slice_get_within new n piece at in
-    let p = given_at pods.pieces n (omega (arith, lt, are.as_many)) in
-    let o = given_at tick.pods n (omega (arith, lt, are.as_many, fits.next.as_many)) in
-    by p.0 p.1 o.0 o.1
+    let p = given_at pieces n (omega (arith, lt, are.as_many)) in
+    by p.0 p.1 (shown_of tick n) refl
   where
     never : (o : Option ℕ) → IfSome o (λ m. m < tick.at) → o ≡ Some tick.at → ⊥
     never None before is = let w : None ≡ Some tick.at = is in cc
@@ -129,28 +163,28 @@ present_shown pods tick new n piece fits are at last =
         let less : m < tick.at = before in
         omega (arith, less, same)
 
-    by : (p : Piece) → slice_get pods.pieces n ≡ Some p → (o : Option PodObs) → slice_get tick.pods n ≡ Some o
-        → (observed : PodObs) × (slice_get tick.pods n ≡ Some (Some observed))
+    by : (p : Piece) → slice_get pieces n ≡ Some p → (o : Option PodObs) → shown_of tick n ≡ o
+        → (observed : PodObs) × (shown_of tick n ≡ Some observed)
     by p was None there =
         let same = same_piece new n p piece (are.absent n p was there) at in
-        absurd (never (last_moment p.handed) (fits.later n p was)
+        absurd (never (last_moment p.handed) (may.later n p was)
         (ap (λ (q : Piece). last_moment q.handed) same ∙ last))
     by p was (Some o) there = (o, there)
 
 -- and one that it shows is present
-pub shown_present : (pods : Pods) (tick : TickObs) (new : List Piece) (n : ℕ) (piece : Piece) (observed : PodObs)
-    → Fits pods tick → AreAfter pods.pieces tick.pods new → slice_get new n ≡ Some piece
-    → slice_get tick.pods n ≡ Some (Some observed) → last_moment piece.handed ≡ Some tick.at
-shown_present pods tick new n piece observed fits are at there =
+pub shown_present : (pieces : List Piece) (tick : TickObs) (new : List Piece) (n : ℕ) (piece : Piece)
+    (observed : PodObs) → MayBeHanded pieces tick → AreAfter pieces tick.pods new → slice_get new n ≡ Some piece
+    → shown_of tick n ≡ Some observed → last_moment piece.handed ≡ Some tick.at
+shown_present pieces tick new n piece observed may are at is =
     let lt = slice_get_within new n piece at in
-    let p = given_at pods.pieces n (omega (arith, lt, are.as_many)) in
-    let here = are.each n p.0 observed p.1 there in
+    let p = given_at pieces n (omega (arith, lt, are.as_many)) in
+    let here = are.each n p.0 observed p.1 (shown_at tick n observed is) in
     ap (λ (q : Piece). last_moment q.handed)
-    (sym (same_piece new n (updated (with_tick p.0 (pod_tick observed))) piece here at))
+    (sym (same_piece new n (after_tick p.0 (pod_tick observed)) piece here at))
     ∙ last_moment-more (p.0).handed (pod_tick observed)
-    ∙ ap Some (fits.at_its_moment n observed (ap option_flatten there))
+    ∙ ap Some (may.at_its_moment n observed is)
 
 pub candidate_is_shown : CandidateIsShown
 candidate_is_shown pods tick new n status fits are c =
-    let shown = present_shown pods tick new n c.piece fits are c.at c.present in
-    subst (λ (o : Option PodObs). IsSome o) (sym (ap option_flatten shown.1)) refl
+    let shown = present_shown pods.pieces tick new n c.piece fits.handed are c.at c.present in
+    subst (λ (o : Option PodObs). IsSome o) (sym shown.1) refl

@@ -1,5 +1,5 @@
 pub mod Statuses
 pub mod Candidates
 pub mod Steps
-pub mod Handed
+pub mod Sent
 pub mod Kept

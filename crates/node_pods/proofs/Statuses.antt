@@ -13,7 +13,7 @@ use Rattle.pod_piece.specs.declared.order.EvictOrder.{EvictOrder}
 use Rattle.pod_piece.specs.declared.status.PodStatus.{PodStatus}
 use Rattle.pod_piece.specs.Piece.{Piece, ticks, evicted_at, Lives, new_piece, with_eviction}
 use Rattle.pod_piece.specs.Status.{IsStatusOf}
-use Rattle.pod_piece.proofs.PieceLemmas.{taken_free}
+use Rattle.pod_piece.proofs.Waiting.{ticks_free}
 use Rattle.pod_piece.proofs.UsageLemmas.{one_usage}
 use Rattle.ranking.proofs.LawLemmas.{RankAlike}
 use Rattle.node_pods.specs.Laws.{AreAlike}
@@ -69,11 +69,11 @@ phase_of_ended pod evicted h p t ends (Some u, end, by) =
     end_terminal pod evicted h p.phase u (Some u, end, by) end
 
 -- the phase of a pod that was evicted by its last tick
-pub evicted_ended : (piece : Piece) (order : EvictOrder) (m : ℕ) (p : PodStatus) → piece.is_pending ≡ false
+pub evicted_ended : (piece : Piece) (order : EvictOrder) (m : ℕ) (p : PodStatus) → piece.waiting ≡ 0
     → last_moment piece.handed ≡ Some m → IsStatusOf (with_eviction piece order) p → IsTerminal p.phase
 evicted_ended piece order m p free last is =
     let h = piece.handed in
     let lt : length h - 1 < length h = moment_at-below h (length h - 1) m last in
     let P : List PodTick → Type 0 = λ k. IsPhase piece.pod (Some (length h - 1)) k p.phase in
     phase_of_ended piece.pod (Some (length h - 1)) h p (length h - 1) (ends_last piece.pod h (omega (arith, lt)))
-    (subst P (taken_free piece.is_pending h free) is.lifecycle.phase)
+    (subst P (ticks_free (with_eviction piece order) free) is.lifecycle.phase)

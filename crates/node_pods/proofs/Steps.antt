@@ -1,11 +1,12 @@
 -- The pods of a node, one after the other: which tick may come, and what it makes of them.
-use Rattle.std.proofs.Common.{◌≡◌, ◌∙◌, inl, inr, ℕ, zero, suc, ◌+◌, Bool, List, [], ◌∷◌, ◌++◌, length, map}
-use Rattle.std.proofs.Common.{Option, Some, None, refl, ap, sym, subst, arith, append_assoc}
-use Rattle.std.proofs.lemmas.List.{length-append}
-use Rattle.std.specs.Prelude.{◌≢◌, ◌↔◌, IsTrue, IfSome, MatchOption, option_map, slice_get, slice_set}
+use Rattle.std.proofs.Common.{◌≡◌, ◌∙◌, inl, inr, ℕ, zero, suc, ◌+◌, ◌<◌, ◌≤◌, Bool, true, false, List, [], ◌∷◌, ◌++◌}
+use Rattle.std.proofs.Common.{length, map, Option, Some, None, refl, ap, sym, subst, arith, append_assoc}
+use Rattle.std.proofs.lemmas.List.{append-nil, length-append, length-map}
+use Rattle.std.specs.Prelude.{◌≢◌, ◌↔◌, IsTrue, IfSome, MatchOption, option_map, slice_get, slice_set, nat_lt}
+use Rattle.std.specs.Prelude.{if◌then◌else◌}
 use Rattle.std.specs.Option.{option_to_list, option_flatten}
-use Rattle.std.proofs.lemmas.Bool.{cases_eq}
-use Rattle.std.proofs.lemmas.Option.{slice_get_within}
+use Rattle.std.proofs.lemmas.Bool.{cases_eq, cases_lt}
+use Rattle.std.proofs.lemmas.Option.{slice_get_within, slice_get-map}
 use Rattle.histories.proofs.Lists.{given_at, same_at, set_length, set_here, set_others}
 use Rattle.observations.specs.Pods.{PodObs}
 use Rattle.observations.specs.declared.tick.TickObs.{TickObs}
@@ -13,118 +14,226 @@ use Rattle.observations.specs.Observations.{shown_of}
 use Rattle.pod_state.specs.Pods.{pod_tick}
 use Rattle.pod_piece.specs.declared.order.EvictOrder.{EvictOrder}
 use Rattle.pod_piece.specs.Listings.{IsNextTick}
-use Rattle.pod_piece.specs.Piece.{Piece, with_tick, updated, with_eviction, with_number}
-use Rattle.node_pods.specs.Pods.{Pods, AreNext, Fits, handed_from, kept_of, joined_from, AreAfter, AreEvicted}
-use Rattle.node_pods.specs.Steps.{AreFree, IsShownNext, IsNextAt, AreNextBelow, MayTake, going, staying}
+use Rattle.pod_piece.specs.Piece.{Piece, with_tick, all_updated, at_rest, with_eviction, with_number}
+use Rattle.pod_piece.proofs.Waiting.{ticks_free}
+use Rattle.node_pods.specs.Pods.{Pods, AreNext, MayBeHanded, Fits, with_shown, handed_one, handed_each, waits}
+use Rattle.node_pods.specs.Pods.{sent_from, staying, joined_from, after_tick, closed, AreAfter, AreEvicted}
+use Rattle.node_pods.specs.Steps.{AreFree, IsShownNext, IsNextAt, AreNextBelow, MayTake, IsChangedAt, AreChangedBelow}
 use Rattle.node_pods.specs.Laws.{OneIsAfter, OneIsEvicted}
 use Rattle.node_pods.proofs.Candidates.{same_piece}
 
--- what is shown of the pods, one after the other, may be handed to them
-abbrev pub MayTakeAll : List Piece → List (Option PodObs) → Type 0
-MayTakeAll [] shown = Unit {0}
-MayTakeAll (p ∷ ps) [] = Unit {0}
-MayTakeAll (p ∷ ps) (o ∷ os) = MayTake p o × MayTakeAll ps os
+-- the pieces, as f makes them of what is shown
+pub with_shown_length : (f : Piece → Option PodObs → Piece) (ps : List Piece) (shown : List (Option PodObs))
+    → length (with_shown f ps shown) ≡ length ps
+with_shown_length f [] shown = refl
+with_shown_length f (p ∷ ps) [] = refl
+with_shown_length f (p ∷ ps) (o ∷ shown) = ap suc (with_shown_length f ps shown)
 
-pub may_take_all : (pieces : List Piece) (shown : List (Option PodObs)) → AreFree pieces → AreNext pieces shown
-    → MayTakeAll pieces shown
-may_take_all [] shown free next = tt
-may_take_all (p ∷ ps) [] free next = tt
-may_take_all (p ∷ ps) (o ∷ os) free next = (
-  first o (λ observed is. next.each 0 p observed refl (ap Some is)),
-  may_take_all ps os (λ n piece at. free (suc n) piece at) (record {
-    as_many = omega (arith, next.as_many);
-    each = λ n piece observed at there. next.each (suc n) piece observed at there;
-  }),
-)
-  where
-    first : (shown : Option PodObs)
-        → ((observed : PodObs) → shown ≡ Some observed → IsNextTick p.pod p.handed (pod_tick observed))
-        → MayTake p shown
-    first None is_next = tt
-    first (Some observed) is_next = (free 0 p refl, is_next observed refl)
+pub with_shown_at : (f : Piece → Option PodObs → Piece) → ((p : Piece) → f p None ≡ p) → (ps : List Piece)
+    (shown : List (Option PodObs)) (n : ℕ) (p : Piece) → slice_get ps n ≡ Some p
+    → slice_get (with_shown f ps shown) n ≡ Some (f p (option_flatten (slice_get shown n)))
+with_shown_at f none [] shown n p at = absurd (cc)
+with_shown_at f none (q ∷ ps) [] zero p at = at ∙ ap Some (sym (none p))
+with_shown_at f none (q ∷ ps) [] (suc n) p at = at ∙ ap Some (sym (none p))
+with_shown_at f none (q ∷ ps) (o ∷ shown) zero p at =
+    let same : q ≡ p = cc in ap (λ (r : Piece). Some (f r o)) same
+with_shown_at f none (q ∷ ps) (o ∷ shown) (suc n) p at = with_shown_at f none ps shown n p at
 
--- the pieces after a tick
-abbrev after_of : List Piece → List (Option PodObs) → List Piece
-after_of [] shown = []
-after_of (p ∷ ps) [] = p ∷ ps
-after_of (p ∷ ps) (None ∷ os) = p ∷ after_of ps os
-after_of (p ∷ ps) (Some o ∷ os) = updated (with_tick p (pod_tick o)) ∷ after_of ps os
+handed_none : (p : Piece) → handed_one p None ≡ p
+handed_none p = refl
 
-after_more : (p q : Piece) (o : Option PodObs) (old : List Piece) (shown : List (Option PodObs)) (new : List Piece)
-    → ((x : PodObs) → o ≡ Some x → q ≡ updated (with_tick p (pod_tick x))) → (o ≡ None → q ≡ p)
-    → AreAfter old shown new → AreAfter (p ∷ old) (o ∷ shown) (q ∷ new)
-after_more p q o old shown new handed kept are = record { as_many = ap suc are.as_many; each = each; absent = absent }
-  where
-    each : (n : ℕ) (piece : Piece) (observed : PodObs) → slice_get (p ∷ old) n ≡ Some piece
-        → slice_get (o ∷ shown) n ≡ Some (Some observed)
-        → slice_get (q ∷ new) n ≡ Some (updated (with_tick piece (pod_tick observed)))
-    each zero piece observed at there =
-        let same : p ≡ piece = cc in
-        let is : o ≡ Some observed = cc in
-        ap Some (handed observed is)
-        ∙ ap (λ (r : Piece). Some (updated (with_tick r (pod_tick observed)))) same
-    each (suc n) piece observed at there = are.each n piece observed at there
+-- the piece after a tick
+abbrev pub after_one : Piece → Option PodObs → Piece
+after_one p None = p
+after_one p (Some observed) = after_tick p (pod_tick observed)
 
-    absent : (n : ℕ) (piece : Piece) → slice_get (p ∷ old) n ≡ Some piece → slice_get (o ∷ shown) n ≡ Some None
-        → slice_get (q ∷ new) n ≡ Some piece
-    absent zero piece at there =
-        let is : o ≡ None = cc in
-        ap Some (kept is) ∙ at
-    absent (suc n) piece at there = are.absent n piece at there
+abbrev pub after_each : List Piece → List (Option PodObs) → List Piece
+after_each ps shown = with_shown after_one ps shown
 
-after_is : (old : List Piece) (shown : List (Option PodObs)) → length shown ≡ length old
-    → AreAfter old shown (after_of old shown)
-after_is [] shown long = record {
-  as_many = refl;
-  each = λ n piece observed at there. absurd (cc);
-  absent = λ n piece at there. absurd (cc);
+pub after_is : (old : List Piece) (shown : List (Option PodObs)) → AreAfter old shown (after_each old shown)
+after_is old shown = record {
+  as_many = with_shown_length after_one old shown;
+  each = λ n piece observed at there. with_shown_at after_one (λ p. refl) old shown n piece at
+      ∙ ap (λ (o : Option (Option PodObs)). Some (after_one piece (option_flatten o))) there;
+  absent = λ n piece at none. with_shown_at after_one (λ p. refl) old shown n piece at
+      ∙ ap (λ (o : Option PodObs). Some (after_one piece o)) none;
 }
-after_is (p ∷ ps) [] long = absurd (omega arith)
-after_is (p ∷ ps) (None ∷ os) long =
-    after_more p p None ps os (after_of ps os) (λ x is. absurd (cc)) (λ is. refl) (after_is ps os (omega (arith, long)))
-after_is (p ∷ ps) (Some o ∷ os) long =
-    after_more p (updated (with_tick p (pod_tick o))) (Some o) ps os (after_of ps os)
-    (λ x is. let same : o ≡ x = cc in ap (λ (y : PodObs). updated (with_tick p (pod_tick y))) same)
-    (λ is. absurd (cc)) (after_is ps os (omega (arith, long)))
+
+flatten_some : (o : Option (Option PodObs)) (observed : PodObs) → option_flatten o ≡ Some observed
+    → o ≡ Some (Some observed)
+flatten_some None observed e = absurd (cc)
+flatten_some (Some o) observed e = ap Some e
+
+pub after_unique : (old : List Piece) (shown : List (Option PodObs)) (one other : List Piece)
+    → AreAfter old shown one → AreAfter old shown other → one ≡ other
+after_unique old shown one other a b = same_at one other (a.as_many ∙ sym b.as_many) (λ n lt.
+    let p = given_at old n (omega (arith, lt, a.as_many)) in
+    by n p.0 p.1 (option_flatten (slice_get shown n)) refl)
+  where
+    by : (n : ℕ) (p : Piece) → slice_get old n ≡ Some p → (o : Option PodObs)
+        → option_flatten (slice_get shown n) ≡ o → slice_get one n ≡ slice_get other n
+    by n p at None there = a.absent n p at there ∙ sym (b.absent n p at there)
+    by n p at (Some o) there =
+        let is = flatten_some (slice_get shown n) o there in
+        a.each n p o at is ∙ sym (b.each n p o at is)
+
+-- a piece that was handed a tick, closed, is the closed one after that tick
+closed_one : (p : Piece) (o : Option PodObs) → closed (handed_one p o) ≡ after_one (closed p) o
+closed_one p None = refl
+closed_one p (Some o) = refl
+
+pub closed_handed : (ps : List Piece) (shown : List (Option PodObs))
+    → map closed (handed_each ps shown) ≡ after_each (map closed ps) shown
+closed_handed [] shown = refl
+closed_handed (p ∷ ps) [] = refl
+closed_handed (p ∷ ps) (o ∷ shown) =
+    ap (λ (q : Piece). q ∷ map closed (handed_each ps shown)) (closed_one p o)
+    ∙ ap (λ (qs : List Piece). after_one (closed p) o ∷ qs) (closed_handed ps shown)
+
+-- one without ticks that wait, whose round is over, is closed
+pub is_closed : (p : Piece) → p.waiting ≡ 0 → p.begun ≡ length p.handed → closed p ≡ p
+is_closed p free rested = λ i. record p { waiting = sym free i; begun = sym rested i }
+
+pub are_closed : (ps : List Piece) → ((n : ℕ) (p : Piece) → slice_get ps n ≡ Some p → closed p ≡ p)
+    → map closed ps ≡ ps
+are_closed [] all = refl
+are_closed (p ∷ ps) all =
+    ap (λ (q : Piece). q ∷ map closed ps) (all 0 p refl)
+    ∙ ap (λ (qs : List Piece). p ∷ qs) (are_closed ps (λ n q at. all (suc n) q at))
 
 -- the number of each piece is its place, counted from n on
 abbrev AreNumberedFrom : ℕ → List Piece → Type 0
 AreNumberedFrom n pieces = (i : ℕ) (piece : Piece) → slice_get pieces i ≡ Some piece → piece.number ≡ n + i
 
--- the pieces that went out, back once they have taken the tick, are those after it
-joined_is : (n k : ℕ) (old : List Piece) (shown : List (Option PodObs)) → length shown ≡ length old
-    → AreNumberedFrom n old
-    → joined_from n (kept_of old shown) (map updated (handed_from k old shown)) ≡ after_of old shown
-joined_is n k [] shown long numbered = refl
-joined_is n k (p ∷ ps) [] long numbered = absurd (omega arith)
-joined_is n k (p ∷ ps) (None ∷ os) long numbered =
-    ap (λ (qs : List Piece). p ∷ qs)
-    (joined_is (n + 1) k ps os (omega (arith, long)) (λ i piece at. numbered (suc i) piece at ∙ omega arith))
-joined_is n k (p ∷ ps) (Some o ∷ os) long numbered =
-    let back : p.number ≡ n = numbered 0 p refl ∙ omega arith in
-    let here = joined_from (n + 1) (kept_of ps os) (map updated (handed_from (k + 1) ps os)) in
-    ap (λ (m : ℕ). with_number (updated (with_tick p (pod_tick o))) m ∷ here) (sym back)
-    ∙ ap (λ (qs : List Piece). updated (with_tick p (pod_tick o)) ∷ qs)
-    (joined_is (n + 1) (k + 1) ps os (omega (arith, long)) (λ i piece at. numbered (suc i) piece at ∙ omega arith))
+none_waits : (waiting : ℕ) → nat_lt 0 waiting ≡ false → waiting ≡ 0
+none_waits zero e = refl
+none_waits (suc waiting) e = absurd (let w : true ≡ false = e in cc)
 
-pub after_handed : (old : List Piece) (shown : List (Option PodObs)) → length shown ≡ length old
-    → ((n : ℕ) (piece : Piece) → slice_get old n ≡ Some piece → piece.number ≡ n)
-    → AreAfter old shown (joined_from 0 (kept_of old shown) (map updated (handed_from 0 old shown)))
-after_handed old shown long numbered =
-    subst (λ (ps : List Piece). AreAfter old shown ps)
-    (sym (joined_is 0 0 old shown long (λ i piece at. numbered i piece at ∙ omega arith))) (after_is old shown long)
-
-pub after_unique : (old : List Piece) (shown : List (Option PodObs)) (one other : List Piece) → AreNext old shown
-    → AreAfter old shown one → AreAfter old shown other → one ≡ other
-after_unique old shown one other next a b = same_at one other (a.as_many ∙ sym b.as_many) (λ n lt.
-    let p = given_at old n (omega (arith, lt, a.as_many)) in
-    let o = given_at shown n (omega (arith, lt, a.as_many, next.as_many)) in
-    by n p.0 p.1 o.0 o.1)
+-- the pieces that went out, back once all has come into their statuses
+joined_is : (n k : ℕ) (ps : List Piece) → AreNumberedFrom n ps
+    → joined_from n (staying ps) (map all_updated (sent_from k ps)) ≡ map all_updated ps
+joined_is n k [] numbered = refl
+joined_is n k (p ∷ ps) numbered = by (waits p) refl
   where
-    by : (n : ℕ) (p : Piece) → slice_get old n ≡ Some p → (o : Option PodObs) → slice_get shown n ≡ Some o
-        → slice_get one n ≡ slice_get other n
-    by n p at None there = a.absent n p at there ∙ sym (b.absent n p at there)
-    by n p at (Some o) there = a.each n p o at there ∙ sym (b.each n p o at there)
+    rest : (k : ℕ) → joined_from (n + 1) (staying ps) (map all_updated (sent_from k ps)) ≡ map all_updated ps
+    rest k = joined_is (n + 1) k ps (λ i piece at. numbered (suc i) piece at ∙ omega arith)
+
+    by : (b : Bool) → waits p ≡ b
+        → joined_from n ((if b then None else Some p) ∷ staying ps)
+        (map all_updated (if b then with_number p k ∷ sent_from (k + 1) ps else sent_from k ps))
+        ≡ all_updated p ∷ map all_updated ps
+    by true e =
+        let back : p.number ≡ n = numbered 0 p refl ∙ omega arith in
+        let here = joined_from (n + 1) (staying ps) (map all_updated (sent_from (k + 1) ps)) in
+        ap (λ (m : ℕ). with_number (all_updated p) m ∷ here) (sym back)
+        ∙ ap (λ (qs : List Piece). all_updated p ∷ qs) (rest (k + 1))
+    by false e =
+        let free : p.waiting ≡ 0 = none_waits p.waiting e in
+        ap (λ (w : ℕ). record p { waiting = w } ∷ joined_from (n + 1) (staying ps) (map all_updated (sent_from k ps)))
+        free
+        ∙ ap (λ (qs : List Piece). all_updated p ∷ qs) (rest k)
+
+pub joined_updated : (ps : List Piece) → ((n : ℕ) (piece : Piece) → slice_get ps n ≡ Some piece → piece.number ≡ n)
+    → joined_from 0 (staying ps) (map all_updated (sent_from 0 ps)) ≡ map all_updated ps
+joined_updated ps numbered = joined_is 0 0 ps (λ i piece at. numbered i piece at ∙ omega arith)
+
+-- one piece more goes out, or stays
+pub sent_more : (all out new ps : List Piece) (p : Piece) (rest : List Piece)
+    → all ≡ out ++ sent_from (length out) ps → ps ≡ p ∷ rest → new ≡ out ++ sent_from (length out) (p ∷ [])
+    → all ≡ new ++ sent_from (length new) rest
+sent_more all out new ps p rest so_far next more =
+    so_far ∙ ap (λ (qs : List Piece). out ++ sent_from (length out) qs) next ∙ by (waits p) refl
+  where
+    by : (b : Bool) → waits p ≡ b
+        → out ++ (if b then with_number p (length out) ∷ sent_from (length out + 1) rest else sent_from (length out) rest)
+        ≡ new ++ sent_from (length new) rest
+    by true e =
+        let given : new ≡ out ++ with_number p (length out) ∷ [] =
+        more ∙ ap (λ (b : Bool). out ++ (if b then with_number p (length out) ∷ [] else [])) e in
+        let long : length out + 1 ≡ length new =
+        omega (arith, ap length given, length-append out (with_number p (length out) ∷ [])) in
+        ap (λ (m : ℕ). out ++ with_number p (length out) ∷ sent_from m rest) long
+        ∙ sym (append_assoc out (with_number p (length out) ∷ []) (sent_from (length new) rest))
+        ∙ ap (λ (qs : List Piece). qs ++ sent_from (length new) rest) (sym given)
+    by false e =
+        let given : new ≡ out = more ∙ ap (λ (b : Bool). out ++ (if b then with_number p (length out) ∷ [] else [])) e
+        ∙ append-nil out in
+        ap (λ (qs : List Piece). qs ++ sent_from (length qs) rest) (sym given)
+
+pub kept_more : (all kept new : List (Option Piece)) (ps : List Piece) (p : Piece) (rest : List Piece)
+    → all ≡ kept ++ staying ps → ps ≡ p ∷ rest → new ≡ kept ++ staying (p ∷ []) → all ≡ new ++ staying rest
+kept_more all kept new ps p rest so_far next more =
+    so_far ∙ ap (λ (qs : List Piece). kept ++ staying qs) next
+    ∙ sym (append_assoc kept (staying (p ∷ [])) (staying rest))
+    ∙ ap (λ (qs : List (Option Piece)). qs ++ staying rest) (sym more)
+
+-- pieces that are changed one after the other
+pub none_changed : (f : ℕ → Piece → Piece) (old : List Piece) → AreChangedBelow f 0 old old
+none_changed f old = record {
+  as_many = refl;
+  below = λ n piece lt at. absurd (omega arith);
+  rest = λ n le. refl;
+}
+
+pub one_changed : (f : ℕ → Piece → Piece) (g : Piece → Piece) (i : ℕ) (old now new : List Piece)
+    → ((p : Piece) → g p ≡ f i p) → AreChangedBelow f i old now → IsChangedAt g i now new
+    → AreChangedBelow f (i + 1) old new
+one_changed f g i old now new same so_far step = record {
+  as_many = step.as_many ∙ so_far.as_many;
+  below = λ n piece lt at. elim (cases_eq n i) [
+    | inl here ↦
+        let was : slice_get old i ≡ Some piece = subst (λ (k : ℕ). slice_get old k ≡ Some piece) here at in
+        subst (λ (k : ℕ). slice_get new k ≡ Some (f k piece)) (sym here)
+        (step.here piece (so_far.rest i (omega arith) ∙ was) ∙ ap Some (same piece))
+    | inr apart ↦
+        let less : n < i = (let not : n ≡ i → ⊥ = apart in omega arith) in
+        step.others n apart ∙ so_far.below n piece less at
+  ];
+  rest = λ n le. step.others n (λ e. omega arith) ∙ so_far.rest n (omega arith);
+}
+
+pub all_changed : (f : ℕ → Piece → Piece) (i : ℕ) (old now all : List Piece) → AreChangedBelow f i old now
+    → length all ≡ length old
+    → ((n : ℕ) (p : Piece) → slice_get old n ≡ Some p → slice_get all n ≡ Some (f n p))
+    → ((n : ℕ) (p : Piece) → i ≤ n → slice_get old n ≡ Some p → f n p ≡ p) → now ≡ all
+all_changed f i old now all are long each same = same_at now all (are.as_many ∙ sym long) (λ n lt.
+    let p = given_at old n (omega (arith, lt, are.as_many)) in
+    elim (cases_lt n i) [
+      | inl below ↦ are.below n p.0 below p.1 ∙ sym (each n p.0 p.1)
+      | inr past ↦
+          are.rest n (omega arith) ∙ p.1 ∙ ap Some (sym (same n p.0 (omega arith) p.1)) ∙ sym (each n p.0 p.1)
+    ])
+
+-- a piece that was set
+pub set_changed : (f : Piece → Piece) (i : ℕ) (old : List Piece) (piece changed : Piece)
+    → slice_get old i ≡ Some piece → changed ≡ f piece → IsChangedAt f i old (slice_set old i changed)
+set_changed f i old piece changed at is = record {
+  as_many = set_length old i changed;
+  here = λ p there. set_here old i changed piece at ∙ ap Some is
+      ∙ ap (λ (q : Piece). Some (f q)) (same_piece old i piece p at there);
+  others = λ n apart. set_others old i n changed apart;
+}
+
+-- what is shown of the next pod
+pub shown_next : (all front : List (Option PodObs)) (o : Option PodObs) (rest : List (Option PodObs)) (i : ℕ)
+    → all ≡ front ++ o ∷ rest → i ≡ length front → slice_get all i ≡ Some o
+shown_next all front o rest i is place =
+    ap (λ n. slice_get all n) place ∙ ap (λ (os : List (Option PodObs)). slice_get os (length front)) is
+    ∙ here front
+  where
+    here : (front : List (Option PodObs)) → slice_get (front ++ o ∷ rest) (length front) ≡ Some o
+    here [] = refl
+    here (x ∷ front) = here front
+
+-- it may be handed to its pod
+pub may_take_next : (old now : List Piece) (all : List (Option PodObs)) (i : ℕ) (o : Option PodObs)
+    (f : ℕ → Piece → Piece) → AreNext old all → AreChangedBelow f i old now → slice_get all i ≡ Some o
+    → (piece : Piece) → slice_get now i ≡ Some piece → MayTake piece o
+may_take_next old now all i o f next are shown piece at = by o shown
+  where
+    by : (o : Option PodObs) → slice_get all i ≡ Some o → MayTake piece o
+    by None is = tt
+    by (Some observed) is = next.each i piece observed (sym (are.rest i (omega arith)) ∙ at) is
 
 pub set_evicted : (old : List Piece) (n : ℕ) (order : EvictOrder) (piece evicted : Piece)
     → slice_get old n ≡ Some piece → evicted ≡ with_eviction piece order
@@ -198,47 +307,49 @@ next_more at pieces shown i piece observed here there is before n p o lt e f = e
 -- what a tick shows of a pod stands at the pod's number
 pub shown_at : (tick : TickObs) (n : ℕ) (observed : PodObs) → shown_of tick n ≡ Some observed
     → slice_get tick.pods n ≡ Some (Some observed)
-shown_at tick n observed is = by (slice_get tick.pods n) is
-  where
-    by : (o : Option (Option PodObs)) → option_flatten o ≡ Some observed → o ≡ Some (Some observed)
-    by None e = absurd (cc)
-    by (Some o) e = ap Some e
+shown_at tick n observed is = flatten_some (slice_get tick.pods n) observed is
 
 -- all may
 pub fits_all : (pods : Pods) (tick : TickObs) → length tick.pods ≡ length pods.pieces
     → AreNextBelow tick.at pods.pieces tick.pods (length pods.pieces) → Fits pods tick
 fits_all pods tick long all = record {
-  next = record {
-    as_many = long;
-    each = λ n piece observed at there.
-        (all n piece (Some observed) (slice_get_within pods.pieces n piece at) at there).shown.next;
+  told = long;
+  handed = record {
+    next = record {
+      within = omega (arith, long);
+      each = λ n piece observed at there.
+          (all n piece (Some observed) (slice_get_within pods.pieces n piece at) at there).shown.next;
+    };
+    at_its_moment = λ n observed is.
+        let there = shown_at tick n observed is in
+        let lt = slice_get_within tick.pods n (Some observed) there in
+        let p = given_at pods.pieces n (omega (arith, lt, long)) in
+        (all n p.0 (Some observed) (omega (arith, lt, long)) p.1 there).shown.now;
+    later = λ n piece at.
+        let lt = slice_get_within pods.pieces n piece at in
+        let o = given_at tick.pods n (omega (arith, lt, long)) in
+        (all n piece o.0 lt at o.1).later;
   };
-  at_its_moment = λ n observed is.
-      let there = shown_at tick n observed is in
-      let lt = slice_get_within tick.pods n (Some observed) there in
-      let p = given_at pods.pieces n (omega (arith, lt, long)) in
-      (all n p.0 (Some observed) (omega (arith, lt, long)) p.1 there).shown.now;
-  later = λ n piece at.
-      let lt = slice_get_within pods.pieces n piece at in
-      let o = given_at tick.pods n (omega (arith, lt, long)) in
-      (all n piece o.0 lt at o.1).later;
 }
 
 pub all_fit : (pods : Pods) (tick : TickObs) → Fits pods tick
     → AreNextBelow tick.at pods.pieces tick.pods (length pods.pieces)
 all_fit pods tick fits n piece observed lt at there =
-    record { later = fits.later n piece at; shown = by observed there }
+    record { later = fits.handed.later n piece at; shown = by observed there }
   where
     by : (o : Option PodObs) → slice_get tick.pods n ≡ Some o → IfSome o (IsShownNext tick.at piece)
     by None is = tt
     by (Some o) is =
-        record { now = fits.at_its_moment n o (ap option_flatten is); next = fits.next.each n piece o at is }
+        record {
+          now = fits.handed.at_its_moment n o (ap option_flatten is);
+          next = fits.handed.next.each n piece o at is;
+        }
 
 -- there are pieces after a tick, and after an eviction
 pub one_is_after : OneIsAfter
 one_is_after = record {
-  exists = λ old shown next. (after_of old shown, after_is old shown next.as_many);
-  unique = after_unique;
+  exists = λ old shown next. (after_each old shown, after_is old shown);
+  unique = λ old shown one other next a b. after_unique old shown one other a b;
 }
 
 pub one_is_evicted : OneIsEvicted
@@ -265,71 +376,6 @@ none_left (Some x) old new Q rest ends long is = absurd (let w : Some x ≡ None
 pub nothing_left : {A : Type 0} (rest : List A) → length rest ≡ 0 → rest ≡ []
 nothing_left [] long = refl
 nothing_left (x ∷ xs) long = absurd (omega (arith, long))
-
-may_nothing : (ps : List Piece) → MayTakeAll ps []
-may_nothing [] = tt
-may_nothing (p ∷ ps) = tt
-
--- the next pod, and what is shown of it
-pub next_may : (p : Piece) (ps : List Piece) (os rest : List (Option PodObs)) (o : Option (Option PodObs))
-    → os ≡ option_to_list o ++ rest → (o ≡ None → rest ≡ []) → MayTakeAll (p ∷ ps) os
-    → MayTake p (option_flatten o) × MayTakeAll ps rest
-next_may p ps os rest None is ends may =
-    (tt, subst (λ (xs : List (Option PodObs)). MayTakeAll ps xs) (sym (ends refl)) (may_nothing ps))
-next_may p ps os rest (Some o) is ends may =
-    subst (λ (xs : List (Option PodObs)). MayTakeAll (p ∷ ps) xs) is may
-
-pub next_going : (k after : ℕ) (p : Piece) (ps : List Piece) (os rest : List (Option PodObs))
-    (o : Option (Option PodObs)) → os ≡ option_to_list o ++ rest → (o ≡ None → rest ≡ [])
-    → after ≡ k + length (going k p (option_flatten o))
-    → handed_from k (p ∷ ps) os ≡ going k p (option_flatten o) ++ handed_from after ps rest
-next_going k after p ps os rest None is ends long =
-    let same : k ≡ after = omega (arith, long) in
-    ap (handed_from k (p ∷ ps)) (is ∙ ends refl) ∙ ap (handed_from k ps) (sym (ends refl))
-    ∙ ap (λ (m : ℕ). handed_from m ps rest) same
-next_going k after p ps os rest (Some None) is ends long =
-    let same : k ≡ after = omega (arith, long) in
-    ap (handed_from k (p ∷ ps)) is ∙ ap (λ (m : ℕ). handed_from m ps rest) same
-next_going k after p ps os rest (Some (Some o)) is ends long =
-    let same : k + 1 ≡ after = omega (arith, long) in
-    ap (handed_from k (p ∷ ps)) is
-    ∙ ap (λ (m : ℕ). with_number (with_tick p (pod_tick o)) k ∷ handed_from m ps rest) same
-
-pub next_staying : (p : Piece) (ps : List Piece) (os rest : List (Option PodObs)) (o : Option (Option PodObs))
-    → os ≡ option_to_list o ++ rest → (o ≡ None → rest ≡ [])
-    → kept_of (p ∷ ps) os ≡ staying p (option_flatten o) ∷ kept_of ps rest
-next_staying p ps os rest None is ends =
-    ap (kept_of (p ∷ ps)) (is ∙ ends refl)
-    ∙ ap (λ (xs : List (Option PodObs)). Some p ∷ kept_of ps xs) (sym (ends refl))
-next_staying p ps os rest (Some None) is ends = ap (kept_of (p ∷ ps)) is
-next_staying p ps os rest (Some (Some o)) is ends = ap (kept_of (p ∷ ps)) is
-
--- so far, and with the next pod
-pub out_more : (all out new ps : List Piece) (p : Piece) (rest_ps : List Piece) (os rest : List (Option PodObs))
-    (o : Option (Option PodObs)) (shown : Option PodObs) → all ≡ out ++ handed_from (length out) ps os
-    → ps ≡ p ∷ rest_ps → shown ≡ option_flatten o → os ≡ option_to_list o ++ rest → (o ≡ None → rest ≡ [])
-    → new ≡ out ++ going (length out) p shown → all ≡ new ++ handed_from (length new) rest_ps rest
-out_more all out new ps p rest_ps os rest o shown so_far next is items ends more =
-    let given : new ≡ out ++ going (length out) p (option_flatten o) =
-    more ∙ ap (λ (x : Option PodObs). out ++ going (length out) p x) is in
-    let long : length new ≡ length out + length (going (length out) p (option_flatten o)) =
-    ap length given ∙ length-append out (going (length out) p (option_flatten o)) in
-    so_far ∙ ap (λ (qs : List Piece). out ++ handed_from (length out) qs os) next
-    ∙ ap (λ (qs : List Piece). out ++ qs)
-    (next_going (length out) (length new) p rest_ps os rest o items ends long)
-    ∙ sym (append_assoc out (going (length out) p (option_flatten o)) (handed_from (length new) rest_ps rest))
-    ∙ ap (λ (qs : List Piece). qs ++ handed_from (length new) rest_ps rest) (sym given)
-
-pub kept_more : (all kept new : List (Option Piece)) (ps : List Piece) (p : Piece) (rest_ps : List Piece)
-    (os rest : List (Option PodObs)) (o : Option (Option PodObs)) (shown : Option PodObs)
-    → all ≡ kept ++ kept_of ps os → ps ≡ p ∷ rest_ps → shown ≡ option_flatten o → os ≡ option_to_list o ++ rest
-    → (o ≡ None → rest ≡ []) → new ≡ kept ++ staying p shown ∷ [] → all ≡ new ++ kept_of rest_ps rest
-kept_more all kept new ps p rest_ps os rest o shown so_far next is items ends more =
-    so_far ∙ ap (λ (qs : List Piece). kept ++ kept_of qs os) next
-    ∙ ap (λ (qs : List (Option Piece)). kept ++ qs) (next_staying p rest_ps os rest o items ends)
-    ∙ ap (λ (x : Option PodObs). kept ++ staying p x ∷ kept_of rest_ps rest) (sym is)
-    ∙ sym (append_assoc kept (staying p shown ∷ []) (kept_of rest_ps rest))
-    ∙ ap (λ (qs : List (Option Piece)). qs ++ kept_of rest_ps rest) (sym more)
 
 -- the next place, and the piece that comes back to it
 abbrev pub back_at : ℕ → Option Piece → Option Piece

@@ -1,17 +1,20 @@
 -- The pods of a node, and what a tick and an eviction make of them. (Kubernetes, "Pod Lifecycle" and
 -- "Node-pressure Eviction".)
-use Rattle.std.specs.Prelude.{◌≡◌, ◌≢◌, ℕ, ◌+◌, Bool, false, List, [], ◌∷◌, ◌++◌, length, slice_get, Option, Some, None}
+use Rattle.std.specs.Prelude.{◌≡◌, ◌≢◌, ℕ, ◌+◌, ◌≤◌, Bool, List, [], ◌∷◌, ◌++◌, length, map, slice_get, nat_lt}
+use Rattle.std.specs.Prelude.{Option, Some, None, if◌then◌else◌}
+use Rattle.std.specs.Option.{option_flatten}
 use Rattle.histories.specs.Histories.{last_moment, EndsBefore}
 use Rattle.manifest.specs.declared.pod.PodSpec.{PodSpec}
 use Rattle.observations.specs.Pods.{PodObs}
 use Rattle.observations.specs.declared.tick.TickObs.{TickObs}
 use Rattle.observations.specs.Observations.{shown_of}
 use Rattle.phase.specs.RawPhase.{IsTerminal}
-use Rattle.pod_state.specs.Pods.{pod_tick}
+use Rattle.pod_state.specs.Pods.{PodTick, pod_tick}
 use Rattle.pod_piece.specs.declared.order.EvictOrder.{EvictOrder}
 use Rattle.pod_piece.specs.declared.status.PodStatus.{PodStatus}
 use Rattle.pod_piece.specs.Listings.{IsNextTick}
-use Rattle.pod_piece.specs.Piece.{Piece, new_piece, with_tick, updated, with_eviction, with_number}
+use Rattle.pod_piece.specs.Piece.{Piece, new_piece, with_tick, updated, all_updated, at_rest, with_eviction}
+use Rattle.pod_piece.specs.Piece.{with_number}
 use Rattle.pod_piece.specs.Status.{IsStatusOf}
 
 -- the pods that have arrived on a node, by their numbers
@@ -32,13 +35,25 @@ with_pod pods pod =
     pods_of (pods.pieces ++ new_piece (length pods.pieces) pod pods.max_restart_delay ∷ []) pods.max_restart_delay
     pods.has_dedicated_imagefs
 
--- a pod of a node: its number is its place, and all that was handed to it has come into its status
+-- the pod has its place as its number
+pub record IsNumbered (max_restart_delay : ℕ) (n : ℕ) (piece : Piece) : Type 0 where
+  pub number_is : piece.number ≡ n
+  pub max_restart_delay_is : piece.max_restart_delay ≡ max_restart_delay
+
+-- each pod has
+abbrev pub AreNumbered : Pods → Type 0
+AreNumbered pods = (n : ℕ) (piece : Piece) → slice_get pods.pieces n ≡ Some piece
+    → IsNumbered pods.max_restart_delay n piece
+
+-- a pod of a node between two rounds: its number is its place, all that was handed to it has come into its status, and
+-- its last round is over
 pub record IsPlaced (max_restart_delay : ℕ) (n : ℕ) (piece : Piece) : Type 0 where
   pub number_is : piece.number ≡ n
   pub max_restart_delay_is : piece.max_restart_delay ≡ max_restart_delay
-  pub free : piece.is_pending ≡ false
+  pub free : piece.waiting ≡ 0
+  pub rested : piece.begun ≡ length piece.handed
 
--- each pod has its place as its number, and nothing pending
+-- each pod has its place as its number, and nothing that waits
 abbrev pub ArePlaced : Pods → Type 0
 ArePlaced pods = (n : ℕ) (piece : Piece) → slice_get pods.pieces n ≡ Some piece
     → IsPlaced pods.max_restart_delay n piece
@@ -54,32 +69,51 @@ pub record IsCandidate (pieces : List Piece) (moment n : ℕ) (status : PodStatu
 
 -- what is shown of the pods that are present, of each at its number, may be handed to them
 pub record AreNext (pieces : List Piece) (shown : List (Option PodObs)) : Type 0 where
-  pub as_many : length shown ≡ length pieces
+  pub within : length shown ≤ length pieces
   pub each : (n : ℕ) (piece : Piece) (observed : PodObs) → slice_get pieces n ≡ Some piece
       → slice_get shown n ≡ Some (Some observed) → IsNextTick piece.pod piece.handed (pod_tick observed)
 
--- the tick says of each pod what it shows or that it is not present, at its own moment, which is later than all that
--- was handed to the pods, and each may be handed what it shows
-pub record Fits (pods : Pods) (tick : TickObs) : Type 0 where
-  pub next : AreNext pods.pieces tick.pods
+-- what the tick shows of the pods that are present may be handed to them, at the tick's own moment, which is later than
+-- all that was handed to the pods
+pub record MayBeHanded (pieces : List Piece) (tick : TickObs) : Type 0 where
+  pub next : AreNext pieces tick.pods
   pub at_its_moment : (n : ℕ) (observed : PodObs) → shown_of tick n ≡ Some observed → observed.at ≡ tick.at
-  pub later : (n : ℕ) (piece : Piece) → slice_get pods.pieces n ≡ Some piece → EndsBefore piece.handed tick.at
+  pub later : (n : ℕ) (piece : Piece) → slice_get pieces n ≡ Some piece → EndsBefore piece.handed tick.at
 
--- the pieces of the pods that are present, once each was handed what is shown of it. They go out for their updates, and
--- while they are out the number of each is its place among them, from k on
-abbrev pub handed_from : ℕ → List Piece → List (Option PodObs) → List Piece
-handed_from k [] shown = []
-handed_from k (p ∷ ps) [] = handed_from k ps []
-handed_from k (p ∷ ps) (None ∷ shown) = handed_from k ps shown
-handed_from k (p ∷ ps) (Some observed ∷ shown) =
-    with_number (with_tick p (pod_tick observed)) k ∷ handed_from (k + 1) ps shown
+-- the tick says of each pod what it shows or that it is not present, and what it shows may be handed to it
+pub record Fits (pods : Pods) (tick : TickObs) : Type 0 where
+  pub told : length tick.pods ≡ length pods.pieces
+  pub handed : MayBeHanded pods.pieces tick
+
+-- the pieces, each as f makes it of what is shown of its pod; where nothing is shown of more, those stay
+abbrev pub with_shown : (Piece → Option PodObs → Piece) → List Piece → List (Option PodObs) → List Piece
+with_shown f [] shown = []
+with_shown f (p ∷ ps) [] = p ∷ ps
+with_shown f (p ∷ ps) (o ∷ shown) = f p o ∷ with_shown f ps shown
+
+-- the piece once it was handed what is shown of its pod, if that is present
+abbrev pub handed_one : Piece → Option PodObs → Piece
+handed_one p None = p
+handed_one p (Some observed) = with_tick p (pod_tick observed)
+
+-- the pieces once each pod that is present was handed what is shown of it
+abbrev pub handed_each : List Piece → List (Option PodObs) → List Piece
+handed_each pieces shown = with_shown handed_one pieces shown
+
+-- some tick waits for it
+abbrev pub waits : Piece → Bool
+waits p = nat_lt 0 p.waiting
+
+-- the pieces that go out for their updates, since some tick waits for them; while they are out the number of each is
+-- its place among them, from k on
+abbrev pub sent_from : ℕ → List Piece → List Piece
+sent_from k [] = []
+sent_from k (p ∷ ps) = if waits p then with_number p k ∷ sent_from (k + 1) ps else sent_from k ps
 
 -- the pieces that stay, each at its number, and nothing where one went out
-abbrev pub kept_of : List Piece → List (Option PodObs) → List (Option Piece)
-kept_of [] shown = []
-kept_of (p ∷ ps) [] = Some p ∷ kept_of ps []
-kept_of (p ∷ ps) (None ∷ shown) = Some p ∷ kept_of ps shown
-kept_of (p ∷ ps) (Some observed ∷ shown) = None ∷ kept_of ps shown
+abbrev pub staying : List Piece → List (Option Piece)
+staying [] = []
+staying (p ∷ ps) = (if waits p then None else Some p) ∷ staying ps
 
 -- all pieces, once those that went out are back, each with its number, from n on
 abbrev pub joined_from : ℕ → List (Option Piece) → List Piece → List Piece
@@ -88,17 +122,25 @@ joined_from n (Some p ∷ kept) back = p ∷ joined_from (n + 1) kept back
 joined_from n (None ∷ kept) [] = joined_from n kept []
 joined_from n (None ∷ kept) (q ∷ back) = with_number q n ∷ joined_from (n + 1) kept back
 
+-- the piece once it was handed a tick, which has come into its status, and its round is over
+abbrev pub after_tick : Piece → PodTick → Piece
+after_tick p tick = at_rest (updated (with_tick p tick))
+
+-- the piece once all that waits has come into its status, and its round is over
+abbrev pub closed : Piece → Piece
+closed p = at_rest (all_updated p)
+
 -- the pieces once each pod that is present was handed what is shown of it, and has taken it into its status. One that
 -- is not present stays as it was
 pub record AreAfter (old : List Piece) (shown : List (Option PodObs)) (new : List Piece) : Type 0 where
   pub as_many : length new ≡ length old
   pub each : (n : ℕ) (piece : Piece) (observed : PodObs) → slice_get old n ≡ Some piece
       → slice_get shown n ≡ Some (Some observed)
-      → slice_get new n ≡ Some (updated (with_tick piece (pod_tick observed)))
-  pub absent : (n : ℕ) (piece : Piece) → slice_get old n ≡ Some piece → slice_get shown n ≡ Some None
-      → slice_get new n ≡ Some piece
+      → slice_get new n ≡ Some (after_tick piece (pod_tick observed))
+  pub absent : (n : ℕ) (piece : Piece) → slice_get old n ≡ Some piece
+      → option_flatten (slice_get shown n) ≡ None → slice_get new n ≡ Some piece
 
--- what a node keeps of its pods while the pieces of those that are present take a tick into their statuses
+-- what a node keeps of its pods while the pieces of those for which ticks wait take them into their statuses
 pub record Awaited : Type 0 where
   pub kept : List (Option Piece)
   pub max_restart_delay : ℕ

@@ -1,14 +1,14 @@
 -- The pieces of a node's pods, one after the other, at one tick.
-use Rattle.std.specs.Prelude.{◌≡◌, ◌<◌, ℕ, false, List, [], ◌∷◌, slice_get, Option, Some, None, IfSome}
+use Rattle.std.specs.Prelude.{◌≡◌, ◌≢◌, ◌<◌, ◌≤◌, ℕ, List, length, slice_get, Option, Some, IfSome}
 use Rattle.histories.specs.Histories.{EndsBefore}
 use Rattle.observations.specs.Pods.{PodObs}
 use Rattle.pod_state.specs.Pods.{pod_tick}
 use Rattle.pod_piece.specs.Listings.{IsNextTick}
-use Rattle.pod_piece.specs.Piece.{Piece, with_tick, with_number}
+use Rattle.pod_piece.specs.Piece.{Piece}
 
 -- none has a tick that is still to come into its status
 abbrev pub AreFree : List Piece → Type 0
-AreFree pieces = (n : ℕ) (piece : Piece) → slice_get pieces n ≡ Some piece → piece.is_pending ≡ false
+AreFree pieces = (n : ℕ) (piece : Piece) → slice_get pieces n ≡ Some piece → piece.waiting ≡ 0
 
 -- the observation has this moment, and may be handed to the pod
 pub record IsShownNext (at : ℕ) (piece : Piece) (observed : PodObs) : Type 0 where
@@ -30,15 +30,16 @@ AreNextBelow at pieces shown i =
 
 -- what is shown of the pod, if anything, may be handed to it
 abbrev pub MayTake : Piece → Option PodObs → Type 0
-MayTake p None = Unit {0}
-MayTake p (Some observed) = (p.is_pending ≡ false) × IsNextTick p.pod p.handed (pod_tick observed)
+MayTake p shown = IfSome shown (λ observed. IsNextTick p.pod p.handed (pod_tick observed))
 
--- the piece that goes out, if its pod is shown: once it was handed what is shown, with this number
-abbrev pub going : ℕ → Piece → Option PodObs → List Piece
-going k p None = []
-going k p (Some observed) = with_number (with_tick p (pod_tick observed)) k ∷ []
+-- the piece at the place is another one, made of the one that was there, and no other is
+pub record IsChangedAt (f : Piece → Piece) (i : ℕ) (old new : List Piece) : Type 0 where
+  pub as_many : length new ≡ length old
+  pub here : (piece : Piece) → slice_get old i ≡ Some piece → slice_get new i ≡ Some (f piece)
+  pub others : (n : ℕ) → n ≢ i → slice_get new n ≡ slice_get old n
 
--- the piece that stays, if its pod is not shown
-abbrev pub staying : Piece → Option PodObs → Option Piece
-staying p None = Some p
-staying p (Some observed) = None
+-- the pieces at the places below i are others, each made of the one that was there, and no other is
+pub record AreChangedBelow (f : ℕ → Piece → Piece) (i : ℕ) (old new : List Piece) : Type 0 where
+  pub as_many : length new ≡ length old
+  pub below : (n : ℕ) (piece : Piece) → n < i → slice_get old n ≡ Some piece → slice_get new n ≡ Some (f n piece)
+  pub rest : (n : ℕ) → i ≤ n → slice_get new n ≡ slice_get old n

@@ -1,14 +1,13 @@
 //! All pods of a node at one tick.
 
-ghost use Rattle.std.specs.Prelude.{◌≡◌, ◌↔◌, ℕ, ◌<◌, ◌++◌, ◌∷◌, [], false, length, slice_get, Option, Some, None};
+ghost use Rattle.std.specs.Prelude.{◌≡◌, ◌↔◌, ℕ, ◌<◌, ◌++◌, ◌∷◌, [], length, map, slice_get, Option, Some, None};
 ghost use Rattle.std.specs.Prelude.{IsTrue, IfSome, IfOk, OnOk, option_map, option_to_list};
 ghost use Rattle.histories.specs.Histories.{last_moment, EndsBefore};
-ghost use Rattle.pod_state.specs.Pods.{pod_tick};
 ghost use Rattle.pod_piece.specs.declared.status.PodStatus.{PodStatus};
-ghost use Rattle.pod_piece.specs.Listings.{IsNextTick};
-ghost use Rattle.pod_piece.specs.Piece.{Piece, with_tick, with_number};
-ghost use Rattle.node_pods.specs.Pods.{AreNext, handed_from, kept_of, joined_from, IsEvictable, AreEvicted};
-ghost use Rattle.node_pods.specs.Steps.{AreFree, IsShownNext, IsNextAt, AreNextBelow, MayTake, going, staying};
+ghost use Rattle.pod_piece.specs.Piece.{Piece, at_rest, with_number};
+ghost use Rattle.node_pods.specs.Pods.{AreNext, handed_one, handed_each, sent_from, staying, joined_from};
+ghost use Rattle.node_pods.specs.Pods.{IsEvictable, AreEvicted};
+ghost use Rattle.node_pods.specs.Steps.{AreFree, IsShownNext, IsNextAt, AreNextBelow, MayTake, IsChangedAt};
 ghost use Rattle.node_pods.specs.Ranked.{IsRanked, AreHeldBelow};
 ghost use Rattle.ranking.specs.Index.{IsIndexOf};
 
@@ -46,7 +45,7 @@ fn is_before(last: Option<u64>, at: u64) -> bool
 
 /// Whether the observation is of this moment, and may be handed to the pod.
 fn may_be_handed(piece: &PodPiece, observed: &PodObs, at: u64) -> bool
-    requires free { piece.now.is_pending ≡ false }
+    requires free { piece.now.waiting ≡ 0 }
     requires later { EndsBefore piece.now.handed at }
     ensures { IsTrue result ↔ IsShownNext at piece.now observed.now }
 {
@@ -56,7 +55,7 @@ fn may_be_handed(piece: &PodPiece, observed: &PodObs, at: u64) -> bool
 /// Whether the moment is later than all that was handed to the pod, and what is shown of it, if anything, is of this
 /// moment and may be handed to it.
 fn is_next(piece: &PodPiece, shown: Option<&PodObs>, at: u64) -> bool
-    requires { piece.now.is_pending ≡ false }
+    requires { piece.now.waiting ≡ 0 }
     ensures { IsTrue result ↔ IsNextAt at piece.now (option_map (λ o. o.now) shown.entry) }
 {
     if !is_before(piece.last_at(), at) {
@@ -83,59 +82,90 @@ pub(crate) fn are_next(pieces: &[PodPiece], shown: &[Option<PodObs>], at: u64) -
     true
 }
 
-/// The piece once it was handed the observation, under another number.
-fn handed(piece: PodPiece, observed: PodObs, number: usize) -> Result<PodPiece, AllocError>
-    requires free { piece.is_pending ≡ false }
-    requires next { IsNextTick piece.pod piece.handed (pod_tick observed) }
-    ensures { IfOk result (λ p. p ≡ with_number (with_tick piece (pod_tick observed)) number) }
-{
-    let mut piece = piece;
-    piece.hand(observed)?;
-    piece.renumber(number);
-    Ok(piece)
-}
-
-/// The piece goes out once it was handed what is shown of its pod, or is kept where nothing is.
-fn hand_or_keep(
-    out: &mut Vec<PodPiece>,
-    kept: &mut Vec<Option<PodPiece>>,
-    piece: PodPiece,
+/// Hands the pod with the number what is shown of it, if it is present.
+fn hand_at(
+    pieces: &mut Vec<PodPiece>,
+    number: usize,
     shown: Option<PodObs>,
 ) -> Result<(), AllocError>
-    requires { MayTake piece shown }
-    ensures out { OnOk result (out.new.items ≡ out.old.items ++ going (length out.old.items) piece shown) }
-    ensures kept { OnOk result (kept.new.items ≡ kept.old.items ++ staying piece shown ∷ []) }
+    requires within { number < length pieces.old.items }
+    requires next { (piece : Piece) → slice_get pieces.old.items number ≡ Some piece → MayTake piece shown }
+    ensures { OnOk result
+        (IsChangedAt (λ p. handed_one p shown) number pieces.old.items pieces.new.items) }
 {
-    match shown {
-        Some(observed) => {
-            let number = out.len();
-            out.push(handed(piece, observed, number)?)?;
-            kept.push(None)?;
-        }
-        None => kept.push(Some(piece))?,
+    if let Some(observed) = shown {
+        pieces[number].hand(observed)?;
     }
     Ok(())
 }
 
-/// The pieces of the pods that are shown, once each was handed what is shown of it, and those that are kept.
-pub(crate) fn all_handed(
+/// Hands each pod that is present what is shown of it, by number.
+pub(crate) fn hand_all(
+    pieces: &mut Vec<PodPiece>,
+    shown: Vec<Option<PodObs>>,
+) -> Result<(), AllocError>
+    requires { AreNext pieces.old.items shown.items }
+    ensures { OnOk result (pieces.new.items ≡ handed_each pieces.old.items shown.items) }
+{
+    let mut number = 0;
+    for observed in shown {
+        hand_at(pieces, number, observed)?;
+        number += 1;
+    }
+    Ok(())
+}
+
+/// The piece goes out where a tick waits for it, under another number, or is kept.
+fn send_or_keep(
+    out: &mut Vec<PodPiece>,
+    kept: &mut Vec<Option<PodPiece>>,
+    piece: PodPiece,
+) -> Result<(), AllocError>
+    ensures out { OnOk result (out.new.items ≡ out.old.items ++ sent_from (length out.old.items) (piece ∷ [])) }
+    ensures kept { OnOk result (kept.new.items ≡ kept.old.items ++ staying (piece ∷ [])) }
+{
+    if piece.pending() {
+        let mut piece = piece;
+        piece.renumber(out.len());
+        out.push(piece)?;
+        kept.push(None)?;
+    } else {
+        kept.push(Some(piece))?;
+    }
+    Ok(())
+}
+
+/// The pieces for which ticks wait, and those that are kept.
+pub(crate) fn all_sent(
     alloc: Global,
     pieces: Vec<PodPiece>,
-    shown: Vec<Option<PodObs>>,
 ) -> Result<(Vec<PodPiece>, Vec<Option<PodPiece>>), AllocError>
-    requires free { AreFree pieces.items }
-    requires next { AreNext pieces.items shown.items }
-    ensures out { IfOk result (λ r. r.0.items ≡ handed_from 0 pieces.items shown.items) }
-    ensures kept { IfOk result (λ r. r.1.items ≡ kept_of pieces.items shown.items) }
+    ensures out { IfOk result (λ r. r.0.items ≡ sent_from 0 pieces.items) }
+    ensures kept { IfOk result (λ r. r.1.items ≡ staying pieces.items) }
 {
     let mut out = Vec::with_capacity(alloc, pieces.len())?;
     let mut kept = Vec::with_capacity(alloc, pieces.len())?;
-    let mut observations = shown.into_iter();
     for piece in pieces {
-        let shown = observations.next().flatten();
-        hand_or_keep(&mut out, &mut kept, piece, shown)?;
+        send_or_keep(&mut out, &mut kept, piece)?;
     }
     Ok((out, kept))
+}
+
+/// The round of the pod with the number is over.
+fn rest_at(pieces: &mut Vec<PodPiece>, number: usize)
+    requires { number < length pieces.old.items }
+    ensures { IsChangedAt at_rest number pieces.old.items pieces.new.items }
+{
+    pieces[number].rest();
+}
+
+/// The round of each pod is over.
+pub(crate) fn rest_all(pieces: &mut Vec<PodPiece>)
+    ensures { pieces.new.items ≡ map at_rest pieces.old.items }
+{
+    for number in 0..pieces.len() {
+        rest_at(pieces, number);
+    }
 }
 
 /// The piece, if there is one, with this number.
@@ -179,7 +209,7 @@ pub(crate) fn all_joined(
 
 /// Whether the tick of the moment, in seconds, was handed to the pod.
 fn is_present(piece: &PodPiece, moment: u64) -> bool
-    requires { piece.now.is_pending ≡ false }
+    requires { piece.now.waiting ≡ 0 }
     ensures { IsTrue result ↔ (last_moment piece.now.handed ≡ Some moment) }
 {
     piece.last_at() == Some(moment)
@@ -187,7 +217,7 @@ fn is_present(piece: &PodPiece, moment: u64) -> bool
 
 /// Gives the pod its place in the index, if it is present at the moment.
 fn rank_one(index: &mut RankIndex, piece: &PodPiece, moment: u64) -> Result<(), AllocError>
-    requires { piece.now.is_pending ≡ false }
+    requires { piece.now.waiting ≡ 0 }
     ensures signal { index.new.signal ≡ index.old.signal }
     ensures dedicated { index.new.has_dedicated_imagefs ≡ index.old.has_dedicated_imagefs }
     ensures held { OnOk result ((held : ℕ → Option PodStatus) → IsIndexOf held index.old

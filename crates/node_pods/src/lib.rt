@@ -9,4 +9,4 @@ mod each;
 pub mod laws;
 mod pods;
 
-pub use pods::{AwaitedPods, NodePods};
+pub use pods::{AwaitedPods, NodePods, OpenPods};

@@ -1,12 +1,13 @@
 //! The pods of a node.
 
 ghost use Rattle.std.specs.Prelude.{◌≡◌, ◌↔◌, [], length, map, IsTrue, IfOk, OnOk, OnErr};
-ghost use Rattle.pod_piece.specs.Piece.{updated};
+ghost use Rattle.pod_piece.specs.Piece.{all_updated, at_rest};
 ghost use Rattle.ranking.specs.Order.{IsVictim};
-ghost use Rattle.node_pods.specs.Pods.{pods_of, with_pod, ArePlaced, IsCandidate, AreNext, Fits, handed_from, kept_of};
-ghost use Rattle.node_pods.specs.Pods.{awaited, joined, IsEvictable, AreEvicted};
+ghost use Rattle.node_pods.specs.Pods.{pods_of, with_pod, AreNumbered, ArePlaced, IsCandidate, AreNext, Fits};
+ghost use Rattle.node_pods.specs.Pods.{handed_each, sent_from, staying, awaited, joined, IsEvictable, AreEvicted};
+ghost use Rattle.node_pods.specs.Steps.{AreFree};
 
-use crate::each::{all_handed, all_joined, are_next, evict_at, rank_all};
+use crate::each::{all_joined, all_sent, are_next, evict_at, hand_all, rank_all, rest_all};
 use manifest::{MaxRestartDelay, PodSpec};
 use observations::{PodObs, TickObs};
 use pod_piece::{EvictOrder, PodPiece};
@@ -83,18 +84,9 @@ impl NodePods {
         shown.len() == self.pieces.len() && are_next(&self.pieces, shown, tick.at)
     }
 
-    /// Hands each pod that is present what a tick shows of it, by number. Their pieces, which are still to take it into
-    /// their statuses, go out of the node's hands, the place of each as its number, and come back by
-    /// `AwaitedPods::with`. An `Err` says that memory was refused.
-    pub fn hand(
-        self,
-        shown: Vec<Option<PodObs>>,
-    ) -> Result<(Vec<PodPiece>, AwaitedPods), AllocError>
-        requires { AreNext self.pieces shown.items }
-        ensures handed { IfOk result (λ r. r.0.items ≡ handed_from 0 self.pieces shown.items) }
-        ensures awaited { IfOk result (λ r. r.1
-            ≡ awaited (kept_of self.pieces shown.items) self.max_restart_delay self.has_dedicated_imagefs) }
-        ensures updated { IfOk result (λ r. ArePlaced (joined r.1 (map updated r.0.items))) }
+    /// The same pods, to which ticks may be handed: a round begins.
+    pub fn open(self) -> OpenPods
+        ensures { result ≡ self }
     {
         let NodePods {
             alloc,
@@ -102,16 +94,12 @@ impl NodePods {
             has_dedicated_imagefs,
             pieces,
         } = self;
-        let (out, kept) = all_handed(alloc, pieces, shown)?;
-        Ok((
-            out,
-            AwaitedPods {
-                alloc,
-                max_restart_delay,
-                has_dedicated_imagefs,
-                kept,
-            },
-        ))
+        OpenPods {
+            alloc,
+            max_restart_delay,
+            has_dedicated_imagefs,
+            pieces,
+        }
     }
 
     /// The number of the pod that is evicted first under the signal by the tick of the moment, in seconds; none, where
@@ -138,7 +126,93 @@ impl NodePods {
     }
 }
 
-/// What a node keeps of its pods while the pieces of those that are present take a tick into their statuses.
+/// The pods of a node in the midst of a round, by their numbers: ticks are handed to them, one after the other, and then
+/// those for which some wait go out for their updates.
+#[derive(Drop)]
+pub struct OpenPods {
+    alloc: Global,
+    max_restart_delay: MaxRestartDelay,
+    has_dedicated_imagefs: bool,
+    pieces: Vec<PodPiece>,
+}
+
+impl Model for OpenPods {
+    ghost use Rattle.node_pods.specs.Pods.{Pods, pods_of, AreNumbered};
+
+    ghost Value = { Pods };
+
+    ghost view = { λ p. pods_of p.pieces.items p.max_restart_delay p.has_dedicated_imagefs };
+
+    ghost invariant = { λ p. AreNumbered (pods_of p.pieces.items p.max_restart_delay p.has_dedicated_imagefs) };
+}
+
+impl OpenPods {
+    /// The pods by their numbers.
+    pub fn pieces(&self) -> &[PodPiece]
+        ensures { result.now ≡ self.now.pieces }
+    {
+        &self.pieces
+    }
+
+    /// Hands each pod that is present what a tick shows of it, by number. After an `Err`, which says that memory was
+    /// refused, some have it, and others not.
+    pub fn hand(&mut self, shown: Vec<Option<PodObs>>) -> Result<(), AllocError>
+        requires { AreNext self.old.pieces shown.items }
+        ensures pieces { OnOk result (self.new.pieces ≡ handed_each self.old.pieces shown.items) }
+        ensures max_restart_delay { self.new.max_restart_delay ≡ self.old.max_restart_delay }
+        ensures dedicated { self.new.has_dedicated_imagefs ≡ self.old.has_dedicated_imagefs }
+    {
+        hand_all(&mut self.pieces, shown)
+    }
+
+    /// The pieces for which ticks wait go out of the node's hands, the place of each as its number, and come back by
+    /// `AwaitedPods::with`. An `Err` says that memory was refused.
+    pub fn send(self) -> Result<(Vec<PodPiece>, AwaitedPods), AllocError>
+        ensures sent { IfOk result (λ r. r.0.items ≡ sent_from 0 self.pieces) }
+        ensures awaited { IfOk result (λ r. r.1
+            ≡ awaited (staying self.pieces) self.max_restart_delay self.has_dedicated_imagefs) }
+        ensures numbered { IfOk result (λ r. AreNumbered (joined r.1 (map all_updated r.0.items))) }
+    {
+        let OpenPods {
+            alloc,
+            max_restart_delay,
+            has_dedicated_imagefs,
+            pieces,
+        } = self;
+        let (out, kept) = all_sent(alloc, pieces)?;
+        Ok((
+            out,
+            AwaitedPods {
+                alloc,
+                max_restart_delay,
+                has_dedicated_imagefs,
+                kept,
+            },
+        ))
+    }
+
+    /// The round is over, as all that was handed to the pods has come into their statuses. It takes no memory.
+    pub fn close(self) -> NodePods
+        requires { AreFree self.pieces }
+        ensures { result ≡ pods_of (map at_rest self.pieces) self.max_restart_delay self.has_dedicated_imagefs }
+    {
+        let OpenPods {
+            alloc,
+            max_restart_delay,
+            has_dedicated_imagefs,
+            mut pieces,
+        } = self;
+        rest_all(&mut pieces);
+        NodePods {
+            alloc,
+            max_restart_delay,
+            has_dedicated_imagefs,
+            pieces,
+        }
+    }
+}
+
+/// What a node keeps of its pods while the pieces of those for which ticks wait take them into their statuses.
 #[derive(Drop)]
 pub struct AwaitedPods {
     alloc: Global,
@@ -158,8 +232,8 @@ impl Model for AwaitedPods {
 impl AwaitedPods {
     /// The pods of the node with the pieces that come back, each with its number. An `Err` says that memory was
     /// refused.
-    pub fn with(self, back: Vec<PodPiece>) -> Result<NodePods, AllocError>
-        requires { ArePlaced (joined self back.items) }
+    pub fn with(self, back: Vec<PodPiece>) -> Result<OpenPods, AllocError>
+        requires { AreNumbered (joined self back.items) }
         ensures { IfOk result (λ pods. pods ≡ joined self back.items) }
     {
         let AwaitedPods {
@@ -169,7 +243,7 @@ impl AwaitedPods {
             kept,
         } = self;
         let pieces = all_joined(alloc, kept, back)?;
-        Ok(NodePods {
+        Ok(OpenPods {
             alloc,
             max_restart_delay,
             has_dedicated_imagefs,

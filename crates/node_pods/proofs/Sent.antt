@@ -1,0 +1,81 @@
+-- The pieces that go out for their updates, one after the other.
+use Rattle.std.proofs.Common.{◌≡◌, ◌∙◌, ℕ, zero, suc, ◌+◌, ◌<◌, ◌≤◌, Bool, true, false, List, [], ◌∷◌, length, Option}
+use Rattle.std.proofs.Common.{Some, None, refl, ap, sym, arith}
+use Rattle.std.specs.Prelude.{slice_get, nat_lt, if◌then◌else◌}
+use Rattle.std.specs.List.{filter_map}
+use Rattle.std.proofs.lemmas.Bool.{ltb-true}
+use Rattle.observations.specs.Pods.{PodObs}
+use Rattle.pod_piece.specs.Piece.{Piece, with_number}
+use Rattle.node_pods.specs.Pods.{waits, sent_from, handed_each}
+
+-- which of the pieces it was; its number is its place among those that go out
+pub record IsSent (k : ℕ) (pieces : List Piece) (i : ℕ) (q : Piece) : Type 0 where
+  pub n : ℕ
+  pub piece : Piece
+  pub at : slice_get pieces n ≡ Some piece
+  pub pending : 0 < piece.waiting
+  pub is : q ≡ with_number piece (k + i)
+
+one_later : (k : ℕ) (p : Piece) (pieces : List Piece) (i : ℕ) (q : Piece) → IsSent k pieces i q
+    → IsSent k (p ∷ pieces) i q
+one_later k p pieces i q w = record { n = suc w.n; piece = w.piece; at = w.at; pending = w.pending; is = w.is }
+
+pub sent_at : (k : ℕ) (pieces : List Piece) (i : ℕ) (q : Piece) → slice_get (sent_from k pieces) i ≡ Some q
+    → IsSent k pieces i q
+sent_at k [] i q e = absurd (cc)
+sent_at k (p ∷ ps) i q e = by (waits p) refl i e
+  where
+    by : (b : Bool) → waits p ≡ b → (i : ℕ)
+        → slice_get (if b then with_number p k ∷ sent_from (k + 1) ps else sent_from k ps) i ≡ Some q
+        → IsSent k (p ∷ ps) i q
+    by false no i at = one_later k p ps i q (sent_at k ps i q at)
+    by true yes zero at =
+        let same : with_number p k ≡ q = cc in
+        let place : k ≡ k + 0 = omega arith in
+        record {
+          n = 0;
+          piece = p;
+          at = refl;
+          pending = ltb-true 0 p.waiting yes;
+          is = sym same ∙ ap (λ (m : ℕ). with_number p m) place;
+        }
+    by true yes (suc i) at =
+        let w = sent_at (k + 1) ps i q at in
+        let place : k + 1 + i ≡ k + suc i = omega arith in
+        record {
+          n = suc w.n;
+          piece = w.piece;
+          at = w.at;
+          pending = w.pending;
+          is = w.is ∙ ap (λ (m : ℕ). with_number w.piece m) place;
+        }
+
+pub sent_few : (k : ℕ) (pieces : List Piece) → length (sent_from k pieces) ≤ length pieces
+sent_few k [] = omega arith
+sent_few k (p ∷ ps) = by (waits p)
+  where
+    by : (b : Bool) → length (if b then with_number p k ∷ sent_from (k + 1) ps else sent_from k ps) ≤ length (p ∷ ps)
+    by true = let le = sent_few (k + 1) ps in omega (arith, le)
+    by false = let le = sent_few k ps in omega (arith, le)
+
+-- of pods with nothing that waits as many go out, once a tick was handed to them, as the tick shows
+pub sent_count : (k : ℕ) (pieces : List Piece) (shown : List (Option PodObs)) → length shown ≤ length pieces
+    → ((n : ℕ) (piece : Piece) → slice_get pieces n ≡ Some piece → piece.waiting ≡ 0)
+    → length (sent_from k (handed_each pieces shown)) ≡ length (filter_map (λ (o : Option PodObs). o) shown)
+sent_count k [] [] long free = refl
+sent_count k [] (o ∷ os) long free = absurd (omega arith)
+sent_count k (p ∷ ps) [] long free = none_go k (p ∷ ps) free
+  where
+    none_go : (k : ℕ) (pieces : List Piece)
+        → ((n : ℕ) (piece : Piece) → slice_get pieces n ≡ Some piece → piece.waiting ≡ 0)
+        → length (sent_from k pieces) ≡ 0
+    none_go k [] free = refl
+    none_go k (q ∷ qs) free =
+        ap (λ (w : ℕ). length (if nat_lt 0 w then with_number q k ∷ sent_from (k + 1) qs else sent_from k qs))
+        (free 0 q refl) ∙ none_go k qs (λ n piece at. free (suc n) piece at)
+sent_count k (p ∷ ps) (None ∷ os) long free =
+    ap (λ (w : ℕ). length (if nat_lt 0 w then with_number p k ∷ sent_from (k + 1) (handed_each ps os)
+    else sent_from k (handed_each ps os))) (free 0 p refl)
+    ∙ sent_count k ps os (omega (arith, long)) (λ n piece at. free (suc n) piece at)
+sent_count k (p ∷ ps) (Some o ∷ os) long free =
+    ap suc (sent_count (k + 1) ps os (omega (arith, long)) (λ n piece at. free (suc n) piece at))
