@@ -1,2 +1,3 @@
 pub mod Low
 pub mod Numbers
+pub mod Made

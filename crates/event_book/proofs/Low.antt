@@ -44,7 +44,7 @@ few_of_live_pod pod max_restart_delay evicted before tick events few live =
     let as_many = live.are_made.as_many in
     omega arith
 
-few_events : (pod : PodSpec) (max_restart_delay : ℕ) (evicted : Option ℕ) (before : List PodTick) (tick : PodTick)
+pub few_events : (pod : PodSpec) (max_restart_delay : ℕ) (evicted : Option ℕ) (before : List PodTick) (tick : PodTick)
     (events : List PodEvent) → length pod.containers ≤ most_containers
     → AreEventsOf pod max_restart_delay evicted before tick events
     → length events ≤ most_events

@@ -77,6 +77,30 @@ impl<U: Ledger, E: Ledger, O: Ledger> EventBook<U, E, O> {
         )
     }
 
+    /// Adds these totals, in the book and with the share. `Full` comes only where a total would pass 2^63, and
+    /// changes nothing.
+    pub fn add(&mut self, more: Totals, share: &mut Shares<U, E, O>) -> Result<(), Full>
+        requires { 0 < share.old.parts }
+        ensures book { OnOk result (self.new ≡ plus self.old more) }
+        ensures share { OnOk result (share.new ≡ share_with share.old.parts (plus share.old.totals more)) }
+        ensures full { OnErr result (ArePast (plus self.old more)) }
+        ensures kept { OnErr result ((self.new ≡ self.old) × (share.new ≡ share.old)) }
+    {
+        if more.updates > GREATEST_TOTAL - self.totals.updates
+            || more.events > GREATEST_TOTAL - self.totals.events
+            || more.orders > GREATEST_TOTAL - self.totals.orders
+        {
+            return Err(Full);
+        }
+        self.updates.add(&mut share.updates, more.updates);
+        self.events.add(&mut share.events, more.events);
+        self.orders.add(&mut share.orders, more.orders);
+        self.totals.updates += more.updates;
+        self.totals.events += more.events;
+        self.totals.orders += more.orders;
+        Ok(())
+    }
+
     /// Enters one update of a pod with this entry, in the book and with the share. `Full` comes only
     /// where a total would pass 2^63, and changes nothing.
     pub fn enter(&mut self, entry: Entry, share: &mut Shares<U, E, O>) -> Result<(), Full>
@@ -87,19 +111,7 @@ impl<U: Ledger, E: Ledger, O: Ledger> EventBook<U, E, O> {
         ensures full { OnErr result (ArePast (plus self.old (one_update entry))) }
         ensures kept { OnErr result ((self.new ≡ self.old) × (share.new ≡ share.old)) }
     {
-        if self.totals.updates >= GREATEST_TOTAL
-            || entry.events > GREATEST_TOTAL - self.totals.events
-            || entry.orders > GREATEST_TOTAL - self.totals.orders
-        {
-            return Err(Full);
-        }
-        self.updates.add(&mut share.updates, 1);
-        self.events.add(&mut share.events, entry.events);
-        self.orders.add(&mut share.orders, entry.orders);
-        self.totals.updates += 1;
-        self.totals.events += entry.events;
-        self.totals.orders += entry.orders;
-        Ok(())
+        self.add(Totals::of_update(entry), share)
     }
 
     /// The totals.
@@ -123,6 +135,19 @@ impl<U: Ledger, E: Ledger, O: Ledger> EventBook<U, E, O> {
         self.orders.audit(&mut share.orders);
     }
 
+    /// Adds these totals, where no total passes 2^63 by it.
+    pub fn add_within(&mut self, more: Totals, share: &mut Shares<U, E, O>)
+        requires some { 0 < share.old.parts }
+        requires room { AreWithin (plus self.old more) }
+        ensures book { self.new ≡ plus self.old more }
+        ensures share { share.new ≡ share_with share.old.parts (plus share.old.totals more) }
+    {
+        match self.add(more, share) {
+            Ok(()) => {}
+            Err(Full) => unreachable!(),
+        }
+    }
+
     /// Enters one update of a pod with this entry, where no total passes 2^63 by it.
     pub fn enter_within(&mut self, entry: Entry, share: &mut Shares<U, E, O>)
         requires some { 0 < share.old.parts }
@@ -130,20 +155,17 @@ impl<U: Ledger, E: Ledger, O: Ledger> EventBook<U, E, O> {
         ensures book { self.new ≡ plus self.old (one_update entry) }
         ensures share { share.new ≡ share_with share.old.parts (plus share.old.totals (one_update entry)) }
     {
-        match self.enter(entry, share) {
-            Ok(()) => {}
-            Err(Full) => unreachable!(),
-        }
+        self.add_within(Totals::of_update(entry), share);
     }
 
-    /// Enters one update with this entry with the whole share, whose totals show that the book has room.
-    pub fn enter_whole(&mut self, entry: Entry, share: &mut Shares<U, E, O>)
+    /// Adds these totals with the whole share, whose totals show that the book has room.
+    pub fn add_whole(&mut self, more: Totals, share: &mut Shares<U, E, O>)
         requires whole { share.old.parts ≡ most_parts }
         requires level { (U.parts ≡ most_parts) × (E.parts ≡ most_parts) × (O.parts ≡ most_parts) }
-        requires room { AreWithin (plus share.old.totals (one_update entry)) }
-        ensures { share.new ≡ share_with most_parts (plus share.old.totals (one_update entry)) }
+        requires room { AreWithin (plus share.old.totals more) }
+        ensures { share.new ≡ share_with most_parts (plus share.old.totals more) }
     {
         self.audit(share);
-        self.enter_within(entry, share);
+        self.add_within(more, share);
     }
 }

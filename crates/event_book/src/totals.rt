@@ -1,12 +1,15 @@
 //! How much happened.
 
-ghost use Rattle.std.specs.Prelude.{◌≡◌, length};
+ghost use Rattle.std.specs.Prelude.{◌≡◌, ◌≤◌, length};
 ghost use Rattle.std.specs.List.{filter};
+ghost use Rattle.pod_piece.specs.Made.{made_of};
 ghost use Rattle.event_book.specs.Totals.{entry_of, is_order, IsEntryOf};
-ghost use Rattle.event_book.specs.Limits.{IsLow};
+ghost use Rattle.event_book.specs.Shares.{one_update, greatest_total};
+ghost use Rattle.event_book.specs.Rounds.{entry_of_made, IsAdditionOf};
+ghost use Rattle.event_book.specs.Limits.{IsLow, IsLowAddition};
 
 use containers::PodEventKind;
-use pod_piece::PodPiece;
+use pod_piece::{MadeTick, PodPiece};
 use pod_state::PodEvent;
 
 /// What is counted over all ticks of a node.
@@ -50,6 +53,58 @@ fn count_orders(events: &[PodEvent]) -> u64
         }
     }
     count
+}
+
+/// The entry of these ticks together.
+fn entry_of_ticks(ticks: &[MadeTick]) -> Entry
+    requires { length (made_of ticks.now) ≤ greatest_total }
+    ensures { result ≡ entry_of_made (made_of ticks.now) }
+{
+    let mut events = 0;
+    let mut orders = 0;
+    for tick in ticks {
+        let entry = Entry::of(&tick.events);
+        events += entry.events;
+        orders += entry.orders;
+    }
+    Entry { events, orders }
+}
+
+impl Totals {
+    /// Those of one update with this entry.
+    pub fn of_update(entry: Entry) -> Totals
+        ensures { result ≡ one_update entry }
+    {
+        Totals {
+            updates: 1,
+            events: entry.events,
+            orders: entry.orders,
+        }
+    }
+
+    /// What the present round of a pod adds: its updates, their events, and the orders among them.
+    pub fn of_round(piece: &PodPiece) -> Totals
+        ensures addition { IsAdditionOf piece.now result }
+        ensures low { IsLowAddition result }
+    {
+        // A pod has few containers, so an update of it makes few events.
+        let _containers = piece.pod().containers.as_slice();
+        let updates = piece.round_length() as u64;
+        if updates == 0 {
+            return Totals {
+                updates: 0,
+                events: 0,
+                orders: 0,
+            };
+        }
+        let earlier = entry_of_ticks(piece.earlier_events());
+        let last = Entry::of(piece.events());
+        Totals {
+            updates,
+            events: earlier.events + last.events,
+            orders: earlier.orders + last.orders,
+        }
+    }
 }
 
 impl Entry {

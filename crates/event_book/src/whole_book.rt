@@ -45,12 +45,20 @@ impl<U: Ledger, E: Ledger, O: Ledger> WholeBook<U, E, O> {
         WholeBook { book, share }
     }
 
+    /// Adds these totals.
+    pub fn add(&mut self, more: Totals)
+        requires { AreWithin (plus self.old more) }
+        ensures { self.new ≡ plus self.old more }
+    {
+        self.book.add_within(more, &mut self.share);
+    }
+
     /// Enters one update of a pod with this entry.
     pub fn enter(&mut self, entry: Entry)
         requires { AreWithin (plus self.old (one_update entry)) }
         ensures { self.new ≡ plus self.old (one_update entry) }
     {
-        self.book.enter_within(entry, &mut self.share);
+        self.add(Totals::of_update(entry));
     }
 
     /// The totals.

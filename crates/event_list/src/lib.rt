@@ -12,8 +12,8 @@
 //! `specs/Events.antt` defines the events of a list of ticks and its evictions over the whole history (`AreEvents`):
 //! the parts of the ticks, one behind the other, each made by the definitions of `pod_state`, `node_signals` and
 //! `eviction`. By [`laws`] ticks with their evictions have one such list and no other. [`add_events`] adds the events
-//! of one more tick to a list, from the pieces that took it; `specs/Text.antt` says what an event reads like, and
-//! [`event_text`] writes it.
+//! of more ticks to a list, from the pieces that took them, and [`add_eviction`] that of an eviction;
+//! `specs/Text.antt` says what an event reads like, and [`event_text`] writes it.
 #![tactic(auto)]
 
 mod event;
@@ -28,5 +28,5 @@ pub use event::{Event, EventKind};
 pub use names::Names;
 pub use phrases::add_with_number;
 pub use text::{add_event_text, add_eviction_words, event_text};
-pub use tick::add_events;
+pub use tick::{TickEvents, add_events, add_eviction};
 pub use words::{eviction_words, phase_word, truth_word};

@@ -1,20 +1,31 @@
-//! The events of one tick.
+//! The events of ticks.
 
-ghost use Rattle.std.specs.Prelude.{◌≡◌, ◌<◌, ◌++◌, List, length, map, slice_get, Some, OnOk};
-ghost use Rattle.pod_state.specs.declared.events.PodEvent.{PodEvent as APodEvent};
+ghost use Rattle.std.specs.Prelude.{◌≡◌, ◌<◌, ◌≤◌, ◌++◌, List, length, map, take, drop, slice_get, Some, OnOk};
+ghost use Rattle.pod_piece.specs.Made.{MadeEvent, made_of, AreRoundEvents};
+ghost use Rattle.event_list.specs.declared.event.Event.{Event as AnEvent};
 ghost use Rattle.event_list.specs.declared.event.EventKind.TheVariants.{Pod};
-ghost use Rattle.event_list.specs.Events.{event, of_pods, of_node, of_eviction};
-ghost use Rattle.event_list.specs.Tick.{IsMadeAt, AreMadeBy, AddsEvents};
+ghost use Rattle.event_list.specs.Events.{event, of_node, of_eviction};
+ghost use Rattle.event_list.specs.Tick.{AreMadeBy, AddsEvents, AreOfTicks, MomentsRise};
+ghost use Rattle.event_list.specs.Tick.{events_of, events_by_pod, events_of_node, IsInOrder};
 
 use crate::event::{Event, EventKind};
 use eviction::Eviction;
 use node_signals::NodeEvent;
-use pod_piece::PodPiece;
+use pod_piece::{MadeTick, PodPiece};
 use pod_state::PodEvent;
-use std::alloc::AllocError;
+use std::alloc::{AllocError, Global};
+
+/// The moment of a tick, and what the tick made of the node.
+#[derive(Drop)]
+pub struct TickEvents {
+    /// The moment, in seconds.
+    pub at: u64,
+    /// The events of the node, in their order.
+    pub node_events: Vec<NodeEvent>,
+}
 
 /// Adds the events of the pod with the number, at a moment in seconds.
-fn add_events_of_pod(
+fn add_events_at(
     events: &mut Vec<Event>,
     at: u64,
     number: usize,
@@ -34,6 +45,40 @@ fn add_events_of_pod(
     Ok(())
 }
 
+/// Adds the events that these ticks made of the pod with the number.
+fn add_earlier_events(
+    events: &mut Vec<Event>,
+    number: usize,
+    ticks: &[MadeTick],
+) -> Result<(), AllocError>
+    ensures { OnOk result (events.new.items ≡ events.old.items ++ events_of number (made_of ticks.now)) }
+{
+    for tick in ticks {
+        add_events_at(events, tick.at, number, &tick.events)?;
+    }
+    Ok(())
+}
+
+/// Adds the events of the round of the pod with the number.
+fn add_events_of_pod(
+    events: &mut Vec<Event>,
+    number: usize,
+    piece: &PodPiece,
+) -> Result<(), AllocError>
+    ensures { OnOk result ((made : List MadeEvent) × AreRoundEvents piece.now made
+        × (events.new.items ≡ events.old.items ++ events_of number made)) }
+{
+    let Some(at) = piece.last_at() else {
+        return Ok(());
+    };
+    if piece.round_length() == 0 {
+        return Ok(());
+    }
+    add_earlier_events(events, number, piece.earlier_events())?;
+    add_events_at(events, at, number, piece.events())?;
+    Ok(())
+}
+
 /// The piece of the pod with the number.
 fn piece_at(pieces: &[PodPiece], number: usize) -> &PodPiece
     requires { number < length pieces.now }
@@ -42,35 +87,19 @@ fn piece_at(pieces: &[PodPiece], number: usize) -> &PodPiece
     &pieces[number]
 }
 
-/// The events of the pod's last tick, if that was the tick of the moment, in seconds.
-fn events_at(piece: &PodPiece, at: u64) -> &[PodEvent]
-    ensures { IsMadeAt at piece.now result.now }
-{
-    if piece.last_at() == Some(at) {
-        piece.events()
-    } else {
-        &[]
-    }
-}
-
-/// Adds the events that the tick of the moment made of the pods that are present, by number.
-fn add_events_of_pods(
-    events: &mut Vec<Event>,
-    at: u64,
-    pieces: &[PodPiece],
-) -> Result<(), AllocError>
-    ensures { OnOk result ((made : List (List APodEvent)) × AreMadeBy at pieces.now made
-        × (events.new.items ≡ events.old.items ++ of_pods at 0 made)) }
+/// Adds the events of the rounds of these pods, by number.
+fn add_events_of_pods(events: &mut Vec<Event>, pieces: &[PodPiece]) -> Result<(), AllocError>
+    ensures { OnOk result ((made : List (List MadeEvent)) × AreMadeBy pieces.now made
+        × (events.new.items ≡ events.old.items ++ events_by_pod 0 made)) }
 {
     for number in 0..pieces.len() {
-        let made = events_at(piece_at(pieces, number), at);
-        add_events_of_pod(events, at, number, made)?;
+        add_events_of_pod(events, number, piece_at(pieces, number))?;
     }
     Ok(())
 }
 
-/// Adds the events of the node.
-fn add_events_of_node(
+/// Adds the events of the node, at a moment in seconds.
+fn add_node_events_at(
     events: &mut Vec<Event>,
     at: u64,
     node_events: &[NodeEvent],
@@ -86,8 +115,55 @@ fn add_events_of_node(
     Ok(())
 }
 
-/// Adds the event of the eviction, if there is one.
-fn add_event_of_eviction(
+/// Adds the events of the node in these ticks.
+fn add_events_of_node(events: &mut Vec<Event>, ticks: &[TickEvents]) -> Result<(), AllocError>
+    ensures { OnOk result (events.new.items ≡ events.old.items ++ events_of_node ticks.now) }
+{
+    for tick in ticks {
+        add_node_events_at(events, tick.at, &tick.node_events)?;
+    }
+    Ok(())
+}
+
+/// Sorts events by their moments; those of one moment keep their order.
+fn sort_by_moment(alloc: Global, events: &mut [Event]) -> Result<(), AllocError>
+    ensures { OnOk result (IsInOrder events.old events.new) }
+{
+    events.sort_by_key(alloc, |event| event.at)
+}
+
+/// Sorts the events from this place on by their moments; those of one moment keep their order.
+fn sort_from(events: &mut Vec<Event>, place: usize) -> Result<(), AllocError>
+    requires { place ≤ length events.old.items }
+    ensures { OnOk result ((sorted : List AnEvent) × IsInOrder (drop place events.old.items) sorted
+        × (events.new.items ≡ take place events.old.items ++ sorted)) }
+{
+    let alloc = *events.allocator();
+    sort_by_moment(alloc, &mut events[place..])
+}
+
+/// Adds the events of these ticks, whose moments rise, tick after tick: those that the rounds of these pods made in
+/// the tick, by the pods' numbers, and the node's. Each tick of the rounds is one of these ticks.
+pub fn add_events(
+    events: &mut Vec<Event>,
+    pieces: &[PodPiece],
+    ticks: &[TickEvents],
+) -> Result<(), AllocError>
+    requires rising { MomentsRise ticks.now }
+    requires within { AreOfTicks ticks.now pieces.now }
+    ensures { OnOk result (AddsEvents ticks.now pieces.now events.old.items events.new.items) }
+{
+    let place = events.len();
+    add_events_of_pods(events, pieces)?;
+    add_events_of_node(events, ticks)?;
+    if ticks.len() > 1 {
+        sort_from(events, place)?;
+    }
+    Ok(())
+}
+
+/// Adds the event of the eviction at the moment, in seconds, if there is one.
+pub fn add_eviction(
     events: &mut Vec<Event>,
     at: u64,
     eviction: Option<Eviction>,
@@ -100,22 +176,5 @@ fn add_event_of_eviction(
             kind: EventKind::Evicted(eviction),
         })?;
     }
-    Ok(())
-}
-
-/// Adds the events of a tick, at its moment: those of the pods that are present by their numbers, the node's, and the
-/// eviction.
-pub fn add_events(
-    events: &mut Vec<Event>,
-    at: u64,
-    pieces: &[PodPiece],
-    node_events: &[NodeEvent],
-    eviction: Option<Eviction>,
-) -> Result<(), AllocError>
-    ensures { OnOk result (AddsEvents at pieces.now node_events.now eviction events.old.items events.new.items) }
-{
-    add_events_of_pods(events, at, pieces)?;
-    add_events_of_node(events, at, node_events)?;
-    add_event_of_eviction(events, at, eviction)?;
     Ok(())
 }

@@ -2,7 +2,7 @@ use Rattle.std.proofs.Common.{◌≡◌, ◌++◌, map, take}
 use Rattle.pod_state.specs.declared.events.PodEvent.{PodEvent}
 use Rattle.event_list.specs.declared.event.EventKind.TheVariants.{Pod}
 use Rattle.event_list.specs.Events.{event}
-use Rattle.event_list.proofs.tick.add_events_of_pod.Given as goal
+use Rattle.event_list.proofs.tick.add_events_at.Given as goal
 
 abbrev pub invariant-loop-event : goal.invariant-loop-event
 invariant-loop-event l = l.events.items
