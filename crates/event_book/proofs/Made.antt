@@ -1,7 +1,8 @@
 -- The events of a piece's round: there is one list of them, it is not long, and it is that of the earlier ticks with
 -- those of the last.
 use Rattle.std.proofs.Common.{◌≡◌, ◌∙◌, ℕ, suc, ◌+◌, ◌*◌, ◌^◌, ◌-◌, ◌<◌, ◌≤◌, List, [], ◌∷◌, ◌++◌, length, map, take}
-use Rattle.std.proofs.Common.{drop, cond, Bool, true, false, Option, Some, refl, ap, sym, subst, append-nil, length-append}
+use Rattle.std.proofs.Common.{drop, cond, Bool, true, false, Option, Some, refl, ap, sym, subst, append-nil}
+use Rattle.std.proofs.Common.{length-append}
 use Rattle.std.proofs.Common.{arith}
 use Rattle.std.specs.List.{filter}
 use Rattle.std.proofs.lemmas.Grind.{flat_map-append}
@@ -174,7 +175,12 @@ round_addition p rows events totals some earlier are updates_is events_is orders
       made,
       round_events p rows events x some last.1 earlier are,
       totals_same totals (addition_of (round_length p) made) updates_is
-          (omega (arith, events_is, length-append (made_of rows) (made_at x.moment events), length_made_at x.moment events))
+          (omega (
+            arith,
+            events_is,
+            length-append (made_of rows) (made_at x.moment events),
+            length_made_at x.moment events,
+          ))
           (omega (arith, orders_is, split, orders_made_at x.moment events)),
     )
 

@@ -20,6 +20,10 @@ pub record IsLow (entry : Entry) : Type 0 where
 abbrev pub most_updates : ℕ
 most_updates = 2 ^ 40
 
+-- and this many events
+abbrev pub most_round_events : ℕ
+most_round_events = most_updates * most_events
+
 -- a round of a piece adds no more than this
 pub record IsLowAddition (totals : Totals) : Type 0 where
   pub updates : totals.updates ≤ most_updates

@@ -1,6 +1,7 @@
 -- The events of ticks, put in the order of their moments.
 use Rattle.std.proofs.Common.{◌≡◌, ◌∙◌, inl, inr, ℕ, zero, suc, ◌+◌, ◌<◌, ◌≤◌, Bool, List, [], ◌∷◌}
-use Rattle.std.proofs.Common.{◌++◌, length, map, take, drop, get_or, nat_cmp, All, Option, Some, None, eqb, refl, sym, ap, subst, arith}
+use Rattle.std.proofs.Common.{◌++◌, length, map, take, drop, get_or, nat_cmp, All, Option, Some, None, eqb, refl}
+use Rattle.std.proofs.Common.{sym, ap, subst, arith}
 use Rattle.std.proofs.Common.{append-nil, append_assoc}
 use Rattle.std.specs.Prelude.{slice_get, filter, if◌then◌else◌}
 use Rattle.std.specs.List.{flat_map, cons_option}
@@ -179,7 +180,8 @@ all_within ts pieces made within are =
 abbrev part : List (List MadeEvent) → TickEvents → List Event
 part made tick = of_pods tick.at 0 (map (events_at tick.at) made) ++ of_node tick.at tick.node_events.items
 
-tick_by_tick : (ticks : List TickEvents) (made : List (List MadeEvent)) → flat_map (part made) ticks ≡ of_ticks ticks made
+tick_by_tick : (ticks : List TickEvents) (made : List (List MadeEvent))
+    → flat_map (part made) ticks ≡ of_ticks ticks made
 tick_by_tick [] made = refl
 tick_by_tick (t ∷ ticks) made =
     let pods = of_pods t.at 0 (map (events_at t.at) made) in

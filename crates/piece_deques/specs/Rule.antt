@@ -1,5 +1,5 @@
 -- The rule that a deque of pieces keeps.
-use Rattle.std.specs.Prelude.{◌≡◌, ℕ, ◌<◌, ◌≤◌, List, [], ◌++◌, map, length, slice_get, Some, All, IsTrue}
+use Rattle.std.specs.Prelude.{◌≡◌, ℕ, ◌<◌, ◌≤◌, List, [], ◌++◌, map, length, slice_get, Some, All}
 use Rattle.std.specs.List.{sum_by}
 use mathlib.Core.Option.{some}
 use lib.ListN.{get_elem?}
@@ -23,7 +23,7 @@ AreNumbered pieces = (n : ℕ) (piece : Piece) → slice_get pieces n ≡ Some p
 -- the piece stands in the list under its number, and is still to be updated
 pub record IsPieceDue (all : List Piece) (piece : Piece) : Type 0 where
   pub stands : slice_get all piece.number ≡ Some piece
-  pub pending : IsTrue piece.is_pending
+  pub pending : 0 < piece.waiting
 
 -- a pass with no part has taken nothing, and each other one lists all that was pushed
 pub record Lists (pushed : List ℕ) (view : Tally) : Type 0 where

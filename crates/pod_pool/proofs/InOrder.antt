@@ -10,7 +10,7 @@ use Rattle.std.proofs.lemmas.List.Elements.{All-get_or}
 use Rattle.std.proofs.lemmas.List.Sorted.{sum_by-IsPermutation, All-permutation}
 use Rattle.std.proofs.lemmas.Option.{slice_get-map, slice_get_within, get_or_from_slice_get}
 use Rattle.histories.proofs.Lists.{same_places}
-use Rattle.pod_piece.specs.Piece.{Piece, updated}
+use Rattle.pod_piece.specs.Piece.{Piece, all_updated}
 use Rattle.piece_deques.specs.Rule.{number_of, AreNumbered}
 use Rattle.piece_deques.proofs.Lists.{ones, sum_map}
 use Rattle.pod_pool.specs.Done.{IsDone, weigh}
@@ -114,22 +114,22 @@ module _ (all xs : List Piece) (numbered : AreNumbered all) (right : All (IsDone
       at_range 0 (length all) n x.number (subst (λ (l : List ℕ). slice_get l n ≡ Some x.number) of_range there)
       ∙ omega arith
 
-  is_done : (n : ℕ) (x : Piece) → slice_get xs n ≡ Some x → slice_get (map updated all) n ≡ Some x
+  is_done : (n : ℕ) (x : Piece) → slice_get xs n ≡ Some x → slice_get (map all_updated all) n ≡ Some x
   is_done n x at =
       let mine : IsDone all x =
       subst (IsDone all) (get_or_from_slice_get xs n x x at)
       (All-get_or (IsDone all) xs n x (slice_get_within xs n x at) right) in
-      subst (λ (k : ℕ). slice_get (map updated all) k ≡ Some x) (its_place n x at) mine
+      subst (λ (k : ℕ). slice_get (map all_updated all) k ≡ Some x) (its_place n x at) mine
 
-  pub placed : xs ≡ map updated all
+  pub placed : xs ≡ map all_updated all
   placed =
-      same_places xs (map updated all) (long ∙ sym (length-map all updated))
+      same_places xs (map all_updated all) (long ∙ sym (length-map all all_updated))
       (λ n x y here there. let mine = is_done n x here in cc)
 
 -- the same of a list that was sorted
 pub placed_sorted : (all xs ys : List Piece) → AreNumbered all → All (IsDone all) xs
     → ((weight : ℕ → ℕ) → weigh weight xs ≡ weigh weight all) → IsPermutation xs ys → IsNonDecreasingBy number_of ys
-    → ys ≡ map updated all
+    → ys ≡ map all_updated all
 placed_sorted all xs ys numbered right same perm up =
     placed all ys numbered (All-permutation (IsDone all) xs ys perm right)
     (λ h. sum_by-IsPermutation (λ (p : Piece). h p.number) xs ys perm ∙ same h) up

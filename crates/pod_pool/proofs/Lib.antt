@@ -6,6 +6,6 @@ pub mod Laid
 pub mod FilledDeques
 pub mod Dealing
 pub mod FinishedWorkers
-pub mod Entries
+pub mod Additions
 pub mod Due
 pub mod Returned

@@ -1,4 +1,4 @@
--- What the entries of pieces add up to.
+-- What the rounds of pieces add up to.
 use Rattle.std.proofs.Common.{◌≡◌, ℕ, List, [], ◌∷◌, ◌++◌, length}
 use Rattle.std.proofs.Common.{sym, refl, ap, ◌∙◌, subst, arith, length-append}
 use Rattle.std.specs.List.{sum_by}
@@ -6,15 +6,14 @@ use Rattle.std.specs.List.Sorted.{IsPermutation}
 use Rattle.std.proofs.lemmas.List.Sums.{sum_by-cons, sum_by-append}
 use Rattle.std.proofs.lemmas.List.Sorted.{All-permutation, IsPermutation-sym, sum_by-IsPermutation}
 use Rattle.pod_piece.specs.Piece.{Piece}
-use Rattle.event_book.specs.declared.totals.Entry.{Entry}
 use Rattle.event_book.specs.declared.totals.Totals.{Totals}
-use Rattle.event_book.specs.Totals.{IsEntryOf, plus, nothing}
-use Rattle.event_book.specs.Shares.{one_update}
-use Rattle.event_book.specs.Limits.{IsLow}
-use Rattle.event_book.proofs.Low.{one_entry}
+use Rattle.event_book.specs.Totals.{plus, nothing}
+use Rattle.event_book.specs.Rounds.{IsAdditionOf}
+use Rattle.event_book.specs.Limits.{IsLowAddition}
+use Rattle.event_book.proofs.Made.{one_addition}
 use Rattle.event_book.proofs.Numbers.{totals_same}
 use Rattle.piece_deques.proofs.Lists.{all_left, all_right, ones}
-use Rattle.pod_pool.specs.Done.{HaveEntries, AreSumsOf}
+use Rattle.pod_pool.specs.Done.{HaveAdditions, AreSumsOf}
 
 -- Sums
 
@@ -23,27 +22,28 @@ no_sums pieces totals none is =
     subst (λ t. AreSumsOf pieces t) (sym is)
     (subst (λ ps. AreSumsOf ps nothing) (sym none)
     (record {
-      updates = refl;
-      sums = λ entry have. record { events = refl; orders = refl };
+      sums = λ addition have. record { updates = refl; events = refl; orders = refl };
+      few_updates = omega arith;
       few_events = omega arith;
       few_orders = omega arith;
     }))
 
 -- one piece
-one_sum : (piece : Piece) (entry : Entry) → IsEntryOf piece entry → IsLow entry
-    → AreSumsOf (piece ∷ []) (one_update entry)
-one_sum piece entry is low = record {
-  updates = refl;
+one_sum : (piece : Piece) (more : Totals) → IsAdditionOf piece more → IsLowAddition more → AreSumsOf (piece ∷ []) more
+one_sum piece more is low = record {
   sums = λ other have. (
-      let same = one_entry piece entry (other piece) is (have 0 piece (omega arith)) in
+      let same = one_addition piece more (other piece) is (have 0 piece (omega arith)) in
       record {
-        events = let e = ap (λ (f : Entry). f.events) same in omega
+        updates = let e = ap (λ (t : Totals). t.updates) same in omega
+            (arith, sum_by-cons (λ (p : Piece). (other p).updates) piece []);
+        events = let e = ap (λ (t : Totals). t.events) same in omega
             (arith, sum_by-cons (λ (p : Piece). (other p).events) piece []);
-        orders = let e = ap (λ (f : Entry). f.orders) same in omega
+        orders = let e = ap (λ (t : Totals). t.orders) same in omega
             (arith, sum_by-cons (λ (p : Piece). (other p).orders) piece []);
       });
-  few_events = let few = low.events in omega arith;
-  few_orders = let few = low.orders in omega arith;
+  few_updates = let few = low.updates in omega arith;
+  few_events = let few = low.updates in let some = low.events in omega arith;
+  few_orders = let few = low.updates in let some = low.orders in omega arith;
 }
 
 -- pieces together
@@ -55,25 +55,32 @@ sums_both xs ys both a b totals are is first second =
     let events = ap (λ (t : Totals). t.events) is in
     let orders = ap (λ (t : Totals). t.orders) is in
     record {
-      updates = let x = first.updates in let y = second.updates in omega arith;
-      sums = λ entry have. (
-          let all = subst (HaveEntries entry) are have in
-          let x = first.sums entry (all_left (λ p. IsEntryOf p (entry p)) xs ys all) in
-          let y = second.sums entry (all_right (λ p. IsEntryOf p (entry p)) xs ys all) in
-          let f : Piece → ℕ = λ p. (entry p).events in
-          let g : Piece → ℕ = λ p. (entry p).orders in
+      sums = λ addition have. (
+          let all = subst (HaveAdditions addition) are have in
+          let x = first.sums addition (all_left (λ p. IsAdditionOf p (addition p)) xs ys all) in
+          let y = second.sums addition (all_right (λ p. IsAdditionOf p (addition p)) xs ys all) in
+          let f : Piece → ℕ = λ p. (addition p).updates in
+          let g : Piece → ℕ = λ p. (addition p).events in
+          let h : Piece → ℕ = λ p. (addition p).orders in
           record {
-            events =
+            updates =
                 let s = ap (sum_by f) are in
+                let xu = x.updates in
+                let yu = y.updates in
+                omega (arith, sum_by-append f xs ys);
+            events =
+                let s = ap (sum_by g) are in
                 let xe = x.events in
                 let ye = y.events in
-                omega (arith, sum_by-append f xs ys);
+                omega (arith, sum_by-append g xs ys);
             orders =
-                let s = ap (sum_by g) are in
+                let s = ap (sum_by h) are in
                 let xo = x.orders in
                 let yo = y.orders in
-                omega (arith, sum_by-append g xs ys);
+                omega (arith, sum_by-append h xs ys);
           });
+      few_updates =
+          let x = first.few_updates in let y = second.few_updates in omega arith;
       few_events =
           let x = first.few_events in let y = second.few_events in omega arith;
       few_orders =
@@ -81,10 +88,10 @@ sums_both xs ys both a b totals are is first second =
     }
 
 -- one piece more
-pub sums_more : (xs ys : List Piece) (piece : Piece) (entry : Entry) (old new : Totals) → ys ≡ xs ++ piece ∷ []
-    → new ≡ plus old (one_update entry) → IsEntryOf piece entry → IsLow entry → AreSumsOf xs old → AreSumsOf ys new
-sums_more xs ys piece entry old new put is is_entry low before =
-    sums_both xs (piece ∷ []) ys old (one_update entry) new put is before (one_sum piece entry is_entry low)
+pub sums_more : (xs ys : List Piece) (piece : Piece) (more old new : Totals) → ys ≡ xs ++ piece ∷ []
+    → new ≡ plus old more → IsAdditionOf piece more → IsLowAddition more → AreSumsOf xs old → AreSumsOf ys new
+sums_more xs ys piece more old new put is is_addition low before =
+    sums_both xs (piece ∷ []) ys old more new put is before (one_sum piece more is_addition low)
 
 -- pieces in another order
 pub sums_permuted : (xs ys : List Piece) (totals : Totals) → IsPermutation xs ys → AreSumsOf xs totals
@@ -93,14 +100,15 @@ sums_permuted xs ys totals perm are =
     let long : length ys ≡ length xs =
     (let same = sum_by-IsPermutation (λ (_ : Piece). 1) xs ys perm in omega (arith, ones xs, ones ys)) in
     record {
-      updates = are.updates ∙ sym long;
-      sums = λ entry have. (
-          let back = All-permutation (λ p. IsEntryOf p (entry p)) ys xs (IsPermutation-sym xs ys perm) have in
-          let sums = are.sums entry back in
+      sums = λ addition have. (
+          let back = All-permutation (λ p. IsAdditionOf p (addition p)) ys xs (IsPermutation-sym xs ys perm) have in
+          let sums = are.sums addition back in
           record {
-            events = sums.events ∙ sym (sum_by-IsPermutation (λ p. (entry p).events) xs ys perm);
-            orders = sums.orders ∙ sym (sum_by-IsPermutation (λ p. (entry p).orders) xs ys perm);
+            updates = sums.updates ∙ sym (sum_by-IsPermutation (λ p. (addition p).updates) xs ys perm);
+            events = sums.events ∙ sym (sum_by-IsPermutation (λ p. (addition p).events) xs ys perm);
+            orders = sums.orders ∙ sym (sum_by-IsPermutation (λ p. (addition p).orders) xs ys perm);
           });
+      few_updates = let few = are.few_updates in omega arith;
       few_events = let few = are.few_events in omega arith;
       few_orders = let few = are.few_orders in omega arith;
     }

@@ -1,32 +1,48 @@
 -- Pieces that were updated and entered.
-use Rattle.std.specs.Prelude.{◌≡◌, ℕ, ◌*◌, ◌≤◌, List, length, map, slice_get, Some, All}
+use Rattle.std.specs.Prelude.{◌≡◌, ℕ, ◌-◌, ◌*◌, ◌<◌, ◌≤◌, List, length, map, slice_get, Some, All}
 use Rattle.std.specs.List.{sum_by}
-use Rattle.pod_piece.specs.Piece.{Piece, updated}
-use Rattle.event_book.specs.declared.totals.Entry.{Entry}
+use Rattle.pod_piece.specs.Piece.{Piece, all_updated}
 use Rattle.event_book.specs.declared.totals.Totals.{Totals}
-use Rattle.event_book.specs.Totals.{IsEntryOf}
-use Rattle.event_book.specs.Limits.{most_events}
+use Rattle.event_book.specs.Rounds.{IsAdditionOf}
+use Rattle.event_book.specs.Limits.{most_updates, most_round_events}
 
--- it is the piece of the list under its number, updated
+-- it is the piece of the list under its number, with all ticks that waited taken into its status
 abbrev pub IsDone : List Piece → Piece → Type 0
-IsDone all piece = slice_get (map updated all) piece.number ≡ Some piece
+IsDone all piece = slice_get (map all_updated all) piece.number ≡ Some piece
+
+-- the piece with so many of its waiting ticks taken into its status
+abbrev pub with_updates : ℕ → Piece → Piece
+with_updates n piece = record piece { waiting = piece.waiting - n }
+
+-- it is this piece with its first waiting ticks taken, or none of them, and still pending
+pub record IsLeftFrom (dealt piece : Piece) : Type 0 where
+  pub taken : ℕ
+  pub is : piece ≡ with_updates taken dealt
+  pub pending : 0 < piece.waiting
+
+-- it is left so of the piece of the list under its number
+pub record IsLeftOf (all : List Piece) (piece : Piece) : Type 0 where
+  pub dealt : Piece
+  pub stands : slice_get all piece.number ≡ Some dealt
+  pub is_left : IsLeftFrom dealt piece
 
 -- the numbers of pieces, weighed and added up
 abbrev pub weigh : (ℕ → ℕ) → List Piece → ℕ
 weigh weight pieces = sum_by (λ (piece : Piece). weight piece.number) pieces
 
--- each piece has this entry
-abbrev pub HaveEntries : (Piece → Entry) → List Piece → Type 0
-HaveEntries entry pieces = All (λ (piece : Piece). IsEntryOf piece (entry piece)) pieces
+-- the round of each piece adds this
+abbrev pub HaveAdditions : (Piece → Totals) → List Piece → Type 0
+HaveAdditions addition pieces = All (λ (piece : Piece). IsAdditionOf piece (addition piece)) pieces
 
--- the events and the orders in these entries of the pieces, added up
-pub record AddUp (entry : Piece → Entry) (pieces : List Piece) (totals : Totals) : Type 0 where
-  pub events : totals.events ≡ sum_by (λ (piece : Piece). (entry piece).events) pieces
-  pub orders : totals.orders ≡ sum_by (λ (piece : Piece). (entry piece).orders) pieces
+-- these additions of the pieces, added up
+pub record AddUp (addition : Piece → Totals) (pieces : List Piece) (totals : Totals) : Type 0 where
+  pub updates : totals.updates ≡ sum_by (λ (piece : Piece). (addition piece).updates) pieces
+  pub events : totals.events ≡ sum_by (λ (piece : Piece). (addition piece).events) pieces
+  pub orders : totals.orders ≡ sum_by (λ (piece : Piece). (addition piece).orders) pieces
 
--- these totals are one update of each piece, and what their entries add up to, each of which is low
+-- these totals are what the rounds of the pieces add up to, each of which adds little
 pub record AreSumsOf (pieces : List Piece) (totals : Totals) : Type 0 where
-  pub updates : totals.updates ≡ length pieces
-  pub sums : (entry : Piece → Entry) → HaveEntries entry pieces → AddUp entry pieces totals
-  pub few_events : totals.events ≤ length pieces * most_events
-  pub few_orders : totals.orders ≤ length pieces * most_events
+  pub sums : (addition : Piece → Totals) → HaveAdditions addition pieces → AddUp addition pieces totals
+  pub few_updates : totals.updates ≤ length pieces * most_updates
+  pub few_events : totals.events ≤ length pieces * most_round_events
+  pub few_orders : totals.orders ≤ length pieces * most_round_events

@@ -3,11 +3,11 @@ use Rattle.std.specs.Prelude.{◌≡◌, Vec}
 use Rattle.std.specs.Global.{Global}
 use Rattle.pod_piece.specs.Piece.{Piece}
 use Rattle.event_book.specs.Shares.{ShareState}
-use Rattle.piece_deques.specs.Rule.{IsPieceDue}
 use Rattle.pod_pool.specs.declared.fault.PoolFault.{PoolFault}
 use Rattle.pod_pool.specs.declared.fault.PoolFault.TheVariants as fault
+use Rattle.pod_pool.specs.Done.{IsLeftOf}
 
--- the pieces and the share as they were handed in, or one of the pieces, which is still to be updated
+-- the pieces and the share as they were handed in, or one of the pieces, whose updates did not all come
 abbrev pub GivesBack : {U E O : Type 0} → Vec Piece Global → ShareState → PoolFault U E O → Type 0
 GivesBack pieces share (fault.NoRoom p s) = (p ≡ pieces) × (s ≡ share)
-GivesBack pieces share (fault.Update p) = IsPieceDue pieces.items p
+GivesBack pieces share (fault.Update p) = IsLeftOf pieces.items p

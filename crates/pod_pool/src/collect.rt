@@ -2,8 +2,7 @@
 
 ghost use Rattle.std.specs.Prelude.{◌≡◌, ◌<◌, ◌≤◌, ◌+◌, ℕ, None, All, IfOk, IfErr, length, vec_len, vec_capacity};
 ghost use Rattle.std.specs.List.{sum_by};
-ghost use Rattle.piece_deques.specs.Rule.{IsPieceDue};
-ghost use Rattle.pod_pool.specs.Done.{weigh};
+ghost use Rattle.pod_pool.specs.Done.{weigh, IsLeftOf};
 ghost use Rattle.pod_pool.specs.WorkerResults.{kept};
 ghost use Rattle.pod_pool.specs.FinishedWorkers.{finished_kept, finished_pushed, finished_taken, IsAway};
 
@@ -32,7 +31,7 @@ pub(crate) fn collect<D: Deal, U: Ledger, E: Ledger, O: Ledger, R: Wait, G: Gate
     ensures none { IfOk result (λ worker_result. worker_result.refused ≡ None) }
     ensures room { IfOk result (λ worker_result. length D.all ≤ vec_capacity worker_result.done) }
     ensures parts { IfOk result (λ worker_result. worker_result.share.parts ≡ vec_len finished) }
-    ensures due { IfErr result (IsPieceDue D.all) }
+    ensures due { IfErr result (IsLeftOf D.all) }
 {
     let mut left = finished;
     let Some(ended) = left.pop() else {

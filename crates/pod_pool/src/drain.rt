@@ -3,7 +3,8 @@
 ghost use Rattle.std.specs.Prelude.{◌≡◌, ◌+◌, ◌++◌, ℕ, None, IfOk, IfErr, vec_capacity};
 ghost use Rattle.std.specs.List.{sum_by};
 ghost use Rattle.crossbeam_deque.specs.Handles.{view, worker_deque, worker_view, stealer_deque};
-ghost use Rattle.piece_deques.specs.Rule.{all_parts, IsPieceDue};
+ghost use Rattle.piece_deques.specs.Rule.{all_parts};
+ghost use Rattle.pod_pool.specs.Done.{IsLeftOf};
 ghost use Rattle.pod_pool.specs.WorkerResults.{kept};
 
 use crate::finished_worker::FinishedWorker;
@@ -71,7 +72,7 @@ impl<D: Deal, U: Ledger, E: Ledger, O: Ledger> FinishedWorker<D, U, E, O> {
         ensures room { IfOk result (λ r. vec_capacity r.done ≡ vec_capacity self.worker_result.done) }
         ensures room_uncounted { IfOk result (λ r. vec_capacity r.uncounted ≡ vec_capacity self.worker_result.done) }
         ensures parts { IfOk result (λ r. r.share.parts ≡ self.worker_result.share.parts) }
-        ensures due { IfErr result (IsPieceDue D.all) }
+        ensures due { IfErr result (IsLeftOf D.all) }
     {
         let mut ended = self;
         ended.drain(rt, book, gate);

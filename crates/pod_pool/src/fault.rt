@@ -9,6 +9,7 @@ use std::sync::ledger::Ledger;
 pub enum PoolFault<U: Ledger, E: Ledger, O: Ledger> {
     /// A growth of memory before the first thread was refused. The pieces and the share come back as they were.
     NoRoom(Vec<PodPiece>, Shares<U, E, O>),
-    /// The update of this piece was refused: it is as it was, still pending. The others are dropped.
+    /// An update of this piece was refused: the ticks before the refused one are taken, and it is still pending. The
+    /// others are dropped.
     Update(PodPiece),
 }

@@ -1,16 +1,17 @@
 //! How a worker updates and enters a piece, and how what two workers keep comes together.
 
 ghost use Rattle.std.specs.Prelude.{◌≡◌, ◌<◌, ◌≤◌, ◌+◌, [], ℕ, true, None, Some, vec_capacity};
-ghost use Rattle.std.specs.Prelude.{IfOk, IfErr, OnOk, OnErr, is_ok, if◌then◌else◌};
+ghost use Rattle.std.specs.Prelude.{IfOk, IfErr, IfSome, OnOk, OnErr, is_ok, if◌then◌else◌};
+ghost use Rattle.pod_piece.specs.Piece.{all_updated};
 ghost use Rattle.event_book.specs.Totals.{nothing, plus};
-ghost use Rattle.event_book.specs.Shares.{share_with, one_update};
+ghost use Rattle.event_book.specs.Shares.{share_with};
 ghost use Rattle.piece_deques.specs.Rule.{IsPieceDue};
-ghost use Rattle.pod_pool.specs.Done.{IsDone};
+ghost use Rattle.pod_pool.specs.Done.{IsDone, IsLeftFrom, IsLeftOf};
 ghost use Rattle.pod_pool.specs.WorkerResults.{kept, KeepsOneMore, HasRoomForOne, HasRoomFor};
 
 use crate::gate::{Gate, update};
 use crate::worker_result::WorkerResult;
-use event_book::{Entry, EventBook, Full, Shares};
+use event_book::{EventBook, Full, Shares, Totals};
 use piece_deques::Deal;
 use pod_piece::PodPiece;
 use std::alloc::AllocError;
@@ -18,18 +19,32 @@ use std::marker::PhantomData;
 use std::sync::ledger::Ledger;
 use std::sync::{Mutex, Wait};
 
-/// Enters one update in the book, while no other worker does.
+/// Takes all ticks of a piece that wait into its status, in their order, each between the two calls of the gate. An
+/// `Err` leaves the piece pending: the ticks before the refused one are taken.
+fn update_waiting<G: Gate>(gate: &G, piece: &mut PodPiece) -> Result<(), AllocError>
+    requires { 0 < piece.old.waiting }
+    ensures ok { OnOk result (piece.new ≡ all_updated piece.old) }
+    ensures err { OnErr result (IsLeftFrom piece.old piece.new) }
+    ensures left { G.left gate.now piece.old.number }
+{
+    'waiting: while piece.pending() {
+        update(gate, piece)?;
+    }
+    Ok(())
+}
+
+/// Adds what a round adds to the book, while no other worker does.
 fn enter<R: Wait, U: Ledger, E: Ledger, O: Ledger>(
     rt: &R,
     book: &Mutex<EventBook<U, E, O>>,
-    entry: Entry,
+    more: Totals,
     share: &mut Shares<U, E, O>,
 ) -> Result<(), Full>
     requires { 0 < share.old.parts }
-    ensures share { OnOk result (share.new ≡ share_with share.old.parts (plus share.old.totals (one_update entry))) }
+    ensures share { OnOk result (share.new ≡ share_with share.old.parts (plus share.old.totals more)) }
     ensures kept { OnErr result (share.new ≡ share.old) }
 {
-    book.lock(rt).enter(entry, share)
+    book.lock(rt).add(more, share)
 }
 
 impl<D: Deal, U: Ledger, E: Ledger, O: Ledger> WorkerResult<D, U, E, O> {
@@ -66,7 +81,7 @@ impl<D: Deal, U: Ledger, E: Ledger, O: Ledger> WorkerResult<D, U, E, O> {
         updated: Result<(), AllocError>,
     ) -> bool
         requires ok { OnOk updated (IsDone D.all piece) }
-        requires err { OnErr updated (IsPieceDue D.all piece) }
+        requires err { OnErr updated (IsLeftOf D.all piece) }
         requires none { self.old.refused ≡ None }
         requires room { HasRoomForOne self.old }
         ensures keeps { KeepsOneMore piece self.old self.new }
@@ -75,8 +90,8 @@ impl<D: Deal, U: Ledger, E: Ledger, O: Ledger> WorkerResult<D, U, E, O> {
     {
         match updated {
             Ok(()) => {
-                let entry = Entry::last_of(&piece);
-                let entered = enter(rt, book, entry, &mut self.share);
+                let more = Totals::of_round(&piece);
+                let entered = enter(rt, book, more, &mut self.share);
                 match entered {
                     Ok(()) => self.done.push_reserved(piece),
                     Err(Full) => self.uncounted.push_reserved(piece),
@@ -90,7 +105,8 @@ impl<D: Deal, U: Ledger, E: Ledger, O: Ledger> WorkerResult<D, U, E, O> {
         }
     }
 
-    /// Updates a piece and enters it. False where the update was refused: then it is kept as it was.
+    /// Takes all ticks of a piece that wait into its status, and enters it with what they add. False where an update
+    /// was refused: then it is kept as that left it.
     pub fn finish<R: Wait, G: Gate>(
         &mut self,
         rt: &R,
@@ -104,11 +120,11 @@ impl<D: Deal, U: Ledger, E: Ledger, O: Ledger> WorkerResult<D, U, E, O> {
         ensures keeps { KeepsOneMore piece self.old self.new }
         ensures more { result ≡ true → self.new.refused ≡ None }
         ensures last { self.new.refused ≡ None → result ≡ true }
-        ensures refused { self.new.refused ≡ (if result then None else Some piece) }
+        ensures refused { IfSome self.new.refused (IsLeftFrom piece) }
         ensures left { G.left gate.now piece.number }
     {
         let mut piece = piece;
-        let updated = update(gate, &mut piece);
+        let updated = update_waiting(gate, &mut piece);
         self.keep(rt, book, piece, updated)
     }
 
@@ -116,7 +132,7 @@ impl<D: Deal, U: Ledger, E: Ledger, O: Ledger> WorkerResult<D, U, E, O> {
     pub fn complete(self) -> Result<WorkerResult<D, U, E, O>, PodPiece>
         ensures ok { IfOk result (λ worker_result. worker_result ≡ self) }
         ensures none { IfOk result (λ worker_result. worker_result.refused ≡ None) }
-        ensures err { IfErr result (IsPieceDue D.all) }
+        ensures err { IfErr result (IsLeftOf D.all) }
         ensures refused { IfErr result (λ piece. self.refused ≡ Some piece) }
     {
         if self.refused.is_none() {

@@ -1,6 +1,6 @@
 //! What is told of each update.
 
-ghost use Rattle.std.specs.Prelude.{◌≡◌, IsTrue, OnOk, OnErr};
+ghost use Rattle.std.specs.Prelude.{◌≡◌, ◌<◌, OnOk, OnErr};
 ghost use Rattle.pod_piece.specs.Piece.{updated};
 
 use piece_deques::number_of;
@@ -47,9 +47,10 @@ impl Gate for NoGate {
     fn leave(&self, _pod: usize) {}
 }
 
-/// Updates a piece between the two calls of the gate. An `Err` changes nothing.
+/// Takes the next tick of a piece that waits into its status, between the two calls of the gate. An `Err` changes
+/// nothing.
 pub fn update<G: Gate>(gate: &G, piece: &mut PodPiece) -> Result<(), AllocError>
-    requires { IsTrue piece.old.is_pending }
+    requires { 0 < piece.old.waiting }
     ensures ok { OnOk result (piece.new ≡ updated piece.old) }
     ensures err { OnErr result (piece.new ≡ piece.old) }
     ensures entered { G.entered gate.now piece.old.number }

@@ -4,7 +4,8 @@ ghost use Rattle.std.specs.Prelude.{◌≡◌, ◌<◌, ◌≤◌, ◌+◌, IfOk
 ghost use Rattle.observations.specs.Limits.{most_pods};
 ghost use Rattle.event_book.specs.Shares.{most_parts};
 ghost use Rattle.event_book.specs.Limits.{AreLow};
-ghost use Rattle.piece_deques.specs.Rule.{IsPieceDue, AreNumbered};
+ghost use Rattle.piece_deques.specs.Rule.{AreNumbered};
+ghost use Rattle.pod_pool.specs.Done.{IsLeftOf};
 ghost use Rattle.pod_pool.specs.Contexts.{context_tag, AreLaid};
 ghost use Rattle.pod_pool.specs.Order.{IsRoundDone};
 ghost use Rattle.pod_pool.specs.Rooms.{HasRoom};
@@ -43,8 +44,8 @@ impl<D: Deal, U: Ledger, E: Ledger, O: Ledger> ResultBuffers<D, U, E, O> {
 }
 
 /// Takes the contexts of workers that have ended apart, finishes what is left in their deques, and gives the pieces of
-/// the round in order, each updated once, with the whole share, with which each was entered. An `Err` is a piece whose
-/// update was refused, as it was dealt.
+/// the round in order, each with all its ticks, with the whole share, with which each was entered. An `Err` is a piece
+/// an update of which was refused.
 pub(crate) fn gather<D: Deal, U: Ledger, E: Ledger, O: Ledger, R: Wait, G: Gate>(
     rt: &R,
     book: &Mutex<EventBook<U, E, O>>,
@@ -62,7 +63,7 @@ pub(crate) fn gather<D: Deal, U: Ledger, E: Ledger, O: Ledger, R: Wait, G: Gate>
     requires level { (U.parts ≡ most_parts) × (E.parts ≡ most_parts) × (O.parts ≡ most_parts) }
     requires low { AreLow share.totals }
     ensures done { IfOk result (λ r. IsRoundDone D.all share r.0.items r.1) }
-    ensures due { IfErr result (IsPieceDue D.all) }
+    ensures due { IfErr result (IsLeftOf D.all) }
 {
     let ResultBuffers { finished, rows } = room;
     let mut finished = finished;

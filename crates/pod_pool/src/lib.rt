@@ -1,7 +1,8 @@
 //! A pool of workers that update the pieces of a round. Each is dealt a deque of its own, with a permit at each
-//! deque; it takes pieces from its own and steals from the others, updates them, enters them in the book, and keeps
-//! them. When all have ended the permits go back to their deques, what is left in these is finished, and what the
-//! workers keep is put together, in order. All memory but that of the updates is taken before the first piece is dealt.
+//! deque; it takes pieces from its own and steals from the others, takes the ticks that wait into their statuses,
+//! enters each once in the book, and keeps it. When all have ended the permits go back to their deques, what is left in
+//! these is finished, and what the workers keep is put together, in order. All memory but that of the updates is taken
+//! before the first piece is dealt.
 //!
 //! ```text
 //! pieces ──deal──> deque 0 ──pop──> worker 0 ──┐ update, enter, keep
@@ -10,10 +11,10 @@
 //!                     └──────── steal ─────────┘ ──settle, gather──> pieces, by number; book
 //! ```
 //!
-//! [`update_all`] promises what one thread would have done: the pieces it gives back are those that went in, each
-//! updated once and under its number, and the book has the sum of their entries. That each piece is taken once, by its
-//! owner or by one thief, follows from the deques' permits (`piece_deques`), and not from a count at the end; that all
-//! are updated when the workers have ended follows from the last look into each deque (`settle`).
+//! [`update_all`] promises what one thread would have done: the pieces it gives back are those that went in, each with
+//! all its ticks and under its number, and the book has the sum of what their rounds add. That each piece is taken
+//! once, by its owner or by one thief, follows from the deques' permits (`piece_deques`), and not from a count at the
+//! end; that all are updated when the workers have ended follows from the last look into each deque (`settle`).
 //!
 //! A refused update or missing room ends the round with a fault that gives the piece back. The [`Gate`] is told of each
 //! update: the program's says nothing, those of tests hold updates back, so that thefts can be made to happen.

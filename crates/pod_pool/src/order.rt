@@ -1,7 +1,7 @@
 //! The order of pieces.
 
 ghost use Rattle.std.specs.Prelude.{◌≡◌, ℕ, All, IsPermutation, map};
-ghost use Rattle.pod_piece.specs.Piece.{updated};
+ghost use Rattle.pod_piece.specs.Piece.{all_updated};
 ghost use Rattle.piece_deques.specs.Rule.{AreNumbered};
 ghost use Rattle.pod_pool.specs.Done.{IsDone, weigh};
 
@@ -13,7 +13,7 @@ pub(crate) fn in_order<D: Deal>(pieces: Vec<PodPiece>) -> Vec<PodPiece>
     requires numbered { AreNumbered D.all }
     requires each { (weight : ℕ → ℕ) → weigh weight pieces.items ≡ weigh weight D.all }
     requires right { All (IsDone D.all) pieces.items }
-    ensures placed { result.items ≡ map updated D.all }
+    ensures placed { result.items ≡ map all_updated D.all }
     ensures same { IsPermutation pieces.items result.items }
 {
     let mut pieces = pieces;

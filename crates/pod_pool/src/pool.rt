@@ -1,8 +1,8 @@
 //! The pool.
 
-ghost use Rattle.std.specs.Prelude.{◌≡◌, ◌<◌, ◌≤◌, All, IfOk, IfErr, IsTrue, length, map, min, max};
+ghost use Rattle.std.specs.Prelude.{◌≡◌, ◌<◌, ◌≤◌, All, IfOk, IfErr, length, map, min, max};
 ghost use Rattle.observations.specs.Limits.{most_pods};
-ghost use Rattle.pod_piece.specs.Piece.{updated};
+ghost use Rattle.pod_piece.specs.Piece.{all_updated};
 ghost use Rattle.event_book.specs.Shares.{most_parts};
 ghost use Rattle.event_book.specs.Limits.{most_workers, AreLow};
 ghost use Rattle.piece_deques.specs.Rule.{AreNumbered};
@@ -45,7 +45,7 @@ fn pool<D: Deal + Send, U: Ledger + Send, E: Ledger + Send, O: Ledger + Send, R:
     gate: &G,
 ) -> Result<(Vec<PodPiece>, Shares<U, E, O>), PoolFault<U, E, O>>
     requires all { D.all ≡ pieces.items }
-    requires pending { All (λ piece. IsTrue piece.is_pending) pieces.items }
+    requires pending { All (λ piece. 0 < piece.waiting) pieces.items }
     requires numbered { AreNumbered pieces.items }
     requires few { length pieces.items ≤ most_pods }
     requires some { 0 < workers }
@@ -53,7 +53,7 @@ fn pool<D: Deal + Send, U: Ledger + Send, E: Ledger + Send, O: Ledger + Send, R:
     requires whole { share.parts ≡ most_parts }
     requires level { (U.parts ≡ most_parts) × (E.parts ≡ most_parts) × (O.parts ≡ most_parts) }
     requires low { AreLow share.totals }
-    ensures pieces { IfOk result (λ r. r.0.items ≡ map updated pieces.items) }
+    ensures pieces { IfOk result (λ r. r.0.items ≡ map all_updated pieces.items) }
     ensures share { IfOk result (λ r. HasEntered r.0.items share r.1) }
     ensures fault { IfErr result (GivesBack pieces share) }
 {
@@ -72,10 +72,10 @@ fn pool<D: Deal + Send, U: Ledger + Send, E: Ledger + Send, O: Ledger + Send, R:
     }
 }
 
-/// Updates each pending piece of a round once, and enters it in the book with the whole share of the book: this many
-/// workers, 1 to 64, do it in threads of their own, no more than there are pieces, and take what is left in the deques
-/// of others once their own are empty. It gives the pieces in the order of their numbers, whatever the threads do, and
-/// the share. An `Err` says that memory was refused.
+/// Takes all waiting ticks of each pending piece of a round into its status, in their order, and enters it once in the
+/// book with the whole share of the book: this many workers, 1 to 64, do it in threads of their own, no more than there
+/// are pieces, and take what is left in the deques of others once their own are empty. It gives the pieces in the order
+/// of their numbers, whatever the threads do, and the share. An `Err` says that memory was refused.
 pub fn update_all<U: Ledger + Send, E: Ledger + Send, O: Ledger + Send, R: Spawner, G: Gate>(
     rt: &R,
     alloc: Global,
@@ -85,7 +85,7 @@ pub fn update_all<U: Ledger + Send, E: Ledger + Send, O: Ledger + Send, R: Spawn
     workers: usize,
     gate: &G,
 ) -> Result<(Vec<PodPiece>, Shares<U, E, O>), PoolFault<U, E, O>>
-    requires pending { All (λ piece. IsTrue piece.is_pending) pieces.items }
+    requires pending { All (λ piece. 0 < piece.waiting) pieces.items }
     requires numbered { AreNumbered pieces.items }
     requires few { length pieces.items ≤ most_pods }
     requires some { 0 < workers }
@@ -93,7 +93,7 @@ pub fn update_all<U: Ledger + Send, E: Ledger + Send, O: Ledger + Send, R: Spawn
     requires whole { share.parts ≡ most_parts }
     requires level { (U.parts ≡ most_parts) × (E.parts ≡ most_parts) × (O.parts ≡ most_parts) }
     requires low { AreLow share.totals }
-    ensures pieces { IfOk result (λ r. r.0.items ≡ map updated pieces.items) }
+    ensures pieces { IfOk result (λ r. r.0.items ≡ map all_updated pieces.items) }
     ensures share { IfOk result (λ r. HasEntered r.0.items share r.1) }
     ensures fault { IfErr result (GivesBack pieces share) }
 {

@@ -2,8 +2,8 @@
 
 ghost use Rattle.std.specs.Prelude.{◌≡◌, ◌≤◌, ◌+◌, ℕ, List, None, length, vec_capacity};
 ghost use Rattle.observations.specs.Limits.{most_pods};
-ghost use Rattle.event_book.specs.declared.totals.Entry.{Entry};
-ghost use Rattle.event_book.specs.Totals.{AreEntriesOf};
+ghost use Rattle.event_book.specs.declared.totals.Totals.{Totals as SomeTotals};
+ghost use Rattle.event_book.specs.Rounds.{AreAdditionsOf};
 ghost use Rattle.event_book.specs.Shares.{most_parts};
 ghost use Rattle.event_book.specs.Limits.{AreLow};
 ghost use Rattle.piece_deques.specs.Rule.{AreNumbered};
@@ -13,18 +13,18 @@ ghost use Rattle.pod_pool.specs.Order.{IsRoundDone};
 
 use crate::order::in_order;
 use crate::worker_result::WorkerResult;
-use event_book::{Entry, EventBook, Shares};
+use event_book::{EventBook, Shares, Totals};
 use piece_deques::Deal;
 use pod_piece::PodPiece;
 use std::sync::ledger::Ledger;
 use std::sync::{Mutex, Wait};
 
-/// Looks at the events of each piece: by them it has an entry.
+/// Looks at the events of each piece's round: by them it adds something.
 fn look_over(pieces: &[PodPiece])
-    ensures { (entries : List Entry) × AreEntriesOf pieces.now entries }
+    ensures { (additions : List SomeTotals) × AreAdditionsOf pieces.now additions }
 {
     for piece in pieces {
-        let _entry = Entry::last_of(piece);
+        let _addition = Totals::of_round(piece);
     }
 }
 
@@ -57,8 +57,8 @@ pub(crate) fn settle<D: Deal, U: Ledger, E: Ledger, O: Ledger, R: Wait>(
     let mut done = done;
     let mut uncounted = uncounted;
     'entered: while let Some(piece) = uncounted.pop() {
-        let entry = Entry::last_of(&piece);
-        book.lock(rt).enter_whole(entry, &mut share);
+        let more = Totals::of_round(&piece);
+        book.lock(rt).add_whole(more, &mut share);
         done.push_reserved(piece);
     }
     let pieces = in_order::<D>(done);

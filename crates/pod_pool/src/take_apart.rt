@@ -3,7 +3,8 @@
 ghost use Rattle.std.specs.Prelude.{◌≡◌, ◌≤◌, ◌+◌, ℕ, [], None, All, IfOk, IfErr, OnOk, map, vec_len, vec_capacity};
 ghost use Rattle.std.specs.List.{sum_by};
 ghost use Rattle.crossbeam_deque.specs.Handles.{worker_view};
-ghost use Rattle.piece_deques.specs.Rule.{all_parts, IsPieceDue};
+ghost use Rattle.piece_deques.specs.Rule.{all_parts};
+ghost use Rattle.pod_pool.specs.Done.{IsLeftOf};
 ghost use Rattle.pod_pool.specs.Permits.{pushed_count, taken_by};
 ghost use Rattle.pod_pool.specs.Contexts.{context_deque, context_tag, IsLaid};
 ghost use Rattle.pod_pool.specs.FinishedWorkers.{finished_deque, finished_kept, finished_taken, IsAway, IsRow};
@@ -24,7 +25,7 @@ fn take_apart<D: Deal, U: Ledger, E: Ledger, O: Ledger>(
     ensures worker_result { IfOk result (λ r. r.0.worker_result ≡ context.worker_result) }
     ensures none { IfOk result (λ r. r.0.worker_result.refused ≡ None) }
     ensures handles { IfOk result (λ r. r.1 ≡ context.handles) }
-    ensures due { IfErr result (IsPieceDue D.all) }
+    ensures due { IfErr result (IsLeftOf D.all) }
 {
     let WorkerContext {
         owner,
@@ -68,7 +69,7 @@ pub(crate) fn take_all_apart<D: Deal, U: Ledger, E: Ledger, O: Ledger>(
     ensures kept { OnOk result ((weight : ℕ → ℕ) → sum_by (finished_kept weight) finished.new.items
         ≡ sum_by (finished_taken weight) finished.new.items + sum_by
         (λ row. taken_by weight row.items) rows.new.items) }
-    ensures due { IfErr result (IsPieceDue D.all) }
+    ensures due { IfErr result (IsLeftOf D.all) }
 {
     let mut left = contexts;
     left.reverse();

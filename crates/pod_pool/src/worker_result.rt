@@ -2,8 +2,7 @@
 
 ghost use Rattle.std.specs.Prelude.{◌<◌, All};
 ghost use Rattle.std.specs.Option.{option_to_list};
-ghost use Rattle.piece_deques.specs.Rule.{IsPieceDue};
-ghost use Rattle.pod_pool.specs.Done.{IsDone, AreSumsOf};
+ghost use Rattle.pod_pool.specs.Done.{IsDone, IsLeftOf, AreSumsOf};
 
 use event_book::Shares;
 use piece_deques::Deal;
@@ -22,7 +21,7 @@ pub(crate) struct WorkerResult<D: Deal, U: Ledger, E: Ledger, O: Ledger> {
     pub of: PhantomData<D>,
     pub ghost right: { All (IsDone D.all) done.items },
     pub ghost right_uncounted: { All (IsDone D.all) uncounted.items },
-    pub ghost due: { All (IsPieceDue D.all) (option_to_list refused) },
+    pub ghost due: { All (IsLeftOf D.all) (option_to_list refused) },
     pub ghost counts: { AreSumsOf done.items share.totals },
     pub ghost part: { 0 < share.parts },
 }

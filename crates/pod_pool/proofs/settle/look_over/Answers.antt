@@ -1,7 +1,7 @@
 use Rattle.std.proofs.Common.{◌++◌, ◌∷◌, [], take, sym, ap, ◌∙◌}
 use Rattle.std.proofs.lemmas.List.{take_more}
 use Rattle.pod_piece.specs.Piece.{Piece}
-use Rattle.pod_pool.proofs.Entries.{entries_more}
+use Rattle.pod_pool.proofs.Additions.{additions_more}
 use Rattle.pod_pool.proofs.settle.look_over.Goals as goal
 
 pub loop-piece-preserved : goal.loop-piece-preserved
@@ -10,10 +10,10 @@ loop-piece-preserved c =
     let i = c.loop-piece.piece-index in
     let before = c.loop-piece.invariant in
     let piece = c.piece-item.result in
-    let entry = c.last_of-entry.result in
+    let addition = c.of_round-_addition.result in
     let more =
     take_more pieces i piece c.loop-piece-test.true
     ∙ ap (λ (p : Piece). take i pieces ++ p ∷ []) (sym c.piece-item.is) in (
-      before.0 ++ entry ∷ [],
-      entries_more (take i pieces) _ before.0 piece entry more before.1 c.last_of-entry.ensures.entry,
+      before.0 ++ addition ∷ [],
+      additions_more (take i pieces) _ before.0 piece addition more before.1 c.of_round-_addition.ensures.addition,
     )

@@ -1,7 +1,7 @@
 use Rattle.std.proofs.Common.{List, take}
-use Rattle.event_book.specs.declared.totals.Entry.{Entry}
-use Rattle.event_book.specs.Totals.{AreEntriesOf}
+use Rattle.event_book.specs.declared.totals.Totals.{Totals}
+use Rattle.event_book.specs.Rounds.{AreAdditionsOf}
 use Rattle.pod_pool.proofs.settle.look_over.Given as goal
 
 abbrev pub invariant-loop-piece : goal.invariant-loop-piece
-invariant-loop-piece l = (entries : List Entry) × AreEntriesOf (take l.piece-index l.pieces) entries
+invariant-loop-piece l = (additions : List Totals) × AreAdditionsOf (take l.piece-index l.pieces) additions

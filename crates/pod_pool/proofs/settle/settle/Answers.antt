@@ -2,13 +2,13 @@ use Rattle.std.proofs.Common.{◌≤◌, Option, List, length, refl, ap, ◌∙�
 use Rattle.std.specs.Option.{option_to_list}
 use Rattle.observations.specs.Limits.{most_pods}
 use Rattle.pod_piece.specs.Piece.{Piece}
-use Rattle.event_book.specs.Totals.{AreEntriesOf, plus}
-use Rattle.event_book.specs.Shares.{one_update}
+use Rattle.event_book.specs.Totals.{plus}
+use Rattle.event_book.specs.Rounds.{AreAdditionsOf}
 use Rattle.piece_deques.proofs.Lists.{front, last, grown, ones}
 use Rattle.pod_pool.specs.Done.{IsDone, weigh}
 use Rattle.pod_pool.proofs.Numbers.{weigh_more}
 use Rattle.pod_pool.proofs.Sums.{plus_assoc, sums_more}
-use Rattle.pod_pool.proofs.Entries.{settled, within_round}
+use Rattle.pod_pool.proofs.Additions.{settled, within_round}
 use Rattle.pod_pool.proofs.settle.settle.Goals as goal
 
 pub entered-init : goal.entered-init
@@ -26,8 +26,8 @@ entered-init g c =
       added = record { added = total.share.totals; are_sums = total.counts; is = join };
     }
 
-pub enter_whole-requires-clause-room : goal.enter_whole-requires-clause-room
-enter_whole-requires-clause-room g c =
+pub add_whole-requires-clause-room : goal.add_whole-requires-clause-room
+add_whole-requires-clause-room g c =
     let l = c.entered in
     let i = l.invariant in
     let each = i.each (λ _. 1) in
@@ -37,14 +37,17 @@ enter_whole-requires-clause-room g c =
     let few = c.requires.few in
     let few_done : length l.done.items ≤ most_pods = omega arith in
     let low = c.requires.low in
-    let mine = c.last_of-entry.ensures.low in
+    let mine = c.of_round-more.ensures.low in
     let sums = i.added.are_sums in
     let is = i.added.is in
-    let n = sums.updates in
+    let updates = sums.few_updates in
+    let short = mine.updates in
+    let events = mine.events in
+    let orders = mine.orders in
     record {
-      updates = (let base = low.updates in let now = ap (λ t. t.updates) is in omega arith);
-      events = within_round low.events (ap (λ t. t.events) is) sums.few_events few_done mine.events;
-      orders = within_round low.orders (ap (λ t. t.orders) is) sums.few_orders few_done mine.orders;
+      updates = within_round low.updates (ap (λ t. t.updates) is) (omega arith) few_done (omega arith);
+      events = within_round low.events (ap (λ t. t.events) is) sums.few_events few_done (omega arith);
+      orders = within_round low.orders (ap (λ t. t.orders) is) sums.few_orders few_done (omega arith);
     }
 
 pub push_reserved-requires : goal.push_reserved-requires
@@ -66,8 +69,8 @@ entered-preserved g c =
     let pop = c.in-Some.ensures.items in
     let new = c.push_reserved.new.self in
     let put = c.push_reserved.ensures in
-    let entry = c.last_of-entry.result in
-    let e = c.enter_whole.ensures in
+    let more = c.of_round-more.result in
+    let e = c.add_whole.ensures in
     let base = c.args.share.totals in
     let old = i.added.added in
     record {
@@ -81,13 +84,13 @@ entered-preserved g c =
       room = omega (arith, put.capacity, i.room);
       whole = ap (λ s. s.parts) e;
       added = record {
-        added = plus old (one_update entry);
-        are_sums = sums_more l.done.items new.items piece entry old (plus old (one_update entry)) put.items
-            refl c.last_of-entry.ensures.entry c.last_of-entry.ensures.low
+        added = plus old more;
+        are_sums = sums_more l.done.items new.items piece more old (plus old more) put.items
+            refl c.of_round-more.ensures.addition c.of_round-more.ensures.low
             i.added.are_sums;
         is =
             ap (λ s. s.totals) e
-            ∙ (ap (λ t. plus t (one_update entry)) i.added.is ∙ plus_assoc base old (one_update entry));
+            ∙ (ap (λ t. plus t more) i.added.is ∙ plus_assoc base old more);
       };
     }
 
@@ -98,8 +101,8 @@ returns g c =
     let found = c.look_over.ensures in
     let order = c.in_order-pieces.ensures in
     let pieces = c.in_order-pieces.result.items in
-    let are : AreEntriesOf pieces found.0 =
-    subst (λ (ps : List Piece). AreEntriesOf ps found.0) c.deref.ensures.value found.1 in
+    let are : AreAdditionsOf pieces found.0 =
+    subst (λ (ps : List Piece). AreAdditionsOf ps found.0) c.deref.ensures.value found.1 in
     record {
       are_updated = order.placed;
       entered = (

@@ -7,7 +7,8 @@ use Rattle.event_book.proofs.totals.Totals.of_round.Goals as goal
 pub entry_of_ticks-earlier-requires : goal.entry_of_ticks-earlier-requires
 entry_of_ticks-earlier-requires c =
     let pod = c.pod.ensures in
-    let few : length c.args.piece.now.pod.containers ≤ most_containers = rw (← pod) c.as_slice-containers.ensures.containers.few in
+    let few : length c.args.piece.now.pod.containers ≤ most_containers =
+    rw (← pod) c.as_slice-containers.ensures.containers.few in
     let short = c.round_length-updates.ensures.few in
     let is = c.round_length-updates.ensures.is in
     let many = few_earlier c.args.piece.now c.earlier_events.result.now few c.earlier_events.ensures in
@@ -16,7 +17,8 @@ entry_of_ticks-earlier-requires c =
 pub overflow_add-result : goal.overflow_add-result
 overflow_add-result c =
     let pod = c.pod.ensures in
-    let few : length c.args.piece.now.pod.containers ≤ most_containers = rw (← pod) c.as_slice-containers.ensures.containers.few in
+    let few : length c.args.piece.now.pod.containers ≤ most_containers =
+    rw (← pod) c.as_slice-containers.ensures.containers.few in
     let short = c.round_length-updates.ensures.few in
     let is = c.round_length-updates.ensures.is in
     let all = few_in_round c.args.piece.now c.earlier_events.result.now c.events.result.now
@@ -27,7 +29,8 @@ overflow_add-result c =
 pub overflow_add-result-2 : goal.overflow_add-result-2
 overflow_add-result-2 c =
     let pod = c.pod.ensures in
-    let few : length c.args.piece.now.pod.containers ≤ most_containers = rw (← pod) c.as_slice-containers.ensures.containers.few in
+    let few : length c.args.piece.now.pod.containers ≤ most_containers =
+    rw (← pod) c.as_slice-containers.ensures.containers.few in
     let short = c.round_length-updates.ensures.few in
     let is = c.round_length-updates.ensures.is in
     let all = few_in_round c.args.piece.now c.earlier_events.result.now c.events.result.now
@@ -51,7 +54,8 @@ returns-clause-addition c =
 pub returns-clause-low : goal.returns-clause-low
 returns-clause-low c =
     let pod = c.pod.ensures in
-    let few : length c.args.piece.now.pod.containers ≤ most_containers = rw (← pod) c.as_slice-containers.ensures.containers.few in
+    let few : length c.args.piece.now.pod.containers ≤ most_containers =
+    rw (← pod) c.as_slice-containers.ensures.containers.few in
     let short = c.round_length-updates.ensures.few in
     let is = c.round_length-updates.ensures.is in
     let some = c.if-updates-eq0.false in

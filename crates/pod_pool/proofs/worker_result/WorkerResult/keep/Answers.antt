@@ -12,8 +12,8 @@ invariant_of-self-clause-right g c =
 
 pub invariant_of-self-clause-counts : goal.invariant_of-self-clause-counts
 invariant_of-self-clause-counts g c =
-    sums_more _ _ _ c.last_of-entry.result _ _ c.push_reserved.ensures.items
-    (ap (λ s. s.totals) c.in-Ok-entered.ensures.share) c.last_of-entry.ensures.entry c.last_of-entry.ensures.low
+    sums_more _ _ _ c.of_round-more.result _ _ c.push_reserved.ensures.items
+    (ap (λ s. s.totals) c.in-Ok-entered.ensures.share) c.of_round-more.ensures.addition c.of_round-more.ensures.low
     c.args.self.now.counts
 
 pub invariant_of-self-in-Err-entered-clause-right_uncounted :
