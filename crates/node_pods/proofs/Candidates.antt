@@ -31,6 +31,10 @@ pub read_at : (pieces : List Piece) (n : ℕ) (one read : Piece) → slice_get p
 read_at pieces n one read at is =
     slice_get_read pieces (length pieces) n read refl (slice_get_within pieces n one at) is
 
+pub read_by_place : (pieces : List Piece) (n : ℕ) (read : Piece) → n < length pieces → read ≡ get_or pieces n read
+    → slice_get pieces n ≡ Some read
+read_by_place pieces n read lt is = slice_get_read pieces (length pieces) n read refl lt is
+
 pub status_at : (pieces : List Piece) (moment n : ℕ) (piece : Piece) (p : PodStatus)
     → slice_get pieces n ≡ Some piece → (c : IsCandidate pieces moment n p) → IsStatusOf piece p
 status_at pieces moment n piece p at c =

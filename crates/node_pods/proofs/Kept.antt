@@ -3,7 +3,7 @@ use Rattle.std.proofs.Common.{◌≡◌, ◌∙◌, inl, inr, ℕ, ◌<◌, Bool
 use Rattle.std.proofs.Common.{Option, Some, None, refl, ap, sym, subst, arith}
 use Rattle.std.specs.Prelude.{◌≢◌, slice_get, IfSome, IsSome, option_map}
 use Rattle.std.specs.Option.{option_flatten}
-use Rattle.std.proofs.lemmas.Bool.{cases_eq, cases_order}
+use Rattle.std.proofs.lemmas.Bool.{cases_eq, cases_lt, cases_order}
 use Rattle.std.proofs.lemmas.List.{length-map}
 use Rattle.std.proofs.lemmas.Option.{slice_get_within, slice_get_past, slice_get-map}
 use Rattle.histories.specs.Histories.{last_moment}
@@ -19,11 +19,11 @@ use Rattle.pod_piece.specs.declared.order.EvictOrder.{EvictOrder}
 use Rattle.pod_piece.specs.Piece.{Piece, new_piece, all_updated, at_rest, with_eviction}
 use Rattle.pod_piece.proofs.Waiting.{ticks_free}
 use Rattle.node_pods.specs.Pods.{pods_of, IsNumbered, AreNumbered, IsPlaced, ArePlaced, MayBeHanded, handed_one}
-use Rattle.node_pods.specs.Pods.{handed_each, sent_from, staying, after_tick, AreAfter, awaited, joined, AreEvicted}
+use Rattle.node_pods.specs.Pods.{sent_from, staying, after_tick, AreAfter, awaited, joined, AreEvicted}
 use Rattle.node_pods.specs.Laws.{CandidateIsShown}
-use Rattle.node_pods.specs.Steps.{AreFree}
+use Rattle.node_pods.specs.Steps.{AreFree, AreHandedBelow}
 use Rattle.node_pods.proofs.Candidates.{same_piece}
-use Rattle.node_pods.proofs.Steps.{shown_at, with_shown_length, with_shown_at, joined_updated}
+use Rattle.node_pods.proofs.Steps.{shown_at, joined_updated}
 
 -- where each pod has its number
 pub free_all : (pieces : List Piece) (max_restart_delay : ℕ) (dedicated : Bool)
@@ -73,15 +73,18 @@ numbered_by f old new max_restart_delay dedicated long each same numbered n piec
     subst (λ (q : Piece). IsNumbered max_restart_delay n q) (same_piece new n (f n p.0) piece (each n p.0 p.1) at)
     (same n p.0 (numbered n p.0 p.1))
 
-pub numbered_handed : (old : List Piece) (shown : List (Option PodObs)) (new : List Piece) (max_restart_delay : ℕ)
-    (dedicated : Bool) → new ≡ handed_each old shown → AreNumbered (pods_of old max_restart_delay dedicated)
-    → AreNumbered (pods_of new max_restart_delay dedicated)
-numbered_handed old shown new max_restart_delay dedicated is numbered =
-    subst (λ (ps : List Piece). AreNumbered (pods_of ps max_restart_delay dedicated)) (sym is)
-    (numbered_by (λ n p. handed_one p (option_flatten (slice_get shown n))) old (handed_each old shown)
-    max_restart_delay dedicated (with_shown_length handed_one old shown)
-    (λ n p at. with_shown_at handed_one (λ q. refl) old shown n p at)
-    (λ n p was. one n p (option_flatten (slice_get shown n)) was) numbered)
+pub numbered_below : (i : ℕ) (old : List Piece) (shown : List (Option PodObs)) (new : List Piece)
+    (max_restart_delay : ℕ) (dedicated : Bool) → AreHandedBelow i shown old new
+    → AreNumbered (pods_of old max_restart_delay dedicated) → AreNumbered (pods_of new max_restart_delay dedicated)
+numbered_below i old shown new max_restart_delay dedicated are numbered n piece at =
+    let lt = slice_get_within new n piece at in
+    let p = given_at old n (omega (arith, lt, are.as_many)) in
+    elim (cases_lt n i) [
+      | inl below ↦ subst (λ (q : Piece). IsNumbered max_restart_delay n q)
+          (same_piece new n (handed_one p.0 (option_flatten (slice_get shown n))) piece (are.below n p.0 below p.1) at)
+          (one n p.0 (option_flatten (slice_get shown n)) (numbered n p.0 p.1))
+      | inr past ↦ numbered n piece (sym (are.rest n (omega arith)) ∙ at)
+    ]
   where
     one : (n : ℕ) (p : Piece) (o : Option PodObs) → IsNumbered max_restart_delay n p
         → IsNumbered max_restart_delay n (handed_one p o)

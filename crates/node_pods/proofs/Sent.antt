@@ -3,9 +3,10 @@ use Rattle.std.proofs.Common.{◌≡◌, ◌∙◌, ℕ, zero, suc, ◌+◌, ◌
 use Rattle.std.proofs.Common.{Some, None, refl, ap, sym, arith}
 use Rattle.std.specs.Prelude.{slice_get, nat_lt, if◌then◌else◌}
 use Rattle.std.specs.List.{filter_map}
-use Rattle.std.proofs.lemmas.Bool.{ltb-true}
+use Rattle.std.proofs.lemmas.Bool.{ltb-true, lt-ltb}
 use Rattle.observations.specs.Pods.{PodObs}
-use Rattle.pod_piece.specs.Piece.{Piece, with_number}
+use Rattle.pod_state.specs.Pods.{pod_tick}
+use Rattle.pod_piece.specs.Piece.{Piece, with_tick, with_number}
 use Rattle.node_pods.specs.Pods.{waits, sent_from, handed_each}
 
 -- which of the pieces it was; its number is its place among those that go out
@@ -23,24 +24,24 @@ one_later k p pieces i q w = record { n = suc w.n; piece = w.piece; at = w.at; p
 pub sent_at : (k : ℕ) (pieces : List Piece) (i : ℕ) (q : Piece) → slice_get (sent_from k pieces) i ≡ Some q
     → IsSent k pieces i q
 sent_at k [] i q e = absurd (cc)
-sent_at k (p ∷ ps) i q e = by (waits p) refl i e
+sent_at k (p ∷ ps) i q there = by (waits p) refl i there (λ m j at. sent_at m ps j q at)
   where
     by : (b : Bool) → waits p ≡ b → (i : ℕ)
         → slice_get (if b then with_number p k ∷ sent_from (k + 1) ps else sent_from k ps) i ≡ Some q
-        → IsSent k (p ∷ ps) i q
-    by false no i at = one_later k p ps i q (sent_at k ps i q at)
-    by true yes zero at =
+        → ((m j : ℕ) → slice_get (sent_from m ps) j ≡ Some q → IsSent m ps j q) → IsSent k (p ∷ ps) i q
+    by false e i at rest = one_later k p ps i q (rest k i at)
+    by true e zero at rest =
         let same : with_number p k ≡ q = cc in
         let place : k ≡ k + 0 = omega arith in
         record {
           n = 0;
           piece = p;
           at = refl;
-          pending = ltb-true 0 p.waiting yes;
+          pending = ltb-true 0 p.waiting e;
           is = sym same ∙ ap (λ (m : ℕ). with_number p m) place;
         }
-    by true yes (suc i) at =
-        let w = sent_at (k + 1) ps i q at in
+    by true e (suc i) at rest =
+        let w = rest (k + 1) i at in
         let place : k + 1 + i ≡ k + suc i = omega arith in
         record {
           n = suc w.n;
@@ -52,11 +53,23 @@ sent_at k (p ∷ ps) i q e = by (waits p) refl i e
 
 pub sent_few : (k : ℕ) (pieces : List Piece) → length (sent_from k pieces) ≤ length pieces
 sent_few k [] = omega arith
-sent_few k (p ∷ ps) = by (waits p)
+sent_few k (p ∷ ps) = by (waits p) (sent_few (k + 1) ps) (sent_few k ps)
   where
-    by : (b : Bool) → length (if b then with_number p k ∷ sent_from (k + 1) ps else sent_from k ps) ≤ length (p ∷ ps)
-    by true = let le = sent_few (k + 1) ps in omega (arith, le)
-    by false = let le = sent_few k ps in omega (arith, le)
+    by : (b : Bool) → length (sent_from (k + 1) ps) ≤ length ps → length (sent_from k ps) ≤ length ps
+        → length (if b then with_number p k ∷ sent_from (k + 1) ps else sent_from k ps) ≤ length (p ∷ ps)
+    by true le other = omega (arith, le)
+    by false other le = omega (arith, le)
+
+-- a piece for which nothing waits stays
+stays : (k : ℕ) (p : Piece) (ps : List Piece) → p.waiting ≡ 0 → length (sent_from k (p ∷ ps)) ≡ length (sent_from k ps)
+stays k p ps free =
+    ap (λ (w : ℕ). length (if nat_lt 0 w then with_number p k ∷ sent_from (k + 1) ps else sent_from k ps)) free
+
+none_go : (k : ℕ) (pieces : List Piece)
+    → ((n : ℕ) (piece : Piece) → slice_get pieces n ≡ Some piece → piece.waiting ≡ 0)
+    → length (sent_from k pieces) ≡ 0
+none_go k [] free = refl
+none_go k (q ∷ qs) free = stays k q qs (free 0 q refl) ∙ none_go k qs (λ n piece at. free (suc n) piece at)
 
 -- of pods with nothing that waits as many go out, once a tick was handed to them, as the tick shows
 pub sent_count : (k : ℕ) (pieces : List Piece) (shown : List (Option PodObs)) → length shown ≤ length pieces
@@ -65,17 +78,10 @@ pub sent_count : (k : ℕ) (pieces : List Piece) (shown : List (Option PodObs)) 
 sent_count k [] [] long free = refl
 sent_count k [] (o ∷ os) long free = absurd (omega arith)
 sent_count k (p ∷ ps) [] long free = none_go k (p ∷ ps) free
-  where
-    none_go : (k : ℕ) (pieces : List Piece)
-        → ((n : ℕ) (piece : Piece) → slice_get pieces n ≡ Some piece → piece.waiting ≡ 0)
-        → length (sent_from k pieces) ≡ 0
-    none_go k [] free = refl
-    none_go k (q ∷ qs) free =
-        ap (λ (w : ℕ). length (if nat_lt 0 w then with_number q k ∷ sent_from (k + 1) qs else sent_from k qs))
-        (free 0 q refl) ∙ none_go k qs (λ n piece at. free (suc n) piece at)
 sent_count k (p ∷ ps) (None ∷ os) long free =
-    ap (λ (w : ℕ). length (if nat_lt 0 w then with_number p k ∷ sent_from (k + 1) (handed_each ps os)
-    else sent_from k (handed_each ps os))) (free 0 p refl)
+    stays k p (handed_each ps os) (free 0 p refl)
     ∙ sent_count k ps os (omega (arith, long)) (λ n piece at. free (suc n) piece at)
 sent_count k (p ∷ ps) (Some o ∷ os) long free =
-    ap suc (sent_count (k + 1) ps os (omega (arith, long)) (λ n piece at. free (suc n) piece at))
+    ap (λ (b : Bool). length (if b then with_number (with_tick p (pod_tick o)) k ∷ sent_from (k + 1) (handed_each ps os)
+    else sent_from k (handed_each ps os))) (lt-ltb 0 (suc p.waiting) (omega arith))
+    ∙ ap suc (sent_count (k + 1) ps os (omega (arith, long)) (λ n piece at. free (suc n) piece at))

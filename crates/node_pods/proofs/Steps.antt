@@ -5,7 +5,7 @@ use Rattle.std.proofs.lemmas.List.{append-nil, length-append, length-map}
 use Rattle.std.specs.Prelude.{◌≢◌, ◌↔◌, IsTrue, IfSome, MatchOption, option_map, slice_get, slice_set, nat_lt}
 use Rattle.std.specs.Prelude.{if◌then◌else◌}
 use Rattle.std.specs.Option.{option_to_list, option_flatten}
-use Rattle.std.proofs.lemmas.Bool.{cases_eq, cases_lt}
+use Rattle.std.proofs.lemmas.Bool.{cases_eq, cases_lt, lt-ltb}
 use Rattle.std.proofs.lemmas.Option.{slice_get_within, slice_get-map}
 use Rattle.histories.proofs.Lists.{given_at, same_at, set_length, set_here, set_others}
 use Rattle.observations.specs.Pods.{PodObs}
@@ -17,7 +17,8 @@ use Rattle.pod_piece.specs.Listings.{IsNextTick}
 use Rattle.pod_piece.specs.Piece.{Piece, with_tick, all_updated, at_rest, with_eviction, with_number}
 use Rattle.pod_piece.proofs.Waiting.{ticks_free}
 use Rattle.node_pods.specs.Pods.{Pods, AreNext, MayBeHanded, Fits, with_shown, handed_one, handed_each, waits}
-use Rattle.node_pods.specs.Pods.{sent_from, staying, joined_from, after_tick, closed, AreAfter, AreEvicted}
+use Rattle.node_pods.specs.Pods.{sent_from, staying, joined_from, after_one, after_each, closed, AreAfter}
+use Rattle.node_pods.specs.Pods.{AreEvicted}
 use Rattle.node_pods.specs.Steps.{AreFree, IsShownNext, IsNextAt, AreNextBelow, MayTake, IsChangedAt, AreChangedBelow}
 use Rattle.node_pods.specs.Laws.{OneIsAfter, OneIsEvicted}
 use Rattle.node_pods.proofs.Candidates.{same_piece}
@@ -41,14 +42,6 @@ with_shown_at f none (q ∷ ps) (o ∷ shown) (suc n) p at = with_shown_at f non
 
 handed_none : (p : Piece) → handed_one p None ≡ p
 handed_none p = refl
-
--- the piece after a tick
-abbrev pub after_one : Piece → Option PodObs → Piece
-after_one p None = p
-after_one p (Some observed) = after_tick p (pod_tick observed)
-
-abbrev pub after_each : List Piece → List (Option PodObs) → List Piece
-after_each ps shown = with_shown after_one ps shown
 
 pub after_is : (old : List Piece) (shown : List (Option PodObs)) → AreAfter old shown (after_each old shown)
 after_is old shown = record {
@@ -107,27 +100,26 @@ AreNumberedFrom n pieces = (i : ℕ) (piece : Piece) → slice_get pieces i ≡ 
 
 none_waits : (waiting : ℕ) → nat_lt 0 waiting ≡ false → waiting ≡ 0
 none_waits zero e = refl
-none_waits (suc waiting) e = absurd (let w : true ≡ false = e in cc)
+none_waits (suc waiting) e = absurd (let w : true ≡ false = sym (lt-ltb 0 (suc waiting) (omega arith)) ∙ e in cc)
 
 -- the pieces that went out, back once all has come into their statuses
 joined_is : (n k : ℕ) (ps : List Piece) → AreNumberedFrom n ps
     → joined_from n (staying ps) (map all_updated (sent_from k ps)) ≡ map all_updated ps
 joined_is n k [] numbered = refl
-joined_is n k (p ∷ ps) numbered = by (waits p) refl
+joined_is n k (p ∷ ps) numbered =
+    by (waits p) refl (λ m. joined_is (n + 1) m ps (λ i piece at. numbered (suc i) piece at ∙ omega arith))
   where
-    rest : (k : ℕ) → joined_from (n + 1) (staying ps) (map all_updated (sent_from k ps)) ≡ map all_updated ps
-    rest k = joined_is (n + 1) k ps (λ i piece at. numbered (suc i) piece at ∙ omega arith)
-
     by : (b : Bool) → waits p ≡ b
+        → ((m : ℕ) → joined_from (n + 1) (staying ps) (map all_updated (sent_from m ps)) ≡ map all_updated ps)
         → joined_from n ((if b then None else Some p) ∷ staying ps)
         (map all_updated (if b then with_number p k ∷ sent_from (k + 1) ps else sent_from k ps))
         ≡ all_updated p ∷ map all_updated ps
-    by true e =
+    by true e rest =
         let back : p.number ≡ n = numbered 0 p refl ∙ omega arith in
         let here = joined_from (n + 1) (staying ps) (map all_updated (sent_from (k + 1) ps)) in
         ap (λ (m : ℕ). with_number (all_updated p) m ∷ here) (sym back)
         ∙ ap (λ (qs : List Piece). all_updated p ∷ qs) (rest (k + 1))
-    by false e =
+    by false e rest =
         let free : p.waiting ≡ 0 = none_waits p.waiting e in
         ap (λ (w : ℕ). record p { waiting = w } ∷ joined_from (n + 1) (staying ps) (map all_updated (sent_from k ps)))
         free
@@ -224,6 +216,14 @@ shown_next all front o rest i is place =
     here : (front : List (Option PodObs)) → slice_get (front ++ o ∷ rest) (length front) ≡ Some o
     here [] = refl
     here (x ∷ front) = here front
+
+pub behind : (all front rest : List (Option PodObs)) (o : Option PodObs) (left : List (Option PodObs))
+    → all ≡ front ++ rest → rest ≡ o ∷ left → all ≡ front ++ o ∷ left
+behind all front rest o left is next = is ∙ ap (λ (os : List (Option PodObs)). front ++ os) next
+
+pub length_front : (all front : List (Option PodObs)) (o : Option PodObs) (left : List (Option PodObs))
+    → all ≡ front ++ o ∷ left → length front < length all
+length_front all front o left is = omega (arith, ap length is, length-append front (o ∷ left))
 
 -- it may be handed to its pod
 pub may_take_next : (old now : List Piece) (all : List (Option PodObs)) (i : ℕ) (o : Option PodObs)

@@ -126,6 +126,15 @@ joined_from n (None ∷ kept) (q ∷ back) = with_number q n ∷ joined_from (n 
 abbrev pub after_tick : Piece → PodTick → Piece
 after_tick p tick = at_rest (updated (with_tick p tick))
 
+-- what becomes of the piece in a tick, by what is shown of its pod
+abbrev pub after_one : Piece → Option PodObs → Piece
+after_one p None = p
+after_one p (Some observed) = after_tick p (pod_tick observed)
+
+-- what becomes of the pieces
+abbrev pub after_each : List Piece → List (Option PodObs) → List Piece
+after_each pieces shown = with_shown after_one pieces shown
+
 -- the piece once all that waits has come into its status, and its round is over
 abbrev pub closed : Piece → Piece
 closed p = at_rest (all_updated p)

@@ -1,10 +1,12 @@
 -- The pieces of a node's pods, one after the other, at one tick.
 use Rattle.std.specs.Prelude.{◌≡◌, ◌≢◌, ◌<◌, ◌≤◌, ℕ, List, length, slice_get, Option, Some, IfSome}
+use Rattle.std.specs.Option.{option_flatten}
 use Rattle.histories.specs.Histories.{EndsBefore}
 use Rattle.observations.specs.Pods.{PodObs}
 use Rattle.pod_state.specs.Pods.{pod_tick}
 use Rattle.pod_piece.specs.Listings.{IsNextTick}
 use Rattle.pod_piece.specs.Piece.{Piece}
+use Rattle.node_pods.specs.Pods.{handed_one}
 
 -- none has a tick that is still to come into its status
 abbrev pub AreFree : List Piece → Type 0
@@ -43,3 +45,7 @@ pub record AreChangedBelow (f : ℕ → Piece → Piece) (i : ℕ) (old new : Li
   pub as_many : length new ≡ length old
   pub below : (n : ℕ) (piece : Piece) → n < i → slice_get old n ≡ Some piece → slice_get new n ≡ Some (f n piece)
   pub rest : (n : ℕ) → i ≤ n → slice_get new n ≡ slice_get old n
+
+-- the pods below i were handed what is shown of them, and no other was
+abbrev pub AreHandedBelow : ℕ → List (Option PodObs) → List Piece → List Piece → Type 0
+AreHandedBelow i shown old new = AreChangedBelow (λ n p. handed_one p (option_flatten (slice_get shown n))) i old new

@@ -1,13 +1,14 @@
 //! All pods of a node at one tick.
 
 ghost use Rattle.std.specs.Prelude.{◌≡◌, ◌↔◌, ℕ, ◌<◌, ◌++◌, ◌∷◌, [], length, map, slice_get, Option, Some, None};
-ghost use Rattle.std.specs.Prelude.{IsTrue, IfSome, IfOk, OnOk, option_map, option_to_list};
+ghost use Rattle.std.specs.Prelude.{IsTrue, IfSome, IfOk, OnOk, OnErr, option_map, option_to_list};
 ghost use Rattle.histories.specs.Histories.{last_moment, EndsBefore};
 ghost use Rattle.pod_piece.specs.declared.status.PodStatus.{PodStatus};
 ghost use Rattle.pod_piece.specs.Piece.{Piece, at_rest, with_number};
 ghost use Rattle.node_pods.specs.Pods.{AreNext, handed_one, handed_each, sent_from, staying, joined_from};
 ghost use Rattle.node_pods.specs.Pods.{IsEvictable, AreEvicted};
 ghost use Rattle.node_pods.specs.Steps.{AreFree, IsShownNext, IsNextAt, AreNextBelow, MayTake, IsChangedAt};
+ghost use Rattle.node_pods.specs.Steps.{AreHandedBelow};
 ghost use Rattle.node_pods.specs.Ranked.{IsRanked, AreHeldBelow};
 ghost use Rattle.ranking.specs.Index.{IsIndexOf};
 
@@ -90,8 +91,9 @@ fn hand_at(
 ) -> Result<(), AllocError>
     requires within { number < length pieces.old.items }
     requires next { (piece : Piece) → slice_get pieces.old.items number ≡ Some piece → MayTake piece shown }
-    ensures { OnOk result
+    ensures ok { OnOk result
         (IsChangedAt (λ p. handed_one p shown) number pieces.old.items pieces.new.items) }
+    ensures err { OnErr result (pieces.new.items ≡ pieces.old.items) }
 {
     if let Some(observed) = shown {
         pieces[number].hand(observed)?;
@@ -99,13 +101,14 @@ fn hand_at(
     Ok(())
 }
 
-/// Hands each pod that is present what is shown of it, by number.
+/// Hands each pod that is present what is shown of it, by number; at an `Err` those below some number.
 pub(crate) fn hand_all(
     pieces: &mut Vec<PodPiece>,
     shown: Vec<Option<PodObs>>,
 ) -> Result<(), AllocError>
     requires { AreNext pieces.old.items shown.items }
-    ensures { OnOk result (pieces.new.items ≡ handed_each pieces.old.items shown.items) }
+    ensures ok { OnOk result (pieces.new.items ≡ handed_each pieces.old.items shown.items) }
+    ensures some { (i : ℕ) × AreHandedBelow i shown.items pieces.old.items pieces.new.items }
 {
     let mut number = 0;
     for observed in shown {

@@ -1,5 +1,5 @@
 -- Where the pods and the ticks of a node lead.
-use Rattle.std.specs.Prelude.{◌≡◌, ℕ, ◌<◌, ◌≤◌, true, false, List, [], ◌∷◌, ◌++◌, length, slice_get, is_some}
+use Rattle.std.specs.Prelude.{◌≡◌, ℕ, ◌+◌, ◌<◌, ◌≤◌, true, List, [], ◌∷◌, ◌++◌, length, slice_get, is_some}
 use Rattle.std.specs.List.{list_all}
 use Rattle.std.specs.Prelude.{Option, Some, None, Result, IfSome, IsSomeAnd, OnOk}
 use Rattle.quantity.specs.Duration.{end_of_time}
@@ -16,7 +16,7 @@ use Rattle.eviction.specs.declared.eviction.Eviction.{Eviction}
 use Rattle.eviction.specs.Pausing.{Kept, IsPausing}
 use Rattle.eviction.specs.Replay.{pod_ticks, own_eviction, IsReplay}
 use Rattle.event_book.specs.declared.totals.Totals.{Totals}
-use Rattle.node_pods.specs.Pods.{Pods, Fits as PodsFit}
+use Rattle.node_pods.specs.Pods.{Pods, MayBeHanded, Fits as PodsFit, after_each}
 use Rattle.event_list.specs.declared.event.Event.{Event}
 use Rattle.event_list.specs.Events.{AreEvents}
 use Rattle.event_list.specs.Totals.{totals_of}
@@ -55,7 +55,8 @@ piece_after config ticks evictions n pod = record {
   pod = pod;
   max_restart_delay = config.max_restart_delay;
   handed = pod_ticks ticks n;
-  is_pending = false;
+  waiting = 0;
+  begun = length (pod_ticks ticks n);
   eviction = own_eviction n ticks evictions;
 }
 
@@ -125,3 +126,31 @@ TakesTick tick old new result =
 -- where it is not halted, the tick may come next
 abbrev pub MayTake : Option State → TickObs → Type 0
 MayTake node tick = IfSome node (λ s. Fits s tick)
+
+-- the ticks may be handed to these pods, one after the other, each later than the one before it
+abbrev pub MayBeHandedAll : List Piece → Option ℕ → List TickObs → Type 0
+MayBeHandedAll pieces last [] = Unit {0}
+MayBeHandedAll pieces last (tick ∷ ticks) =
+    MayBeHanded pieces tick × IfSome last (λ moment. moment < tick.at)
+    × MayBeHandedAll (after_each pieces tick.pods) (Some tick.at) ticks
+
+-- the ticks may come next, one after the other: so many more may be taken, and they may be handed to the pods
+pub record FitAll (s : State) (ticks : List TickObs) : Type 0 where
+  pub few : length s.evictions + length ticks ≤ most_ticks
+  pub handed : MayBeHandedAll s.pods.pieces s.last ticks
+
+-- the same node, once it has taken these ticks too, one after the other
+pub record IsNextByAll (ticks : List TickObs) (old new : State) : Type 0 where
+  pub config : new.config ≡ old.config
+  pub taken : (pods : List PodSpec) (before : List TickObs) → HasTaken pods before old
+      → HasTaken pods (before ++ ticks) new
+
+-- where a call does not fail, the node that it leaves has taken these ticks too
+abbrev pub TakesTicks : {V F : Type 0} → List TickObs → Option State → Option State → Result V F → Type 0
+TakesTicks ticks old new result =
+    (config : NodeConfig) (pods : List PodSpec) (before : List TickObs) → IsAfter config pods before old
+    → OnOk result (IsAfter config pods (before ++ ticks) new)
+
+-- where it is not halted, the ticks may come next, one after the other
+abbrev pub MayTakeAll : Option State → List TickObs → Type 0
+MayTakeAll node ticks = IfSome node (λ s. FitAll s ticks)

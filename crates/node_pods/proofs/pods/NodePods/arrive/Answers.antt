@@ -18,3 +18,15 @@ invariant_of-self-2 c =
     ∙ ap (λ (p : Piece). i.pieces.items ++ p ∷ []) piece in
     subst (λ (ps : List Piece). ArePlaced (pods_of ps i.max_restart_delay i.has_dedicated_imagefs)) (sym all)
     (placed_arrived i.pieces.items i.max_restart_delay i.has_dedicated_imagefs c.args.pod c.self.invariant)
+
+pub invariant_of-self : goal.invariant_of-self
+invariant_of-self c =
+    let i = c.self.inside in
+    subst (λ (ps : List Piece). ArePlaced (pods_of ps i.max_restart_delay i.has_dedicated_imagefs))
+    (sym c.try_reserve.ensures.items) c.self.invariant
+
+pub invariant_of-self-in_err-piece : goal.invariant_of-self-in_err-piece
+invariant_of-self-in_err-piece c =
+    let i = c.self.inside in
+    subst (λ (ps : List Piece). ArePlaced (pods_of ps i.max_restart_delay i.has_dedicated_imagefs))
+    (sym c.try_reserve.ensures.items) c.self.invariant

@@ -12,3 +12,6 @@ invariant_of-self c =
 pub evict_at-requires-clause-evictable : goal.evict_at-requires-clause-evictable
 evict_at-requires-clause-evictable c =
     subst (λ (p : Pods). IsEvictable p.pieces c.args.number c.args.order.at) (sym c.self.view_is) c.requires
+
+pub evict_at-requires-clause-free : goal.evict_at-requires-clause-free
+evict_at-requires-clause-free c = λ n piece at. (c.self.invariant n piece at).free

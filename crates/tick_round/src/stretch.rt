@@ -1,0 +1,172 @@
+//! A node in the midst of a round, of one tick or of several.
+
+ghost use Rattle.std.specs.Prelude.{◌≡◌, ◌∷◌, ◌++◌, [], ℕ, List, map, IfOk, OnOk};
+ghost use Rattle.observations.specs.declared.tick.TickObs.{TickObs as ATick};
+ghost use Rattle.pod_piece.specs.Piece.{all_updated};
+ghost use Rattle.node_pods.specs.Pods.{AreNext, AreNumbered, sent_from, staying, awaited, joined};
+ghost use Rattle.tick_round.specs.Node.{State, FitAll, IsNextByAll};
+ghost use Rattle.tick_round.specs.Stretch.{IsOpen, MayGoOn, GoesOnWith, Takes, IsPassed, CanEnd, MayEnd};
+
+use crate::evict::{carry_out, eviction_for};
+use crate::running::Running;
+use event_book::WholeBook;
+use event_list::{Event, TickEvents, add_events, add_eviction};
+use eviction::Evictions;
+use node_config::NodeConfig;
+use node_pods::{AwaitedPods, OpenPods};
+use node_signals::{NodeSignals, ThresholdKey};
+use observations::{PodObs, TickObs};
+use pod_piece::PodPiece;
+use std::alloc::{AllocError, Global};
+use std::sync::ledger::Ledger;
+use std::vec::IntoIter;
+
+/// A round takes no further tick once so many updates wait: by then its threads have cost little beside them, and what
+/// waits takes little memory.
+const MOST_WAITING: usize = 32_768;
+
+/// What a node that has begun a round keeps beside its pods and its book.
+#[derive(Drop)]
+pub(crate) struct Begun {
+    pub(crate) alloc: Global,
+    pub(crate) config: NodeConfig,
+    pub(crate) signals: NodeSignals,
+    pub(crate) evictions: Evictions,
+    pub(crate) events: Vec<Event>,
+    pub(crate) ticks: Vec<TickEvents>,
+    pub(crate) heeded: Option<ThresholdKey>,
+    pub(crate) at: u64,
+}
+
+/// A node that takes ticks into a round. In each but the last no threshold is heeded, so that nobody is evicted by it,
+/// and what becomes of a pod depends on its own ticks alone.
+#[derive(Drop)]
+pub(crate) struct Stretch {
+    pub(crate) begun: Begun,
+    pub(crate) pods: OpenPods,
+    pub(crate) waiting: usize,
+}
+
+/// A node whose pods are out for the updates of a round.
+#[derive(Drop)]
+pub(crate) struct Round {
+    pub(crate) begun: Begun,
+    pub(crate) pods: AwaitedPods,
+    pub(crate) waiting: usize,
+}
+
+/// How many pods are present.
+fn count_present(pods: &[Option<PodObs>]) -> usize {
+    let mut count = 0;
+    for pod in pods {
+        if pod.is_some() {
+            count += 1;
+        }
+    }
+    count
+}
+
+impl Stretch {
+    /// Takes the samples of a tick, and hands each pod that is present what the tick shows of it.
+    pub(crate) fn take(&mut self, tick: TickObs) -> Result<(), AllocError>
+        requires { AreNext self.old.pods.pieces tick.pods }
+        ensures { OnOk result (Takes tick self.old self.new) }
+    {
+        let begun = &mut self.begun;
+        let node_events = begun.signals.take(begun.alloc, &begun.config.eviction, &tick)?;
+        let served = begun.signals.served(&begun.config.eviction, &tick);
+        begun.evictions.look(&begun.config, &tick);
+        begun.heeded = begun.evictions.unless_paused(&begun.config, tick.at, served);
+        begun.at = tick.at;
+        begun.ticks.push(TickEvents {
+            at: tick.at,
+            node_events,
+        })?;
+        self.waiting = self.waiting.saturating_add(count_present(tick.pods.as_slice()));
+        self.pods.hand(tick.pods.into_vec())
+    }
+
+    /// Nobody is evicted by the last tick, in which no threshold is heeded: another one may come.
+    fn pass(&mut self) -> Result<(), AllocError>
+        ensures { OnOk result (IsPassed self.old self.new) }
+    {
+        self.begun.evictions.push(None)
+    }
+
+    /// Takes more ticks, up to the next in which a threshold is heeded, or until so many updates wait.
+    pub(crate) fn go_on(&mut self, more: &mut IntoIter<TickObs>) -> Result<(), AllocError>
+        requires { MayGoOn self.old more.old.rest.items }
+        ensures { (s : State) (calm : List ATick) (tick : ATick) → IsOpen s calm tick self.old
+            → FitAll s ((calm ++ tick ∷ []) ++ more.old.rest.items)
+            → OnOk result (GoesOnWith s calm tick more.old.rest.items self.new more.new.rest.items) }
+    {
+        for _ in 0..more.len() {
+            if self.begun.heeded.is_some() || self.waiting >= MOST_WAITING {
+                return Ok(());
+            }
+            let Some(tick) = more.next() else {
+                return Ok(());
+            };
+            self.pass()?;
+            self.take(tick)?;
+        }
+        Ok(())
+    }
+
+    /// The pieces for which ticks wait go out for their updates, beside what is left of the node.
+    pub(crate) fn send(self) -> Result<(Vec<PodPiece>, Round), AllocError>
+        ensures begun { IfOk result (λ r. r.1.begun ≡ self.begun) }
+        ensures sent { IfOk result (λ r. r.0.items ≡ sent_from 0 self.pods.pieces) }
+        ensures awaited { IfOk result (λ r. r.1.pods
+            ≡ awaited (staying self.pods.pieces) self.pods.max_restart_delay self.pods.has_dedicated_imagefs) }
+        ensures numbered { IfOk result (λ r. AreNumbered (joined r.1.pods (map all_updated r.0.items))) }
+    {
+        let Stretch {
+            begun,
+            pods,
+            waiting,
+        } = self;
+        match pods.send() {
+            Ok((pieces, pods)) => Ok((
+                pieces,
+                Round {
+                    begun,
+                    pods,
+                    waiting,
+                },
+            )),
+            Err(fault) => {
+                drop(begun);
+                Err(fault)
+            }
+        }
+    }
+}
+
+impl Round {
+    /// The node after the round, with the pieces that come back, which have taken its ticks into their statuses, and
+    /// this book, in which they were entered: one pod at most is evicted, by the last tick. A refused growth of memory
+    /// drops the node.
+    pub(crate) fn end<U: Ledger, E: Ledger, O: Ledger>(
+        self,
+        back: Vec<PodPiece>,
+        book: WholeBook<U, E, O>,
+    ) -> Result<Running<U, E, O>, AllocError>
+        requires { CanEnd self back.items book }
+        ensures { (s : State) (calm : List ATick) (tick : ATick) → MayEnd s calm tick self back.items book
+            → IfOk result (IsNextByAll (calm ++ tick ∷ []) s) }
+    {
+        let Round {
+            begun,
+            pods,
+            waiting: _,
+        } = self;
+        match pods.with(back) {
+            Ok(pods) => close(begun, pods, book),
+            Err(fault) => {
+                drop((begun, book));
+                Err(fault)
+            }
+        }
+    }
+}
