@@ -1,5 +1,5 @@
 -- What holds after each step of a played round.
-use Rattle.std.proofs.Common.{◌≡◌, ◌≢◌, ℕ, ◌+◌, ◌<◌, ◌≤◌, false, List, [], ◌∷◌, length, get_or, set}
+use Rattle.std.proofs.Common.{◌≡◌, ◌≢◌, ℕ, ◌+◌, ◌-◌, ◌<◌, ◌≤◌, false, List, [], ◌∷◌, length, get_or, set}
 use Rattle.std.proofs.Common.{map, Some, refl, sym, ap, ◌∙◌, subst, inl, inr, ⊎_elim, length-set}
 use Rattle.std.proofs.Common.{get_or-set_same, get_or-set_other, arith}
 use Rattle.std.specs.Prelude.{sum_by, slice_get, IsTrue}
@@ -27,6 +27,12 @@ use Rattle.played_round.specs.Playing.{CanUpdate, IsUpdateOf, CanEnter, Stands}
 use Rattle.played_round.specs.Playing.{Agrees, Plays}
 use Rattle.played_round.proofs.Marks.{taken_is_unmarked, updated_is_marked, updated_is_unfinished}
 use Rattle.played_round.proofs.Marks.{weight_step, marks_step, grown_step}
+
+-- what is updated twice, where one tick waits, is as if it were once
+twice : (piece : Piece) → piece.waiting ≡ 1 → updated (updated piece) ≡ updated piece
+twice piece pending =
+    ap (λ (waiting : ℕ). record piece { waiting = waiting }) {x = piece.waiting - 1 - 1} {y = piece.waiting - 1}
+    (omega (arith, pending))
 
 -- What a hand holds
 
@@ -194,7 +200,7 @@ module _ (r : RoundState) (stands : Stands r) (w n : ℕ) (holds : (worker_at r.
 
   is_done : (m : ℕ) (piece : Piece) (entry : Entry) → slice_get table.pieces m ≡ Some piece
       → slice_get table.entries m ≡ Some entry → 0 < times_marked m (update r.pool w)
-      → (piece.is_pending ≡ false) × IsEntryOf piece entry
+      → (piece.waiting ≡ 0) × IsEntryOf piece entry
   is_done m piece entry is is_entry marked =
       ⊎_elim
       (λ (same : m ≡ n).
@@ -206,7 +212,7 @@ module _ (r : RoundState) (stands : Stands r) (w n : ℕ) (holds : (worker_at r.
       ∙ ap (slice_get table.entries) (sym same) ∙ is_entry in
       let piece_is = slice_get-set_same r.table.pieces n piece (updated updates.piece) here in
       let entry_is = slice_get-set_same r.table.entries n entry updates.entry noted in (
-        ap (λ (p : Piece). p.is_pending) piece_is,
+        ap (λ (p : Piece). p.waiting) piece_is ∙ omega (arith, updates.pending),
         subst (λ (p : Piece). IsEntryOf p entry) (sym piece_is)
             (subst (λ (e : Entry). IsEntryOf (updated updates.piece) e) (sym entry_is) updates.is_entry),
       ))
@@ -220,7 +226,7 @@ module _ (r : RoundState) (stands : Stands r) (w n : ℕ) (holds : (worker_at r.
       (cases_eq m n)
 
   waits : (m : ℕ) (piece : Piece) → slice_get table.pieces m ≡ Some piece → times_marked m (update r.pool w) ≡ 0
-      → IsTrue piece.is_pending
+      → piece.waiting ≡ 1
   waits m piece is unmarked =
       let more = marks m in
       ⊎_elim
@@ -260,7 +266,8 @@ module _ (r : RoundState) (stands : Stands r) (w n : ℕ) (holds : (worker_at r.
     pieces =
         ap (map updated) updates.pieces
         ∙ map-set_same updated r.table.pieces n (updated updates.piece) updates.piece
-        (ap updated (sym (get_or_from_slice_get r.table.pieces n updates.piece updates.piece updates.stood)));
+        (twice updates.piece updates.pending
+        ∙ ap updated (sym (get_or_from_slice_get r.table.pieces n updates.piece updates.piece updates.stood)));
     follows = λ others agrees. record {
       agrees = λ m marked.
           let other : m ≢ n = λ (same : m ≡ n).

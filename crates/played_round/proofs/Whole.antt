@@ -1,5 +1,5 @@
 -- The start of a played round, and its end.
-use Rattle.std.proofs.Common.{◌≡◌, ℕ, suc, ◌<◌, ◌≤◌, Bool, false, List, [], ◌∷◌, length, get_or, map}
+use Rattle.std.proofs.Common.{◌≡◌, ◌-◌, ℕ, suc, ◌<◌, ◌≤◌, Bool, false, List, [], ◌∷◌, length, get_or, map}
 use Rattle.std.proofs.Common.{replicate, Some, refl, sym, ap, ◌∙◌, subst, ⊎_elim, arith}
 use Rattle.std.specs.Prelude.{sum_by, slice_get, IsTrue}
 use Rattle.std.proofs.lemmas.Bool.{cases_lt}
@@ -57,8 +57,8 @@ module _ (workers : ℕ) (round : RoundState) (some : 0 < workers) (fresh : IsFr
         no_stranger = λ n past.
             weight_deal (one_at n) workers (length pieces) some ∙ sum_below-one_past n (length pieces) past;
         waits = λ n piece is none.
-            subst (λ (p : Piece). IsTrue p.is_pending) (get_or_from_slice_get pieces n piece piece is)
-            (All-get_or (λ (p : Piece). IsTrue p.is_pending) pieces n piece (slice_get_within pieces n piece is)
+            subst (λ (p : Piece). p.waiting ≡ 1) (get_or_from_slice_get pieces n piece piece is)
+            (All-get_or (λ (p : Piece). p.waiting ≡ 1) pieces n piece (slice_get_within pieces n piece is)
             fresh.pending);
         is_done = λ n piece entry is is_entry marked. absurd (let none = unmarked n in omega arith);
         are_low = λ n. subst IsLow (sym (blank n)) (record { events = omega arith; orders = omega arith });
@@ -75,11 +75,13 @@ module _ (workers : ℕ) (round : RoundState) (some : 0 < workers) (fresh : IsFr
 
 -- The end
 
-updated_once : (piece : Piece) → piece.is_pending ≡ false → updated piece ≡ piece
-updated_once piece done = ap (λ (pending : Bool). record piece { is_pending = pending }) (sym done)
+updated_once : (piece : Piece) → piece.waiting ≡ 0 → updated piece ≡ piece
+updated_once piece done =
+    ap (λ (waiting : ℕ). record piece { waiting = waiting }) {x = piece.waiting - 1} {y = piece.waiting}
+    (omega (arith, done))
 
 all_updated : (pieces : List Piece)
-    → ((n : ℕ) (piece : Piece) → slice_get pieces n ≡ Some piece → piece.is_pending ≡ false)
+    → ((n : ℕ) (piece : Piece) → slice_get pieces n ≡ Some piece → piece.waiting ≡ 0)
     → map updated pieces ≡ pieces
 all_updated [] done = refl
 all_updated (piece ∷ pieces) done =
@@ -125,7 +127,7 @@ module _ (before middle after : RoundState) (workers : ℕ) (steps : List Step) 
       let least = marks_finished n after.pool.workers in
       omega arith
 
-  is_updated : (n : ℕ) (piece : Piece) → slice_get after.table.pieces n ≡ Some piece → piece.is_pending ≡ false
+  is_updated : (n : ℕ) (piece : Piece) → slice_get after.table.pieces n ≡ Some piece → piece.waiting ≡ 0
   is_updated n piece is =
       let within : n < length after.table.pieces = slice_get_within after.table.pieces n piece is in
       let has_entry : n < length after.table.entries = omega (arith, drained.stands.as_many) in

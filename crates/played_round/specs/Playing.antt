@@ -46,10 +46,10 @@ pub record Stands (round : RoundState) : Type 0 where
   pub one_place : (n : ℕ) → n < length round.table.pieces → places n round.pool ≡ 1
   pub no_stranger : (n : ℕ) → length round.table.pieces ≤ n → places n round.pool ≡ 0
   pub waits : (n : ℕ) (piece : Piece) → slice_get round.table.pieces n ≡ Some piece
-      → times_marked n round.pool ≡ 0 → IsTrue piece.is_pending
+      → times_marked n round.pool ≡ 0 → piece.waiting ≡ 1
   pub is_done : (n : ℕ) (piece : Piece) (entry : Entry) → slice_get round.table.pieces n ≡ Some piece
       → slice_get round.table.entries n ≡ Some entry → 0 < times_marked n round.pool
-      → (piece.is_pending ≡ false) × IsEntryOf piece entry
+      → (piece.waiting ≡ 0) × IsEntryOf piece entry
   pub are_low : (n : ℕ) → IsLow (entry_at round.table.entries n)
   pub few : pool_weight (λ _. 1) round.pool ≤ most_pods
   pub grown : HasGrown round.pool

@@ -30,7 +30,7 @@ dealt workers pieces book = record { workers = (deal workers pieces).workers; bo
 
 -- a round that may be played: all its pieces are pending, and its workers have nothing to do
 pub record IsFresh (workers : ℕ) (round : RoundState) : Type 0 where
-  pub pending : All (λ (piece : Piece). IsTrue piece.is_pending) round.table.pieces
+  pub pending : All (λ (piece : Piece). piece.waiting ≡ 1) round.table.pieces
   pub few : length round.table.pieces ≤ most_pods
   pub blank : round.table.entries ≡ replicate (length round.table.pieces) no_entry
   pub are_idle : round.pool.workers ≡ replicate workers idle

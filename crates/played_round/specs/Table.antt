@@ -14,13 +14,14 @@ pub record TableState : Type 0 where
 pub record IsWaiting (table : TableState) (number : ℕ) : Type 0 where
   pub piece : Piece
   pub stands : slice_get table.pieces number ≡ Some piece
-  pub pending : IsTrue piece.is_pending
+  pub pending : piece.waiting ≡ 1
   pub has_entry : number < length table.entries
 
 -- the piece with this number is updated, and its entry noted
 pub record IsUpdate (number : ℕ) (before after : TableState) : Type 0 where
   pub piece : Piece
   pub stood : slice_get before.pieces number ≡ Some piece
+  pub pending : piece.waiting ≡ 1
   pub pieces : after.pieces ≡ slice_set before.pieces number (updated piece)
   pub entry : Entry
   pub is_entry : IsEntryOf (updated piece) entry

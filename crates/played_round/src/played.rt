@@ -137,7 +137,7 @@ pub fn update_played<U: Ledger, E: Ledger, O: Ledger>(
     workers: usize,
     steps: &[Step],
 ) -> Result<Played<U, E, O>, AllocError>
-    requires pending { All (λ piece. IsTrue piece.is_pending) pieces.items }
+    requires pending { All (λ piece. piece.waiting ≡ 1) pieces.items }
     requires few { length pieces.items ≤ most_pods }
     requires low { AreLow book }
     requires some { 0 < workers }

@@ -19,7 +19,7 @@ const NO_ENTRY: Entry = Entry {
 
 /// Updates a piece, and gives what that adds to the totals.
 fn update(piece: &mut PodPiece) -> Result<Entry, AllocError>
-    requires { IsTrue piece.old.is_pending }
+    requires { piece.old.waiting ≡ 1 }
     ensures piece { OnOk result (piece.new ≡ updated piece.old) }
     ensures entry { IfOk result (λ entry. IsEntryOf (updated piece.old) entry) }
     ensures low { IfOk result IsLow }

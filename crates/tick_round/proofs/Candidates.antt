@@ -2,7 +2,6 @@
 use Rattle.std.proofs.Common.{◌≡◌, ℕ, List, [], ◌∷◌, ◌++◌}
 use Rattle.std.proofs.Common.{Option, Some, None, refl, sym, ap, subst, ◌∙◌}
 use Rattle.std.specs.Prelude.{◌↔◌, IsSome, slice_get, option_map}
-use Rattle.std.specs.Option.{option_flatten}
 use Rattle.std.proofs.lemmas.Option.{slice_get-map}
 use Rattle.std.proofs.lemmas.List.{length-map}
 use Rattle.histories.specs.Histories.{last_moment}
@@ -22,11 +21,10 @@ use Rattle.ranking.proofs.LawLemmas.{same_victim}
 use Rattle.eviction.specs.declared.eviction.Eviction.{Eviction}
 use Rattle.eviction.specs.Replay.{IsCandidate as IsCandidateIn, IsOfVictim, IsEvictionFor, is_paused, unless_paused}
 use Rattle.eviction.specs.Replay.{IsEvictionOfTick}
-use Rattle.node_pods.specs.Pods.{IsCandidate, AreAfter}
-use Rattle.node_pods.proofs.Steps.{shown_at}
+use Rattle.node_pods.specs.Pods.{IsCandidate, MayBeHanded, AreAfter}
 use Rattle.node_pods.proofs.Kept.{present_shown, shown_present}
 use Rattle.tick_round.specs.Evict.{IsEvictionAt, MayBeEvicted}
-use Rattle.tick_round.specs.Node.{State, piece_after, ArePieces, Fits}
+use Rattle.tick_round.specs.Node.{piece_after, ArePieces}
 use Rattle.tick_round.proofs.Pieces.{pod_at}
 
 -- the pods that are present at the tick, by the last moments of their pieces, are those that the tick shows
@@ -34,15 +32,15 @@ abbrev pub ArePresent : List Piece → TickObs → Type 0
 ArePresent pieces tick = (n : ℕ) (piece : Piece) → slice_get pieces n ≡ Some piece
     → (last_moment piece.handed ≡ Some tick.at ↔ IsSome (shown_of tick n))
 
-pub are_present : (s : State) (tick : TickObs) (mid : List Piece) → Fits s tick
-    → AreAfter s.pods.pieces tick.pods mid → ArePresent mid tick
-are_present s tick mid fits after n piece at = (
+pub are_present : (pieces : List Piece) (tick : TickObs) (mid : List Piece) → MayBeHanded pieces tick
+    → AreAfter pieces tick.pods mid → ArePresent mid tick
+are_present pieces tick mid may after n piece at = (
   (λ last.
-      let shown = present_shown s.pods tick mid n piece fits.pods after at last in
-      subst (λ (o : Option PodObs). IsSome o) (sym (ap option_flatten shown.1)) refl),
+      let shown = present_shown pieces tick mid n piece may after at last in
+      subst (λ (o : Option PodObs). IsSome o) (sym shown.1) refl),
   (λ present.
       let shown = some_given (shown_of tick n) present in
-      shown_present s.pods tick mid n piece shown.0 fits.pods after at (shown_at tick n shown.0 shown.1)),
+      shown_present pieces tick mid n piece shown.0 may after at shown.1),
 )
 
 -- a node's candidates are those of its history

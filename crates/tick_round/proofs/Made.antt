@@ -1,55 +1,35 @@
 -- What a tick's updates make of events and totals, by the pods' histories.
-use Rattle.std.proofs.Common.{◌≡◌, ◌∙◌, inl, inr, ℕ, suc, ◌+◌, ◌<◌, ◌≤◌, Bool, List, [], ◌∷◌, ◌++◌, length, map}
-use Rattle.std.proofs.Common.{take, cond, true, false, Option, Some, None, refl, sym, ap, subst, arith}
-use Rattle.std.specs.Prelude.{slice_get, IfSome, IsSome, MatchOption, option_map}
+use Rattle.std.proofs.Common.{◌≡◌, ◌∙◌, inl, inr, ℕ, zero, suc, ◌+◌, ◌<◌, ◌≤◌, Bool, List, [], ◌∷◌, ◌++◌, length, map}
+use Rattle.std.proofs.Common.{take, drop, cond, Option, Some, None, refl, sym, ap, subst, arith}
+use Rattle.std.specs.Prelude.{slice_get, IfSome, option_map}
 use Rattle.std.specs.Option.{option_flatten}
-use Rattle.std.proofs.lemmas.Option.{slice_get_within}
+use Rattle.std.proofs.lemmas.List.{length-map, length-take-le, take-append-drop}
+use Rattle.std.proofs.lemmas.Option.{slice_get_within, slice_get_past, slice_get-map}
 use Rattle.std.proofs.lemmas.Bool.Decides.{eqb_tells}
 use Rattle.histories.proofs.Places.{length-more}
-use Rattle.histories.proofs.Lists.{take_more, given_at, some_given}
+use Rattle.histories.proofs.Lists.{take_more, given_at, some_given, slice_get-kept}
 use Rattle.manifest.specs.declared.pod.PodSpec.{PodSpec}
 use Rattle.node_config.specs.declared.node.NodeConfig.{NodeConfig}
 use Rattle.observations.specs.Pods.{PodObs}
 use Rattle.observations.specs.declared.tick.TickObs.{TickObs}
 use Rattle.observations.specs.Observations.{shown_of}
 use Rattle.pod_state.specs.declared.events.PodEvent.{PodEvent}
-use Rattle.pod_state.specs.Pods.{PodTick, pod_tick}
+use Rattle.pod_state.specs.Pods.{pod_tick}
 use Rattle.pod_state.specs.Events.{AreEventsOf}
-use Rattle.pod_piece.specs.declared.piece.EvictionRecord.{EvictionRecord}
-use Rattle.pod_piece.specs.Piece.{Piece, last_of, place_of, evicted_before, with_tick, updated, with_number}
-use Rattle.pod_piece.specs.Status.{AreEventsAfter, AreLastEvents}
+use Rattle.pod_piece.specs.Piece.{Piece, place_of, evicted_at as evicted_piece_at, evicted_before}
+use Rattle.pod_piece.specs.Made.{MadeEvent}
 use Rattle.pod_piece.proofs.PieceLemmas.{before_is}
-use Rattle.pod_piece.proofs.LastTicks.{front_more, last_more}
 use Rattle.eviction.specs.declared.eviction.Eviction.{Eviction}
 use Rattle.eviction.specs.Replay.{EvictedAt, pod_ticks, evicted_at, own_eviction, later, IsReplay}
 use Rattle.eviction.proofs.Evicted.{evicted_pod_lived}
-use Rattle.eviction.proofs.Own.{pod_ticks-more, own_eviction-longer, of_pod}
-use Rattle.event_book.specs.declared.totals.Entry.{Entry}
-use Rattle.event_book.specs.Totals.{entry_of, AreEntriesOf}
-use Rattle.event_book.proofs.Low.{one_last}
-use Rattle.event_list.specs.Events.{ArePodEvents}
-use Rattle.event_list.specs.Tick.{AreMadeBy}
-use Rattle.event_list.proofs.More.{AreEnteredFor}
-use Rattle.node_pods.specs.Pods.{AreAfter, handed_from}
-use Rattle.tick_round.specs.Node.{State, piece_after, ArePieces, Fits}
+use Rattle.eviction.proofs.Own.{pod_ticks-more, of_pod}
+use Rattle.event_list.specs.declared.event.Event.{Event}
+use Rattle.event_list.specs.declared.event.EventKind.TheVariants.{Pod}
+use Rattle.event_list.specs.Events.{ArePodEvents, event, of_pods}
+use Rattle.event_list.specs.Tick.{events_at}
+use Rattle.tick_round.specs.Node.{piece_after, ArePieces}
 use Rattle.tick_round.proofs.Pieces.{fewer}
-use Rattle.tick_round.proofs.Candidates.{ArePresent}
-
--- the events of a pod's newest tick
-events_of_last : (pod : PodSpec) (max_restart_delay : ℕ) (evicted : Option ℕ) (before : List PodTick) (tick : PodTick)
-    (events : List PodEvent) → IfSome evicted (λ place. place < length before)
-    → AreEventsAfter pod max_restart_delay evicted (before ++ tick ∷ []) events
-    → AreEventsOf pod max_restart_delay evicted before tick events
-events_of_last pod max_restart_delay evicted before tick events lt are =
-    let P : List PodTick → Option PodTick → Type 0 = λ h o.
-    MatchOption o (events ≡ [])
-    (λ (t : PodTick). AreEventsOf pod max_restart_delay (evicted_before evicted (length h)) h t events) in
-    let whole = before ++ tick ∷ [] in
-    let at : P before (last_of whole) =
-    subst (λ (h : List PodTick). P h (last_of whole)) (front_more before tick) are in
-    let now : P before (Some tick) = subst (λ (o : Option PodTick). P before o) (last_more before tick) at in
-    subst (λ (e : Option ℕ). AreEventsOf pod max_restart_delay e before tick events)
-    (before_is evicted (length before) lt) now
+use Rattle.tick_round.proofs.Told.{TellsTick}
 
 -- what was found is an eviction of the pod
 found_is : (n : ℕ) (es : List (Option Eviction)) (f : EvictedAt) → evicted_at n es ≡ Some f
@@ -117,98 +97,85 @@ evicted_by_own config pods ticks es n replay = by (evicted_at n es) (found_is n 
         fewer ticks (suc f.tick) n in
         omega (arith, grown, le)
 
--- the events of the pods' last ticks are those of the tick
-pub made_by : (config : NodeConfig) (pods : List PodSpec) (ticks : List TickObs) (es : List (Option Eviction))
-    (x : TickObs) (pieces : List Piece) (made : List (List PodEvent)) → IsReplay config pods ticks es
-    → length x.pods ≡ length pods → ArePresent pieces x → ArePieces config pods (ticks ++ x ∷ []) es pieces
-    → AreMadeBy x.at pieces made → ArePodEvents config pods ticks x es made
-made_by config pods ticks es x pieces made replay shown present are by = record {
-  known = omega (arith, shown);
-  as_many = by.as_many ∙ are.as_many ∙ sym shown;
+-- of the events of these pods' rounds those of a tick, as far as it tells of pods
+abbrev pub made_in : TickObs → List (List MadeEvent) → List (List PodEvent)
+made_in x owns = take (length x.pods) (map (events_at x.at) owns)
+
+-- what of the events of a pod's round is the tick's
+made_of_pod : (x : TickObs) (owns : List (List MadeEvent)) (n : ℕ) (events : List PodEvent)
+    → slice_get (map (events_at x.at) owns) n ≡ Some events
+    → (own : List MadeEvent) × (slice_get owns n ≡ Some own) × (events_at x.at own ≡ events)
+made_of_pod x owns n events at = by (slice_get owns n) (sym (slice_get-map (events_at x.at) owns n) ∙ at)
+  where
+    by : (o : Option (List MadeEvent)) → option_map (events_at x.at) o ≡ Some events
+        → (own : List MadeEvent) × (o ≡ Some own) × (events_at x.at own ≡ events)
+    by None e = absurd (let w : None ≡ Some events = e in cc)
+    by (Some own) e = (own, refl, (let w : Some (events_at x.at own) ≡ Some events = e in cc))
+
+taken_within : {A : Type 0} (xs : List A) (k n : ℕ) (x : A) → slice_get (take k xs) n ≡ Some x → slice_get xs n ≡ Some x
+taken_within xs k n x at =
+    subst (λ (ys : List _). slice_get ys n ≡ Some x) (take-append-drop k xs)
+    (slice_get-kept (take k xs) (drop k xs) n x at)
+
+-- the events of each pod's round tell of the tick
+abbrev pub TellAllOf : List Piece → TickObs → List (List MadeEvent) → Type 0
+TellAllOf pieces x owns =
+    (n : ℕ) (p : Piece) (own : List MadeEvent) → slice_get pieces n ≡ Some p → slice_get owns n ≡ Some own
+    → TellsTick p.pod p.max_restart_delay (evicted_piece_at p) p.handed (shown_of x n) (events_at x.at own)
+
+-- so they are the events of the tick's pods
+pub made_told : (config : NodeConfig) (pods : List PodSpec) (ticks : List TickObs) (es : List (Option Eviction))
+    (x : TickObs) (pieces : List Piece) (owns : List (List MadeEvent)) → IsReplay config pods ticks es
+    → length x.pods ≤ length pieces → length owns ≡ length pieces → ArePieces config pods ticks es pieces
+    → TellAllOf pieces x owns → ArePodEvents config pods ticks x es (made_in x owns)
+made_told config pods ticks es x pieces owns replay few many are tell = record {
+  known = omega (arith, few, are.as_many);
+  as_many = length-take-le (length x.pods) (map (events_at x.at) owns)
+      (omega (arith, few, many, length-map owns (events_at x.at)));
   each = λ n pod observed events at is found.
-      let own : own_eviction n (ticks ++ x ∷ []) es ≡ own_eviction n ticks es =
-      own_eviction-longer n ticks x es replay.as_many in
-      let piece = piece_after config (ticks ++ x ∷ []) es n pod in
-      let now = (present n piece (are.each n pod at)).1 (subst (λ (o : Option PodObs). IsSome o) (sym is) refl) in
-      let last = (by.each n piece events (are.each n pod at) found).present now in
-      let evicted = place_of (own_eviction n (ticks ++ x ∷ []) es) in
-      let whole = pod_ticks ticks n ++ pod_tick observed ∷ [] in
-      let handed : AreEventsAfter pod config.max_restart_delay evicted whole events =
-      subst (λ (h : List PodTick). AreEventsAfter pod config.max_restart_delay evicted h events)
-      (pod_ticks-more ticks x n observed is) last in
-      events_of_last pod config.max_restart_delay (place_of (own_eviction n ticks es)) (pod_ticks ticks n)
-      (pod_tick observed) events (evicted_by_own config pods ticks es n replay)
-      (subst (λ (e : Option EvictionRecord). AreEventsAfter pod config.max_restart_delay (place_of e) whole events) own
-      handed);
+      let piece = piece_after config ticks es n pod in
+      let own = made_of_pod x owns n events
+      (taken_within (map (events_at x.at) owns) (length x.pods) n events found) in
+      let told = subst (λ (o : Option PodObs). TellsTick pod config.max_restart_delay
+      (place_of (own_eviction n ticks es)) (pod_ticks ticks n) o (events_at x.at own.0)) is
+      (tell n piece own.0 (are.each n pod at) own.1) in
+      subst (λ (e : Option ℕ). AreEventsOf pod config.max_restart_delay e (pod_ticks ticks n) (pod_tick observed) events)
+      (before_is (place_of (own_eviction n ticks es)) (length (pod_ticks ticks n))
+      (evicted_by_own config pods ticks es n replay))
+      (subst (λ (l : List PodEvent). AreEventsOf pod config.max_restart_delay
+      (evicted_before (place_of (own_eviction n ticks es)) (length (pod_ticks ticks n))) (pod_ticks ticks n)
+      (pod_tick observed) l) own.2 told);
   absent = λ n events none found.
-      let lt : n < length made = slice_get_within made n events found in
-      let pod = given_at pods n (omega (arith, lt, by.as_many, are.as_many)) in
-      let piece = piece_after config (ticks ++ x ∷ []) es n pod.0 in
-      let here = are.each n pod.0 pod.1 in
-      (by.each n piece events here found).absent (λ last.
-      let is : IsSome (shown_of x n) = (present n piece here).0 last in
-      let not : false ≡ true = subst (λ (o : Option PodObs). IsSome o) none is in absurd (cc));
+      let own = made_of_pod x owns n events
+      (taken_within (map (events_at x.at) owns) (length x.pods) n events found) in
+      let lt : n < length owns = slice_get_within owns n own.0 own.1 in
+      let piece = given_at pieces n (omega (arith, lt, many)) in
+      sym own.2 ∙ subst (λ (o : Option PodObs). TellsTick (piece.0).pod (piece.0).max_restart_delay
+      (evicted_piece_at piece.0) (piece.0).handed o (events_at x.at own.0)) none (tell n piece.0 own.0 piece.1 own.1);
 }
 
--- the entries of the pods that went out are those of these events
-pub entered_for : (old : List Piece) (shown : List (Option PodObs)) (k : ℕ) (made : List (List PodEvent))
-    (entries : List Entry) → length shown ≡ length old → length made ≡ length old
-    → ((n : ℕ) (p : Piece) (o : PodObs) (events : List PodEvent) → slice_get old n ≡ Some p
-    → slice_get shown n ≡ Some (Some o) → slice_get made n ≡ Some events
-    → AreLastEvents (updated (with_tick p (pod_tick o))) events)
-    → ((n : ℕ) (events : List PodEvent) → slice_get shown n ≡ Some None → slice_get made n ≡ Some events
-    → events ≡ [])
-    → AreEntriesOf (map updated (handed_from k old shown)) entries → AreEnteredFor shown made entries
-entered_for [] [] k [] [] long many each absent are = tt
-entered_for [] [] k [] (entry ∷ entries) long many each absent are = absurd (omega (arith, are.as_many))
-entered_for [] [] k (events ∷ made) entries long many each absent are = absurd (omega arith)
-entered_for [] (o ∷ os) k made entries long many each absent are = absurd (omega arith)
-entered_for (p ∷ ps) [] k made entries long many each absent are = absurd (omega arith)
-entered_for (p ∷ ps) (o ∷ os) k [] entries long many each absent are = absurd (omega arith)
-entered_for (p ∷ ps) (None ∷ os) k (events ∷ made) entries long many each absent are = (
-  absent 0 events refl refl,
-  entered_for ps os k made entries (omega (arith, long)) (omega (arith, many))
-      (λ n q o es at there found. each (suc n) q o es at there found)
-      (λ n es there found. absent (suc n) es there found) are,
-)
-entered_for (p ∷ ps) (Some o ∷ os) k (events ∷ made) [] long many each absent are =
-    absurd (omega (arith, are.as_many))
-entered_for (p ∷ ps) (Some o ∷ os) k (events ∷ made) (entry ∷ entries) long many each absent are = (
-  first,
-  entered_for ps os (k + 1) made entries (omega (arith, long)) (omega (arith, many))
-      (λ n q x es at there found. each (suc n) q x es at there found)
-      (λ n es there found. absent (suc n) es there found)
-      (record { as_many = omega (arith, are.as_many); each = λ n q e at there. are.each (suc n) q e at there }),
-)
-  where
-    out : Piece
-    out = updated (with_number (with_tick p (pod_tick o)) k)
+-- of pods behind those that the tick tells of there are none
+behind_none : (at n k : ℕ) (made : List (List PodEvent))
+    → ((i : ℕ) (events : List PodEvent) → k ≤ i → slice_get made i ≡ Some events → events ≡ [])
+    → of_pods at n (take k made) ≡ of_pods at n made
+behind_none at n zero [] none = refl
+behind_none at n zero (events ∷ made) none =
+    behind_none at (n + 1) zero made (λ i es le is. none (suc i) es (omega arith) is)
+    ∙ ap (λ (es : List PodEvent). map (λ (e : PodEvent). event at (Pod n e)) es ++ of_pods at (n + 1) made)
+    (sym (none 0 events (omega arith) refl))
+behind_none at n (suc k) [] none = refl
+behind_none at n (suc k) (events ∷ made) none =
+    ap (λ (es : List Event). map (λ (e : PodEvent). event at (Pod n e)) events ++ es)
+    (behind_none at (n + 1) k made (λ i es le is. none (suc i) es (omega (arith, le)) is))
 
-    first : entry ≡ entry_of events
-    first =
-        let is = are.each 0 out entry refl refl in
-        let same = one_last out is.0 events is.1 (each 0 p o events refl refl refl) in
-        is.2 ∙ ap (λ (list : List PodEvent). entry_of list) same
-
--- so are those of a tick
-pub entries_by : (pods : List PodSpec) (ticks : List TickObs) (s : State) (x : TickObs) (mid back : List Piece)
-    (made : List (List PodEvent)) (entries : List Entry) → Fits s x → AreAfter s.pods.pieces x.pods mid
-    → ArePieces s.config pods (ticks ++ x ∷ []) s.evictions mid → ArePresent mid x → AreMadeBy x.at mid made
-    → back ≡ map updated (handed_from 0 s.pods.pieces x.pods)
-    → AreEntriesOf back entries → AreEnteredFor x.pods made entries
-entries_by pods ticks s x mid back made entries fits after pieces present by is are =
-    entered_for s.pods.pieces x.pods 0 made entries fits.pods.next.as_many (by.as_many ∙ after.as_many)
-    (λ n p o events at there found.
-    let here = after.each n p o at there in
-    (by.each n (updated (with_tick p (pod_tick o))) events here found).present
-    ((present n (updated (with_tick p (pod_tick o))) here).1
-    (subst (λ (q : Option PodObs). IsSome q) (sym (ap option_flatten there)) refl)))
-    (λ n events none found.
-    let lt : n < length made = slice_get_within made n events found in
-    let pod = given_at pods n (omega (arith, lt, by.as_many, pieces.as_many)) in
-    let piece = piece_after s.config (ticks ++ x ∷ []) s.evictions n pod.0 in
-    let here = pieces.each n pod.0 pod.1 in
-    (by.each n piece events here found).absent (λ last.
-    let shown : IsSome (shown_of x n) = (present n piece here).0 last in
-    let not : false ≡ true = subst (λ (o : Option PodObs). IsSome o) (ap option_flatten none) shown in absurd (cc)))
-    (subst (λ (ps : List Piece). AreEntriesOf ps entries) is are)
+pub all_told : (x : TickObs) (pieces : List Piece) (owns : List (List MadeEvent)) → length owns ≡ length pieces
+    → TellAllOf pieces x owns
+    → of_pods x.at 0 (made_in x owns) ≡ of_pods x.at 0 (map (events_at x.at) owns)
+all_told x pieces owns many tell =
+    behind_none x.at 0 (length x.pods) (map (events_at x.at) owns) (λ i events le at.
+    let own = made_of_pod x owns i events at in
+    let lt : i < length owns = slice_get_within owns i own.0 own.1 in
+    let piece = given_at pieces i (omega (arith, lt, many)) in
+    let none : shown_of x i ≡ None = ap option_flatten (slice_get_past x.pods i le) in
+    sym own.2 ∙ subst (λ (o : Option PodObs). TellsTick (piece.0).pod (piece.0).max_restart_delay
+    (evicted_piece_at piece.0) (piece.0).handed o (events_at x.at own.0)) none (tell i piece.0 own.0 piece.1 own.1))

@@ -1,9 +1,8 @@
 -- The pieces of a node after one more tick and its eviction.
 use Rattle.std.proofs.Common.{◌≡◌, inl, inr, ℕ, zero, suc, ◌-◌, ◌<◌, ◌≤◌, List, [], ◌∷◌, ◌++◌, length, map, take}
-use Rattle.std.proofs.Common.{false, Option, Some, None, refl, sym, ap, subst, ◌∙◌, arith}
+use Rattle.std.proofs.Common.{Option, Some, None, refl, sym, ap, subst, ◌∙◌, arith}
 use Rattle.std.specs.Prelude.{slice_get, option_map}
 use Rattle.std.specs.List.{cons_option}
-use Rattle.std.specs.Option.{option_flatten}
 use Rattle.std.proofs.lemmas.Bool.{cases_eq}
 use Rattle.std.proofs.lemmas.List.{length-take-le}
 use Rattle.std.proofs.lemmas.Option.{slice_get_within}
@@ -29,6 +28,7 @@ use Rattle.eviction.specs.Replay.{EvictedAt, pod_ticks, evicted_at, own_eviction
 use Rattle.eviction.proofs.Own.{pod_ticks-more, pod_ticks-rest, own_eviction-longer, own_eviction-other}
 use Rattle.eviction.proofs.Own.{own_eviction-now}
 use Rattle.node_pods.specs.Pods.{IsCandidate, AreAfter, AreEvicted}
+use Rattle.node_pods.proofs.Steps.{shown_at}
 use Rattle.tick_round.specs.Node.{piece_after, ArePieces}
 
 -- a piece by its fields
@@ -39,8 +39,8 @@ made number pod max_restart_delay handed eviction =
       pod = pod;
       max_restart_delay = max_restart_delay;
       handed = handed;
-      is_pending =
-          false;
+      waiting = 0;
+      begun = length handed;
       eviction = eviction;
     }
 
@@ -59,14 +59,11 @@ pod_at config pods ticks es pieces n piece are at =
 -- after the update
 pub pieces_updated : (config : NodeConfig) (pods : List PodSpec) (ticks : List TickObs) (es : List (Option Eviction))
     (x : TickObs) (old new : List Piece)
-    → length es ≡ length ticks → length x.pods ≡ length pods
+    → length es ≡ length ticks
     → ArePieces config pods ticks es old → AreAfter old x.pods new → ArePieces config pods (ticks ++ x ∷ []) es new
-pieces_updated config pods ticks es x old new len shown are after = record {
+pieces_updated config pods ticks es x old new len are after = record {
   as_many = after.as_many ∙ are.as_many;
-  each = λ n pod at.
-      let lt : n < length pods = slice_get_within pods n pod at in
-      let o = given_at x.pods n (omega arith) in
-      by n pod at o.0 o.1;
+  each = λ n pod at. by n pod at (shown_of x n) refl;
 }
   where
     eviction : (n : ℕ) → own_eviction n ticks es ≡ own_eviction n (ticks ++ x ∷ []) es
@@ -79,15 +76,15 @@ pieces_updated config pods ticks es x old new len shown are after = record {
         ap (λ k. Some (made n pod config.max_restart_delay k (own_eviction n ticks es))) handed
         ∙ ap (λ e. Some (made n pod config.max_restart_delay (pod_ticks (ticks ++ x ∷ []) n) e)) (eviction n)
 
-    by : (n : ℕ) (pod : PodSpec) → slice_get pods n ≡ Some pod → (o : Option PodObs) → slice_get x.pods n ≡ Some o
+    by : (n : ℕ) (pod : PodSpec) → slice_get pods n ≡ Some pod → (o : Option PodObs) → shown_of x n ≡ o
         → slice_get new n ≡ Some (piece_after config (ticks ++ x ∷ []) es n pod)
     by n pod at None none =
         after.absent n (piece_after config ticks es n pod) (are.each n pod at) none
-        ∙ grown n pod (pod_ticks ticks n) (sym (pod_ticks-rest ticks x n (ap option_flatten none)))
+        ∙ grown n pod (pod_ticks ticks n) (sym (pod_ticks-rest ticks x n none))
     by n pod at (Some o) there =
-        after.each n (piece_after config ticks es n pod) o (are.each n pod at) there
+        after.each n (piece_after config ticks es n pod) o (are.each n pod at) (shown_at x n o there)
         ∙ grown n pod (pod_ticks ticks n ++ pod_tick o ∷ [])
-        (sym (pod_ticks-more ticks x n o (ap option_flatten there)))
+        (sym (pod_ticks-more ticks x n o there))
 
 -- a pod whose eviction was at one of its ticks has ended
 evicted_ends : (pod : PodSpec) (place : ℕ) (h : List PodTick) (p : Phase) → IsPhase pod (Some place) h p

@@ -15,7 +15,7 @@ use Rattle.eviction.specs.Pausing.{kept, still}
 use Rattle.eviction.specs.Replay.{pauses, unless_paused}
 use Rattle.event_book.specs.declared.totals.Totals.{Totals}
 use Rattle.event_list.specs.declared.tick.TickEvents.{TickEvents}
-use Rattle.node_pods.specs.Pods.{pods_of, AreNumbered, handed_each, sent_from, staying, awaited, joined}
+use Rattle.node_pods.specs.Pods.{Pods, pods_of, AreNumbered, handed_each, sent_from, staying, awaited, joined}
 use Rattle.tick_round.specs.declared.stretch.Begun.{Begun}
 use Rattle.tick_round.specs.declared.stretch.Stretch.{Stretch}
 use Rattle.tick_round.specs.declared.stretch.Round.{Round}
@@ -85,7 +85,7 @@ pub record HasBegun (s : State) (calm : List TickObs) (tick : TickObs) (begun : 
 
 -- its pods were handed them, and more may come
 pub record IsOpen (s : State) (calm : List TickObs) (tick : TickObs) (stretch : Stretch) : Type 0 where
-  pub begun : HasBegun s calm tick stretch.begun
+  pub has_begun : HasBegun s calm tick stretch.begun
   pub pods : stretch.pods
       ≡ pods_of (handed_all s.pods.pieces (calm ++ tick ∷ [])) s.pods.max_restart_delay s.pods.has_dedicated_imagefs
 
@@ -139,16 +139,54 @@ pub record IsPassed (old new : Stretch) : Type 0 where
   pub events : new.begun.events.items ≡ old.begun.events.items
   pub pods : new.pods ≡ old.pods
 
+-- its pods have taken all that waited for them, and the totals have what that adds: the node may close the round
+pub record MayClose (s : State) (calm : List TickObs) (tick : TickObs) (begun : Begun) (pods : Pods)
+    (totals : Totals) : Type 0 where
+  pub fits : FitAll s (calm ++ tick ∷ [])
+  pub has_begun : HasBegun s calm tick begun
+  pub pods_are : pods
+      ≡ pods_of (map all_updated (handed_all s.pods.pieces (calm ++ tick ∷ []))) s.pods.max_restart_delay
+      s.pods.has_dedicated_imagefs
+  pub added : AreAdded (map all_updated (handed_all s.pods.pieces (calm ++ tick ∷ []))) s.totals totals
+
+-- some node may close its round with these pods and these totals
+pub record CanClose (begun : Begun) (pods : Pods) (totals : Totals) : Type 0 where
+  pub node : State
+  pub calm : List TickObs
+  pub tick : TickObs
+  pub kept : IsKept node
+  pub may : MayClose node calm tick begun pods totals
+
 -- its pods have gone out with all that waits for them, have taken it, and were entered: the node may end the round
 pub record MayEnd (s : State) (calm : List TickObs) (tick : TickObs) (round : Round) (back : List Piece)
     (totals : Totals) : Type 0 where
   pub fits : FitAll s (calm ++ tick ∷ [])
-  pub begun : HasBegun s calm tick round.begun
+  pub has_begun : HasBegun s calm tick round.begun
   pub pods : round.pods
       ≡ awaited (staying (handed_all s.pods.pieces (calm ++ tick ∷ []))) s.pods.max_restart_delay
       s.pods.has_dedicated_imagefs
   pub back_are : back ≡ map all_updated (sent_from 0 (handed_all s.pods.pieces (calm ++ tick ∷ [])))
   pub added : AreAdded back s.totals totals
+
+-- the pieces of such a node are out, beside its book
+pub record IsOut (s : State) (calm : List TickObs) (tick : TickObs) (pieces : List Piece) (totals : Totals)
+    (round : Round) : Type 0 where
+  pub kept : IsKept s
+  pub has_begun : HasBegun s calm tick round.begun
+  pub sent : pieces ≡ sent_from 0 (handed_all s.pods.pieces (calm ++ tick ∷ []))
+  pub pods : round.pods
+      ≡ awaited (staying (handed_all s.pods.pieces (calm ++ tick ∷ []))) s.pods.max_restart_delay
+      s.pods.has_dedicated_imagefs
+  pub numbered : AreNumbered (joined round.pods (map all_updated pieces))
+  pub book : totals ≡ s.totals
+
+-- they are, with the first of these ticks, and the others are left
+pub record AreOut (s : State) (ticks : List TickObs) (pieces : List Piece) (totals : Totals) (round : Round)
+    (rest : List TickObs) : Type 0 where
+  pub calm : List TickObs
+  pub tick : TickObs
+  pub all : ticks ≡ (calm ++ tick ∷ []) ++ rest
+  pub out : IsOut s calm tick pieces totals round
 
 -- some node may end its round with these pieces and these totals
 pub record CanEnd (round : Round) (back : List Piece) (totals : Totals) : Type 0 where

@@ -27,8 +27,8 @@ mod fault;
 mod node;
 mod running;
 mod steps;
+mod stretch;
 mod summary;
-mod tick_in_progress;
 mod workers;
 
 pub use alone::update_alone;

@@ -10,7 +10,7 @@ ghost use Rattle.observations.specs.Limits.{most_pods};
 ghost use Rattle.event_book.specs.Totals.{nothing};
 ghost use Rattle.event_book.specs.Limits.{most_workers};
 ghost use Rattle.tick_round.specs.declared.fault.TickFault.TheVariants.{Halted};
-ghost use Rattle.tick_round.specs.Node.{IsAfter, MayTake, HasRoom, TakesTick};
+ghost use Rattle.tick_round.specs.Node.{IsAfter, MayTake, MayTakeAll, HasRoom, TakesTick, TakesTicks};
 ghost use Rattle.tick_round.specs.Played.{AreFinished};
 ghost use Rattle.tick_round.specs.Summary.{IsSummary};
 
@@ -188,6 +188,37 @@ impl<U: Ledger + Send, E: Ledger + Send, O: Ledger + Send> Node<U, E, O> {
     {
         match self.running.take() {
             Some(running) => match running.after(rt, tick, workers, gate) {
+                Ok(next) => {
+                    drop(self.running.replace(next));
+                    Ok(())
+                }
+                Err(_) => Err(TickFault::OutOfMemory),
+            },
+            None => Err(TickFault::Halted),
+        }
+    }
+
+    /// Takes ticks one after the other, as `tick` takes each. From one tick in which an eviction threshold is heeded to
+    /// the next one a pod depends on no other, so that the workers update it by all these ticks at once: a round is the
+    /// ticks up to the next in which a threshold is heeded, or until so many updates wait. The gate is told of each
+    /// update. The ticks may tell of fewer pods than have arrived; those are not present. An `Err` says that memory was
+    /// refused, or that the node was halted; it is halted then.
+    pub fn ticks<R: Spawner, G: Gate>(
+        &mut self,
+        rt: &R,
+        ticks: Vec<TickObs>,
+        workers: usize,
+        gate: &G,
+    ) -> Result<(), TickFault>
+        requires fits { MayTakeAll self.old ticks.items }
+        requires some { 0 < workers }
+        requires most { workers ≤ most_workers }
+        ensures taken { TakesTicks ticks.items self.old self.new result }
+        ensures err { OnErr result (self.new ≡ None) }
+        ensures halted { IsErrOf result Halted ↔ (self.old ≡ None) }
+    {
+        match self.running.take() {
+            Some(running) => match running.after_all(rt, ticks, workers, gate) {
                 Ok(next) => {
                     drop(self.running.replace(next));
                     Ok(())

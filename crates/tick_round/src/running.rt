@@ -11,20 +11,19 @@ ghost use Rattle.node_config.specs.declared.node.NodeConfig.{NodeConfig};
 ghost use Rattle.observations.specs.declared.tick.TickObs.{TickObs};
 ghost use Rattle.observations.specs.Observations.{all_shown};
 ghost use Rattle.observations.specs.Limits.{most_pods};
-ghost use Rattle.pod_piece.specs.Piece.{updated};
 ghost use Rattle.event_book.specs.Totals.{nothing};
 ghost use Rattle.event_book.specs.Limits.{most_workers};
-ghost use Rattle.node_pods.specs.Pods.{handed_from, ArePlaced, joined};
-ghost use Rattle.tick_round.specs.Update.{MayUpdate};
-ghost use Rattle.tick_round.specs.Node.{HasTaken, Fits, IsNextBy, IsWhole};
+ghost use Rattle.node_pods.specs.Pods.{AreNext};
+ghost use Rattle.tick_round.specs.Node.{HasTaken, Fits, FitAll, IsNextBy, IsNextByAll, IsWhole};
 ghost use Rattle.tick_round.specs.Played.{AreFinished};
-ghost use Rattle.tick_round.specs.Round.{IsKept, HasBegun};
+ghost use Rattle.tick_round.specs.Round.{IsKept};
+ghost use Rattle.tick_round.specs.Stretch.{IsOpen, IsOut, AreOut, HasTakenSome};
 ghost use Rattle.tick_round.specs.Summary.{IsSummary};
 
 use crate::alone::update_alone;
 use crate::steps::update_by_steps;
 use crate::summary::{Summary, conditions_of};
-use crate::tick_in_progress::TickInProgress;
+use crate::stretch::{Begun, Round, Stretch};
 use crate::workers::update_by_workers;
 use event_book::WholeBook;
 use event_list::Event;
@@ -41,6 +40,7 @@ use round_steps::Step;
 use std::alloc::{AllocError, Global};
 use std::marker::Model;
 use std::sync::ledger::Ledger;
+use std::vec::IntoIter;
 
 /// A node that is not halted. Its type keeps that all in it is the state of the ticks that it took.
 #[derive(Drop)]
@@ -136,58 +136,86 @@ impl<U: Ledger, E: Ledger, O: Ledger> Running<U, E, O> {
             && self.pods.fits(tick)
     }
 
-    /// Takes the samples of a tick, and hands each pod that is present what the tick shows of it. Their pieces, which
-    /// are still to take it into their statuses, and the book go out for the updates, beside what is left of the
-    /// node. A refused growth of memory drops the node.
-    pub(crate) fn begin(
-        self,
-        tick: TickObs,
-    ) -> Result<(Vec<PodPiece>, WholeBook<U, E, O>, TickInProgress), AllocError>
-        requires { Fits self tick }
+    /// Begins a round with a tick: takes its samples, and hands each pod that is present what the tick shows of it. The
+    /// book goes out. A refused growth of memory drops the node.
+    pub(crate) fn begin(self, tick: TickObs) -> Result<(Stretch, WholeBook<U, E, O>), AllocError>
+        requires { AreNext self.pods.pieces tick.pods }
         ensures kept { IfOk result (λ r. IsKept self) }
-        ensures handed { IfOk result (λ r. r.0.items ≡ handed_from 0 self.pods.pieces tick.pods) }
-        ensures may_update { IfOk result (λ r. MayUpdate r.0.items r.1) }
+        ensures open { IfOk result (λ r. IsOpen self [] tick r.0) }
         ensures book { IfOk result (λ r. r.1 ≡ self.totals) }
-        ensures begun { IfOk result (λ r. HasBegun self tick r.2) }
-        ensures placed { IfOk result (λ r. ArePlaced (joined r.2.pods (map updated r.0.items))) }
     {
         let Running {
             alloc,
             config,
-            mut signals,
+            signals,
             pods,
-            mut evictions,
+            evictions,
             events,
             book,
             last: _,
         } = self;
-        let node_events = match signals.take(alloc, &config.eviction, &tick) {
-            Ok(node_events) => node_events,
-            Err(fault) => {
-                drop((config, signals, pods, evictions, events, book, tick));
-                return Err(fault);
-            }
+        let mut stretch = Stretch {
+            begun: Begun {
+                alloc,
+                config,
+                signals,
+                evictions,
+                events,
+                ticks: Vec::new(alloc),
+                heeded: None,
+                at: 0,
+            },
+            pods: pods.open(),
+            waiting: 0,
         };
-        let served = signals.served(&config.eviction, &tick);
-        evictions.look(&config, &tick);
-        let at = tick.at;
-        match pods.hand(tick.pods.into_vec()) {
-            Ok((pieces, pods)) => {
-                let begun = TickInProgress {
-                    alloc,
-                    config,
-                    signals,
-                    node_events,
-                    served,
-                    pods,
-                    evictions,
-                    events,
-                    at,
-                };
-                Ok((pieces, book, begun))
-            }
+        match stretch.take(tick) {
+            Ok(()) => Ok((stretch, book)),
             Err(fault) => {
-                drop((config, signals, node_events, evictions, events, book));
+                drop((stretch, book));
+                Err(fault)
+            }
+        }
+    }
+
+    /// Begins a round of one tick, and sends the pieces of the pods that are present out for their updates, beside the
+    /// book and what is left of the node. A refused growth of memory drops the node.
+    pub(crate) fn begin_one(
+        self,
+        tick: TickObs,
+    ) -> Result<(Vec<PodPiece>, WholeBook<U, E, O>, Round), AllocError>
+        requires { Fits self tick }
+        ensures out { IfOk result (λ r. IsOut self [] tick r.0.items r.1 r.2) }
+    {
+        let (stretch, book) = self.begin(tick)?;
+        match stretch.send() {
+            Ok((pieces, round)) => Ok((pieces, book, round)),
+            Err(fault) => {
+                drop(book);
+                Err(fault)
+            }
+        }
+    }
+
+    /// Begins a round with this tick and as many more as it takes, and sends the pieces of the pods that they show out
+    /// for their updates, beside the book and what is left of the node. A refused growth of memory drops the node.
+    pub(crate) fn begin_some(
+        self,
+        tick: TickObs,
+        more: &mut IntoIter<TickObs>,
+    ) -> Result<(Vec<PodPiece>, WholeBook<U, E, O>, Round), AllocError>
+        requires { FitAll self (tick ∷ more.old.rest.items) }
+        ensures { IfOk result (λ r.
+            AreOut self (tick ∷ more.old.rest.items) r.0.items r.1 r.2 more.new.rest.items) }
+    {
+        let (mut stretch, book) = self.begin(tick)?;
+        if let Err(fault) = stretch.go_on(more) {
+            drop((stretch, book));
+            return Err(fault);
+        }
+        match stretch.send() {
+            Ok((pieces, round)) => Ok((pieces, book, round)),
+            Err(fault) => {
+                drop(book);
                 Err(fault)
             }
         }
@@ -198,11 +226,11 @@ impl<U: Ledger, E: Ledger, O: Ledger> Running<U, E, O> {
         requires { Fits self tick }
         ensures { IfOk result (IsNextBy tick self) }
     {
-        let (pieces, book, begun) = self.begin(tick)?;
+        let (pieces, book, round) = self.begin_one(tick)?;
         match update_alone(pieces, book, &NoGate) {
-            Ok((pieces, book)) => begun.end(pieces, book),
+            Ok((pieces, book)) => round.end(pieces, book),
             Err(fault) => {
-                drop(begun);
+                drop(round);
                 Err(fault)
             }
         }
@@ -224,14 +252,14 @@ impl<U: Ledger, E: Ledger, O: Ledger> Running<U, E, O> {
             AreFinished (length (all_shown tick)) workers steps.now (map (λ list. list.items) r.1.items)) }
     {
         let alloc = self.alloc;
-        let (pieces, book, begun) = self.begin(tick)?;
+        let (pieces, book, round) = self.begin_one(tick)?;
         match update_by_steps(alloc, pieces, book, workers, steps) {
             Ok(played) => {
-                let next = begun.end(played.pieces, played.book)?;
+                let next = round.end(played.pieces, played.book)?;
                 Ok((next, played.finished))
             }
             Err(fault) => {
-                drop(begun);
+                drop(round);
                 Err(fault)
             }
         }
@@ -270,14 +298,65 @@ impl<U: Ledger + Send, E: Ledger + Send, O: Ledger + Send> Running<U, E, O> {
         ensures { IfOk result (IsNextBy tick self) }
     {
         let alloc = self.alloc;
-        let (pieces, book, begun) = self.begin(tick)?;
-        match update_by_workers(rt, alloc, pieces, book, workers, gate) {
-            Ok((pieces, book)) => begun.end(pieces, book),
+        let (pieces, book, round) = self.begin_one(tick)?;
+        match update_by_workers(rt, alloc, pieces, book, workers, round.waiting, gate) {
+            Ok((pieces, book)) => round.end(pieces, book),
             Err(fault) => {
-                drop(begun);
+                drop(round);
                 Err(fault)
             }
         }
+    }
+
+    /// The node after this tick and as many more as one round takes, whose pods this many workers update. A refused
+    /// growth of memory drops the node.
+    pub(crate) fn after_some<R: Spawner, G: Gate>(
+        self,
+        rt: &R,
+        tick: TickObs,
+        more: &mut IntoIter<TickObs>,
+        workers: usize,
+        gate: &G,
+    ) -> Result<Running<U, E, O>, AllocError>
+        requires fits { FitAll self (tick ∷ more.old.rest.items) }
+        requires some { 0 < workers }
+        requires most { workers ≤ most_workers }
+        ensures { IfOk result (λ r. HasTakenSome (tick ∷ more.old.rest.items) self r more.new.rest.items) }
+    {
+        let alloc = self.alloc;
+        let (pieces, book, round) = self.begin_some(tick, more)?;
+        match update_by_workers(rt, alloc, pieces, book, workers, round.waiting, gate) {
+            Ok((pieces, book)) => round.end(pieces, book),
+            Err(fault) => {
+                drop(round);
+                Err(fault)
+            }
+        }
+    }
+
+    /// The node after these ticks, whose pods this many workers update, in rounds of one tick or of several. A refused
+    /// growth of memory drops the node.
+    pub(crate) fn after_all<R: Spawner, G: Gate>(
+        self,
+        rt: &R,
+        ticks: Vec<TickObs>,
+        workers: usize,
+        gate: &G,
+    ) -> Result<Running<U, E, O>, AllocError>
+        requires fits { FitAll self ticks.items }
+        requires some { 0 < workers }
+        requires most { workers ≤ most_workers }
+        ensures { IfOk result (IsNextByAll ticks.items self) }
+    {
+        let mut running = self;
+        let mut rest = ticks.into_iter();
+        for _ in 0..rest.len() {
+            let Some(tick) = rest.next() else {
+                return Ok(running);
+            };
+            running = running.after_some(rt, tick, &mut rest, workers, gate)?;
+        }
+        Ok(running)
     }
 }
 

@@ -1,17 +1,21 @@
 //! A node in the midst of a round, of one tick or of several.
 
-ghost use Rattle.std.specs.Prelude.{◌≡◌, ◌∷◌, ◌++◌, [], ℕ, List, map, IfOk, OnOk};
+ghost use Rattle.std.specs.Prelude.{◌≡◌, ◌∷◌, ◌++◌, [], List, map, IfOk, OnOk};
+ghost use Rattle.std.specs.Option.{option_or};
 ghost use Rattle.observations.specs.declared.tick.TickObs.{TickObs as ATick};
+ghost use Rattle.eviction.specs.Pausing.{kept};
+ghost use Rattle.event_list.specs.Events.{of_eviction};
 ghost use Rattle.pod_piece.specs.Piece.{all_updated};
 ghost use Rattle.node_pods.specs.Pods.{AreNext, AreNumbered, sent_from, staying, awaited, joined};
 ghost use Rattle.tick_round.specs.Node.{State, FitAll, IsNextByAll};
-ghost use Rattle.tick_round.specs.Stretch.{IsOpen, MayGoOn, GoesOnWith, Takes, IsPassed, CanEnd, MayEnd};
+ghost use Rattle.tick_round.specs.Stretch.{IsOpen, MayGoOn, GoesOnWith, Takes, IsPassed, CanClose, MayClose, CanEnd};
+ghost use Rattle.tick_round.specs.Stretch.{MayEnd};
 
 use crate::evict::{carry_out, eviction_for};
 use crate::running::Running;
 use event_book::WholeBook;
 use event_list::{Event, TickEvents, add_events, add_eviction};
-use eviction::Evictions;
+use eviction::{Eviction, Evictions};
 use node_config::NodeConfig;
 use node_pods::{AwaitedPods, OpenPods};
 use node_signals::{NodeSignals, ThresholdKey};
@@ -139,6 +143,76 @@ impl Stretch {
                 drop(begun);
                 Err(fault)
             }
+        }
+    }
+}
+
+/// Adds the eviction of the last tick, if there is one.
+fn add_last(
+    events: &mut Vec<Event>,
+    evictions: &mut Evictions,
+    at: u64,
+    eviction: Option<Eviction>,
+) -> Result<(), AllocError>
+    ensures events { OnOk result (events.new.items ≡ events.old.items ++ of_eviction at eviction) }
+    ensures evictions { OnOk result (evictions.new
+        ≡ kept (evictions.old.each ++ eviction ∷ []) (option_or eviction evictions.old.pausing)) }
+{
+    add_eviction(events, at, eviction)?;
+    evictions.push(eviction)?;
+    Ok(())
+}
+
+/// The node once the round is over: what happened in its ticks is added, and one pod at most is evicted.
+fn close<U: Ledger, E: Ledger, O: Ledger>(
+    begun: Begun,
+    pods: OpenPods,
+    book: WholeBook<U, E, O>,
+) -> Result<Running<U, E, O>, AllocError>
+    requires { CanClose begun pods book }
+    ensures { (s : State) (calm : List ATick) (tick : ATick) → MayClose s calm tick begun pods book
+        → IfOk result (IsNextByAll (calm ++ tick ∷ []) s) }
+{
+    let Begun {
+        alloc,
+        config,
+        signals,
+        mut evictions,
+        mut events,
+        ticks,
+        heeded,
+        at,
+    } = begun;
+    let added = add_events(&mut events, pods.pieces(), &ticks);
+    drop(ticks);
+    if let Err(fault) = added {
+        drop((config, signals, evictions, events, pods, book));
+        return Err(fault);
+    }
+    let mut pods = pods.close();
+    let eviction = match eviction_for(&config, &pods, at, heeded) {
+        Ok(eviction) => eviction,
+        Err(fault) => {
+            drop((config, signals, evictions, events, pods, book));
+            return Err(fault);
+        }
+    };
+    let added = add_last(&mut events, &mut evictions, at, eviction);
+    carry_out(&mut pods, eviction);
+    match added {
+        Ok(()) => Ok(Running {
+            alloc,
+            config,
+            signals,
+            pods,
+            evictions,
+            events,
+            book,
+            last: Some(at),
+        }),
+        Err(fault) => {
+            drop((config, signals, evictions, events, pods, book));
+            Err(fault)
         }
     }
 }

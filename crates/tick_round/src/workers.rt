@@ -1,10 +1,10 @@
 //! The updates of all pods in a tick, by workers.
 
 ghost use Rattle.std.specs.Prelude.{◌≡◌, ◌⊎◌, ◌<◌, ◌≤◌, map, IfOk};
-ghost use Rattle.pod_piece.specs.Piece.{updated};
+ghost use Rattle.pod_piece.specs.Piece.{all_updated};
 ghost use Rattle.event_book.specs.Limits.{most_workers};
 ghost use Rattle.piece_deques.specs.Rule.{AreNumbered};
-ghost use Rattle.tick_round.specs.Update.{MayUpdate, AreEntered};
+ghost use Rattle.tick_round.specs.Update.{MayUpdate, AreAdded};
 ghost use Rattle.tick_round.specs.Workers.{worth_their_start};
 
 use crate::alone::update_alone;
@@ -15,54 +15,55 @@ use std::alloc::{AllocError, Global};
 use std::sync::Mutex;
 use std::sync::ledger::Ledger;
 
-/// A worker is worth the start of its thread where it has this many pods. An update takes less than a microsecond, and
-/// a thread more than thirty: with half as many pods for each, 256 pods took a fifth longer than on one thread.
-const PODS_A_WORKER: usize = 256;
+/// A worker is worth the start of its thread where it has this many updates. An update takes less than a microsecond,
+/// and a thread more than thirty.
+const UPDATES_A_WORKER: usize = 1024;
 
 /// This many workers are worth their start, where no update waits for others.
-fn worth_their_start(workers: usize, pods: usize) -> usize
+fn worth_their_start(workers: usize, updates: usize) -> usize
     requires { 0 < workers }
-    ensures is { result ≡ worth_their_start workers pods }
+    ensures is { result ≡ worth_their_start workers updates }
     ensures some { 0 < result }
     ensures most { result ≤ workers }
 {
-    (pods / PODS_A_WORKER).clamp(1, workers)
+    (updates / UPDATES_A_WORKER).clamp(1, workers)
 }
 
 /// This many workers run: all where an update may wait for others, else those that are worth their start.
-fn workers_to_run<G: Gate>(workers: usize, pods: usize, gate: &G) -> usize
+fn workers_to_run<G: Gate>(workers: usize, updates: usize, gate: &G) -> usize
     requires { 0 < workers }
-    ensures either { (result ≡ workers) ⊎ (result ≡ worth_their_start workers pods) }
+    ensures either { (result ≡ workers) ⊎ (result ≡ worth_their_start workers updates) }
     ensures some { 0 < result }
     ensures most { result ≤ workers }
 {
     if gate.waits() {
         workers
     } else {
-        worth_their_start(workers, pods)
+        worth_their_start(workers, updates)
     }
 }
 
-/// All pods take the tick that was handed to them into their statuses, and are entered in the book, by this
-/// many workers, 1 to 64; where no update waits in the gate, by no more than are worth their start. The book is theirs
-/// under a lock until they have ended. One worker needs no thread, no deque and no lock. An `Err` says that memory was
-/// refused.
+/// All pods take the ticks that wait for them into their statuses, and are entered in the book, by this many workers, 1
+/// to 64; where no update waits in the gate, by no more than are worth their start for so many updates. The book is
+/// theirs under a lock until they have ended. One worker needs no thread, no deque and no lock. An `Err` says that
+/// memory was refused.
 pub fn update_by_workers<U: Ledger + Send, E: Ledger + Send, O: Ledger + Send, R: Spawner, G: Gate>(
     rt: &R,
     alloc: Global,
     pieces: Vec<PodPiece>,
     book: WholeBook<U, E, O>,
     workers: usize,
+    updates: usize,
     gate: &G,
 ) -> Result<(Vec<PodPiece>, WholeBook<U, E, O>), AllocError>
     requires may { MayUpdate pieces.items book }
     requires numbered { AreNumbered pieces.items }
     requires some { 0 < workers }
     requires most { workers ≤ most_workers }
-    ensures pieces { IfOk result (λ r. r.0.items ≡ map updated pieces.items) }
-    ensures book { IfOk result (λ r. AreEntered r.0.items book r.1) }
+    ensures pieces { IfOk result (λ r. r.0.items ≡ map all_updated pieces.items) }
+    ensures book { IfOk result (λ r. AreAdded r.0.items book r.1) }
 {
-    let workers = workers_to_run(workers, pieces.len(), gate);
+    let workers = workers_to_run(workers, updates, gate);
     if workers == 1 {
         return update_alone(pieces, book, gate);
     }

@@ -1,0 +1,170 @@
+-- A node after ticks in which no threshold is heeded, one after the other: states that no code makes.
+use Rattle.std.proofs.Common.{◌≡◌, ◌∙◌, ℕ, zero, suc, ◌+◌, ◌<◌, ◌≤◌, List, [], ◌∷◌, ◌++◌, length, map, Option, Some, None}
+use Rattle.std.proofs.Common.{refl, ap, sym, subst, arith, append_assoc, append-nil}
+use Rattle.std.specs.Prelude.{slice_get, IfSome}
+use Rattle.std.specs.List.{cons_option}
+use Rattle.std.specs.Option.{option_flatten, option_or}
+use Rattle.std.proofs.lemmas.Option.{slice_get_within}
+use Rattle.histories.proofs.Places.{length-more}
+use Rattle.histories.proofs.Lists.{given_at}
+use Rattle.manifest.specs.declared.pod.PodSpec.{PodSpec}
+use Rattle.node_config.specs.declared.node.NodeConfig.{NodeConfig}
+use Rattle.observations.specs.Pods.{PodObs}
+use Rattle.observations.specs.declared.tick.TickObs.{TickObs}
+use Rattle.observations.specs.Observations.{shown_of}
+use Rattle.observations.specs.Limits.{most_ticks}
+use Rattle.node_signals.specs.declared.node.NodeSignals.{NodeSignals}
+use Rattle.node_signals.specs.declared.event.NodeEvent.{NodeEvent}
+use Rattle.node_signals.specs.declared.key.ThresholdKey.{ThresholdKey}
+use Rattle.pod_state.specs.declared.events.PodEvent.{PodEvent}
+use Rattle.pod_state.specs.Pods.{pod_tick}
+use Rattle.pod_piece.specs.Made.{MadeEvent}
+use Rattle.pod_piece.specs.Piece.{Piece, evicted_at}
+use Rattle.eviction.specs.declared.eviction.Eviction.{Eviction}
+use Rattle.eviction.specs.Pausing.{kept, still}
+use Rattle.eviction.specs.Replay.{is_paused, pauses, unless_paused}
+use Rattle.eviction.proofs.Pausing.{paused_now}
+use Rattle.event_list.specs.declared.event.Event.{Event}
+use Rattle.event_list.specs.declared.tick.TickEvents.{TickEvents}
+use Rattle.event_list.specs.Events.{of_pods, of_node, of_eviction}
+use Rattle.event_list.specs.Tick.{events_at, of_ticks}
+use Rattle.event_list.specs.Totals.{totals_of}
+use Rattle.node_pods.specs.Pods.{pods_of, after_one, after_each}
+use Rattle.node_pods.proofs.Steps.{after_is, with_shown_at, with_shown_length}
+use Rattle.node_pods.proofs.Candidates.{same_piece}
+use Rattle.tick_round.specs.Evict.{IsEvictionAt}
+use Rattle.tick_round.specs.Node.{State, state, HasTaken, MayBeHandedAll}
+use Rattle.tick_round.specs.Stretch.{heeded_in, AreCalm, no_evictions}
+use Rattle.tick_round.proofs.GoesOn.{goes_on, part_of}
+use Rattle.tick_round.proofs.Handing.{after_all, last_with}
+use Rattle.tick_round.proofs.Made.{made_in, made_told, all_told, TellAllOf}
+use Rattle.tick_round.proofs.Told.{Tells, with_own}
+
+-- the events of each pod's round tell of each of these ticks
+abbrev pub TellAll : List Piece → List TickObs → List (List MadeEvent) → Type 0
+TellAll pieces ticks owns =
+    (n : ℕ) (p : Piece) (own : List MadeEvent) → slice_get pieces n ≡ Some p → slice_get owns n ≡ Some own
+    → Tells p.pod p.max_restart_delay (evicted_at p) p.handed n ticks own
+
+-- of the first of them, and of the others
+pub tell_first : (pieces : List Piece) (x : TickObs) (ticks : List TickObs) (owns : List (List MadeEvent))
+    → TellAll pieces (x ∷ ticks) owns → TellAllOf pieces x owns
+tell_first pieces x ticks owns tell n p own at there = (tell n p own at there).0
+
+pub tell_others : (pieces : List Piece) (x : TickObs) (ticks : List TickObs) (owns : List (List MadeEvent))
+    → TellAll pieces (x ∷ ticks) owns → TellAll (after_each pieces x.pods) ticks owns
+tell_others pieces x ticks owns tell n q own at there =
+    let lt = slice_get_within (after_each pieces x.pods) n q at in
+    let p = given_at pieces n (let long = with_shown_length after_one pieces x.pods in omega (arith, lt, long)) in
+    let is = with_shown_at after_one (λ r. refl) pieces x.pods n p.0 p.1 in
+    subst (λ (r : Piece). Tells r.pod r.max_restart_delay (evicted_at r) r.handed n ticks own)
+    (same_piece (after_each pieces x.pods) n (after_one p.0 (shown_of x n)) q is at)
+    (by p.0 (shown_of x n) (tell n p.0 own p.1 there).1)
+  where
+    by : (p : Piece) (o : Option PodObs)
+        → Tells p.pod p.max_restart_delay (evicted_at p) (with_own p.handed o) n ticks own
+        → Tells (after_one p o).pod (after_one p o).max_restart_delay (evicted_at (after_one p o)) (after_one p o).handed n
+        ticks own
+    by p None tells = subst (λ h. Tells p.pod p.max_restart_delay (evicted_at p) h n ticks own) (append-nil p.handed) tells
+    by p (Some o) tells = tells
+
+-- the threshold that is heeded in a tick, over all ticks
+pub heeded_now : (config : NodeConfig) (pods : List PodSpec) (ticks : List TickObs) (s : State) (x : TickObs)
+    (served : Option ThresholdKey) → s.config ≡ config → HasTaken pods ticks s → IfSome s.last (λ moment. moment < x.at)
+    → heeded_in config x s.pausing served
+    ≡ unless_paused (is_paused s.config x.at (ticks ++ x ∷ []) s.evictions) served
+heeded_now config pods ticks s x served same taken later =
+    ap (λ (c : NodeConfig). heeded_in c x s.pausing served) (sym same)
+    ∙ ap (λ p. unless_paused p served)
+    (sym (paused_now s.config ticks s.evictions s.last s.pausing x taken.pausing later))
+
+-- what the ticks make of the node
+pub record IsFold (s : State) (ticks : List TickObs) (now : NodeSignals) (paused : Option Eviction)
+    (rows : List TickEvents) (owns : List (List MadeEvent)) (t : State) : Type 0 where
+  pub config : t.config ≡ s.config
+  pub signals : t.signals ≡ now
+  pub pieces : t.pods.pieces ≡ after_all s.pods.pieces ticks
+  pub max_restart_delay : t.pods.max_restart_delay ≡ s.pods.max_restart_delay
+  pub dedicated : t.pods.has_dedicated_imagefs ≡ s.pods.has_dedicated_imagefs
+  pub evictions : t.evictions ≡ s.evictions ++ no_evictions ticks
+  pub pausing : t.pausing ≡ paused
+  pub events : t.events ≡ s.events ++ of_ticks rows owns
+  pub last : t.last ≡ last_with s.last ticks
+
+-- what one of them adds to the events
+pub part_first : (x : TickObs) (row : TickEvents) (rest : List TickEvents) (pieces : List Piece)
+    (owns : List (List MadeEvent)) → row.at ≡ x.at → length owns ≡ length pieces → TellAllOf pieces x owns
+    → part_of x (made_in x owns) row.node_events.items None ++ of_ticks rest owns ≡ of_ticks (row ∷ rest) owns
+part_first x row rest pieces owns at many tell =
+    let A = of_pods x.at 0 (made_in x owns) in
+    let B = of_node x.at row.node_events.items in
+    let C = of_ticks rest owns in
+    append_assoc A (B ++ []) C
+    ∙ ap (λ (k : List Event). A ++ k) (append_assoc B [] C)
+    ∙ ap (λ (k : List Event). k ++ (B ++ C)) (all_told x pieces owns many tell)
+    ∙ ap (λ (m : ℕ). of_pods m 0 (map (events_at m) owns) ++ (of_node m row.node_events.items ++ C)) (sym at)
+
+pub folds : (ticks : List TickObs) (pods : List PodSpec) (before : List TickObs) (s : State) (rows : List TickEvents)
+    (now : NodeSignals) (paused : Option Eviction) (owns : List (List MadeEvent)) → HasTaken pods before s
+    → length owns ≡ length s.pods.pieces → length s.evictions + length ticks ≤ most_ticks
+    → MayBeHandedAll s.pods.pieces s.last ticks → AreCalm s.config ticks s.signals s.pausing rows now paused
+    → TellAll s.pods.pieces ticks owns
+    → (t : State) × HasTaken pods (before ++ ticks) t × IsFold s ticks now paused rows owns t
+folds [] pods before s rows now paused owns taken many few may calm tell = (
+  s,
+  subst (λ (h : List TickObs). HasTaken pods h s) (sym (append-nil before)) taken,
+  record {
+    config = refl;
+    signals = sym calm.1;
+    pieces = refl;
+    max_restart_delay = refl;
+    dedicated = refl;
+    evictions = sym (append-nil s.evictions);
+    pausing = sym calm.2;
+    events = sym (append-nil s.events) ∙ ap (λ (rs : List TickEvents). s.events ++ of_ticks rs owns) (sym calm.0);
+    last = refl;
+  },
+)
+folds (x ∷ ticks) pods before s rows now paused owns taken many few may calm tell =
+    let row = calm.0 in
+    let here = calm.3 in
+    let made = made_in x owns in
+    let ne = row.node_events.items in
+    let mid = after_each s.pods.pieces x.pods in
+    let p = pods_of mid s.pods.max_restart_delay s.pods.has_dedicated_imagefs in
+    let total = totals_of (before ++ x ∷ []) (s.events ++ part_of x made ne None) in
+    let one = state s.config calm.2 p (kept (s.evictions ++ None ∷ []) (still s.config x s.pausing))
+    (s.events ++ part_of x made ne None) total (Some x.at) in
+    let first = tell_first s.pods.pieces x ticks owns tell in
+    let none : unless_paused (is_paused s.config x.at (before ++ x ∷ []) s.evictions) here.served ≡ None =
+    sym (heeded_now s.config pods before s x here.served refl taken may.1) ∙ here.calm in
+    let next : HasTaken pods (before ++ x ∷ []) one =
+    goes_on pods before s x calm.2 ne here.served made total mid p None taken (omega (arith, few)) may.1 may.0
+    here.sampled (after_is s.pods.pieces x.pods)
+    (subst (λ (k : Option ThresholdKey). IsEvictionAt s.config mid x.at k None) (sym none) refl)
+    (made_told s.config pods before s.evictions x s.pods.pieces owns taken.replay may.0.next.within many taken.pieces
+    first)
+    refl refl refl refl in
+    let rest = folds ticks pods (before ++ x ∷ []) one calm.1 now paused owns next
+    (many ∙ sym (with_shown_length after_one s.pods.pieces x.pods))
+    (omega (arith, few, length-more s.evictions None)) may.2 calm.4
+    (tell_others s.pods.pieces x ticks owns tell) in
+    (
+      rest.0,
+      subst (λ (h : List TickObs). HasTaken pods h rest.0) (append_assoc before (x ∷ []) ticks) rest.1,
+      record {
+        config = rest.2.config;
+        signals = rest.2.signals;
+        pieces = rest.2.pieces;
+        max_restart_delay = rest.2.max_restart_delay;
+        dedicated = rest.2.dedicated;
+        evictions = rest.2.evictions ∙ append_assoc s.evictions (None ∷ []) (no_evictions ticks);
+        pausing = rest.2.pausing;
+        events = rest.2.events
+            ∙ append_assoc s.events (part_of x made ne None) (of_ticks calm.1 owns)
+            ∙ ap (λ (k : List Event). s.events ++ k)
+            (part_first x row calm.1 s.pods.pieces owns here.at many first)
+            ∙ ap (λ (rs : List TickEvents). s.events ++ of_ticks rs owns) (sym calm.5);
+        last = rest.2.last;
+      },
+    )
