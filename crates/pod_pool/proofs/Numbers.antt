@@ -1,15 +1,12 @@
 -- Pieces by their numbers.
-use Rattle.std.proofs.Common.{◌≡◌, ℕ, ◌+◌, ◌-◌, List, [], ◌∷◌, ◌++◌, map, All, Bool, true, false, cond, Some, sym, ap, ◌∙◌}
-use Rattle.std.proofs.Common.{subst, arith}
-use Rattle.std.specs.Prelude.{slice_get, option_map, Result, Ok, Err, OnOk, OnErr}
-use Rattle.std.proofs.lemmas.Option.{slice_get-map}
+use Rattle.std.proofs.Common.{◌≡◌, ◌≤◌, ℕ, ◌+◌, ◌-◌, List, [], ◌∷◌, ◌++◌, map, All, Bool, true, false, cond, Some, sym, ap, ◌∙◌}
+use Rattle.std.proofs.Common.{refl, subst, arith}
+use Rattle.std.specs.Prelude.{slice_get, option_map, unwrap_or, Option, None, Result, Ok, Err, OnOk, OnErr}
+use Rattle.std.proofs.lemmas.Option.{slice_get-map, same_Some}
 use Rattle.pod_piece.specs.Piece.{Piece, updated, all_updated}
 use Rattle.piece_deques.specs.Rule.{IsPieceDue}
 use Rattle.piece_deques.proofs.Lists.{sum_grown}
-use Rattle.pod_pool.specs.Done.{IsDone, IsLeftFrom, IsLeftOf, with_updates, weigh}
-
-abbrev with_waiting : Piece → ℕ → Piece
-with_waiting piece waiting = record piece { waiting = waiting }
+use Rattle.pod_pool.specs.Done.{IsDone, IsLeftFrom, IsLeftOf, with_waiting, waiting_at, weigh}
 
 -- a piece that was due is done once all its ticks have come
 pub done_once : (all : List Piece) (piece new : Piece) → IsPieceDue all piece → new ≡ all_updated piece → IsDone all new
@@ -21,32 +18,49 @@ done_once all piece new due is =
 -- and is left of its list where not all have
 pub left_of : (all : List Piece) (piece new : Piece) → IsPieceDue all piece → IsLeftFrom piece new → IsLeftOf all new
 left_of all piece new due left =
-    let number : new.number ≡ piece.number = ap (λ (p : Piece). p.number) left.is in
+    let there : slice_get all new.number ≡ Some piece =
+    ap (λ (p : Piece). slice_get all p.number) left.is ∙ due.stands in
     record {
-      dealt = piece;
-      stands = ap (slice_get all) number ∙ due.stands;
-      is_left = left;
+      is = ap (option_map (with_waiting new.waiting)) there ∙ ap Some (sym left.is);
+      pending = left.pending;
+      fewer =
+          let many : waiting_at all new.number ≡ piece.waiting =
+          ap (λ (o : Option Piece). unwrap_or (option_map (λ (p : Piece). p.waiting) o) 0) there in
+          let fewer = left.fewer in
+          omega (arith, many, fewer);
     }
+
+-- the piece of the list that it is left of
+pub left_from : (all : List Piece) (piece : Piece) → IsLeftOf all piece
+    → (dealt : Piece) × (slice_get all piece.number ≡ Some dealt) × IsLeftFrom dealt piece
+left_from all piece left = by (slice_get all piece.number) refl left.is left.fewer
+  where
+    by : (o : Option Piece) → slice_get all piece.number ≡ o → option_map (with_waiting piece.waiting) o ≡ Some piece
+        → piece.waiting ≤ unwrap_or (option_map (λ (p : Piece). p.waiting) o) 0
+        → (dealt : Piece) × (slice_get all piece.number ≡ Some dealt) × IsLeftFrom dealt piece
+    by None here is fewer = absurd (let w : None ≡ Some piece = is in cc)
+    by (Some dealt) here is fewer =
+        let same : piece ≡ with_waiting piece.waiting dealt =
+        sym (same_Some (with_waiting piece.waiting dealt) piece is) in
+        (dealt, here, record { is = same; pending = left.pending; fewer = fewer })
 
 -- a piece with one tick that waits is left as it was
 pub left_alone : (dealt piece : Piece) → dealt.waiting ≡ 1 → IsLeftFrom dealt piece → piece ≡ dealt
 left_alone dealt piece one left =
     let pending = left.pending in
-    let w = ap (λ (p : Piece). p.waiting) left.is in
-    left.is ∙ ap (with_waiting dealt) (omega (arith, one, pending, w))
+    let fewer = left.fewer in
+    left.is ∙ ap (λ n. with_waiting n dealt) {x = piece.waiting} {y = dealt.waiting} (omega arith)
 
 -- one update more
-pub one_more_update : (dealt now new : Piece) (n : ℕ) → now ≡ with_updates n dealt → new ≡ updated now
-    → new ≡ with_updates (n + 1) dealt
-one_more_update dealt now new n is more =
-    let w = ap (λ (p : Piece). p.waiting) is in
-    more ∙ ap updated is ∙ ap (with_waiting dealt) {x = dealt.waiting - n - 1} {y = dealt.waiting - (n + 1)} (omega arith)
+pub one_more_update : (dealt now new : Piece) → now ≡ with_waiting now.waiting dealt → new ≡ updated now
+    → new ≡ with_waiting new.waiting dealt
+one_more_update dealt now new is more =
+    let waiting : new.waiting ≡ now.waiting - 1 = ap (λ (p : Piece). p.waiting) more in
+    more ∙ ap updated is ∙ ap (λ n. with_waiting n dealt) (sym waiting)
 
 -- and none that waits any more
-pub none_waits : (dealt now : Piece) (n : ℕ) → now ≡ with_updates n dealt → now.waiting ≡ 0 → now ≡ all_updated dealt
-none_waits dealt now n is none =
-    let w = ap (λ (p : Piece). p.waiting) is in
-    is ∙ ap (with_waiting dealt) {x = dealt.waiting - n} {y = 0} (sym w ∙ none)
+pub none_waits : (dealt now : Piece) → now ≡ with_waiting now.waiting dealt → now.waiting ≡ 0 → now ≡ all_updated dealt
+none_waits dealt now is none = is ∙ ap (λ n. with_waiting n dealt) none
 
 pub weigh_more : (weight : ℕ → ℕ) (xs ys : List Piece) (piece : Piece) → ys ≡ xs ++ piece ∷ []
     → weigh weight ys ≡ weigh weight xs + weight piece.number

@@ -1,5 +1,5 @@
 -- Pieces that were updated and entered.
-use Rattle.std.specs.Prelude.{◌≡◌, ℕ, ◌-◌, ◌*◌, ◌<◌, ◌≤◌, List, length, map, slice_get, Some, All}
+use Rattle.std.specs.Prelude.{◌≡◌, ℕ, ◌*◌, ◌<◌, ◌≤◌, List, length, map, slice_get, Some, All, option_map, unwrap_or}
 use Rattle.std.specs.List.{sum_by}
 use Rattle.pod_piece.specs.Piece.{Piece, all_updated}
 use Rattle.event_book.specs.declared.totals.Totals.{Totals}
@@ -10,21 +10,25 @@ use Rattle.event_book.specs.Limits.{most_updates, most_round_events}
 abbrev pub IsDone : List Piece → Piece → Type 0
 IsDone all piece = slice_get (map all_updated all) piece.number ≡ Some piece
 
--- the piece with so many of its waiting ticks taken into its status
-abbrev pub with_updates : ℕ → Piece → Piece
-with_updates n piece = record piece { waiting = piece.waiting - n }
+-- the piece where so many ticks wait
+abbrev pub with_waiting : ℕ → Piece → Piece
+with_waiting n piece = record piece { waiting = n }
 
--- it is this piece with its first waiting ticks taken, or none of them, and still pending
+-- it is this piece with its first waiting ticks taken into its status, or none of them, and still pending
 pub record IsLeftFrom (dealt piece : Piece) : Type 0 where
-  pub taken : ℕ
-  pub is : piece ≡ with_updates taken dealt
+  pub is : piece ≡ with_waiting piece.waiting dealt
   pub pending : 0 < piece.waiting
+  pub fewer : piece.waiting ≤ dealt.waiting
+
+-- how many ticks wait in the piece of these with the number
+abbrev pub waiting_at : List Piece → ℕ → ℕ
+waiting_at all n = unwrap_or (option_map (λ (piece : Piece). piece.waiting) (slice_get all n)) 0
 
 -- it is left so of the piece of the list under its number
 pub record IsLeftOf (all : List Piece) (piece : Piece) : Type 0 where
-  pub dealt : Piece
-  pub stands : slice_get all piece.number ≡ Some dealt
-  pub is_left : IsLeftFrom dealt piece
+  pub is : option_map (with_waiting piece.waiting) (slice_get all piece.number) ≡ Some piece
+  pub pending : 0 < piece.waiting
+  pub fewer : piece.waiting ≤ waiting_at all piece.number
 
 -- the numbers of pieces, weighed and added up
 abbrev pub weigh : (ℕ → ℕ) → List Piece → ℕ

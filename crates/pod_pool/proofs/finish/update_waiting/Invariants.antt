@@ -1,12 +1,12 @@
-use Rattle.std.proofs.Common.{◌≡◌, ◌<◌, ℕ}
-use Rattle.pod_pool.specs.Done.{with_updates}
+use Rattle.std.proofs.Common.{◌≡◌, ◌<◌, ◌≤◌}
+use Rattle.pod_pool.specs.Done.{with_waiting}
 use Rattle.pod_pool.proofs.finish.update_waiting.Given as goal
 
 abbrev pub invariant-waiting : goal.invariant-waiting
 invariant-waiting g l = record {
-  taken : ℕ;
-  is : l.piece ≡ with_updates taken l.initial.piece;
-  told : 0 < taken → g.G.Gate.left l.gate l.initial.piece.number;
+  is : l.piece ≡ with_waiting l.piece.waiting l.initial.piece;
+  fewer : l.piece.waiting ≤ l.initial.piece.waiting;
+  told : l.piece.waiting < l.initial.piece.waiting → g.G.Gate.left l.gate l.initial.piece.number;
 }
 
 abbrev pub decreases-waiting : goal.decreases-waiting

@@ -10,10 +10,10 @@ loop-piece-preserved c =
     let i = c.loop-piece.piece-index in
     let before = c.loop-piece.invariant in
     let piece = c.piece-item.result in
-    let addition = c.of_round-_addition.result in
+    let addition = c.of_round-addition.result in
     let more =
     take_more pieces i piece c.loop-piece-test.true
     ∙ ap (λ (p : Piece). take i pieces ++ p ∷ []) (sym c.piece-item.is) in (
       before.0 ++ addition ∷ [],
-      additions_more (take i pieces) _ before.0 piece addition more before.1 c.of_round-_addition.ensures.addition,
+      additions_more (take i pieces) _ before.0 piece addition more before.1 c.of_round-addition.ensures.addition,
     )
