@@ -16,7 +16,7 @@ use test_pods::hand;
 /// A pod to which an observation was handed.
 fn pending(alloc: Global, number: usize, pod: PodSpec, observed: PodObs) -> Result<PodPiece, Fail>
     ensures number { IfOk result (λ piece. piece.number ≡ number) }
-    ensures pending { IfOk result (λ piece. IsTrue piece.is_pending) }
+    ensures pending { IfOk result (λ piece. 0 < piece.waiting) }
 {
     let mut piece = PodPiece::new(alloc, number, pod, MaxRestartDelay::unset())?;
     hand(&mut piece, observed)?;

@@ -1,4 +1,5 @@
 pub mod NodeLemmas
+pub mod AllTicks
 pub mod Reports
 pub mod Replayable
 pub mod Unique

@@ -21,7 +21,7 @@ use Rattle.tick_round.specs.Node.{State, HasTaken, Fits, IsAfter, IsWhole, MayTa
 use Rattle.tick_round.proofs.Pieces.{pod_at}
 use Rattle.kubelet_replay.specs.Ticks.{AreReplayable, AreWhole, HaveArrived, MayArrive}
 
-middle : {A : Type 0} (xs : List A) (x : A) (ys : List A) → slice_get (xs ++ x ∷ ys) (length xs) ≡ Some x
+pub middle : {A : Type 0} (xs : List A) (x : A) (ys : List A) → slice_get (xs ++ x ∷ ys) (length xs) ≡ Some x
 middle [] x ys = refl
 middle (y ∷ xs) x ys = middle xs x ys
 
@@ -78,24 +78,26 @@ fits_next pods ticks before tick rest s may shows whole taken =
       bounded = may.below t tick at;
       whole = shows;
       pods = record {
-        next = record {
-          as_many = let many : length s.pods.pieces ≡ length (take (length tick.pods) pods) = taken.pieces.as_many in
-              omega arith;
-          each = λ n piece shown is there.
+        told = omega (arith, count, taken.pieces.as_many);
+        handed = record {
+          next = record {
+            within = omega (arith, count, taken.pieces.as_many);
+            each = λ n piece shown is there.
+                let here = pod_at s.config (take (length tick.pods) pods) before s.evictions s.pods.pieces n piece
+                taken.pieces is in
+                let pod : slice_get pods n ≡ Some here.0 = taken_at n (length tick.pods) pods here.0 here.1 in
+                let next : IsNextTick here.0 (pod_ticks before n) (pod_tick shown) =
+                subst (λ (h : List TickObs). IsNextTick here.0 (pod_ticks h n) (pod_tick shown)) cut
+                (may.next t n tick here.0 shown at pod (ap option_flatten there)) in
+                subst (λ (p : Piece). IsNextTick p.pod p.handed (pod_tick shown)) (sym here.2) next;
+          };
+          at_its_moment = λ n shown is. may.moments t n tick shown at is;
+          later = λ n piece is.
               let here = pod_at s.config (take (length tick.pods) pods) before s.evictions s.pods.pieces n piece
               taken.pieces is in
-              let pod : slice_get pods n ≡ Some here.0 = taken_at n (length tick.pods) pods here.0 here.1 in
-              let next : IsNextTick here.0 (pod_ticks before n) (pod_tick shown) =
-              subst (λ (h : List TickObs). IsNextTick here.0 (pod_ticks h n) (pod_tick shown)) cut
-              (may.next t n tick here.0 shown at pod (ap option_flatten there)) in
-              subst (λ (p : Piece). IsNextTick p.pod p.handed (pod_tick shown)) (sym here.2) next;
+              subst (λ (p : Piece). EndsBefore p.handed tick.at) (sym here.2)
+              (subst (λ (h : List TickObs). EndsBefore (pod_ticks h n) tick.at) cut (may.ends t n tick at));
         };
-        at_its_moment = λ n shown is. may.moments t n tick shown at is;
-        later = λ n piece is.
-            let here = pod_at s.config (take (length tick.pods) pods) before s.evictions s.pods.pieces n piece
-            taken.pieces is in
-            subst (λ (p : Piece). EndsBefore p.handed tick.at) (sym here.2)
-            (subst (λ (h : List TickObs). EndsBefore (pod_ticks h n) tick.at) cut (may.ends t n tick at));
       };
     }
 

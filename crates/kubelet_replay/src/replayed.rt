@@ -60,8 +60,8 @@ pub(crate) fn take_by_steps<U: Ledger, E: Ledger, O: Ledger>(
     Ok(())
 }
 
-/// A new node takes the ticks of a trace, once the pods that arrive before each have arrived; this many workers update
-/// the pods of each tick in threads of their own.
+/// A new node takes the ticks of a trace, on which all its pods have arrived; this many workers update them in threads of
+/// their own, round by round. A pod is present from the first tick on that shows it.
 pub(crate) fn take_by_workers<
     U: Ledger + Send,
     E: Ledger + Send,
@@ -78,18 +78,11 @@ pub(crate) fn take_by_workers<
 ) -> Result<(), TickFault>
     requires new { IsNew node.old }
     requires replayable { AreReplayable pods.items ticks.items }
-    requires whole { (config : NodeConfig) → IsAfter config [] [] node.old → AreWhole config.version ticks.items }
     requires some { 0 < workers }
     requires most { workers ≤ most_workers }
     ensures { (config : NodeConfig) → IsAfter config [] [] node.old
         → OnOk result (IsAfter config pods.items ticks.items node.new) }
 {
-    let count = pods.len();
-    let mut arriving = pods.into_iter();
-    for tick in ticks {
-        arrive(node, &mut arriving, count - tick.pods.as_slice().len())?;
-        node.tick(rt, tick, workers, gate)?;
-    }
-    arrive(node, &mut arriving, 0)?;
-    Ok(())
+    arrive(node, &mut pods.into_iter(), 0)?;
+    node.ticks(rt, ticks, workers, gate)
 }

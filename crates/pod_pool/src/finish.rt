@@ -21,7 +21,7 @@ use std::sync::{Mutex, Wait};
 
 /// Takes all ticks of a piece that wait into its status, in their order, each between the two calls of the gate. An
 /// `Err` leaves the piece pending: the ticks before the refused one are taken.
-fn update_waiting<G: Gate>(gate: &G, piece: &mut PodPiece) -> Result<(), AllocError>
+pub fn update_waiting<G: Gate>(gate: &G, piece: &mut PodPiece) -> Result<(), AllocError>
     requires { 0 < piece.old.waiting }
     ensures ok { OnOk result (piece.new ≡ all_updated piece.old) }
     ensures err { OnErr result (IsLeftFrom piece.old piece.new) }

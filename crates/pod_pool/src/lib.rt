@@ -46,6 +46,7 @@ mod work;
 mod worker_result;
 
 pub use fault::PoolFault;
+pub use finish::update_waiting;
 pub use gate::{Gate, NoGate, update};
 pub use pool::update_all;
 pub use spawner::Spawner;

@@ -46,7 +46,7 @@ fn fresh(alloc: Global, number: usize) -> Result<PodPiece, Unprepared>
 /// The piece takes what the first tick shows of the pod with this number.
 fn hand_first(alloc: Global, piece: &mut PodPiece, number: usize) -> Result<(), Unprepared>
     ensures number { piece.new.number ≡ piece.old.number }
-    ensures pending { OnOk result (IsTrue piece.new.is_pending) }
+    ensures pending { OnOk result (0 < piece.new.waiting) }
 {
     let observed = shown(alloc, number)?;
     test_pods::hand(piece, observed)?;
@@ -56,7 +56,7 @@ fn hand_first(alloc: Global, piece: &mut PodPiece, number: usize) -> Result<(), 
 /// The pod with this number, to which the first tick was handed.
 pub(crate) fn pending(alloc: Global, number: usize) -> Result<PodPiece, Unprepared>
     ensures number { IfOk result (λ piece. piece.number ≡ number) }
-    ensures pending { IfOk result (λ piece. IsTrue piece.is_pending) }
+    ensures pending { IfOk result (λ piece. 0 < piece.waiting) }
 {
     let mut piece = fresh(alloc, number)?;
     hand_first(alloc, &mut piece, number)?;
@@ -65,7 +65,7 @@ pub(crate) fn pending(alloc: Global, number: usize) -> Result<PodPiece, Unprepar
 
 /// The pending piece once it is updated.
 fn after(piece: PodPiece) -> Result<PodPiece, Unprepared>
-    requires { IsTrue piece.is_pending }
+    requires { 0 < piece.waiting }
 {
     Ok(piece.update()?)
 }
@@ -153,7 +153,7 @@ fn returned(alloc: Global, piece: &PodPiece) -> Result<Saw, Unprepared> {
 
 /// Whether the pending piece shows the first pod once it is updated.
 fn shows_after(alloc: Global, piece: PodPiece) -> Result<bool, Unprepared>
-    requires { IsTrue piece.is_pending }
+    requires { 0 < piece.waiting }
 {
     let piece = after(piece)?;
     shows(alloc, &piece, 0, Stage::Updated)
@@ -172,7 +172,7 @@ fn seen_again(
 
 /// What was seen of a pending piece that came back.
 fn came_back(alloc: Global, piece: PodPiece) -> Result<Saw, Unprepared>
-    requires { IsTrue piece.is_pending }
+    requires { 0 < piece.waiting }
 {
     // the proof is long where a function that holds a piece branches
     let saw = returned(alloc, &piece);

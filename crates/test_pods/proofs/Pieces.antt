@@ -7,9 +7,9 @@ use Rattle.piece_deques.proofs.Lists.{grown}
 use Rattle.test_pods.specs.Pods.{ArePending}
 
 pub one_more : (old new : List Piece) (piece : Piece) → ArePending old → new ≡ old ++ piece ∷ []
-    → piece.number ≡ length old → IsTrue piece.is_pending → ArePending new
+    → piece.number ≡ length old → 0 < piece.waiting → ArePending new
 one_more old new piece are put number pending = record {
-  pending = grown (λ p. IsTrue p.is_pending) old new piece put are.pending pending;
+  pending = grown (λ p. 0 < p.waiting) old new piece put are.pending pending;
   numbered = λ n p at. elim (place_split old piece p n (subst (λ ps. slice_get ps n ≡ Some p) put at)) [
     | inl there ↦ are.numbered n p there
     | inr w ↦ ap (λ q. q.number) (sym w.1) ∙ number ∙ sym w.0

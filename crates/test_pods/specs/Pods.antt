@@ -7,10 +7,10 @@ use Rattle.piece_deques.specs.Rule.{AreNumbered}
 
 -- pods, numbered from 0 on, that are to be updated
 pub record ArePending (pieces : List Piece) : Type 0 where
-  pub pending : All (λ (piece : Piece). IsTrue piece.is_pending) pieces
+  pub pending : All (λ (piece : Piece). 0 < piece.waiting) pieces
   pub numbered : AreNumbered pieces
 
 -- the piece has taken all that was handed to it, behind which the tick may come
 pub record MayBeHanded (piece : Piece) (tick : PodTick) : Type 0 where
-  pub free : piece.is_pending ≡ false
+  pub free : piece.waiting ≡ 0
   pub next : IsNextTick piece.pod piece.handed tick

@@ -50,7 +50,7 @@ pub fn hand(piece: &mut PodPiece, observed: PodObs) -> Result<(), Unhanded>
     ensures err { OnErr result (piece.new ≡ piece.old) }
     ensures not_next { (result ≡ Err NotNext) ↔ (MayBeHanded piece.old (pod_tick observed) → ⊥) }
     ensures number { piece.new.number ≡ piece.old.number }
-    ensures pending { OnOk result (IsTrue piece.new.is_pending) }
+    ensures pending { OnOk result (0 < piece.new.waiting) }
 {
     if !may_take(piece, &observed) {
         return Err(Unhanded::NotNext);

@@ -240,4 +240,4 @@ arrived_kept now s pod new is more room small was =
     (state s.config s.signals new (kept s.evictions s.pausing) s.events s.totals s.last)
     (arrives_as (pods_in s.pods.pieces) was.ticks now s pod new is more room
     (subst (λ (t : State). HasTaken (pods_in s.pods.pieces) was.ticks t) (sym is) was.taken))
-    (few_more (pods_in s.pods.pieces) pod was.few small) was.room
+    (few_more (pods_in s.pods.pieces) pod was.few small) was.events

@@ -24,6 +24,7 @@ use Rattle.eviction.specs.declared.eviction.Eviction.{Eviction}
 use Rattle.eviction.specs.Pausing.{kept, still}
 use Rattle.eviction.specs.Replay.{is_paused, pauses, unless_paused}
 use Rattle.eviction.proofs.Pausing.{paused_now}
+use Rattle.event_book.specs.declared.totals.Totals.{Totals}
 use Rattle.event_list.specs.declared.event.Event.{Event}
 use Rattle.event_list.specs.declared.tick.TickEvents.{TickEvents}
 use Rattle.event_list.specs.Events.{of_pods, of_node, of_eviction}
@@ -69,27 +70,21 @@ tell_others pieces x ticks owns tell n q own at there =
     by p (Some o) tells = tells
 
 -- the threshold that is heeded in a tick, over all ticks
-pub heeded_now : (config : NodeConfig) (pods : List PodSpec) (ticks : List TickObs) (s : State) (x : TickObs)
-    (served : Option ThresholdKey) → s.config ≡ config → HasTaken pods ticks s → IfSome s.last (λ moment. moment < x.at)
-    → heeded_in config x s.pausing served
+pub heeded_now : (pods : List PodSpec) (ticks : List TickObs) (s : State) (x : TickObs)
+    (served : Option ThresholdKey) → HasTaken pods ticks s → IfSome s.last (λ moment. moment < x.at)
+    → heeded_in s.config x s.pausing served
     ≡ unless_paused (is_paused s.config x.at (ticks ++ x ∷ []) s.evictions) served
-heeded_now config pods ticks s x served same taken later =
-    ap (λ (c : NodeConfig). heeded_in c x s.pausing served) (sym same)
-    ∙ ap (λ p. unless_paused p served)
+heeded_now pods ticks s x served taken later =
+    ap (λ p. unless_paused p served)
     (sym (paused_now s.config ticks s.evictions s.last s.pausing x taken.pausing later))
 
 -- what the ticks make of the node
-pub record IsFold (s : State) (ticks : List TickObs) (now : NodeSignals) (paused : Option Eviction)
-    (rows : List TickEvents) (owns : List (List MadeEvent)) (t : State) : Type 0 where
-  pub config : t.config ≡ s.config
-  pub signals : t.signals ≡ now
-  pub pieces : t.pods.pieces ≡ after_all s.pods.pieces ticks
-  pub max_restart_delay : t.pods.max_restart_delay ≡ s.pods.max_restart_delay
-  pub dedicated : t.pods.has_dedicated_imagefs ≡ s.pods.has_dedicated_imagefs
-  pub evictions : t.evictions ≡ s.evictions ++ no_evictions ticks
-  pub pausing : t.pausing ≡ paused
-  pub events : t.events ≡ s.events ++ of_ticks rows owns
-  pub last : t.last ≡ last_with s.last ticks
+abbrev pub folded : State → List TickObs → NodeSignals → Option Eviction → List TickEvents → List (List MadeEvent)
+    → Totals → State
+folded s ticks now paused rows owns totals =
+    state s.config now
+    (pods_of (after_all s.pods.pieces ticks) s.pods.max_restart_delay s.pods.has_dedicated_imagefs)
+    (kept (s.evictions ++ no_evictions ticks) paused) (s.events ++ of_ticks rows owns) totals (last_with s.last ticks)
 
 -- what one of them adds to the events
 pub part_first : (x : TickObs) (row : TickEvents) (rest : List TickEvents) (pieces : List Piece)
@@ -104,27 +99,31 @@ part_first x row rest pieces owns at many tell =
     ∙ ap (λ (k : List Event). k ++ (B ++ C)) (all_told x pieces owns many tell)
     ∙ ap (λ (m : ℕ). of_pods m 0 (map (events_at m) owns) ++ (of_node m row.node_events.items ++ C)) (sym at)
 
+-- without ticks it is as it was
+none_folded : (pods : List PodSpec) (before : List TickObs) (s : State) (rows : List TickEvents) (now : NodeSignals)
+    (paused : Option Eviction) (owns : List (List MadeEvent)) → HasTaken pods before s → rows ≡ [] → now ≡ s.signals
+    → paused ≡ s.pausing → HasTaken pods (before ++ []) (folded s [] now paused rows owns s.totals)
+none_folded pods before s rows now paused owns taken no_rows same_signals same_pausing =
+    subst (λ (h : List TickObs). HasTaken pods h (folded s [] now paused rows owns s.totals)) (sym (append-nil before))
+    (subst (λ (rs : List TickEvents). HasTaken pods before (folded s [] now paused rs owns s.totals)) (sym no_rows)
+    (subst (λ (n : NodeSignals). HasTaken pods before (folded s [] n paused [] owns s.totals)) (sym same_signals)
+    (subst (λ (p : Option Eviction). HasTaken pods before (folded s [] s.signals p [] owns s.totals))
+    (sym same_pausing)
+    (subst (λ (es : List (Option Eviction)). HasTaken pods before
+    (state s.config s.signals s.pods (kept es s.pausing) (s.events ++ []) s.totals s.last))
+    (sym (append-nil s.evictions))
+    (subst (λ (evs : List Event). HasTaken pods before
+    (state s.config s.signals s.pods (kept s.evictions s.pausing) evs s.totals s.last)) (sym (append-nil s.events))
+    taken)))))
+
 pub folds : (ticks : List TickObs) (pods : List PodSpec) (before : List TickObs) (s : State) (rows : List TickEvents)
     (now : NodeSignals) (paused : Option Eviction) (owns : List (List MadeEvent)) → HasTaken pods before s
     → length owns ≡ length s.pods.pieces → length s.evictions + length ticks ≤ most_ticks
     → MayBeHandedAll s.pods.pieces s.last ticks → AreCalm s.config ticks s.signals s.pausing rows now paused
     → TellAll s.pods.pieces ticks owns
-    → (t : State) × HasTaken pods (before ++ ticks) t × IsFold s ticks now paused rows owns t
-folds [] pods before s rows now paused owns taken many few may calm tell = (
-  s,
-  subst (λ (h : List TickObs). HasTaken pods h s) (sym (append-nil before)) taken,
-  record {
-    config = refl;
-    signals = sym calm.1;
-    pieces = refl;
-    max_restart_delay = refl;
-    dedicated = refl;
-    evictions = sym (append-nil s.evictions);
-    pausing = sym calm.2;
-    events = sym (append-nil s.events) ∙ ap (λ (rs : List TickEvents). s.events ++ of_ticks rs owns) (sym calm.0);
-    last = refl;
-  },
-)
+    → (totals : Totals) × HasTaken pods (before ++ ticks) (folded s ticks now paused rows owns totals)
+folds [] pods before s rows now paused owns taken many few may calm tell =
+    (s.totals, none_folded pods before s rows now paused owns taken calm.0 calm.1 calm.2)
 folds (x ∷ ticks) pods before s rows now paused owns taken many few may calm tell =
     let row = calm.0 in
     let here = calm.3 in
@@ -137,7 +136,7 @@ folds (x ∷ ticks) pods before s rows now paused owns taken many few may calm t
     (s.events ++ part_of x made ne None) total (Some x.at) in
     let first = tell_first s.pods.pieces x ticks owns tell in
     let none : unless_paused (is_paused s.config x.at (before ++ x ∷ []) s.evictions) here.served ≡ None =
-    sym (heeded_now s.config pods before s x here.served refl taken may.1) ∙ here.calm in
+    sym (heeded_now pods before s x here.served taken may.1) ∙ here.calm in
     let next : HasTaken pods (before ++ x ∷ []) one =
     goes_on pods before s x calm.2 ne here.served made total mid p None taken (omega (arith, few)) may.1 may.0
     here.sampled (after_is s.pods.pieces x.pods)
@@ -149,22 +148,19 @@ folds (x ∷ ticks) pods before s rows now paused owns taken many few may calm t
     (many ∙ sym (with_shown_length after_one s.pods.pieces x.pods))
     (omega (arith, few, length-more s.evictions None)) may.2 calm.4
     (tell_others s.pods.pieces x ticks owns tell) in
+    let after = pods_of (after_all mid ticks) s.pods.max_restart_delay s.pods.has_dedicated_imagefs in
+    let moment = last_with (Some x.at) ticks in
+    let evs : (s.events ++ part_of x made ne None) ++ of_ticks calm.1 owns ≡ s.events ++ of_ticks rows owns =
+    append_assoc s.events (part_of x made ne None) (of_ticks calm.1 owns)
+    ∙ ap (λ (k : List Event). s.events ++ k) (part_first x row calm.1 s.pods.pieces owns here.at many first)
+    ∙ ap (λ (rs : List TickEvents). s.events ++ of_ticks rs owns) (sym calm.5) in
     (
       rest.0,
-      subst (λ (h : List TickObs). HasTaken pods h rest.0) (append_assoc before (x ∷ []) ticks) rest.1,
-      record {
-        config = rest.2.config;
-        signals = rest.2.signals;
-        pieces = rest.2.pieces;
-        max_restart_delay = rest.2.max_restart_delay;
-        dedicated = rest.2.dedicated;
-        evictions = rest.2.evictions ∙ append_assoc s.evictions (None ∷ []) (no_evictions ticks);
-        pausing = rest.2.pausing;
-        events = rest.2.events
-            ∙ append_assoc s.events (part_of x made ne None) (of_ticks calm.1 owns)
-            ∙ ap (λ (k : List Event). s.events ++ k)
-            (part_first x row calm.1 s.pods.pieces owns here.at many first)
-            ∙ ap (λ (rs : List TickEvents). s.events ++ of_ticks rs owns) (sym calm.5);
-        last = rest.2.last;
-      },
+      subst (λ (l : List Event). HasTaken pods (before ++ x ∷ ticks)
+          (state s.config now after (kept (s.evictions ++ None ∷ no_evictions ticks) paused) l rest.0 moment)) evs
+          (subst (λ (es : List (Option Eviction)). HasTaken pods (before ++ x ∷ ticks)
+          (state s.config now after (kept es paused) ((s.events ++ part_of x made ne None) ++ of_ticks calm.1 owns)
+          rest.0 moment)) (append_assoc s.evictions (None ∷ []) (no_evictions ticks))
+          (subst (λ (h : List TickObs). HasTaken pods h
+          (folded one ticks now paused calm.1 owns rest.0)) (append_assoc before (x ∷ []) ticks) rest.1)),
     )

@@ -37,7 +37,7 @@ use Rattle.tick_round.specs.Stretch.{IsSampled}
 use Rattle.tick_round.proofs.Pieces.{pieces_updated, pieces_evicted, pieces_spared}
 use Rattle.tick_round.proofs.Candidates.{ArePresent, are_present, round_of, may_be_evicted, evicts_now, pods_are}
 
-last_more : (ticks : List TickObs) (x : TickObs) → last_of (ticks ++ x ∷ []) ≡ Some x.at
+pub last_more : (ticks : List TickObs) (x : TickObs) → last_of (ticks ++ x ∷ []) ≡ Some x.at
 last_more [] x = refl
 last_more (y ∷ []) x = refl
 last_more (y ∷ z ∷ ticks) x = last_more (z ∷ ticks) x

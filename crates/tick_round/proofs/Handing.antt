@@ -63,15 +63,15 @@ rest_handed pieces last [] more may = may
 rest_handed pieces last (x ∷ ticks) more may = rest_handed (after_each pieces x.pods) (Some x.at) ticks more may.2
 
 -- what may be handed to pieces once they are closed may be handed to them
-pub next_open : (open closed_pieces : List Piece) (shown : List (Option PodObs)) → map closed open ≡ closed_pieces
-    → AreNext closed_pieces shown → AreNext open shown
-next_open open closed_pieces shown same next = record {
+pub next_open : (opened closed_pieces : List Piece) (shown : List (Option PodObs))
+    → map closed opened ≡ closed_pieces → AreNext closed_pieces shown → AreNext opened shown
+next_open opened closed_pieces shown same next = record {
   within =
-      let long : length (map closed open) ≡ length open = length-map open closed in
+      let long : length (map closed opened) ≡ length opened = length-map opened closed in
       omega (arith, next.within, long, ap length same);
   each = λ n piece observed at there. next.each n (closed piece) observed
       (subst (λ (ps : List Piece). slice_get ps n ≡ Some (closed piece)) same
-      (slice_get-map closed open n ∙ ap (option_map closed) at)) there;
+      (slice_get-map closed opened n ∙ ap (option_map closed) at)) there;
 }
 
 -- what a piece is once it was handed these ticks more, all in one round

@@ -6,5 +6,13 @@ pub mod Pieces
 pub mod Candidates
 pub mod Made
 pub mod GoesOn
+pub mod Handing
+pub mod Told
+pub mod Counts
+pub mod Folds
+pub mod Ends
+pub mod Owns
+pub mod Opens
+pub mod Rest
 pub mod Arrives
 pub mod Summaries

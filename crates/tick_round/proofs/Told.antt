@@ -45,11 +45,11 @@ abbrev AllBehind : ℕ → List MadeEvent → Type 0
 AllBehind at [] = Unit {0}
 AllBehind at (e ∷ made) = (at < e.at) × AllBehind at made
 
--- each of the ticks is behind the moment, and behind the one before it, and shows the pod at its own moment
+-- each of the ticks is at this moment or later, and behind the one before it, and shows the pod at its own moment
 abbrev pub AreBehind : ℕ → ℕ → List TickObs → Type 0
-AreBehind at n [] = Unit {0}
-AreBehind at n (x ∷ ticks) =
-    (at < x.at) × IfSome (shown_of x n) (λ observed. observed.at ≡ x.at) × AreBehind x.at n ticks
+AreBehind from n [] = Unit {0}
+AreBehind from n (x ∷ ticks) =
+    (from ≤ x.at) × IfSome (shown_of x n) (λ observed. observed.at ≡ x.at) × AreBehind (suc x.at) n ticks
 
 not_at : (at : ℕ) (e : MadeEvent) → (e.at ≡ at → ⊥) → event_at at e ≡ None
 not_at at e apart = elim (eqb_tells e.at at) [
@@ -103,7 +103,7 @@ own_cons : (x : TickObs) (ticks : List TickObs) (n : ℕ) (o : Option PodObs) �
 own_cons x ticks n o is = ap (λ (s : Option PodObs). map pod_tick (cons_option s (own_ticks ticks n))) is
 
 all_behind : (pod : PodSpec) (max_restart_delay : ℕ) (evicted : Option ℕ) (before : List PodTick) (n at : ℕ)
-    (ticks : List TickObs) (made : List MadeEvent) → AreBehind at n ticks
+    (ticks : List TickObs) (made : List MadeEvent) → AreBehind (suc at) n ticks
     → AreMadeOver pod max_restart_delay evicted before (pod_ticks ticks n) made → AllBehind at made
 all_behind pod max_restart_delay evicted before n at [] made behind none =
     subst (λ (m : List MadeEvent). AllBehind at m) (sym none) tt
@@ -117,20 +117,20 @@ all_behind pod max_restart_delay evicted before n at (x ∷ ticks) made behind o
 
     by : (o : Option PodObs) → shown_of x n ≡ o → IfSome (shown_of x n) (λ observed. observed.at ≡ x.at)
         → ((from : List PodTick) (more : List MadeEvent)
-        → AreMadeOver pod max_restart_delay evicted from (pod_ticks ticks n) more → AreBehind at n ticks
+        → AreMadeOver pod max_restart_delay evicted from (pod_ticks ticks n) more → AreBehind (suc at) n ticks
         → AllBehind at more) → AllBehind at made
-    by None is moment rest = rest before made (over_of None is) (sooner ticks behind.0 behind.2)
+    by None is moment rest = rest before made (over_of None is) (sooner ticks behind.2)
     by (Some o) is moment rest =
         let parts = over_of (Some o) is in
         let same : o.at ≡ x.at =
         subst (λ (s : Option PodObs). IfSome s (λ observed. observed.at ≡ x.at)) is moment in
         subst (λ (m : List MadeEvent). AllBehind at m) (sym parts.4)
         (behind_more at (made_at o.at parts.0) parts.1 (behind_at at o.at parts.0 (omega (arith, same, behind.0)))
-        (rest (before ++ pod_tick o ∷ []) parts.1 parts.3 (sooner ticks behind.0 behind.2)))
+        (rest (before ++ pod_tick o ∷ []) parts.1 parts.3 (sooner ticks behind.2)))
 
-    sooner : (ticks : List TickObs) → at < x.at → AreBehind x.at n ticks → AreBehind at n ticks
-    sooner [] lt all = tt
-    sooner (y ∷ ticks) lt all = (omega (arith, lt, all.0), all.1, all.2)
+    sooner : (ticks : List TickObs) → AreBehind (suc x.at) n ticks → AreBehind (suc at) n ticks
+    sooner [] all = tt
+    sooner (y ∷ ticks) all = (omega (arith, behind.0, all.0), all.1, all.2)
 
 -- the weights of the events of a round, added up
 abbrev pub weight_of : (PodEvent → ℕ) → List MadeEvent → ℕ
@@ -149,24 +149,24 @@ pub record AreTold (pod : PodSpec) (max_restart_delay : ℕ) (evicted : Option �
   pub weighs : (f : PodEvent → ℕ) → weight_of f made ≡ sum_by (λ (x : TickObs). sum_by f (events_at x.at all)) ticks
 
 -- so the events of a round tell of each tick
-pub told_from : (pod : PodSpec) (max_restart_delay : ℕ) (evicted : Option ℕ) (before : List PodTick) (n at : ℕ)
-    (ticks : List TickObs) (front made all : List MadeEvent) → all ≡ front ++ made → AllBefore (suc at) front
-    → AreBehind at n ticks → AreMadeOver pod max_restart_delay evicted before (pod_ticks ticks n) made
+pub told_from : (pod : PodSpec) (max_restart_delay : ℕ) (evicted : Option ℕ) (before : List PodTick) (n from : ℕ)
+    (ticks : List TickObs) (front made all : List MadeEvent) → all ≡ front ++ made → AllBefore from front
+    → AreBehind from n ticks → AreMadeOver pod max_restart_delay evicted before (pod_ticks ticks n) made
     → AreTold pod max_restart_delay evicted before n ticks made all
-told_from pod max_restart_delay evicted before n at [] front made all is past behind over = record {
+told_from pod max_restart_delay evicted before n from [] front made all is past behind over = record {
   tells = tt;
   weighs = λ f. ap (weight_of f) over;
 }
-told_from pod max_restart_delay evicted before n at (x ∷ ticks) front made all is past behind over =
-    by (shown_of x n) refl behind.1 (λ from before_it more whole gone_by are.
-    told_from pod max_restart_delay evicted from n x.at ticks before_it more all whole gone_by behind.2 are)
+told_from pod max_restart_delay evicted before n from (x ∷ ticks) front made all is past behind over =
+    by (shown_of x n) refl behind.1 (λ later before_it more whole gone_by are.
+    told_from pod max_restart_delay evicted later n (suc x.at) ticks before_it more all whole gone_by behind.2 are)
   where
     over_of : (o : Option PodObs) → shown_of x n ≡ o
         → AreMadeOver pod max_restart_delay evicted before (map pod_tick (cons_option o (own_ticks ticks n))) made
     over_of o is = subst (λ (h : List PodTick). AreMadeOver pod max_restart_delay evicted before h made)
         (own_cons x ticks n o is) over
 
-    earlier : (front : List MadeEvent) → AllBefore (suc at) front → AllBefore x.at front
+    earlier : (front : List MadeEvent) → AllBefore from front → AllBefore x.at front
     earlier [] all = tt
     earlier (e ∷ front) all = (omega (arith, all.0, behind.0), earlier front all.1)
 
@@ -184,9 +184,9 @@ told_from pod max_restart_delay evicted before n at (x ∷ ticks) front made all
         ∙ ap (λ (es : List PodEvent). sum_by f es + sum_by (λ (y : TickObs). sum_by f (events_at y.at all)) ticks) here
 
     by : (o : Option PodObs) → shown_of x n ≡ o → IfSome (shown_of x n) (λ observed. observed.at ≡ x.at)
-        → ((from : List PodTick) (before_it more : List MadeEvent) → all ≡ before_it ++ more
-        → AllBefore (suc x.at) before_it → AreMadeOver pod max_restart_delay evicted from (pod_ticks ticks n) more
-        → AreTold pod max_restart_delay evicted from n ticks more all)
+        → ((later : List PodTick) (before_it more : List MadeEvent) → all ≡ before_it ++ more
+        → AllBefore (suc x.at) before_it → AreMadeOver pod max_restart_delay evicted later (pod_ticks ticks n) more
+        → AreTold pod max_restart_delay evicted later n ticks more all)
         → AreTold pod max_restart_delay evicted before n (x ∷ ticks) made all
     by None none moment rest =
         let behind_it = all_behind pod max_restart_delay evicted before n x.at ticks made behind.2 (over_of None none) in

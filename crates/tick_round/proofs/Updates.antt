@@ -1,5 +1,5 @@
--- The pods of a node take a tick into their statuses, one after the other.
-use Rattle.std.proofs.Common.{◌≡◌, ◌∙◌, inl, inr, ℕ, suc, ◌+◌, ◌-◌, ◌*◌, ◌<◌, ◌≤◌, true, List, [], ◌∷◌, ◌++◌}
+-- The pods of a node take what waits for them into their statuses, one after the other.
+use Rattle.std.proofs.Common.{◌≡◌, ◌∙◌, inl, inr, ℕ, suc, ◌+◌, ◌-◌, ◌*◌, ◌<◌, ◌≤◌, List, [], ◌∷◌, ◌++◌}
 use Rattle.std.proofs.Common.{length, map, Some, refl, sym, ap, subst, arith}
 use Rattle.std.specs.Prelude.{slice_get, option_map}
 use Rattle.std.specs.List.{sum_by}
@@ -10,14 +10,14 @@ use Rattle.std.proofs.lemmas.Option.{slice_get-map, slice_get_within}
 use Rattle.histories.proofs.Places.{length-more}
 use Rattle.histories.proofs.Lists.{place_split, given_at, same_at, set_length, set_here, set_others}
 use Rattle.observations.specs.Limits.{most_pods}
-use Rattle.pod_piece.specs.Piece.{Piece, updated}
+use Rattle.pod_piece.specs.Piece.{Piece, all_updated}
 use Rattle.event_book.specs.declared.totals.Totals.{Totals}
-use Rattle.event_book.specs.declared.totals.Entry.{Entry}
-use Rattle.event_book.specs.Totals.{IsEntryOf, sums_of, plus}
-use Rattle.event_book.specs.Shares.{greatest_total, one_update, AreWithin}
-use Rattle.event_book.specs.Limits.{most_events, IsLow}
+use Rattle.event_book.specs.Totals.{plus}
+use Rattle.event_book.specs.Shares.{greatest_total, AreWithin}
+use Rattle.event_book.specs.Limits.{most_events, most_updates, most_round_events, IsLowAddition}
+use Rattle.event_book.specs.Rounds.{IsAdditionOf, sums_of_additions}
 use Rattle.node_pods.proofs.Candidates.{same_piece}
-use Rattle.tick_round.specs.Update.{AreUpTo, MayUpdate, AreEntered, UpdatesAt}
+use Rattle.tick_round.specs.Update.{AreUpTo, MayUpdate, AreAdded, UpdatesAt}
 
 abbrev totals : ℕ → ℕ → ℕ → Totals
 totals updates events orders = record { updates = updates; events = events; orders = orders }
@@ -25,177 +25,177 @@ totals updates events orders = record { updates = updates; events = events; orde
 same_totals : (u e o u' e' o' : ℕ) → u ≡ u' → e ≡ e' → o ≡ o' → totals u e o ≡ totals u' e' o'
 same_totals u e o u' e' o' p q r = λ i. totals (p i) (q i) (r i)
 
-sum_more : (f : Entry → ℕ) (entries : List Entry) (x : Entry)
-    → sum_by f (entries ++ x ∷ []) ≡ sum_by f entries + f x
-sum_more f entries x =
-    let both : sum_by f (entries ++ x ∷ []) ≡ sum_by f entries + sum_by f (x ∷ []) = sum_by-append f entries (x ∷ []) in
+sum_more : (f : Totals → ℕ) (additions : List Totals) (x : Totals)
+    → sum_by f (additions ++ x ∷ []) ≡ sum_by f additions + f x
+sum_more f additions x =
+    let both : sum_by f (additions ++ x ∷ []) ≡ sum_by f additions + sum_by f (x ∷ []) =
+    sum_by-append f additions (x ∷ []) in
     let one : sum_by f (x ∷ []) ≡ f x + 0 = sum_by-cons f x [] in
     omega (arith, both, one)
 
--- nothing entered, and one entry more
-none_entered : (t : Totals) → t ≡ plus t (sums_of [])
-none_entered t =
+-- nothing added, and one addition more
+none_added : (t : Totals) → t ≡ plus t (sums_of_additions [])
+none_added t =
     same_totals t.updates t.events t.orders (t.updates + 0) (t.events + 0) (t.orders + 0)
     (omega arith) (omega arith) (omega arith)
 
-one_entered : (before now after : Totals) (entries : List Entry) (x : Entry) → now ≡ plus before (sums_of entries)
-    → after ≡ plus now (one_update x) → after ≡ plus before (sums_of (entries ++ x ∷ []))
-one_entered before now after entries x is more =
-    let events = λ (e : Entry). e.events in
-    let orders = λ (e : Entry). e.orders in
-    let long : length (entries ++ x ∷ []) ≡ length entries + 1 = omega (arith, length-more entries x) in
-    let e : sum_by events (entries ++ x ∷ []) ≡ sum_by events entries + x.events = sum_more events entries x in
-    let o : sum_by orders (entries ++ x ∷ []) ≡ sum_by orders entries + x.orders = sum_more orders entries x in
-    more ∙ ap (λ (t : Totals). plus t (one_update x)) is
-    ∙ same_totals (before.updates + length entries + 1) (before.events + sum_by events entries + x.events)
-    (before.orders + sum_by orders entries + x.orders)
-    (before.updates + length (entries ++ x ∷ [])) (before.events + sum_by events (entries ++ x ∷ []))
-    (before.orders + sum_by orders (entries ++ x ∷ []))
-    (omega (arith, long)) (omega (arith, e)) (omega (arith, o))
+one_added : (before now after : Totals) (additions : List Totals) (x : Totals)
+    → now ≡ plus before (sums_of_additions additions) → after ≡ plus now x
+    → after ≡ plus before (sums_of_additions (additions ++ x ∷ []))
+one_added before now after additions x is more =
+    let updates = λ (a : Totals). a.updates in
+    let events = λ (a : Totals). a.events in
+    let orders = λ (a : Totals). a.orders in
+    let u : sum_by updates (additions ++ x ∷ []) ≡ sum_by updates additions + x.updates = sum_more updates additions x in
+    let e : sum_by events (additions ++ x ∷ []) ≡ sum_by events additions + x.events = sum_more events additions x in
+    let o : sum_by orders (additions ++ x ∷ []) ≡ sum_by orders additions + x.orders = sum_more orders additions x in
+    more ∙ ap (λ (t : Totals). plus t x) is
+    ∙ same_totals (before.updates + sum_by updates additions + x.updates)
+    (before.events + sum_by events additions + x.events) (before.orders + sum_by orders additions + x.orders)
+    (before.updates + sum_by updates (additions ++ x ∷ [])) (before.events + sum_by events (additions ++ x ∷ []))
+    (before.orders + sum_by orders (additions ++ x ∷ []))
+    (omega (arith, u)) (omega (arith, e)) (omega (arith, o))
 
--- low entries
-pub sums_low : (entries : List Entry) → ((n : ℕ) (x : Entry) → slice_get entries n ≡ Some x → IsLow x)
-    → AreUpTo (length entries * most_events) (sums_of entries)
-sums_low [] low = record { updates = omega arith; events = omega arith; orders = omega arith }
-sums_low (x ∷ entries) low =
+-- low additions
+low_sums : (additions : List Totals) → ((n : ℕ) (x : Totals) → slice_get additions n ≡ Some x → IsLowAddition x)
+    → AreUpTo (length additions * most_round_events) (sums_of_additions additions)
+low_sums [] low = record { updates = omega arith; events = omega arith; orders = omega arith }
+low_sums (x ∷ additions) low =
     let first = low 0 x refl in
-    let rest = sums_low entries (λ n y at. low (suc n) y at) in
-    let events = λ (e : Entry). e.events in
-    let orders = λ (e : Entry). e.orders in
-    let here : x.events ≤ most_events = first.events in
-    let ordered : x.orders ≤ most_events = first.orders in
-    let most : sum_by events entries ≤ length entries * most_events = rest.events in
-    let most_orders : sum_by orders entries ≤ length entries * most_events = rest.orders in
-    let e : sum_by events (x ∷ entries) ≡ x.events + sum_by events entries = sum_by-cons events x entries in
-    let o : sum_by orders (x ∷ entries) ≡ x.orders + sum_by orders entries = sum_by-cons orders x entries in
+    let rest = low_sums additions (λ n y at. low (suc n) y at) in
+    let updates = λ (a : Totals). a.updates in
+    let events = λ (a : Totals). a.events in
+    let orders = λ (a : Totals). a.orders in
+    let u = sum_by-cons updates x additions in
+    let e = sum_by-cons events x additions in
+    let o = sum_by-cons orders x additions in
     record {
-      updates = omega arith;
-      events = omega (arith, here, most, e);
-      orders = omega (arith, ordered, most_orders, o);
+      updates = omega (arith, first.updates, rest.updates, u);
+      events = omega (arith, first.updates, first.events, rest.events, e);
+      orders = omega (arith, first.updates, first.orders, rest.orders, o);
     }
 
--- the pods below a number have taken the tick, and were entered
+-- the pods below a number have taken what waited for them, and were entered
 pub record AreUpdatedBelow (old : List Piece) (before : Totals) (i : ℕ) (now : List Piece)
     (after : Totals) : Type 0 where
   pub as_many : length now ≡ length old
-  pub below : (n : ℕ) (piece : Piece) → n < i → slice_get old n ≡ Some piece → slice_get now n ≡ Some (updated piece)
+  pub below : (n : ℕ) (piece : Piece) → n < i → slice_get old n ≡ Some piece → slice_get now n ≡ Some (all_updated piece)
   pub rest : (n : ℕ) → i ≤ n → slice_get now n ≡ slice_get old n
-  pub entries : List Entry
-  pub made : length entries ≡ i
-  pub are : (n : ℕ) (piece : Piece) (entry : Entry) → slice_get now n ≡ Some piece → slice_get entries n ≡ Some entry
-      → IsEntryOf piece entry
-  pub low : (n : ℕ) (entry : Entry) → slice_get entries n ≡ Some entry → IsLow entry
-  pub totals_are : after ≡ plus before (sums_of entries)
+  pub additions : List Totals
+  pub made : length additions ≡ i
+  pub are : (n : ℕ) (piece : Piece) (addition : Totals) → slice_get now n ≡ Some piece
+      → slice_get additions n ≡ Some addition → IsAdditionOf piece addition
+  pub low : (n : ℕ) (addition : Totals) → slice_get additions n ≡ Some addition → IsLowAddition addition
+  pub totals_are : after ≡ plus before (sums_of_additions additions)
 
 pub none_updated : (old : List Piece) (before : Totals) → AreUpdatedBelow old before 0 old before
 none_updated old before = record {
   as_many = refl;
   below = λ n piece lt at. absurd (omega arith);
   rest = λ n le. refl;
-  entries = [];
+  additions = [];
   made = refl;
-  are = λ n piece entry at there. absurd (cc);
-  low = λ n entry there. absurd (cc);
-  totals_are = none_entered before;
+  are = λ n piece addition at there. absurd (cc);
+  low = λ n addition there. absurd (cc);
+  totals_are = none_added before;
 }
 
 pub one_updated : (old : List Piece) (before : Totals) (i : ℕ) (now : List Piece) (after : Totals)
     (new : List Piece) (then : Totals) → AreUpdatedBelow old before i now after → UpdatesAt now i after new then
     → AreUpdatedBelow old before (i + 1) new then
 one_updated old before i now after new then so_far step = record {
-  as_many = ap length step.set ∙ set_length now i (updated step.piece) ∙ so_far.as_many;
+  as_many = ap length step.set ∙ set_length now i (all_updated step.piece) ∙ so_far.as_many;
   below = λ n piece lt at. elim (cases_eq n i) [
     | inl same ↦
         let was : slice_get old i ≡ Some piece = subst (λ (k : ℕ). slice_get old k ≡ Some piece) same at in
         let is : slice_get now i ≡ Some piece = so_far.rest i (omega arith) ∙ was in
-        subst (λ (k : ℕ). slice_get new k ≡ Some (updated piece)) (sym same)
-        (here ∙ ap (λ (p : Piece). Some (updated p)) (same_piece now i step.piece piece step.at is))
+        subst (λ (k : ℕ). slice_get new k ≡ Some (all_updated piece)) (sym same)
+        (here ∙ ap (λ (p : Piece). Some (all_updated p)) (same_piece now i step.piece piece step.at is))
     | inr apart ↦
         let less : n < i = (let not : n ≡ i → ⊥ = apart in omega arith) in
         others n apart ∙ so_far.below n piece less at
   ];
   rest = λ n le. others n (λ e. omega arith) ∙ so_far.rest n (omega arith);
-  entries = so_far.entries ++ step.entered.entry ∷ [];
+  additions = so_far.additions ++ step.added.addition ∷ [];
   made =
-      let many : length so_far.entries ≡ i = so_far.made in
-      omega (arith, many, length-more so_far.entries step.entered.entry);
-  are = λ n piece entry at there. elim (place_split so_far.entries step.entered.entry entry n there) [
+      let many : length so_far.additions ≡ i = so_far.made in
+      omega (arith, many, length-more so_far.additions step.added.addition);
+  are = λ n piece addition at there. elim (place_split so_far.additions step.added.addition addition n there) [
     | inl older ↦
-        let lt : n < length so_far.entries = slice_get_within so_far.entries n entry older in
-        let many : length so_far.entries ≡ i = so_far.made in
-        so_far.are n piece entry (sym (others n (λ e. omega arith)) ∙ at) older
+        let lt : n < length so_far.additions = slice_get_within so_far.additions n addition older in
+        let many : length so_far.additions ≡ i = so_far.made in
+        so_far.are n piece addition (sym (others n (λ e. omega arith)) ∙ at) older
     | inr w ↦
         let is : n ≡ i = w.0 ∙ so_far.made in
         let found : slice_get new i ≡ Some piece = subst (λ (k : ℕ). slice_get new k ≡ Some piece) is at in
-        let same : updated step.piece ≡ piece = same_piece new i (updated step.piece) piece here found in
-        subst (λ (p : Piece). IsEntryOf p entry) same
-        (subst (λ (e : Entry). IsEntryOf (updated step.piece) e) w.1 step.entered.is_entry)
+        let same : all_updated step.piece ≡ piece = same_piece new i (all_updated step.piece) piece here found in
+        subst (λ (p : Piece). IsAdditionOf p addition) same
+        (subst (λ (a : Totals). IsAdditionOf (all_updated step.piece) a) w.1 step.added.is_addition)
   ];
-  low = λ n entry there. elim (place_split so_far.entries step.entered.entry entry n there) [
-    | inl older ↦ so_far.low n entry older
-    | inr w ↦ subst (λ (e : Entry). IsLow e) w.1 step.entered.low
+  low = λ n addition there. elim (place_split so_far.additions step.added.addition addition n there) [
+    | inl older ↦ so_far.low n addition older
+    | inr w ↦ subst (λ (a : Totals). IsLowAddition a) w.1 step.added.low
   ];
   totals_are =
-      one_entered before after then so_far.entries step.entered.entry so_far.totals_are step.entered.totals;
+      one_added before after then so_far.additions step.added.addition so_far.totals_are step.added.totals;
 }
   where
-    here : slice_get new i ≡ Some (updated step.piece)
-    here = ap (λ (ps : List Piece). slice_get ps i) step.set ∙ set_here now i (updated step.piece) step.piece step.at
+    here : slice_get new i ≡ Some (all_updated step.piece)
+    here = ap (λ (ps : List Piece). slice_get ps i) step.set ∙ set_here now i (all_updated step.piece) step.piece step.at
 
     others : (n : ℕ) → (n ≡ i → ⊥) → slice_get new n ≡ slice_get now n
     others n apart =
-        ap (λ (ps : List Piece). slice_get ps n) step.set ∙ set_others now i n (updated step.piece) apart
+        ap (λ (ps : List Piece). slice_get ps n) step.set ∙ set_others now i n (all_updated step.piece) apart
 
 -- all of them
-pub all_updated : (old : List Piece) (before : Totals) (i : ℕ) (now : List Piece) (after : Totals)
-    → AreUpdatedBelow old before i now after → i ≡ length old → now ≡ map updated old
-all_updated old before i now after are end =
-    same_at now (map updated old) (are.as_many ∙ sym (length-map old updated)) (λ n lt.
+pub all_taken : (old : List Piece) (before : Totals) (i : ℕ) (now : List Piece) (after : Totals)
+    → AreUpdatedBelow old before i now after → i ≡ length old → now ≡ map all_updated old
+all_taken old before i now after are end =
+    same_at now (map all_updated old) (are.as_many ∙ sym (length-map old all_updated)) (λ n lt.
     let many : length now ≡ length old = are.as_many in
     let p = given_at old n (omega (arith, lt, many)) in
     are.below n p.0 (omega (arith, lt, many, end)) p.1
-    ∙ sym (slice_get-map updated old n ∙ ap (option_map updated) p.1))
+    ∙ sym (slice_get-map all_updated old n ∙ ap (option_map all_updated) p.1))
 
-pub all_entered : (old : List Piece) (before : Totals) (i : ℕ) (now : List Piece) (after : Totals)
-    → AreUpdatedBelow old before i now after → i ≡ length old → AreEntered now before after
-all_entered old before i now after are end = record {
-  entries = are.entries;
-  are_entries = record { as_many = are.made ∙ end ∙ sym are.as_many; each = are.are };
+pub all_added : (old : List Piece) (before : Totals) (i : ℕ) (now : List Piece) (after : Totals)
+    → AreUpdatedBelow old before i now after → i ≡ length old → AreAdded now before after
+all_added old before i now after are end = record {
+  additions = are.additions;
+  are_additions = record { as_many = are.made ∙ end ∙ sym are.as_many; each = are.are };
   totals = are.totals_are;
 }
 
 -- the book has room for the next
 pub room_at : (old : List Piece) (before : Totals) (i : ℕ) (now : List Piece) (after : Totals)
     → MayUpdate old before → AreUpdatedBelow old before i now after → i < length old
-    → AreUpTo (greatest_total - most_events) after
+    → AreUpTo (greatest_total - most_round_events) after
 room_at old before i now after may are lt =
-    let sums = sums_low are.entries are.low in
+    let sums = low_sums are.additions are.low in
     let few : length old ≤ most_pods = may.few in
-    let many : length are.entries ≡ i = are.made in
-    let u : after.updates ≡ before.updates + length are.entries = ap (λ (t : Totals). t.updates) are.totals_are in
-    let e : after.events ≡ before.events + (sums_of are.entries).events =
+    let many : length are.additions ≡ i = are.made in
+    let u : after.updates ≡ before.updates + (sums_of_additions are.additions).updates =
+    ap (λ (t : Totals). t.updates) are.totals_are in
+    let e : after.events ≡ before.events + (sums_of_additions are.additions).events =
     ap (λ (t : Totals). t.events) are.totals_are in
-    let o : after.orders ≡ before.orders + (sums_of are.entries).orders =
+    let o : after.orders ≡ before.orders + (sums_of_additions are.additions).orders =
     ap (λ (t : Totals). t.orders) are.totals_are in
     let room = may.room in
-    let events : (sums_of are.entries).events ≤ length are.entries * most_events = sums.events in
-    let orders : (sums_of are.entries).orders ≤ length are.entries * most_events = sums.orders in
     record {
-      updates = omega (arith, u, room.updates, few, many);
-      events = omega (arith, e, room.events, few, many, events);
-      orders = omega (arith, o, room.orders, few, many, orders);
+      updates = omega (arith, u, room.updates, few, many, lt, sums.updates);
+      events = omega (arith, e, room.events, few, many, lt, sums.events);
+      orders = omega (arith, o, room.orders, few, many, lt, sums.orders);
     }
 
 pub pending_at : (old : List Piece) (before : Totals) (i : ℕ) (now : List Piece) (after : Totals)
     → MayUpdate old before → AreUpdatedBelow old before i now after → (piece : Piece) → slice_get now i ≡ Some piece
-    → piece.is_pending ≡ true
+    → 0 < piece.waiting
 pending_at old before i now after may are piece at =
     may.pending i piece (sym (are.rest i (omega arith)) ∙ at)
 
-pub room_for : (t : Totals) (entry : Entry) → AreUpTo (greatest_total - most_events) t → IsLow entry
-    → AreWithin (plus t (one_update entry))
-room_for t entry room low = record {
-  updates = omega (arith, room.updates);
-  events = omega (arith, room.events, low.events);
-  orders = omega (arith, room.orders, low.orders);
+pub room_for : (t more : Totals) → AreUpTo (greatest_total - most_round_events) t → IsLowAddition more
+    → AreWithin (plus t more)
+room_for t more room low = record {
+  updates = omega (arith, room.updates, low.updates);
+  events = omega (arith, room.events, low.updates, low.events);
+  orders = omega (arith, room.orders, low.updates, low.orders);
 }

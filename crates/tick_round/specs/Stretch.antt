@@ -92,9 +92,10 @@ pub record IsOpen (s : State) (calm : List TickObs) (tick : TickObs) (stretch : 
 -- the stretch is that of some node that may take these ticks behind those that it has taken into it
 pub record MayGoOn (stretch : Stretch) (more : List TickObs) : Type 0 where
   pub node : State
+  pub kept : IsKept node
   pub calm : List TickObs
   pub tick : TickObs
-  pub open : IsOpen node calm tick stretch
+  pub is_open : IsOpen node calm tick stretch
   pub fits : FitAll node ((calm ++ tick ∷ []) ++ more)
 
 -- it goes on with some of these ticks, and leaves those
@@ -102,7 +103,7 @@ pub record GoesOnWith (s : State) (calm : List TickObs) (tick : TickObs) (more :
     (rest : List TickObs) : Type 0 where
   pub calm_now : List TickObs
   pub last : TickObs
-  pub open : IsOpen s calm_now last stretch
+  pub is_open : IsOpen s calm_now last stretch
   pub taken : (calm ++ tick ∷ []) ++ more ≡ (calm_now ++ last ∷ []) ++ rest
 
 -- a tick is taken into a stretch

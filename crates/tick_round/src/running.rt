@@ -141,7 +141,7 @@ impl<U: Ledger, E: Ledger, O: Ledger> Running<U, E, O> {
     pub(crate) fn begin(self, tick: TickObs) -> Result<(Stretch, WholeBook<U, E, O>), AllocError>
         requires { AreNext self.pods.pieces tick.pods }
         ensures kept { IfOk result (λ r. IsKept self) }
-        ensures open { IfOk result (λ r. IsOpen self [] tick r.0) }
+        ensures is_open { IfOk result (λ r. IsOpen self [] tick r.0) }
         ensures book { IfOk result (λ r. r.1 ≡ self.totals) }
     {
         let Running {

@@ -1,6 +1,6 @@
-//! The updates of all pods in a tick, by workers that one thread plays.
+//! The updates of all pods in a round of one tick, by workers that one thread plays.
 
-ghost use Rattle.std.specs.Prelude.{◌≡◌, ◌<◌, ◌≤◌, length, map, IfOk};
+ghost use Rattle.std.specs.Prelude.{◌≡◌, ◌<◌, ◌≤◌, All, length, map, IfOk};
 ghost use Rattle.pod_piece.specs.Piece.{updated};
 ghost use Rattle.event_book.specs.Limits.{most_workers};
 ghost use Rattle.tick_round.specs.Played.{AreFinished};
@@ -13,7 +13,7 @@ use round_steps::Step;
 use std::alloc::{AllocError, Global};
 use std::sync::ledger::Ledger;
 
-/// All pods take the tick that was handed to them into their statuses, and are entered in the book, by this
+/// All pods take the one tick that waits for them into their statuses, and are entered in the book, by this
 /// many workers, 1 to 64, that one thread plays by these steps. An `Err` says that memory was refused.
 pub fn update_by_steps<U: Ledger, E: Ledger, O: Ledger>(
     alloc: Global,
@@ -23,6 +23,7 @@ pub fn update_by_steps<U: Ledger, E: Ledger, O: Ledger>(
     steps: &[Step],
 ) -> Result<Played<U, E, O>, AllocError>
     requires may { MayUpdate pieces.items book }
+    requires one { All (λ piece. piece.waiting ≡ 1) pieces.items }
     requires some { 0 < workers }
     requires most { workers ≤ most_workers }
     ensures pieces { IfOk result (λ played. played.pieces.items ≡ map updated pieces.items) }

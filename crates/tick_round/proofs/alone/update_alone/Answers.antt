@@ -1,5 +1,5 @@
 use Rattle.std.proofs.Common.{arith}
-use Rattle.tick_round.proofs.Updates.{one_updated, all_updated, room_at}
+use Rattle.tick_round.proofs.Updates.{one_updated, all_taken, room_at}
 use Rattle.tick_round.proofs.alone.update_alone.Goals as goal
 
 pub update_at-requires-clause-room : goal.update_at-requires-clause-room
@@ -17,5 +17,5 @@ loop-number-preserved g c = record {
 
 pub returns-clause-pieces : goal.returns-clause-pieces
 returns-clause-pieces g c =
-    all_updated c.args.pieces.items c.args.book c.loop-number.number c.loop-number.pieces.items c.loop-number.book
+    all_taken c.args.pieces.items c.args.book c.loop-number.number c.loop-number.pieces.items c.loop-number.book
     c.loop-number.invariant.updated (omega (arith, c.loop-number-test.false, c.loop-number.invariant.end))

@@ -1,0 +1,160 @@
+-- The ticks that are left behind those of a round.
+use Rattle.std.proofs.Common.{◌≡◌, ◌∙◌, ℕ, zero, suc, ◌+◌, ◌<◌, ◌≤◌, List, [], ◌∷◌, ◌++◌, length, map, Option, Some, None}
+use Rattle.std.proofs.Common.{refl, ap, sym, subst, arith, append_assoc, append-nil}
+use Rattle.std.specs.Prelude.{slice_get, IfSome}
+use Rattle.std.specs.List.{cons_option}
+use Rattle.std.proofs.lemmas.List.{length-append, map-append}
+use Rattle.std.proofs.lemmas.List.Elements.{filter_map-append}
+use Rattle.std.proofs.lemmas.Option.{slice_get_within}
+use Rattle.histories.specs.Histories.{EndsBefore}
+use Rattle.histories.proofs.Lists.{given_at}
+use Rattle.manifest.specs.declared.pod.PodSpec.{PodSpec}
+use Rattle.observations.specs.Pods.{PodObs}
+use Rattle.observations.specs.declared.tick.TickObs.{TickObs}
+use Rattle.observations.specs.Observations.{shown_of, own_ticks}
+use Rattle.pod_state.specs.Pods.{PodTick, pod_tick}
+use Rattle.pod_piece.specs.Listings.{IsNextTick}
+use Rattle.pod_piece.specs.Piece.{Piece}
+use Rattle.eviction.specs.Replay.{pod_ticks}
+use Rattle.node_pods.specs.Pods.{MayBeHanded, after_one, after_each}
+use Rattle.node_pods.proofs.Steps.{with_shown_at, with_shown_length}
+use Rattle.node_pods.proofs.Candidates.{same_piece}
+use Rattle.tick_round.specs.Node.{State, HasTaken, FitAll, MayBeHandedAll, last_of, IsNextByAll}
+use Rattle.tick_round.proofs.Ends.{after_all-length}
+use Rattle.tick_round.proofs.GoesOn.{last_more}
+use Rattle.tick_round.proofs.Handing.{after_all, last_with, rest_handed, own_first}
+use Rattle.tick_round.proofs.Pieces.{pod_at}
+
+-- pods that are one in what decides which tick may be handed to them
+record AreAlike (qs rs : List Piece) : Type 0 where
+  pub as_many : length rs ≡ length qs
+  pub each : (n : ℕ) (r : Piece) → slice_get rs n ≡ Some r
+      → (q : Piece) × (slice_get qs n ≡ Some q) × (r.pod ≡ q.pod) × (r.handed ≡ q.handed)
+
+alike_after : (qs rs : List Piece) (x : TickObs) → AreAlike qs rs
+    → AreAlike (after_each qs x.pods) (after_each rs x.pods)
+alike_after qs rs x are = record {
+  as_many = with_shown_length after_one rs x.pods ∙ are.as_many ∙ sym (with_shown_length after_one qs x.pods);
+  each = λ n s at.
+      let lt = slice_get_within (after_each rs x.pods) n s at in
+      let r = given_at rs n (let long = with_shown_length after_one rs x.pods in omega (arith, lt, long)) in
+      let w = are.each n r.0 r.1 in
+      let is = same_piece (after_each rs x.pods) n s (after_one r.0 (shown_of x n)) at
+      (with_shown_at after_one (λ p. refl) rs x.pods n r.0 r.1) in
+      (
+        after_one w.0 (shown_of x n),
+        with_shown_at after_one (λ p. refl) qs x.pods n w.0 w.1,
+        ap (λ (p : Piece). p.pod) is ∙ pod_of r.0 w.0 (shown_of x n) w.2,
+        ap (λ (p : Piece). p.handed) is ∙ handed_of r.0 w.0 (shown_of x n) w.3,
+      );
+}
+  where
+    pod_of : (r q : Piece) (o : Option PodObs) → r.pod ≡ q.pod → (after_one r o).pod ≡ (after_one q o).pod
+    pod_of r q None same = same
+    pod_of r q (Some o) same = same
+
+    handed_of : (r q : Piece) (o : Option PodObs) → r.handed ≡ q.handed → (after_one r o).handed ≡ (after_one q o).handed
+    handed_of r q None same = same
+    handed_of r q (Some o) same = ap (λ (h : List PodTick). h ++ pod_tick o ∷ []) same
+
+alike_handed : (qs rs : List Piece) (last : Option ℕ) (xs : List TickObs) → AreAlike qs rs
+    → MayBeHandedAll qs last xs → MayBeHandedAll rs last xs
+alike_handed qs rs last [] are may = tt
+alike_handed qs rs last (x ∷ xs) are may = (
+  record {
+    next = record {
+      within = omega (arith, may.0.next.within, are.as_many);
+      each = λ n r o at there.
+          let w = are.each n r at in
+          subst (λ (s : PodSpec). IsNextTick s r.handed (pod_tick o)) (sym w.2)
+          (subst (λ (h : List PodTick). IsNextTick (w.0).pod h (pod_tick o)) (sym w.3)
+          (may.0.next.each n w.0 o w.1 there));
+    };
+    at_its_moment = may.0.at_its_moment;
+    later = λ n r at.
+        let w = are.each n r at in
+        subst (λ (h : List PodTick). EndsBefore h x.at) (sym w.3) (may.0.later n w.0 w.1);
+  },
+  may.1,
+  alike_handed (after_each qs x.pods) (after_each rs x.pods) (Some x.at) xs (alike_after qs rs x are) may.2,
+)
+
+-- a pod after ticks
+after_at : (pieces : List Piece) (xs : List TickObs) (n : ℕ) (p : Piece) → slice_get pieces n ≡ Some p
+    → (q : Piece) × (slice_get (after_all pieces xs) n ≡ Some q) × (q.pod ≡ p.pod)
+    × (q.handed ≡ p.handed ++ pod_ticks xs n)
+after_at pieces [] n p at = (p, at, refl, sym (append-nil p.handed))
+after_at pieces (x ∷ xs) n p at =
+    let o = shown_of x n in
+    let next = after_at (after_each pieces x.pods) xs n (after_one p o)
+    (with_shown_at after_one (λ r. refl) pieces x.pods n p at) in
+    (
+      next.0,
+      next.1,
+      next.2 ∙ pod_of o,
+      next.3 ∙ ap (λ (h : List PodTick). h ++ pod_ticks xs n) (handed_of o)
+          ∙ append_assoc p.handed (map pod_tick (cons_option o [])) (pod_ticks xs n)
+          ∙ ap (λ (k : List PodTick). p.handed ++ k) (own_first x xs n o refl),
+    )
+  where
+    pod_of : (o : Option PodObs) → (after_one p o).pod ≡ p.pod
+    pod_of None = refl
+    pod_of (Some o) = refl
+
+    handed_of : (o : Option PodObs) → (after_one p o).handed ≡ p.handed ++ map pod_tick (cons_option o [])
+    handed_of None = sym (append-nil p.handed)
+    handed_of (Some o) = refl
+
+pod_ticks-append : (before xs : List TickObs) (n : ℕ)
+    → pod_ticks (before ++ xs) n ≡ pod_ticks before n ++ pod_ticks xs n
+pod_ticks-append before xs n =
+    ap (map pod_tick) (filter_map-append (λ (x : TickObs). shown_of x n) before xs)
+    ∙ map-append pod_tick (own_ticks before n) (own_ticks xs n)
+
+last_of-with : (xs before : List TickObs) → last_of (before ++ xs) ≡ last_with (last_of before) xs
+last_of-with [] before = ap last_of (append-nil before)
+last_of-with (x ∷ xs) before =
+    ap last_of (sym (append_assoc before (x ∷ []) xs)) ∙ last_of-with xs (before ++ x ∷ [])
+    ∙ ap (λ (o : Option ℕ). last_with o xs) (last_more before x)
+
+-- those that are left fit
+pub rest_fit : (pods : List PodSpec) (before : List TickObs) (s new : State) (xs rest : List TickObs)
+    → HasTaken pods before s → HasTaken pods (before ++ xs) new → FitAll s (xs ++ rest) → FitAll new rest
+rest_fit pods before s new xs rest had has fits = record {
+  few = omega (arith, fits.few, had.replay.as_many, has.replay.as_many, length-append before xs, length-append xs rest);
+  handed =
+      subst (λ (o : Option ℕ). MayBeHandedAll new.pods.pieces o rest)
+      (ap (λ (o : Option ℕ). last_with o xs) had.last_is ∙ sym (last_of-with xs before) ∙ sym has.last_is)
+      (alike_handed (after_all s.pods.pieces xs) new.pods.pieces (last_with s.last xs) rest alike
+      (rest_handed s.pods.pieces s.last xs rest fits.handed));
+}
+  where
+    alike : AreAlike (after_all s.pods.pieces xs) new.pods.pieces
+    alike = record {
+      as_many = has.pieces.as_many ∙ sym had.pieces.as_many ∙ sym (after_all-length s.pods.pieces xs);
+      each = λ n r at.
+          let is = pod_at new.config pods (before ++ xs) new.evictions new.pods.pieces n r has.pieces at in
+          let was = had.pieces.each n is.0 is.1 in
+          let q = after_at s.pods.pieces xs n _ was in
+          (
+            q.0,
+            q.1,
+            ap (λ (p : Piece). p.pod) is.2 ∙ sym q.2,
+            ap (λ (p : Piece). p.handed) is.2 ∙ pod_ticks-append before xs n ∙ sym q.3,
+          );
+    }
+
+-- ticks that come behind others
+pub next_all : (xs ys : List TickObs) (a b c : State) → IsNextByAll xs a b → IsNextByAll ys b c
+    → IsNextByAll (xs ++ ys) a c
+next_all xs ys a b c first then = record {
+  config = then.config ∙ first.config;
+  taken = λ pods before had. subst (λ (h : List TickObs). HasTaken pods h c) (append_assoc before xs ys)
+      (then.taken pods (before ++ xs) (first.taken pods before had));
+}
+
+pub next_none : (a : State) → IsNextByAll [] a a
+next_none a = record {
+  config = refl;
+  taken = λ pods before had. subst (λ (h : List TickObs). HasTaken pods h a) (sym (append-nil before)) had;
+}
