@@ -37,7 +37,9 @@ one_if p x = cond (p x) 1 0
 
 length_as_sum : {A : Type 0} (xs : List A) → length xs ≡ sum_by one_each xs
 length_as_sum [] = refl
-length_as_sum (x ∷ xs) = ap suc (length_as_sum xs) ∙ sym (sum_by-cons one_each x xs)
+length_as_sum (x ∷ xs) =
+    let one : sum_by one_each (x ∷ xs) ≡ 1 + sum_by one_each xs = sum_by-cons one_each x xs in
+    omega (arith, one, length_as_sum xs)
 
 filter_as_sum : {A : Type 0} (p : A → Bool) (xs : List A) → length (filter p xs) ≡ sum_by (one_if p) xs
 filter_as_sum p [] = refl
@@ -46,11 +48,15 @@ filter_as_sum p (x ∷ xs) = by (p x) refl (filter_as_sum p xs) ∙ sym (sum_by-
     by : (b : Bool) → p x ≡ b → length (filter p xs) ≡ sum_by (one_if p) xs
         → length (filter p (x ∷ xs)) ≡ one_if p x + sum_by (one_if p) xs
     by true e rest =
-        ap (λ (b : Bool). length (cond b (x ∷ filter p xs) (filter p xs))) e
-        ∙ ap suc rest ∙ ap (λ (b : Bool). cond b 1 0 + sum_by (one_if p) xs) (sym e)
+        let long : length (filter p (x ∷ xs)) ≡ suc (length (filter p xs)) =
+        ap (λ (b : Bool). length (cond b (x ∷ filter p xs) (filter p xs))) e in
+        let one : one_if p x ≡ 1 = ap (λ (b : Bool). cond b 1 0) e in
+        omega (arith, long, one, rest)
     by false e rest =
-        ap (λ (b : Bool). length (cond b (x ∷ filter p xs) (filter p xs))) e
-        ∙ rest ∙ ap (λ (b : Bool). cond b 1 0 + sum_by (one_if p) xs) (sym e)
+        let long : length (filter p (x ∷ xs)) ≡ length (filter p xs) =
+        ap (λ (b : Bool). length (cond b (x ∷ filter p xs) (filter p xs))) e in
+        let none : one_if p x ≡ 0 = ap (λ (b : Bool). cond b 1 0) e in
+        omega (arith, long, none, rest)
 
 -- sums of sums, in either order
 sum_plus : {A : Type 0} (f g : A → ℕ) (xs : List A) → sum_by (λ x. f x + g x) xs ≡ sum_by f xs + sum_by g xs
@@ -61,7 +67,9 @@ sum_plus f g (x ∷ xs) =
 
 sum_zero : {A : Type 0} (xs : List A) → sum_by (λ (x : A). 0) xs ≡ 0
 sum_zero [] = refl
-sum_zero {A} (x ∷ xs) = sum_by-cons (λ (y : A). 0) x xs ∙ sum_zero xs
+sum_zero {A} (x ∷ xs) =
+    let one : sum_by (λ (y : A). 0) (x ∷ xs) ≡ 0 + sum_by (λ (y : A). 0) xs = sum_by-cons (λ (y : A). 0) x xs in
+    omega (arith, one, sum_zero xs)
 
 sum_swap : {A B : Type 0} (g : A → B → ℕ) (xs : List A) (ys : List B)
     → sum_by (λ x. sum_by (g x) ys) xs ≡ sum_by (λ y. sum_by (λ x. g x y) xs) ys
@@ -131,14 +139,15 @@ weight_of_ticks f (row ∷ rows) (x ∷ ticks) owns are =
     let node = of_node row.at row.node_events.items in
     let rest = of_ticks rows owns in
     let g : TickObs → ℕ = λ y. sum_by (λ (own : List MadeEvent). sum_by f (events_at y.at own)) owns in
+    let both : sum_by f (pod_events (node ++ rest)) ≡ sum_by f (pod_events node) + sum_by f (pod_events rest) =
+    ap (sum_by f) (pod_events-append node rest) ∙ sum_by-append f (pod_events node) (pod_events rest) in
+    let none : sum_by f (pod_events node) ≡ 0 = weight_of_node f row.at row.node_events.items in
+    let others : sum_by f (pod_events rest) ≡ sum_by g ticks = weight_of_ticks f rows ticks owns are.1 in
     ap (sum_by f) (pod_events-append pods (node ++ rest))
     ∙ sum_by-append f (pod_events pods) (pod_events (node ++ rest))
     ∙ ap (λ k. k + sum_by f (pod_events (node ++ rest))) (weight_of_pods f row.at 0 row.at owns)
     ∙ ap (λ k. sum_by (λ (own : List MadeEvent). sum_by f (events_at row.at own)) owns + k)
-    (ap (sum_by f) (pod_events-append node rest)
-    ∙ sum_by-append f (pod_events node) (pod_events rest)
-    ∙ ap (λ k. k + sum_by f (pod_events rest)) (weight_of_node f row.at row.node_events.items)
-    ∙ weight_of_ticks f rows ticks owns are.1)
+    (omega (arith, both, none, others))
     ∙ ap (λ (m : ℕ). sum_by (λ (own : List MadeEvent). sum_by f (events_at m own)) owns + sum_by g ticks) are.0
     ∙ sym (sum_by-cons g x ticks)
 
@@ -177,15 +186,21 @@ sum_below g (suc k) = g 0 + sum_below (λ n. g (suc n)) k
 
 no_more : (g : ℕ → ℕ) (k : ℕ) → ((n : ℕ) → g n ≡ 0) → sum_below g k ≡ 0
 no_more g zero none = refl
-no_more g (suc k) none = ap (λ n. n + sum_below (λ m. g (suc m)) k) (none 0) ∙ no_more (λ m. g (suc m)) k (λ n. none (suc n))
+no_more g (suc k) none =
+    let others = no_more (λ m. g (suc m)) k (λ n. none (suc n)) in
+    omega (arith, none 0, others)
 
 shown_below : (shown : List (Option PodObs)) (k : ℕ) → length shown ≤ k
     → length (filter_map (λ (o : Option PodObs). o) shown)
     ≡ sum_below (λ n. one_shown (option_flatten (slice_get shown n))) k
 shown_below [] k le = sym (no_more (λ n. one_shown (option_flatten (slice_get [] n))) k (λ n. refl))
 shown_below (o ∷ shown) zero le = absurd (omega (arith, le))
-shown_below (None ∷ shown) (suc k) le = shown_below shown k (omega (arith, le))
-shown_below (Some o ∷ shown) (suc k) le = ap suc (shown_below shown k (omega (arith, le)))
+shown_below (None ∷ shown) (suc k) le =
+    let others = shown_below shown k (omega (arith, le)) in
+    omega (arith, others)
+shown_below (Some o ∷ shown) (suc k) le =
+    let others = shown_below shown k (omega (arith, le)) in
+    omega (arith, others)
 
 below_plus : (g h : ℕ → ℕ) (k : ℕ) → sum_below (λ n. g n + h n) k ≡ sum_below g k + sum_below h k
 below_plus g h zero = refl
@@ -205,8 +220,8 @@ own_count x ticks n = by (shown_of x n)
   where
     by : (o : Option PodObs)
         → length (map pod_tick (cons_option o (own_ticks ticks n))) ≡ one_shown o + length (pod_ticks ticks n)
-    by None = refl
-    by (Some o) = refl
+    by None = omega arith
+    by (Some o) = omega arith
 
 all_updates : (ticks : List TickObs) (k : ℕ)
     → ((t : ℕ) (x : TickObs) → slice_get ticks t ≡ Some x → length x.pods ≤ k)

@@ -59,10 +59,10 @@ tell_front pieces ticks more owns tell n p own at there =
 tell_last : (pieces : List Piece) (ticks : List TickObs) (x : TickObs) (owns : List (List MadeEvent))
     → TellAll pieces (ticks ++ x ∷ []) owns → TellAllOf (after_all pieces ticks) x owns
 tell_last pieces [] x owns tell n p own at there = (tell n p own at there).0
-tell_last pieces (y ∷ ticks) x owns tell =
-    tell_last (after_each pieces y.pods) ticks x owns (tell_others pieces y (ticks ++ x ∷ []) owns tell)
+tell_last pieces (y ∷ ticks) x owns tell n p own at there =
+    tell_last (after_each pieces y.pods) ticks x owns (tell_others pieces y (ticks ++ x ∷ []) owns tell) n p own at there
 
-after_all-length : (pieces : List Piece) (ticks : List TickObs) → length (after_all pieces ticks) ≡ length pieces
+pub after_all-length : (pieces : List Piece) (ticks : List TickObs) → length (after_all pieces ticks) ≡ length pieces
 after_all-length pieces [] = refl
 after_all-length pieces (x ∷ ticks) =
     after_all-length (after_each pieces x.pods) ticks ∙ (after_is pieces x.pods).as_many

@@ -115,7 +115,7 @@ grown_more p more q (Some o) is = record {
       (omega (arith, ap length is.handed, length-append p.handed more, is.waiting)) is.begun;
 }
 
-own_first : (x : TickObs) (ticks : List TickObs) (n : ℕ) (o : Option PodObs) → shown_of x n ≡ o
+pub own_first : (x : TickObs) (ticks : List TickObs) (n : ℕ) (o : Option PodObs) → shown_of x n ≡ o
     → map pod_tick (cons_option o []) ++ pod_ticks ticks n ≡ pod_ticks (x ∷ ticks) n
 own_first x ticks n None none = ap (λ (o : Option PodObs). map pod_tick (cons_option o (own_ticks ticks n))) (sym none)
 own_first x ticks n (Some o) is = ap (λ (o : Option PodObs). map pod_tick (cons_option o (own_ticks ticks n))) (sym is)

@@ -20,6 +20,7 @@ use Rattle.pod_piece.specs.Piece.{Piece, all_updated, at_rest, pods_in}
 use Rattle.pod_piece.specs.Made.{MadeEvent, round_length}
 use Rattle.eviction.specs.declared.eviction.Eviction.{Eviction}
 use Rattle.eviction.specs.Pausing.{Kept, kept, still}
+use Rattle.eviction.specs.Replay.{pod_ticks}
 use Rattle.event_book.specs.declared.totals.Totals.{Totals}
 use Rattle.event_book.specs.Totals.{plus}
 use Rattle.event_book.specs.Rounds.{AreAdditionsOf, sums_of_additions}
@@ -197,16 +198,12 @@ fit_front s xs more fits = record {
   handed = front_handed s.pods.pieces s.last xs more fits.handed;
 }
 
--- nothing goes out that does not wait, and all that does
-pub sent_many : (s : State) (xs : List TickObs) (out : List Piece) (length_of : ℕ) → length s.pods.pieces ≤ length_of
-    → length out ≤ length (handed_all s.pods.pieces xs) → length out ≤ length_of
-sent_many s xs out length_of most few = omega (arith, most, few, handed_all-length s.pods.pieces xs)
-
 -- the node may end the round once the pieces that went out are back
 pub may_end : (s : State) (calm : List TickObs) (tick : TickObs) (pieces back : List Piece) (book totals : Totals)
     (round : Round) → IsOut s calm tick pieces book round → FitAll s (calm ++ tick ∷ []) → back ≡ map all_updated pieces
     → AreAdded back book totals → MayEnd s calm tick round back totals
 may_end s calm tick pieces back book totals round out fits is added = record {
+  kept = out.kept;
   fits = fits;
   has_begun = out.has_begun;
   pods = out.pods;
@@ -221,7 +218,6 @@ can_end s calm tick pieces back book totals round out fits is added = record {
   node = s;
   calm = calm;
   tick = tick;
-  kept = out.kept;
   may = may_end s calm tick pieces back book totals round out fits is added;
   numbered = subst (λ (ps : List Piece). AreNumbered (joined round.pods ps)) (sym is) out.numbered;
 }
@@ -261,14 +257,16 @@ none_waited pieces xs rest n q at none =
     let p = given_at pieces n (omega (arith, lt, handed_all-length pieces xs)) in
     let r = rest n p.0 p.1 in
     let g = handed_at p.0 [] pieces xs n p.0 p.1 (not_grown p.0 r.0 r.1) in
-    let is = subst (λ (x : Piece). IsGrown p.0 _ x) (same_piece (handed_all pieces xs) n g.0 q g.1 at) g.2 in
-    omega (arith, none, is.waiting, is.begun, ap length is.handed, length-append (p.0).handed _)
+    let is = subst (λ (x : Piece). IsGrown p.0 (pod_ticks xs n) x) (same_piece (handed_all pieces xs) n g.0 q g.1 at)
+    g.2 in
+    omega (arith, none, is.waiting, is.begun, ap length is.handed, length-append (p.0).handed (pod_ticks xs n))
 
 -- so it may close it
 pub may_close : (s : State) (calm : List TickObs) (tick : TickObs) (round : Round) (back : List Piece)
-    (totals : Totals) (pods : Pods) → IsKept s → MayEnd s calm tick round back totals → pods ≡ joined round.pods back
+    (totals : Totals) (pods : Pods) → MayEnd s calm tick round back totals → pods ≡ joined round.pods back
     → MayClose s calm tick round.begun pods totals
-may_close s calm tick round back totals pods kept may is =
+may_close s calm tick round back totals pods may is =
+    let kept = may.kept in
     let xs = calm ++ tick ∷ [] in
     let all = handed_all s.pods.pieces xs in
     let rest = rest_of s.config (pods_in s.pods.pieces) kept.ticks s.evictions s.pods.pieces kept.taken.pieces in
@@ -397,3 +395,27 @@ closed_kept s calm x begun back totals next kept may taken same =
     kept_by (pods_in s.pods.pieces) (kept.ticks ++ xs) next taken kept.few
     (few_more_events s.totals next.totals may.added.additions kept.events (few_added may.added.additions low)
     (same ∙ may.added.totals))
+
+-- as the code has it
+pub closes_as : (pods : List PodSpec) (before : List TickObs) (s : State) (calm : List TickObs) (x : TickObs)
+    (begun : Begun) (back shut new : Pods) (totals : Totals) (rows : List TickEvents) (pieces : List Piece)
+    (eviction : Option Eviction) (added evs : List Event) (es : Kept) → HasTaken pods before s
+    → MayClose s calm x begun back totals → rows ≡ begun.ticks.items → pieces ≡ back.pieces
+    → AddsEvents rows pieces begun.events.items added
+    → shut ≡ pods_of (map at_rest back.pieces) back.max_restart_delay back.has_dedicated_imagefs
+    → IsEvictionAt begun.config shut.pieces begun.at begun.heeded eviction
+    → AreWithout shut.pieces eviction new.pieces
+    → new.max_restart_delay ≡ shut.max_restart_delay → new.has_dedicated_imagefs ≡ shut.has_dedicated_imagefs
+    → evs ≡ added ++ of_eviction begun.at eviction
+    → es ≡ kept (begun.evictions.each ++ eviction ∷ []) (option_or eviction begun.evictions.pausing)
+    → HasTaken pods (before ++ (calm ++ x ∷ [])) (state begun.config begun.signals new es evs totals (Some begun.at))
+closes_as pods before s calm x begun back shut new totals rows pieces eviction added evs es taken may rows_are
+    pieces_are adds is by gone delay dedicated events evictions =
+    let ps : shut.pieces ≡ map at_rest back.pieces = ap (λ (p : Pods). p.pieces) is in
+    has_closed pods before s calm x begun back totals eviction new added evs es taken may
+    (subst (λ (rs : List TickEvents). AddsEvents rs back.pieces begun.events.items added) rows_are
+    (subst (λ (qs : List Piece). AddsEvents rows qs begun.events.items added) pieces_are adds))
+    (subst (λ (qs : List Piece). IsEvictionAt begun.config qs begun.at begun.heeded eviction) ps by)
+    (subst (λ (qs : List Piece). AreWithout qs eviction new.pieces) ps gone)
+    (delay ∙ ap (λ (p : Pods). p.max_restart_delay) is) (dedicated ∙ ap (λ (p : Pods). p.has_dedicated_imagefs) is)
+    events evictions

@@ -237,9 +237,14 @@ sums updates events orders = record { updates = updates; events = events; orders
 
 same_sums : (additions : List Totals)
     → sums_of_additions (addition_of 0 [] ∷ additions) ≡ sums_of_additions additions
-same_sums additions = λ i. sums (sum_by-cons (λ (t : Totals). t.updates) (addition_of 0 []) additions i)
-    (sum_by-cons (λ (t : Totals). t.events) (addition_of 0 []) additions i)
-    (sum_by-cons (λ (t : Totals). t.orders) (addition_of 0 []) additions i)
+same_sums additions = λ i. sums (none_of (λ (t : Totals). t.updates) refl i) (none_of (λ (t : Totals). t.events) refl i)
+    (none_of (λ (t : Totals). t.orders) refl i)
+  where
+    none_of : (f : Totals → ℕ) → f (addition_of 0 []) ≡ 0 → sum_by f (addition_of 0 [] ∷ additions) ≡ sum_by f additions
+    none_of f none =
+        let one : sum_by f (addition_of 0 [] ∷ additions) ≡ f (addition_of 0 []) + sum_by f additions =
+        sum_by-cons f (addition_of 0 []) additions in
+        omega (arith, one, none)
 
 more_sums : (a : Totals) (some all : List Totals) → sums_of_additions all ≡ sums_of_additions some
     → sums_of_additions (a ∷ all) ≡ sums_of_additions (a ∷ some)
@@ -280,6 +285,22 @@ add_all (q ∷ pieces) k some rest are =
     sent : ℕ → List Piece
     sent w = if nat_lt 0 w then with_number q k ∷ sent_from (k + 1) pieces else sent_from k pieces
 
+    first : (some : List Totals)
+        → AreAdditionsOf (map all_updated (with_number q k ∷ sent_from (k + 1) pieces)) some
+        → ((m : ℕ) (more : List Totals) → AreAdditionsOf (map all_updated (sent_from m pieces)) more
+        → AddAll pieces more) → AddAll (q ∷ pieces) some
+    first [] are others = absurd (omega (arith, are.as_many))
+    first (a ∷ some) are others =
+        let behind = others (k + 1) some (record {
+          as_many = omega (arith, are.as_many);
+          each = λ n p b at there. are.each (suc n) p b at there;
+        }) in
+        record {
+          all = a ∷ behind.all;
+          are = add_one q pieces some a (are.each 0 (all_updated (with_number q k)) a refl refl) behind;
+          same = more_sums a some behind.all behind.same;
+        }
+
     by : (w : ℕ) → q.waiting ≡ w → (some : List Totals) → AreAdditionsOf (map all_updated (sent_from k (q ∷ pieces))) some
         → ((m : ℕ) (more : List Totals) → AreAdditionsOf (map all_updated (sent_from m pieces)) more
         → AddAll pieces more) → AddAll (q ∷ pieces) some
@@ -296,22 +317,6 @@ add_all (q ∷ pieces) k some rest are =
         ap (λ (b : Bool). if b then with_number q k ∷ sent_from (k + 1) pieces else sent_from k pieces)
         (lt-ltb 0 q.waiting (omega (arith, waiting))) in
         first some (subst (λ (ps : List Piece). AreAdditionsOf (map all_updated ps) some) out are) others
-
-    first : (some : List Totals)
-        → AreAdditionsOf (map all_updated (with_number q k ∷ sent_from (k + 1) pieces)) some
-        → ((m : ℕ) (more : List Totals) → AreAdditionsOf (map all_updated (sent_from m pieces)) more
-        → AddAll pieces more) → AddAll (q ∷ pieces) some
-    first [] are others = absurd (omega (arith, are.as_many))
-    first (a ∷ some) are others =
-        let behind = others (k + 1) some (record {
-          as_many = omega (arith, are.as_many);
-          each = λ n p b at there. are.each (suc n) p b at there;
-        }) in
-        record {
-          all = a ∷ behind.all;
-          are = add_one q pieces some a (are.each 0 (all_updated (with_number q k)) a refl refl) behind;
-          same = more_sums a some behind.all behind.same;
-        }
 
 -- no more events than so many updates make
 pub few_added : (additions : List Totals) → ((n : ℕ) (a : Totals) → slice_get additions n ≡ Some a → IsLowAddition a)
@@ -334,6 +339,16 @@ few_more_events old new additions had added is =
     subst (λ (t : Totals). AreFewEvents t) (sym is)
     (record { events = omega (arith, had.events, added.events); orders = omega (arith, had.orders, added.orders) })
 
+-- a pod has no more ticks of its own than there are
+pub own_few : (xs : List TickObs) (n : ℕ) → length (pod_ticks xs n) ≤ length xs
+own_few [] n = omega arith
+own_few (x ∷ xs) n = by (shown_of x n) (own_few xs n)
+  where
+    by : (o : Option PodObs) → length (pod_ticks xs n) ≤ length xs
+        → length (map pod_tick (cons_option o (own_ticks xs n))) ≤ length (x ∷ xs)
+    by None le = omega (arith, le)
+    by (Some shown) le = omega (arith, le)
+
 -- the rounds of pods with few containers are low
 pub low_rounds : (pieces : List Piece) (xs : List TickObs) (additions : List Totals) → AreAtRest pieces
     → length xs ≤ most_ticks
@@ -348,12 +363,3 @@ low_rounds pieces xs additions rest few small are n a at =
     low_addition q.0 a
     (subst (λ (s : PodSpec). length s.containers ≤ most_containers) (sym r.2.pod) (small n r.0 r.1))
     (let le = own_few xs n in omega (arith, few, le, r.2.long)) (are.each n q.0 a q.1 at)
-  where
-    own_few : (xs : List TickObs) (n : ℕ) → length (pod_ticks xs n) ≤ length xs
-    own_few [] n = omega arith
-    own_few (x ∷ xs) n = by (shown_of x n) (own_few xs n)
-      where
-        by : (o : Option PodObs) → length (pod_ticks xs n) ≤ length xs
-            → length (map pod_tick (cons_option o (own_ticks xs n))) ≤ length (x ∷ xs)
-        by None le = omega (arith, le)
-        by (Some shown) le = omega (arith, le)

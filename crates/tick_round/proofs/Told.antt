@@ -115,6 +115,10 @@ all_behind pod max_restart_delay evicted before n at (x ∷ ticks) made behind o
     over_of o is = subst (λ (h : List PodTick). AreMadeOver pod max_restart_delay evicted before h made)
         (own_cons x ticks n o is) over
 
+    sooner : (ticks : List TickObs) → AreBehind (suc x.at) n ticks → AreBehind (suc at) n ticks
+    sooner [] all = tt
+    sooner (y ∷ ticks) all = (omega (arith, behind.0, all.0), all.1, all.2)
+
     by : (o : Option PodObs) → shown_of x n ≡ o → IfSome (shown_of x n) (λ observed. observed.at ≡ x.at)
         → ((from : List PodTick) (more : List MadeEvent)
         → AreMadeOver pod max_restart_delay evicted from (pod_ticks ticks n) more → AreBehind (suc at) n ticks
@@ -127,10 +131,6 @@ all_behind pod max_restart_delay evicted before n at (x ∷ ticks) made behind o
         subst (λ (m : List MadeEvent). AllBehind at m) (sym parts.4)
         (behind_more at (made_at o.at parts.0) parts.1 (behind_at at o.at parts.0 (omega (arith, same, behind.0)))
         (rest (before ++ pod_tick o ∷ []) parts.1 parts.3 (sooner ticks behind.2)))
-
-    sooner : (ticks : List TickObs) → AreBehind (suc x.at) n ticks → AreBehind (suc at) n ticks
-    sooner [] all = tt
-    sooner (y ∷ ticks) all = (omega (arith, behind.0, all.0), all.1, all.2)
 
 -- the weights of the events of a round, added up
 abbrev pub weight_of : (PodEvent → ℕ) → List MadeEvent → ℕ
@@ -200,7 +200,11 @@ told_from pod max_restart_delay evicted before n from (x ∷ ticks) front made a
         record {
           tells = subst (λ (o : Option PodObs). TellsTick pod max_restart_delay evicted before o (events_at x.at all)
               × Tells pod max_restart_delay evicted (with_own before o) n ticks all) (sym none) (empty, told.tells);
-          weighs = λ f. told.weighs f ∙ sym (sums f [] empty);
+          weighs = λ f.
+              let sum : List TickObs → ℕ = λ xs. sum_by (λ (y : TickObs). sum_by f (events_at y.at all)) xs in
+              let those : weight_of f made ≡ sum ticks = told.weighs f in
+              let none : sum (x ∷ ticks) ≡ 0 + sum ticks = sums f [] empty in
+              omega (arith, those, none);
         }
     by (Some o) shown moment rest =
         let parts = over_of (Some o) shown in

@@ -161,6 +161,7 @@ pub record CanClose (begun : Begun) (pods : Pods) (totals : Totals) : Type 0 whe
 -- its pods have gone out with all that waits for them, have taken it, and were entered: the node may end the round
 pub record MayEnd (s : State) (calm : List TickObs) (tick : TickObs) (round : Round) (back : List Piece)
     (totals : Totals) : Type 0 where
+  pub kept : IsKept s
   pub fits : FitAll s (calm ++ tick ∷ [])
   pub has_begun : HasBegun s calm tick round.begun
   pub pods : round.pods
@@ -194,7 +195,6 @@ pub record CanEnd (round : Round) (back : List Piece) (totals : Totals) : Type 0
   pub node : State
   pub calm : List TickObs
   pub tick : TickObs
-  pub kept : IsKept node
   pub may : MayEnd node calm tick round back totals
   pub numbered : AreNumbered (joined round.pods back)
 
