@@ -1,6 +1,6 @@
 -- Pieces by their numbers.
-use Rattle.std.proofs.Common.{◌≡◌, ◌≤◌, ℕ, ◌+◌, ◌-◌, List, [], ◌∷◌, ◌++◌, map, All, Bool, true, false, cond, Some, sym, ap, ◌∙◌}
-use Rattle.std.proofs.Common.{refl, subst, arith}
+use Rattle.std.proofs.Common.{◌≡◌, ◌≤◌, ℕ, ◌+◌, ◌-◌, List, [], ◌∷◌, ◌++◌, map, All, Bool, true, false, cond, Some}
+use Rattle.std.proofs.Common.{refl, sym, ap, ◌∙◌, subst, arith}
 use Rattle.std.specs.Prelude.{slice_get, option_map, unwrap_or, Option, None, Result, Ok, Err, OnOk, OnErr}
 use Rattle.std.proofs.lemmas.Option.{slice_get-map, same_Some}
 use Rattle.pod_piece.specs.Piece.{Piece, updated, all_updated}
