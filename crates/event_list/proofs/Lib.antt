@@ -4,5 +4,4 @@ pub mod Exists
 pub mod Adds
 pub mod Merged
 pub mod Ticks
-pub mod Rounds
 pub mod Cut
