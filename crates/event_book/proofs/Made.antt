@@ -27,7 +27,8 @@ use Rattle.pod_piece.proofs.Rounds.{made_round, none_made}
 use Rattle.event_book.specs.declared.totals.Totals.{Totals}
 use Rattle.event_book.specs.Limits.{most_events, most_updates, IsLowAddition}
 use Rattle.event_book.specs.declared.totals.Entry.{Entry}
-use Rattle.event_book.specs.Totals.{is_order, entry_of}
+use Rattle.event_book.specs.Totals.{is_order, entry_of, IsEntryOf}
+use Rattle.event_book.specs.Shares.{one_update}
 use Rattle.event_book.specs.Rounds.{is_made_order, entry_of_made, addition_of, IsAdditionOf}
 use Rattle.event_book.proofs.Low.{few_events, low}
 use Rattle.event_book.proofs.Numbers.{totals_same}
@@ -230,3 +231,17 @@ few_in_round p rows events earlier last few short before are is was =
       omega (arith, many, short, e, last_events),
       omega (arith, many, short, o, orders, whole, last_orders),
     )
+
+-- a round of one tick adds one update, with the entry of that tick
+pub entry_added : (p : Piece) (entry : Entry) → round_length p ≡ 1 → IsEntryOf p entry
+    → IsAdditionOf p (one_update entry)
+entry_added p entry one (events, are, is) =
+    let Over : List PodTick → Type 0 =
+    λ h. AreMadeOver p.pod p.max_restart_delay (evicted_at p) (take p.begun (ticks p)) h [] in
+    let long : length (round_of p) ≡ round_length p = length-drop p.begun (ticks p) in
+    let none : before_last (round_of p) ≡ [] =
+    ap (λ n. take n (round_of p)) {x = length (round_of p) - 1} {y = 0} (omega (arith, long, one)) in
+    let events_is = ap (λ (e : Entry). e.events) is in
+    let orders_is = ap (λ (e : Entry). e.orders) is in
+    round_addition p [] events (one_update entry) (omega (arith, one)) (subst Over (sym none) refl) are (sym one)
+    (omega (arith, events_is)) (omega (arith, orders_is))

@@ -46,7 +46,7 @@ additions_more xs ys es piece addition put are is =
       ];
     })
 
--- what each piece has by its place
+-- what each piece adds, by its place
 listed : (addition : Piece → Totals) (pieces : List Piece) (es : List Totals) → length es ≡ length pieces
     → ((n : ℕ) (p : Piece) → slice_get pieces n ≡ Some p → addition p ≡ get_or es n nothing) → map addition pieces ≡ es
 listed addition [] [] len same = refl
@@ -72,16 +72,16 @@ module _ (pieces : List Piece) (es : List Totals) (numbered : AreNumbered pieces
   all_listed : map by_number pieces ≡ es
   all_listed = listed by_number pieces es are.as_many (λ n p at. ap (λ k. get_or es k nothing) (numbered n p at))
 
+  same_sum : (f : Totals → ℕ) → sum_by (λ (p : Piece). f (by_number p)) pieces ≡ sum_by f es
+  same_sum f = sym (sum_map by_number f pieces) ∙ ap (sum_by f) all_listed
+
   sums_are : (totals : Totals) → AreSumsOf pieces totals → totals ≡ sums_of_additions es
   sums_are totals sums =
       let added = sums.sums by_number have_additions in
       totals_same totals (sums_of_additions es)
-      (added.updates
-      ∙ (sym (sum_map by_number (λ (e : Totals). e.updates) pieces) ∙ ap (sum_by (λ (e : Totals). e.updates)) all_listed))
-      (added.events
-      ∙ (sym (sum_map by_number (λ (e : Totals). e.events) pieces) ∙ ap (sum_by (λ (e : Totals). e.events)) all_listed))
-      (added.orders
-      ∙ (sym (sum_map by_number (λ (e : Totals). e.orders) pieces) ∙ ap (sum_by (λ (e : Totals). e.orders)) all_listed))
+      (added.updates ∙ same_sum (λ (t : Totals). t.updates))
+      (added.events ∙ same_sum (λ (t : Totals). t.events))
+      (added.orders ∙ same_sum (λ (t : Totals). t.orders))
 
 -- what a round of pieces adds to a low number leaves room for one piece more
 pub within_round : {base added total more count : ℕ} → base ≤ 2 ^ 62 → total ≡ base + added
@@ -105,7 +105,8 @@ share_same share parts totals same_parts same_totals = λ k. share_with (same_pa
 -- the share with which the pieces were entered that are in order now
 pub settled : (all done pieces : List Piece) (es : List Totals) (base : Totals) (share : ShareState) (parts : ℕ)
     → AreNumbered all → pieces ≡ map all_updated all → IsPermutation done pieces → AreAdditionsOf pieces es
-    → AreAdded done base share.totals → share.parts ≡ parts → share ≡ share_with parts (plus base (sums_of_additions es))
+    → AreAdded done base share.totals → share.parts ≡ parts
+    → share ≡ share_with parts (plus base (sums_of_additions es))
 settled all done pieces es base share parts numbered are_updated perm are added whole =
     let in_place : AreNumbered pieces = subst AreNumbered (sym are_updated) (numbered_map all (λ n. n) numbered) in
     let sums =

@@ -1,12 +1,12 @@
 -- Pieces by their numbers.
-use Rattle.std.proofs.Common.{◌≡◌, ◌≤◌, ℕ, ◌+◌, ◌-◌, List, [], ◌∷◌, ◌++◌, map, All, Bool, true, false, cond, Some, sym, ap, ◌∙◌}
-use Rattle.std.proofs.Common.{refl, subst, arith}
-use Rattle.std.specs.Prelude.{slice_get, option_map, unwrap_or, Option, None, Result, Ok, Err, OnOk, OnErr}
+use Rattle.std.proofs.Common.{◌≡◌, ℕ, ◌+◌, ◌-◌, List, [], ◌∷◌, ◌++◌, map, All, Bool, true, false, cond, Some}
+use Rattle.std.proofs.Common.{sym, ap, ◌∙◌, subst, arith}
+use Rattle.std.specs.Prelude.{slice_get, option_map, unwrap_or, Option, Result, Ok, Err, OnOk, OnErr}
 use Rattle.std.proofs.lemmas.Option.{slice_get-map, same_Some}
 use Rattle.pod_piece.specs.Piece.{Piece, updated, all_updated}
 use Rattle.piece_deques.specs.Rule.{IsPieceDue}
 use Rattle.piece_deques.proofs.Lists.{sum_grown}
-use Rattle.pod_pool.specs.Done.{IsDone, IsLeftFrom, IsLeftOf, with_waiting, waiting_at, weigh}
+use Rattle.pod_pool.specs.Done.{IsDone, IsLeftFrom, IsLeftOf, LeftAsDealt, with_waiting, waiting_at, weigh}
 
 -- a piece that was due is done once all its ticks have come
 pub done_once : (all : List Piece) (piece new : Piece) → IsPieceDue all piece → new ≡ all_updated piece → IsDone all new
@@ -30,26 +30,17 @@ left_of all piece new due left =
           omega (arith, many, fewer);
     }
 
--- the piece of the list that it is left of
-pub left_from : (all : List Piece) (piece : Piece) → IsLeftOf all piece
-    → (dealt : Piece) × (slice_get all piece.number ≡ Some dealt) × IsLeftFrom dealt piece
-left_from all piece left = by (slice_get all piece.number) refl left.is left.fewer
-  where
-    by : (o : Option Piece) → slice_get all piece.number ≡ o → option_map (with_waiting piece.waiting) o ≡ Some piece
-        → piece.waiting ≤ unwrap_or (option_map (λ (p : Piece). p.waiting) o) 0
-        → (dealt : Piece) × (slice_get all piece.number ≡ Some dealt) × IsLeftFrom dealt piece
-    by None here is fewer = absurd (let w : None ≡ Some piece = is in cc)
-    by (Some dealt) here is fewer =
-        let same : piece ≡ with_waiting piece.waiting dealt =
-        sym (same_Some (with_waiting piece.waiting dealt) piece is) in
-        (dealt, here, record { is = same; pending = left.pending; fewer = fewer })
-
 -- a piece with one tick that waits is left as it was
-pub left_alone : (dealt piece : Piece) → dealt.waiting ≡ 1 → IsLeftFrom dealt piece → piece ≡ dealt
-left_alone dealt piece one left =
+pub left_as_dealt : LeftAsDealt
+left_as_dealt all dealt piece left stands one =
+    let many : waiting_at all piece.number ≡ dealt.waiting =
+    ap (λ (o : Option Piece). unwrap_or (option_map (λ (p : Piece). p.waiting) o) 0) stands in
     let pending = left.pending in
     let fewer = left.fewer in
-    left.is ∙ ap (λ n. with_waiting n dealt) {x = piece.waiting} {y = dealt.waiting} (omega arith)
+    let same : Some (with_waiting piece.waiting dealt) ≡ Some piece =
+    ap (option_map (with_waiting piece.waiting)) (sym stands) ∙ left.is in
+    sym (same_Some (with_waiting piece.waiting dealt) piece same)
+    ∙ ap (λ n. with_waiting n dealt) {x = piece.waiting} {y = dealt.waiting} (omega (arith, many, pending, fewer, one))
 
 -- one update more
 pub one_more_update : (dealt now new : Piece) → now ≡ with_waiting now.waiting dealt → new ≡ updated now

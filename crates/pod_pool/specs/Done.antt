@@ -30,6 +30,12 @@ pub record IsLeftOf (all : List Piece) (piece : Piece) : Type 0 where
   pub pending : 0 < piece.waiting
   pub fewer : piece.waiting ≤ waiting_at all piece.number
 
+-- where one tick waited in the piece of the list, it is left as it was dealt
+abbrev pub LeftAsDealt : Type 0
+LeftAsDealt =
+    (all : List Piece) (dealt piece : Piece) → IsLeftOf all piece → slice_get all piece.number ≡ Some dealt
+    → dealt.waiting ≡ 1 → piece ≡ dealt
+
 -- the numbers of pieces, weighed and added up
 abbrev pub weigh : (ℕ → ℕ) → List Piece → ℕ
 weigh weight pieces = sum_by (λ (piece : Piece). weight piece.number) pieces

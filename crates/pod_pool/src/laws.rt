@@ -1,9 +1,15 @@
-//! What the definition of the deal implies. The function does nothing; its contract is the law.
+//! What the definitions of the deal and of a refused update imply. A function does nothing; its contract is the law.
 
 ghost use Rattle.pod_pool.specs.Dealing.{DealtByRemainder};
+ghost use Rattle.pod_pool.specs.Done.{LeftAsDealt};
 
 /// A worker is dealt just the pieces whose numbers leave its own, divided by how many workers there are, in their
 /// order.
 pub fn dealt_by_remainder()
     ensures { DealtByRemainder }
+{}
+
+/// A piece in which one tick waited comes back as it was handed in where that update was refused.
+pub fn left_as_dealt()
+    ensures { LeftAsDealt }
 {}

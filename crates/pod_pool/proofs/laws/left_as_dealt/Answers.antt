@@ -1,0 +1,5 @@
+use Rattle.pod_pool.proofs.Numbers.{left_as_dealt as lemma}
+use Rattle.pod_pool.proofs.laws.left_as_dealt.Goals as goal
+
+pub returns : goal.returns
+returns c = lemma
