@@ -1,6 +1,6 @@
 //! The pods of a trace, each with what the first tick shows of it.
 
-ghost use Rattle.std.specs.Prelude.{◌≡◌, ◌≤◌, length, IfOk, IsTrue, OnOk};
+ghost use Rattle.std.specs.Prelude.{◌≡◌, ◌<◌, ◌≤◌, length, IfOk, OnOk};
 ghost use Rattle.observations.specs.Limits.{most_pods};
 ghost use Rattle.test_pods.specs.Pods.{ArePending};
 

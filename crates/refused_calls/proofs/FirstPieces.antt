@@ -1,6 +1,6 @@
 -- One piece more of a round.
 use Rattle.std.proofs.Common.{◌≡◌, ◌∙◌, ℕ, ◌+◌, List, [], ◌∷◌, ◌++◌, length, length-append, sym, ap}
-use Rattle.std.specs.Prelude.{IsTrue}
+use Rattle.std.specs.Prelude.{◌<◌}
 use Rattle.pod_piece.specs.Piece.{Piece}
 use Rattle.test_pods.proofs.Pieces as pieces
 use Rattle.refused_calls.specs.Round.{AreFirst}

@@ -1,6 +1,6 @@
 //! A pod by itself: what stands where it is refused memory.
 
-ghost use Rattle.std.specs.Prelude.{◌≡◌, IfOk, IsTrue, OnOk};
+ghost use Rattle.std.specs.Prelude.{◌≡◌, ◌<◌, IfOk, OnOk};
 
 use crate::alike::are_alike;
 use crate::recorded::{pod, shown};

@@ -1,6 +1,6 @@
 -- One pod more of a round.
 use Rattle.std.proofs.Common.{◌≡◌, ◌∙◌, ◌++◌, ◌∷◌, [], List, Some, length, sym, ap, subst, inl, inr}
-use Rattle.std.specs.Prelude.{IsTrue, slice_get}
+use Rattle.std.specs.Prelude.{◌<◌, slice_get}
 use Rattle.histories.proofs.Lists.{place_split}
 use Rattle.pod_piece.specs.Piece.{Piece}
 use Rattle.piece_deques.proofs.Lists.{grown}

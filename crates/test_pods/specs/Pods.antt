@@ -1,5 +1,5 @@
 -- The pods of a round.
-use Rattle.std.specs.Prelude.{◌≡◌, List, All, IsTrue, false}
+use Rattle.std.specs.Prelude.{◌≡◌, ◌<◌, List, All}
 use Rattle.pod_state.specs.Pods.{PodTick}
 use Rattle.pod_piece.specs.Listings.{IsNextTick}
 use Rattle.pod_piece.specs.Piece.{Piece}

@@ -1,7 +1,7 @@
 //! Pods to which tests hand what a tick shows of them.
 #![tactic(auto)]
 
-ghost use Rattle.std.specs.Prelude.{◌≡◌, ◌<◌, ◌↔◌, false, Err, IfSome, IsTrue, OnErr, OnOk};
+ghost use Rattle.std.specs.Prelude.{◌≡◌, ◌<◌, ◌↔◌, Err, IfSome, IsTrue, OnErr, OnOk};
 ghost use Rattle.pod_state.specs.Pods.{pod_tick};
 ghost use Rattle.pod_piece.specs.Piece.{with_tick};
 ghost use Rattle.test_pods.specs.Pods.{MayBeHanded};
