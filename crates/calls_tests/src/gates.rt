@@ -2,8 +2,9 @@
 
 ghost use Rattle.std.specs.Prelude.{◌<◌};
 
+use crate::turns::Turns;
 use kubelet_replay::Gate;
-use std::alloc::{AllocError, AllocGlobal, Global};
+use std::alloc::{AllocError, AllocGlobal};
 use std::process::Abort;
 use std::sync::atomic::{AtomicU64, Ordering};
 use std::thread;
@@ -34,24 +35,8 @@ pub(crate) struct Meeting<'a, C> {
     workers: u64,
     arrivals: AtomicU64,
     missed: AtomicU64,
-    /// The calls of each pod: its updates begin where they are even, and end where they are odd.
-    calls: Vec<AtomicU64>,
-    disordered: AtomicU64,
+    turns: Turns,
     ghost some: { 0 < workers },
-}
-
-pub(crate) fn zeros(alloc: Global, count: usize) -> Result<Vec<AtomicU64>, AllocError> {
-    let mut counts = Vec::new(alloc);
-    for _ in 0..count {
-        counts.push(AtomicU64::new(0))?;
-    }
-    Ok(counts)
-}
-
-fn are_all(counts: &[AtomicU64], wanted: u64) -> bool {
-    counts
-        .iter()
-        .all(|count| count.load(Ordering::SeqCst) == wanted)
 }
 
 impl<'a, C: AllocGlobal + Clock> Meeting<'a, C> {
@@ -63,20 +48,13 @@ impl<'a, C: AllocGlobal + Clock> Meeting<'a, C> {
     ) -> Result<Meeting<'a, C>, AllocError>
         requires { 0 < workers }
     {
-        let alloc = clock.alloc();
         Ok(Meeting {
             clock,
             workers: workers as u64,
             arrivals: AtomicU64::new(0),
             missed: AtomicU64::new(0),
-            calls: zeros(alloc, pods)?,
-            disordered: AtomicU64::new(0),
+            turns: Turns::new(clock.alloc(), pods)?,
         })
-    }
-
-    /// Whether each pod has entered and left this many times in turn, and no other has.
-    fn has_counted(&self, times: u64) -> bool {
-        are_all(&self.calls, times.saturating_mul(2)) && self.disordered.load(Ordering::SeqCst) == 0
     }
 
     /// No update gave up, and each pod has entered and left this many times in turn.
@@ -87,28 +65,15 @@ impl<'a, C: AllocGlobal + Clock> Meeting<'a, C> {
             "an update stood alone, with {workers} workers"
         );
         assert!(rt;
-            self.has_counted(times),
+            self.turns.are_each(times),
             "a pod did not enter and leave {times} times in turn, with {workers} workers"
         );
     }
 }
 
-impl<C> Meeting<'_, C> {
-    /// Counts a call, and whether it came out of its turn.
-    fn count(&self, pod: usize, turn: u64) {
-        let in_turn = match self.calls.get(pod) {
-            Some(calls) => calls.fetch_add(1, Ordering::SeqCst) % 2 == turn,
-            None => false,
-        };
-        if !in_turn {
-            self.disordered.fetch_add(1, Ordering::SeqCst);
-        }
-    }
-}
-
 impl<C: Clock + Sync> Gate for Meeting<'_, C> {
     fn enter(&self, pod: usize) {
-        self.count(pod, 0);
+        self.turns.begin(pod);
         let before = self.arrivals.fetch_add(1, Ordering::SeqCst);
         let wanted = (before / self.workers)
             .saturating_add(1)
@@ -119,7 +84,7 @@ impl<C: Clock + Sync> Gate for Meeting<'_, C> {
     }
 
     fn leave(&self, pod: usize) {
-        self.count(pod, 1);
+        self.turns.end(pod);
     }
 }
 

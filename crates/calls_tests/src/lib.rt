@@ -47,9 +47,17 @@ mod steal_tests;
 #[cfg(test)]
 mod stopwatch;
 #[cfg(test)]
+mod stretch_tests;
+#[cfg(test)]
+mod stretches;
+#[cfg(test)]
+mod tally;
+#[cfg(test)]
 mod trace_tests;
 #[cfg(test)]
 mod traces;
+#[cfg(test)]
+mod turns;
 #[cfg(test)]
 mod window_tests;
 #[cfg(test)]

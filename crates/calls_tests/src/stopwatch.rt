@@ -1,6 +1,6 @@
 //! A gate that takes times.
 
-use crate::gates::zeros;
+use crate::turns::zeros;
 use kubelet_replay::Gate;
 use std::alloc::{AllocError, AllocGlobal, Global};
 use std::sync::atomic::{AtomicU64, Ordering};

@@ -8,8 +8,9 @@ use crate::nodes::node_of;
 use crate::reports::report;
 use crate::rounds::round;
 use crate::seen::{Line, Saw, Unprepared};
+use crate::several::several_ticks;
 use crate::ticks::{Way, tick};
-use event_book::{Blanks, EventBook};
+use event_book::{Blanks, EventBook, WholeBook};
 use std::alloc::Global;
 use std::marker::Brand;
 use std::sync::ledger::Ledger;
@@ -27,6 +28,7 @@ pub(crate) enum NodeCall {
 #[derive(Clone, Copy)]
 pub(crate) enum BookCall {
     Node(NodeCall),
+    SeveralTicks,
     UpdateAll,
 }
 
@@ -97,6 +99,7 @@ fn over_book<U: Ledger + Send, E: Ledger + Send, O: Ledger + Send, R: Spawner>(
             let node = node_of::<U, E, O>(alloc, blanks, call.has_all())?;
             on_node(rt, alloc, node, call)
         }
+        BookCall::SeveralTicks => several_ticks(rt, alloc, WholeBook::<U, E, O>::new(blanks)),
         BookCall::UpdateAll => {
             let (book, share) = EventBook::<U, E, O>::new(blanks);
             round(rt, alloc, book, share)

@@ -11,6 +11,7 @@ mod recorded;
 mod reports;
 mod rounds;
 mod seen;
+mod several;
 mod ticks;
 
 use calls::{BookCall, NodeCall, on_book};
@@ -28,7 +29,7 @@ enum Call {
 }
 
 /// The calls in the order of their lines.
-const CALLS: [Call; 9] = [
+const CALLS: [Call; 10] = [
     Call::Piece(PieceCall::Hand),
     Call::Piece(PieceCall::UpdateInPlace),
     Call::Piece(PieceCall::Update),
@@ -36,6 +37,7 @@ const CALLS: [Call; 9] = [
     Call::Book(BookCall::Node(NodeCall::Tick(Way::Alone))),
     Call::Book(BookCall::Node(NodeCall::Tick(Way::Played))),
     Call::Book(BookCall::Node(NodeCall::Tick(Way::InThreads))),
+    Call::Book(BookCall::SeveralTicks),
     Call::Book(BookCall::UpdateAll),
     Call::Book(BookCall::Node(NodeCall::ReportText)),
 ];

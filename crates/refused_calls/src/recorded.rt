@@ -1,5 +1,8 @@
 //! The trace of the calls, and its report.
 
+ghost use Rattle.std.specs.Prelude.{IfOk};
+ghost use Rattle.trace.specs.Sound.{AreAcceptable, HasShape};
+
 use crate::seen::Unprepared;
 use manifest::PodSpec;
 use observations::{PodObs, TickObs};
@@ -58,7 +61,10 @@ pub(crate) fn is_report(text: &str) -> bool {
 }
 
 /// The trace. Each of the following reads it anew, so that a call holds no more of it than it uses.
-fn read(alloc: Global) -> Result<Trace, Unprepared> {
+pub(crate) fn read(alloc: Global) -> Result<Trace, Unprepared>
+    ensures acceptable { IfOk result (λ t. AreAcceptable t.ticks) }
+    ensures shape { IfOk result (λ t. HasShape t.pods t.arrivals t.departures t.ticks) }
+{
     Ok(read_trace(alloc, Format::Standard, TEXT.as_bytes())?)
 }
 

@@ -11,8 +11,8 @@ use std::alloc::Global;
 use std::sync::ledger::Ledger;
 use tick_round::{NoGate, Node, Spawner, TickFault};
 
-/// This many workers share the pods of a tick.
-const WORKERS: usize = 2;
+/// This many workers share the pods of a round.
+pub(crate) const WORKERS: usize = 2;
 
 /// How a node takes a tick.
 #[derive(Clone, Copy)]
@@ -70,7 +70,7 @@ fn takes_no_tick<U: Ledger, E: Ledger, O: Ledger>(node: &mut Node<U, E, O>, tick
 }
 
 /// What was seen of a node that did not take its tick.
-fn halted<U: Ledger, E: Ledger, O: Ledger>(
+pub(crate) fn halted<U: Ledger, E: Ledger, O: Ledger>(
     alloc: Global,
     node: &mut Node<U, E, O>,
 ) -> Result<Saw, Unprepared> {
