@@ -38,7 +38,7 @@ use Rattle.tick_round.specs.Evict.{IsEvictionAt, AreWithout}
 use Rattle.tick_round.specs.declared.stretch.Begun.{Begun}
 use Rattle.tick_round.specs.declared.stretch.Stretch.{Stretch}
 use Rattle.tick_round.specs.declared.stretch.Round.{Round}
-use Rattle.tick_round.specs.Node.{State, state, ArePieces, HasTaken, Fits, FitAll, MayBeHandedAll, IsNextByAll}
+use Rattle.tick_round.specs.Node.{State, state, ArePieces, HasTaken, Fits, FitAll, MayBeHandedAll, IsNextBy}
 use Rattle.tick_round.specs.Round.{AreFew, IsKept}
 use Rattle.tick_round.specs.Stretch.{IsSampled, heeded_in, IsCalm, AreCalm, no_evictions, handed_all, HasBegun, IsOpen}
 use Rattle.tick_round.specs.Stretch.{MayGoOn, GoesOnWith, Takes, IsStretchOf, IsPassed, MayClose, CanClose, MayEnd}
@@ -419,3 +419,54 @@ closes_as pods before s calm x begun back shut new totals rows pieces eviction a
     (subst (λ (qs : List Piece). AreWithout qs eviction new.pieces) ps gone)
     (delay ∙ ap (λ (p : Pods). p.max_restart_delay) is) (dedicated ∙ ap (λ (p : Pods). p.has_dedicated_imagefs) is)
     events evictions
+
+-- one tick more is taken
+pub may_more : (a b c : Stretch) (y : TickObs) (rest : List TickObs) → MayGoOn a (y ∷ rest) → a.begun.heeded ≡ None
+    → IsPassed a b → Takes y b c → MayGoOn c rest
+may_more a b c y rest may none passed takes = record {
+  node = may.node;
+  kept = may.kept;
+  calm = may.calm ++ may.tick ∷ [];
+  tick = y;
+  is_open = next_is_open may.node may.calm may.tick y a b c may.is_open none passed takes;
+  fits = subst (λ (xs : List TickObs). FitAll may.node xs)
+      (sym (append_assoc (may.calm ++ may.tick ∷ []) (y ∷ []) rest)) may.fits;
+}
+
+pub goes_more : (s : State) (calm : List TickObs) (x : TickObs) (more : List TickObs) (a b c : Stretch) (y : TickObs)
+    (rest : List TickObs) → GoesOnWith s calm x more a (y ∷ rest) → a.begun.heeded ≡ None → IsPassed a b → Takes y b c
+    → GoesOnWith s calm x more c rest
+goes_more s calm x more a b c y rest goes none passed takes = record {
+  calm_now = goes.calm_now ++ goes.last ∷ [];
+  last = y;
+  is_open = next_is_open s goes.calm_now goes.last y a b c goes.is_open none passed takes;
+  taken = goes.taken ∙ sym (append_assoc (goes.calm_now ++ goes.last ∷ []) (y ∷ []) rest);
+}
+
+-- it may be handed to the pods
+pub may_hand_more : (a b : Stretch) (y : TickObs) (rest : List TickObs) → MayGoOn a (y ∷ rest) → IsPassed a b
+    → AreNext b.pods.pieces y.pods
+may_hand_more a b y rest may passed =
+    may_hand may.node (may.calm ++ may.tick ∷ []) y rest b.pods may.kept may.fits (passed.pods ∙ may.is_open.pods)
+
+-- the pieces of an open round go out
+pub is_out : (s : State) (calm : List TickObs) (x : TickObs) (stretch : Stretch) (pieces : List Piece) (book : Totals)
+    (round : Round) → IsKept s → IsOpen s calm x stretch → book ≡ s.totals → round.begun ≡ stretch.begun
+    → pieces ≡ sent_from 0 stretch.pods.pieces
+    → round.pods
+    ≡ awaited (staying stretch.pods.pieces) stretch.pods.max_restart_delay stretch.pods.has_dedicated_imagefs
+    → AreNumbered (joined round.pods (map all_updated pieces)) → IsOut s calm x pieces book round
+is_out s calm x stretch pieces book round kept is same begun sent stay numbered = record {
+  kept = kept;
+  has_begun = subst (λ (b : Begun). HasBegun s calm x b) (sym begun) is.has_begun;
+  sent = sent ∙ ap (λ (p : Pods). sent_from 0 p.pieces) is.pods;
+  pods = stay
+      ∙ ap (λ (p : Pods). awaited (staying p.pieces) p.max_restart_delay p.has_dedicated_imagefs) is.pods;
+  numbered = numbered;
+  book = same;
+}
+
+-- the first of these ticks fit, of which some are left
+pub fit_taken : (s : State) (ticks taken rest : List TickObs) → FitAll s ticks → ticks ≡ taken ++ rest → FitAll s taken
+fit_taken s ticks taken rest fits is =
+    fit_front s taken rest (subst (λ (xs : List TickObs). FitAll s xs) is fits)

@@ -22,7 +22,7 @@ use Rattle.tick_round.specs.Update.{AreUpTo, MayUpdate, AreAdded, UpdatesAt}
 abbrev totals : ℕ → ℕ → ℕ → Totals
 totals updates events orders = record { updates = updates; events = events; orders = orders }
 
-same_totals : (u e o u' e' o' : ℕ) → u ≡ u' → e ≡ e' → o ≡ o' → totals u e o ≡ totals u' e' o'
+pub same_totals : (u e o u' e' o' : ℕ) → u ≡ u' → e ≡ e' → o ≡ o' → totals u e o ≡ totals u' e' o'
 same_totals u e o u' e' o' p q r = λ i. totals (p i) (q i) (r i)
 
 sum_more : (f : Totals → ℕ) (additions : List Totals) (x : Totals)
