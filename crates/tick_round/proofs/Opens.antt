@@ -1,21 +1,15 @@
 -- A node that begins a round, takes ticks into it and ends it.
-use Rattle.std.proofs.Common.{◌≡◌, ◌∙◌, ℕ, zero, suc, ◌+◌, ◌<◌, ◌≤◌, List, [], ◌∷◌, ◌++◌, length, map}
+use Rattle.std.proofs.Common.{◌≡◌, ◌∙◌, ℕ, zero, suc, ◌≤◌, List, [], ◌∷◌, ◌++◌, length, map}
 use Rattle.std.proofs.Common.{Option, Some, None, refl, ap, sym, subst, arith, append_assoc, append-nil}
-use Rattle.std.specs.Prelude.{slice_get, option_map, IfSome}
+use Rattle.std.specs.Prelude.{slice_get, option_map}
 use Rattle.std.specs.Option.{option_or}
 use Rattle.std.proofs.lemmas.List.{length-map, length-append}
 use Rattle.std.proofs.lemmas.Option.{slice_get_within, slice_get-map}
-use Rattle.histories.proofs.Places.{length-more}
 use Rattle.histories.proofs.Lists.{given_at, map_more}
 use Rattle.manifest.specs.declared.pod.PodSpec.{PodSpec}
-use Rattle.manifest.specs.Containers.{most_containers}
 use Rattle.node_config.specs.declared.node.NodeConfig.{NodeConfig}
-use Rattle.observations.specs.Pods.{PodObs}
 use Rattle.observations.specs.declared.tick.TickObs.{TickObs}
-use Rattle.observations.specs.Limits.{most_ticks, most_pods}
 use Rattle.node_signals.specs.declared.node.NodeSignals.{NodeSignals}
-use Rattle.node_signals.specs.declared.event.NodeEvent.{NodeEvent}
-use Rattle.node_signals.specs.declared.key.ThresholdKey.{ThresholdKey}
 use Rattle.pod_piece.specs.Piece.{Piece, all_updated, at_rest, pods_in}
 use Rattle.pod_piece.specs.Made.{MadeEvent, round_length}
 use Rattle.eviction.specs.declared.eviction.Eviction.{Eviction}
@@ -29,8 +23,8 @@ use Rattle.event_list.specs.declared.tick.TickEvents.{TickEvents}
 use Rattle.event_list.specs.Events.{of_eviction}
 use Rattle.event_list.specs.Tick.{of_ticks, AddsEvents, AreMadeBy, AreOfTicks, MomentsRise}
 use Rattle.event_list.specs.Totals.{totals_of}
-use Rattle.node_pods.specs.Pods.{Pods, pods_of, AreNumbered, AreNext, MayBeHanded, handed_each, after_each, closed}
-use Rattle.node_pods.specs.Pods.{sent_from, staying, Awaited, awaited, joined, joined_from}
+use Rattle.node_pods.specs.Pods.{Pods, pods_of, AreNumbered, AreNext, handed_each, after_each, closed}
+use Rattle.node_pods.specs.Pods.{sent_from, staying, Awaited, awaited, joined}
 use Rattle.node_pods.specs.Steps.{AreFree}
 use Rattle.node_pods.proofs.Steps.{is_closed, are_closed, joined_updated, after_is}
 use Rattle.node_pods.proofs.Candidates.{same_piece}
@@ -38,20 +32,20 @@ use Rattle.tick_round.specs.Evict.{IsEvictionAt, AreWithout}
 use Rattle.tick_round.specs.declared.stretch.Begun.{Begun}
 use Rattle.tick_round.specs.declared.stretch.Stretch.{Stretch}
 use Rattle.tick_round.specs.declared.stretch.Round.{Round}
-use Rattle.tick_round.specs.Node.{State, state, ArePieces, HasTaken, Fits, FitAll, MayBeHandedAll, IsNextBy}
-use Rattle.tick_round.specs.Round.{AreFew, IsKept}
+use Rattle.tick_round.specs.Node.{State, state, ArePieces, HasTaken, Fits, FitAll, MayBeHandedAll}
+use Rattle.tick_round.specs.Round.{IsKept}
 use Rattle.tick_round.specs.Stretch.{IsSampled, heeded_in, IsCalm, AreCalm, no_evictions, handed_all, HasBegun, IsOpen}
-use Rattle.tick_round.specs.Stretch.{MayGoOn, GoesOnWith, Takes, IsStretchOf, IsPassed, MayClose, CanClose, MayEnd}
+use Rattle.tick_round.specs.Stretch.{MayGoOn, GoesOnWith, Takes, IsStretchOf, IsPassed, MayClose, MayEnd}
 use Rattle.tick_round.specs.Stretch.{CanEnd, IsOut}
-use Rattle.tick_round.specs.Update.{MayUpdate, AreAdded}
+use Rattle.tick_round.specs.Update.{AreAdded}
 use Rattle.tick_round.proofs.Counts.{AreRows, totals_added}
-use Rattle.tick_round.proofs.Ends.{closes, after_all-length}
+use Rattle.tick_round.proofs.Ends.{closes}
 use Rattle.tick_round.proofs.Evicts.{get_pod}
 use Rattle.tick_round.proofs.GoesOn.{kept_by}
 use Rattle.tick_round.proofs.Handing.{after_all, handed_all-more, closed_all, front_handed, rest_handed, next_open}
 use Rattle.tick_round.proofs.Handing.{IsGrown, not_grown, handed_at, handed_all-length}
 use Rattle.tick_round.proofs.Owns.{AreAtRest, behind_each_other, rows_of, rows_more, rows_rise, of_rows, told_by}
-use Rattle.tick_round.proofs.Owns.{additions_for, AddAll, add_all, few_added, few_more_events, low_rounds}
+use Rattle.tick_round.proofs.Owns.{additions_for, add_all, few_added, few_more_events, low_rounds}
 use Rattle.tick_round.proofs.Pieces.{pod_at}
 
 -- between two rounds nothing waits

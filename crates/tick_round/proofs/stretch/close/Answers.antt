@@ -1,4 +1,4 @@
-use Rattle.std.proofs.Common.{◌≡◌, List, [], ◌∷◌, ◌++◌, Some, refl, sym, subst}
+use Rattle.std.proofs.Common.{List, [], ◌∷◌, ◌++◌, Some, refl, sym, subst}
 use Rattle.pod_piece.specs.Piece.{Piece, pods_in}
 use Rattle.event_list.specs.declared.tick.TickEvents.{TickEvents}
 use Rattle.event_list.specs.Tick.{AreOfTicks, MomentsRise}

@@ -1,5 +1,4 @@
-use Rattle.std.proofs.Common.{◌≡◌, ℕ, List, [], ◌∷◌, length, map, subst}
-use Rattle.observations.specs.Observations.{all_shown}
+use Rattle.std.proofs.Common.{◌≡◌, ℕ, [], ◌∷◌, map, subst}
 use Rattle.tick_round.specs.Played.{AreFinished}
 use Rattle.tick_round.proofs.Opens.{can_end, may_end, fit_one}
 use Rattle.tick_round.proofs.Out.{may_update}

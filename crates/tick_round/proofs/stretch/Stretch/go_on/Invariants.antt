@@ -1,4 +1,4 @@
-use Rattle.std.proofs.Common.{◌≤◌, List, [], ◌∷◌}
+use Rattle.std.proofs.Common.{List}
 use Rattle.observations.specs.declared.tick.TickObs.{TickObs}
 use Rattle.tick_round.specs.Node.{State}
 use Rattle.tick_round.specs.Stretch.{IsOpen, MayGoOn, GoesOnWith}
