@@ -1,5 +1,5 @@
 -- The statuses of a piece, and of one that was evicted.
-use Rattle.std.proofs.Common.{◌≡◌, ◌∙◌, inr, ℕ, suc, ◌-◌, ◌<◌, false, List, [], length, Option}
+use Rattle.std.proofs.Common.{◌≡◌, ◌∙◌, inr, ℕ, suc, ◌-◌, ◌<◌, List, [], length, Option}
 use Rattle.std.proofs.Common.{Some, None, sym, subst, arith}
 use Rattle.std.proofs.lemmas.List.{take_all}
 use Rattle.histories.specs.Histories.{last_moment, up_to, HoldsAt}

@@ -1,25 +1,22 @@
 -- The pods of a node, one after the other: which tick may come, and what it makes of them.
 use Rattle.std.proofs.Common.{◌≡◌, ◌∙◌, inl, inr, ℕ, zero, suc, ◌+◌, ◌<◌, ◌≤◌, Bool, true, false, List, [], ◌∷◌, ◌++◌}
 use Rattle.std.proofs.Common.{length, map, Option, Some, None, refl, ap, sym, subst, arith, append_assoc}
-use Rattle.std.proofs.lemmas.List.{append-nil, length-append, length-map}
+use Rattle.std.proofs.lemmas.List.{append-nil, length-append}
 use Rattle.std.specs.Prelude.{◌≢◌, ◌↔◌, IsTrue, IfSome, MatchOption, option_map, slice_get, slice_set, nat_lt}
 use Rattle.std.specs.Prelude.{if◌then◌else◌}
 use Rattle.std.specs.Option.{option_to_list, option_flatten}
 use Rattle.std.proofs.lemmas.Bool.{cases_eq, cases_lt, lt-ltb}
-use Rattle.std.proofs.lemmas.Option.{slice_get_within, slice_get-map}
+use Rattle.std.proofs.lemmas.Option.{slice_get_within}
 use Rattle.histories.proofs.Lists.{given_at, same_at, set_length, set_here, set_others}
 use Rattle.observations.specs.Pods.{PodObs}
 use Rattle.observations.specs.declared.tick.TickObs.{TickObs}
 use Rattle.observations.specs.Observations.{shown_of}
-use Rattle.pod_state.specs.Pods.{pod_tick}
 use Rattle.pod_piece.specs.declared.order.EvictOrder.{EvictOrder}
-use Rattle.pod_piece.specs.Listings.{IsNextTick}
-use Rattle.pod_piece.specs.Piece.{Piece, with_tick, all_updated, at_rest, with_eviction, with_number}
-use Rattle.pod_piece.proofs.Waiting.{ticks_free}
-use Rattle.node_pods.specs.Pods.{Pods, AreNext, MayBeHanded, Fits, with_shown, handed_one, handed_each, waits}
+use Rattle.pod_piece.specs.Piece.{Piece, all_updated, with_eviction, with_number}
+use Rattle.node_pods.specs.Pods.{Pods, AreNext, Fits, with_shown, handed_one, handed_each, waits}
 use Rattle.node_pods.specs.Pods.{sent_from, staying, joined_from, after_one, after_each, closed, AreAfter}
 use Rattle.node_pods.specs.Pods.{AreEvicted}
-use Rattle.node_pods.specs.Steps.{AreFree, IsShownNext, IsNextAt, AreNextBelow, MayTake, IsChangedAt, AreChangedBelow}
+use Rattle.node_pods.specs.Steps.{IsShownNext, IsNextAt, AreNextBelow, MayTake, IsChangedAt, AreChangedBelow}
 use Rattle.node_pods.specs.Laws.{OneIsAfter, OneIsEvicted}
 use Rattle.node_pods.proofs.Candidates.{same_piece}
 

@@ -1,6 +1,6 @@
 -- The pods of a node, and what a tick and an eviction make of them. (Kubernetes, "Pod Lifecycle" and
 -- "Node-pressure Eviction".)
-use Rattle.std.specs.Prelude.{◌≡◌, ◌≢◌, ℕ, ◌+◌, ◌≤◌, Bool, List, [], ◌∷◌, ◌++◌, length, map, slice_get, nat_lt}
+use Rattle.std.specs.Prelude.{◌≡◌, ◌≢◌, ℕ, ◌+◌, ◌≤◌, Bool, List, [], ◌∷◌, ◌++◌, length, slice_get, nat_lt}
 use Rattle.std.specs.Prelude.{Option, Some, None, if◌then◌else◌}
 use Rattle.std.specs.Option.{option_flatten}
 use Rattle.histories.specs.Histories.{last_moment, EndsBefore}

@@ -1,5 +1,5 @@
 -- A round on its way: what each step needs, and what it keeps.
-use Rattle.std.specs.Prelude.{◌≡◌, ℕ, ◌+◌, ◌*◌, ◌<◌, ◌≤◌, ◌^◌, false, List, length, map, slice_get, Some, IsTrue}
+use Rattle.std.specs.Prelude.{◌≡◌, ℕ, ◌+◌, ◌*◌, ◌<◌, ◌≤◌, ◌^◌, List, length, map, slice_get, Some}
 use Rattle.round_steps.specs.declared.step.Step.{Step}
 use Rattle.observations.specs.Limits.{most_pods}
 use Rattle.pod_piece.specs.Piece.{Piece, updated}

@@ -1,5 +1,5 @@
 -- A round of workers over the pieces of a table: its start and its end.
-use Rattle.std.specs.Prelude.{◌≡◌, ℕ, ◌≤◌, List, length, map, replicate, All, IsTrue}
+use Rattle.std.specs.Prelude.{◌≡◌, ℕ, ◌≤◌, List, length, map, replicate, All}
 use Rattle.round_steps.specs.declared.step.Step.{Step}
 use Rattle.observations.specs.Limits.{most_pods}
 use Rattle.pod_piece.specs.Piece.{Piece, updated}

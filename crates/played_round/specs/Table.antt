@@ -1,5 +1,5 @@
 -- The pieces of a round, and what their updates add to the totals.
-use Rattle.std.specs.Prelude.{◌≡◌, ℕ, ◌<◌, List, length, slice_get, slice_set, Some, IsTrue}
+use Rattle.std.specs.Prelude.{◌≡◌, ℕ, ◌<◌, List, length, slice_get, slice_set, Some}
 use Rattle.pod_piece.specs.Piece.{Piece, updated}
 use Rattle.event_book.specs.Limits.{IsLow}
 use Rattle.event_book.specs.declared.totals.Entry.{Entry}

@@ -1,43 +1,35 @@
 -- A node at the end of a round.
-use Rattle.std.proofs.Common.{◌≡◌, ◌∙◌, inl, inr, ℕ, zero, suc, ◌+◌, ◌-◌, ◌*◌, ◌<◌, ◌≤◌, List, [], ◌∷◌, ◌++◌, length, map}
-use Rattle.std.proofs.Common.{take, drop, Option, Some, None, refl, ap, sym, subst, arith, append_assoc, append-nil}
-use Rattle.std.specs.Prelude.{slice_get, option_map, IfSome}
+use Rattle.std.proofs.Common.{◌≡◌, ◌∙◌, ℕ, ◌+◌, List, [], ◌∷◌, ◌++◌, length, map}
+use Rattle.std.proofs.Common.{Option, Some, refl, ap, sym, subst, arith, append_assoc, append-nil}
 use Rattle.std.specs.Option.{option_or}
-use Rattle.std.specs.List.{sum_by}
-use Rattle.std.proofs.lemmas.List.{length-append, length-map, take_at, drop_at, take_all}
-use Rattle.std.proofs.lemmas.Option.{slice_get_within, slice_get-map}
+use Rattle.std.proofs.lemmas.List.{length-append, length-map}
 use Rattle.histories.proofs.Places.{length-more}
-use Rattle.histories.proofs.Lists.{given_at, map_more}
 use Rattle.manifest.specs.declared.pod.PodSpec.{PodSpec}
 use Rattle.node_config.specs.declared.node.NodeConfig.{NodeConfig}
-use Rattle.observations.specs.Pods.{PodObs}
 use Rattle.observations.specs.declared.tick.TickObs.{TickObs}
 use Rattle.observations.specs.Observations.{shown_of}
-use Rattle.node_signals.specs.declared.event.NodeEvent.{NodeEvent}
 use Rattle.node_signals.specs.declared.key.ThresholdKey.{ThresholdKey}
-use Rattle.pod_state.specs.declared.events.PodEvent.{PodEvent}
-use Rattle.pod_state.specs.Pods.{PodTick, pod_tick}
-use Rattle.pod_piece.specs.declared.piece.EvictionRecord.{EvictionRecord}
-use Rattle.pod_piece.specs.Piece.{Piece, all_updated, at_rest, evicted_at, place_of}
-use Rattle.pod_piece.specs.Made.{MadeEvent, AreMadeOver, AreRoundEvents}
+use Rattle.pod_state.specs.Pods.{PodTick}
+use Rattle.pod_piece.specs.Piece.{Piece, evicted_at}
+use Rattle.pod_piece.specs.Made.{MadeEvent}
 use Rattle.eviction.specs.declared.eviction.Eviction.{Eviction}
 use Rattle.eviction.specs.Pausing.{Kept, kept, still}
-use Rattle.eviction.specs.Replay.{is_paused, pauses, unless_paused, pod_ticks}
+use Rattle.eviction.specs.Replay.{is_paused, unless_paused}
 use Rattle.event_book.specs.declared.totals.Totals.{Totals}
 use Rattle.event_list.specs.declared.event.Event.{Event}
 use Rattle.event_list.specs.declared.tick.TickEvents.{TickEvents}
 use Rattle.event_list.specs.Events.{of_pods, of_node, of_eviction}
 use Rattle.event_list.specs.Tick.{events_at, of_ticks}
 use Rattle.event_list.specs.Totals.{totals_of}
-use Rattle.node_pods.specs.Pods.{Pods, pods_of, MayBeHanded, after_each, closed}
+use Rattle.node_pods.specs.Pods.{Pods, after_each}
 use Rattle.node_pods.proofs.Steps.{after_is}
 use Rattle.tick_round.specs.Evict.{IsEvictionAt, AreWithout}
 use Rattle.tick_round.specs.declared.stretch.Begun.{Begun}
-use Rattle.tick_round.specs.Node.{State, state, HasTaken, MayBeHandedAll, FitAll}
-use Rattle.tick_round.specs.Stretch.{heeded_in, no_evictions, handed_all, HasBegun}
+use Rattle.tick_round.specs.Node.{State, state, HasTaken, FitAll}
+use Rattle.tick_round.specs.Stretch.{no_evictions, HasBegun}
 use Rattle.tick_round.proofs.Folds.{TellAll, tell_others, folded, folds, heeded_now}
 use Rattle.tick_round.proofs.GoesOn.{goes_on, part_of}
-use Rattle.tick_round.proofs.Handing.{after_all, after_all-more, last_with, front_handed, rest_handed}
+use Rattle.tick_round.proofs.Handing.{after_all, after_all-more, front_handed, rest_handed}
 use Rattle.tick_round.proofs.Made.{made_in, made_told, all_told, TellAllOf}
 use Rattle.tick_round.proofs.Told.{Tells, with_own}
 

@@ -1,7 +1,7 @@
 -- A node after one more tick.
 use Rattle.std.proofs.Common.{◌≡◌, inl, inr, ℕ, suc, ◌+◌, ◌<◌, ◌≤◌, List, [], ◌∷◌, ◌++◌, length}
 use Rattle.std.proofs.Common.{Bool, Option, Some, None, refl, sym, ap, subst, ◌∙◌, arith}
-use Rattle.std.specs.Prelude.{slice_get, true, false, IfSome}
+use Rattle.std.specs.Prelude.{true, false, IfSome}
 use Rattle.std.specs.Option.{option_or}
 use Rattle.std.proofs.lemmas.List.{length-append}
 use Rattle.histories.proofs.Places.{length-more}
@@ -31,7 +31,7 @@ use Rattle.event_list.specs.Events.{of_pods, of_node, of_eviction, ArePodEvents}
 use Rattle.event_list.specs.Totals.{totals_of}
 use Rattle.event_list.proofs.More.{no_events, events_more}
 use Rattle.tick_round.specs.Evict.{IsEvictionAt, AreWithout}
-use Rattle.tick_round.specs.Node.{State, state, ArePieces, HasTaken, last_of, IsAfter, IsNextBy, IsNextByAll}
+use Rattle.tick_round.specs.Node.{State, state, ArePieces, HasTaken, last_of, IsAfter, IsNextBy}
 use Rattle.tick_round.specs.Round.{AreFew, AreFewEvents, IsKept}
 use Rattle.tick_round.specs.Stretch.{IsSampled}
 use Rattle.tick_round.proofs.Pieces.{pieces_updated, pieces_evicted, pieces_spared}
@@ -212,21 +212,12 @@ to_some config pods ticks after s is same taken =
 
 -- a node has taken ticks where what it keeps becomes what has
 pub takes_ticks : (more : List TickObs) {before after : Option State} {s next : State} → before ≡ Some s
-    → after ≡ Some next → IsNextByAll more s next
+    → after ≡ Some next → IsNextBy more s next
     → (config : NodeConfig) (pods : List PodSpec) (ticks : List TickObs) → IsAfter config pods ticks before
     → IsAfter config pods (ticks ++ more) after
 takes_ticks more {before} {after} {s} {next} was now by config pods ticks old =
     let had = of_some config pods ticks before s was old in
     to_some config pods (ticks ++ more) after next now (by.config ∙ had.0) (by.taken pods ticks had.1)
-
--- a node has taken a tick where what it keeps becomes what has
-pub takes_tick : (tick : TickObs) {before after : Option State} {s next : State} → before ≡ Some s → after ≡ Some next
-    → IsNextBy tick s next
-    → (config : NodeConfig) (pods : List PodSpec) (ticks : List TickObs) → IsAfter config pods ticks before
-    → IsAfter config pods (ticks ++ tick ∷ []) after
-takes_tick tick {before} {after} {s} {next} was now by config pods ticks old =
-    let had = of_some config pods ticks before s was old in
-    to_some config pods (ticks ++ tick ∷ []) after next now (by.config ∙ had.0) (by.taken pods ticks had.1)
 
 pub rest_next : {A : Type 0} (all front : List A) (rest : List A) (x : A) (behind : List A) → all ≡ front ++ rest
     → rest ≡ x ∷ behind → all ≡ front ++ x ∷ behind

@@ -1,9 +1,8 @@
 -- Ticks that are handed to a node's pods one after the other, before any comes into their statuses.
-use Rattle.std.proofs.Common.{◌≡◌, ◌∙◌, ℕ, zero, suc, ◌+◌, ◌<◌, ◌≤◌, List, [], ◌∷◌, ◌++◌, length, map, Option, Some, None}
+use Rattle.std.proofs.Common.{◌≡◌, ◌∙◌, ℕ, zero, suc, ◌+◌, List, [], ◌∷◌, ◌++◌, length, map, Option, Some, None}
 use Rattle.std.proofs.Common.{refl, ap, sym, subst, arith, append_assoc, append-nil}
-use Rattle.std.specs.Prelude.{slice_get, option_map, IfSome}
+use Rattle.std.specs.Prelude.{slice_get, option_map}
 use Rattle.std.specs.List.{cons_option}
-use Rattle.std.specs.Option.{option_flatten}
 use Rattle.std.proofs.lemmas.List.{length-append, length-map}
 use Rattle.std.proofs.lemmas.Option.{slice_get-map}
 use Rattle.histories.proofs.Places.{length-more}
@@ -13,7 +12,7 @@ use Rattle.observations.specs.Observations.{shown_of, own_ticks}
 use Rattle.pod_state.specs.Pods.{PodTick, pod_tick}
 use Rattle.pod_piece.specs.Piece.{Piece, begun_with}
 use Rattle.eviction.specs.Replay.{pod_ticks}
-use Rattle.node_pods.specs.Pods.{AreNext, MayBeHanded, handed_one, handed_each, after_each, closed}
+use Rattle.node_pods.specs.Pods.{AreNext, handed_one, handed_each, after_each, closed}
 use Rattle.node_pods.proofs.Steps.{closed_handed, with_shown_at, with_shown_length}
 use Rattle.tick_round.specs.Node.{MayBeHandedAll}
 use Rattle.tick_round.specs.Stretch.{handed_all}

@@ -14,5 +14,7 @@ pub mod Ends
 pub mod Owns
 pub mod Opens
 pub mod Rest
+pub mod Single
+pub mod Out
 pub mod Arrives
 pub mod Summaries

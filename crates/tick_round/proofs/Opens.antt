@@ -1,21 +1,15 @@
 -- A node that begins a round, takes ticks into it and ends it.
-use Rattle.std.proofs.Common.{◌≡◌, ◌∙◌, ℕ, zero, suc, ◌+◌, ◌<◌, ◌≤◌, List, [], ◌∷◌, ◌++◌, length, map}
+use Rattle.std.proofs.Common.{◌≡◌, ◌∙◌, ℕ, zero, suc, ◌≤◌, List, [], ◌∷◌, ◌++◌, length, map}
 use Rattle.std.proofs.Common.{Option, Some, None, refl, ap, sym, subst, arith, append_assoc, append-nil}
-use Rattle.std.specs.Prelude.{slice_get, option_map, IfSome}
+use Rattle.std.specs.Prelude.{slice_get, option_map}
 use Rattle.std.specs.Option.{option_or}
 use Rattle.std.proofs.lemmas.List.{length-map, length-append}
 use Rattle.std.proofs.lemmas.Option.{slice_get_within, slice_get-map}
-use Rattle.histories.proofs.Places.{length-more}
 use Rattle.histories.proofs.Lists.{given_at, map_more}
 use Rattle.manifest.specs.declared.pod.PodSpec.{PodSpec}
-use Rattle.manifest.specs.Containers.{most_containers}
 use Rattle.node_config.specs.declared.node.NodeConfig.{NodeConfig}
-use Rattle.observations.specs.Pods.{PodObs}
 use Rattle.observations.specs.declared.tick.TickObs.{TickObs}
-use Rattle.observations.specs.Limits.{most_ticks, most_pods}
 use Rattle.node_signals.specs.declared.node.NodeSignals.{NodeSignals}
-use Rattle.node_signals.specs.declared.event.NodeEvent.{NodeEvent}
-use Rattle.node_signals.specs.declared.key.ThresholdKey.{ThresholdKey}
 use Rattle.pod_piece.specs.Piece.{Piece, all_updated, at_rest, pods_in}
 use Rattle.pod_piece.specs.Made.{MadeEvent, round_length}
 use Rattle.eviction.specs.declared.eviction.Eviction.{Eviction}
@@ -29,8 +23,8 @@ use Rattle.event_list.specs.declared.tick.TickEvents.{TickEvents}
 use Rattle.event_list.specs.Events.{of_eviction}
 use Rattle.event_list.specs.Tick.{of_ticks, AddsEvents, AreMadeBy, AreOfTicks, MomentsRise}
 use Rattle.event_list.specs.Totals.{totals_of}
-use Rattle.node_pods.specs.Pods.{Pods, pods_of, AreNumbered, AreNext, MayBeHanded, handed_each, after_each, closed}
-use Rattle.node_pods.specs.Pods.{sent_from, staying, Awaited, awaited, joined, joined_from}
+use Rattle.node_pods.specs.Pods.{Pods, pods_of, AreNumbered, AreNext, handed_each, after_each, closed}
+use Rattle.node_pods.specs.Pods.{sent_from, staying, Awaited, awaited, joined}
 use Rattle.node_pods.specs.Steps.{AreFree}
 use Rattle.node_pods.proofs.Steps.{is_closed, are_closed, joined_updated, after_is}
 use Rattle.node_pods.proofs.Candidates.{same_piece}
@@ -38,20 +32,20 @@ use Rattle.tick_round.specs.Evict.{IsEvictionAt, AreWithout}
 use Rattle.tick_round.specs.declared.stretch.Begun.{Begun}
 use Rattle.tick_round.specs.declared.stretch.Stretch.{Stretch}
 use Rattle.tick_round.specs.declared.stretch.Round.{Round}
-use Rattle.tick_round.specs.Node.{State, state, ArePieces, HasTaken, Fits, FitAll, MayBeHandedAll, IsNextByAll}
-use Rattle.tick_round.specs.Round.{AreFew, IsKept}
+use Rattle.tick_round.specs.Node.{State, state, ArePieces, HasTaken, Fits, FitAll, MayBeHandedAll}
+use Rattle.tick_round.specs.Round.{IsKept}
 use Rattle.tick_round.specs.Stretch.{IsSampled, heeded_in, IsCalm, AreCalm, no_evictions, handed_all, HasBegun, IsOpen}
-use Rattle.tick_round.specs.Stretch.{MayGoOn, GoesOnWith, Takes, IsStretchOf, IsPassed, MayClose, CanClose, MayEnd}
+use Rattle.tick_round.specs.Stretch.{MayGoOn, GoesOnWith, Takes, IsStretchOf, IsPassed, MayClose, MayEnd}
 use Rattle.tick_round.specs.Stretch.{CanEnd, IsOut}
-use Rattle.tick_round.specs.Update.{MayUpdate, AreAdded}
+use Rattle.tick_round.specs.Update.{AreAdded}
 use Rattle.tick_round.proofs.Counts.{AreRows, totals_added}
-use Rattle.tick_round.proofs.Ends.{closes, after_all-length}
+use Rattle.tick_round.proofs.Ends.{closes}
 use Rattle.tick_round.proofs.Evicts.{get_pod}
 use Rattle.tick_round.proofs.GoesOn.{kept_by}
 use Rattle.tick_round.proofs.Handing.{after_all, handed_all-more, closed_all, front_handed, rest_handed, next_open}
 use Rattle.tick_round.proofs.Handing.{IsGrown, not_grown, handed_at, handed_all-length}
 use Rattle.tick_round.proofs.Owns.{AreAtRest, behind_each_other, rows_of, rows_more, rows_rise, of_rows, told_by}
-use Rattle.tick_round.proofs.Owns.{additions_for, AddAll, add_all, few_added, few_more_events, low_rounds}
+use Rattle.tick_round.proofs.Owns.{additions_for, add_all, few_added, few_more_events, low_rounds}
 use Rattle.tick_round.proofs.Pieces.{pod_at}
 
 -- between two rounds nothing waits
@@ -419,3 +413,54 @@ closes_as pods before s calm x begun back shut new totals rows pieces eviction a
     (subst (λ (qs : List Piece). AreWithout qs eviction new.pieces) ps gone)
     (delay ∙ ap (λ (p : Pods). p.max_restart_delay) is) (dedicated ∙ ap (λ (p : Pods). p.has_dedicated_imagefs) is)
     events evictions
+
+-- one tick more is taken
+pub may_more : (a b c : Stretch) (y : TickObs) (rest : List TickObs) → MayGoOn a (y ∷ rest) → a.begun.heeded ≡ None
+    → IsPassed a b → Takes y b c → MayGoOn c rest
+may_more a b c y rest may none passed takes = record {
+  node = may.node;
+  kept = may.kept;
+  calm = may.calm ++ may.tick ∷ [];
+  tick = y;
+  is_open = next_is_open may.node may.calm may.tick y a b c may.is_open none passed takes;
+  fits = subst (λ (xs : List TickObs). FitAll may.node xs)
+      (sym (append_assoc (may.calm ++ may.tick ∷ []) (y ∷ []) rest)) may.fits;
+}
+
+pub goes_more : (s : State) (calm : List TickObs) (x : TickObs) (more : List TickObs) (a b c : Stretch) (y : TickObs)
+    (rest : List TickObs) → GoesOnWith s calm x more a (y ∷ rest) → a.begun.heeded ≡ None → IsPassed a b → Takes y b c
+    → GoesOnWith s calm x more c rest
+goes_more s calm x more a b c y rest goes none passed takes = record {
+  calm_now = goes.calm_now ++ goes.last ∷ [];
+  last = y;
+  is_open = next_is_open s goes.calm_now goes.last y a b c goes.is_open none passed takes;
+  taken = goes.taken ∙ sym (append_assoc (goes.calm_now ++ goes.last ∷ []) (y ∷ []) rest);
+}
+
+-- it may be handed to the pods
+pub may_hand_more : (a b : Stretch) (y : TickObs) (rest : List TickObs) → MayGoOn a (y ∷ rest) → IsPassed a b
+    → AreNext b.pods.pieces y.pods
+may_hand_more a b y rest may passed =
+    may_hand may.node (may.calm ++ may.tick ∷ []) y rest b.pods may.kept may.fits (passed.pods ∙ may.is_open.pods)
+
+-- the pieces of an open round go out
+pub is_out : (s : State) (calm : List TickObs) (x : TickObs) (stretch : Stretch) (pieces : List Piece) (book : Totals)
+    (round : Round) → IsKept s → IsOpen s calm x stretch → book ≡ s.totals → round.begun ≡ stretch.begun
+    → pieces ≡ sent_from 0 stretch.pods.pieces
+    → round.pods
+    ≡ awaited (staying stretch.pods.pieces) stretch.pods.max_restart_delay stretch.pods.has_dedicated_imagefs
+    → AreNumbered (joined round.pods (map all_updated pieces)) → IsOut s calm x pieces book round
+is_out s calm x stretch pieces book round kept is same begun sent stay numbered = record {
+  kept = kept;
+  has_begun = subst (λ (b : Begun). HasBegun s calm x b) (sym begun) is.has_begun;
+  sent = sent ∙ ap (λ (p : Pods). sent_from 0 p.pieces) is.pods;
+  pods = stay
+      ∙ ap (λ (p : Pods). awaited (staying p.pieces) p.max_restart_delay p.has_dedicated_imagefs) is.pods;
+  numbered = numbered;
+  book = same;
+}
+
+-- the first of these ticks fit, of which some are left
+pub fit_taken : (s : State) (ticks taken rest : List TickObs) → FitAll s ticks → ticks ≡ taken ++ rest → FitAll s taken
+fit_taken s ticks taken rest fits is =
+    fit_front s taken rest (subst (λ (xs : List TickObs). FitAll s xs) is fits)

@@ -1,6 +1,6 @@
 -- What the rounds of a node's pods tell of the ticks that were handed to them.
-use Rattle.std.proofs.Common.{◌≡◌, ◌∙◌, ℕ, zero, suc, ◌+◌, ◌-◌, ◌*◌, ◌<◌, ◌≤◌, List, [], ◌∷◌, ◌++◌, length, map}
-use Rattle.std.proofs.Common.{take, drop, Bool, true, false, Option, Some, None, refl, ap, sym, subst, arith}
+use Rattle.std.proofs.Common.{◌≡◌, ◌∙◌, ℕ, zero, suc, ◌+◌, ◌<◌, ◌≤◌, List, [], ◌∷◌, ◌++◌, length, map}
+use Rattle.std.proofs.Common.{take, drop, Bool, Option, Some, None, refl, ap, sym, subst, arith}
 use Rattle.std.specs.Prelude.{slice_get, option_map, IfSome, nat_lt, if◌then◌else◌}
 use Rattle.std.specs.List.{cons_option, sum_by}
 use Rattle.std.proofs.lemmas.Bool.{lt-ltb}
@@ -16,9 +16,7 @@ use Rattle.observations.specs.declared.tick.TickObs.{TickObs}
 use Rattle.observations.specs.Observations.{shown_of, own_ticks}
 use Rattle.observations.specs.Limits.{most_ticks}
 use Rattle.node_signals.specs.declared.node.NodeSignals.{NodeSignals}
-use Rattle.pod_state.specs.declared.events.PodEvent.{PodEvent}
 use Rattle.pod_state.specs.Pods.{PodTick, pod_tick}
-use Rattle.pod_piece.specs.declared.piece.EvictionRecord.{EvictionRecord}
 use Rattle.pod_piece.specs.Piece.{Piece, ticks, all_updated, with_number, evicted_at, place_of}
 use Rattle.pod_piece.specs.Made.{MadeEvent, AreMadeOver, AreRoundEvents, round_of, round_length}
 use Rattle.eviction.specs.declared.eviction.Eviction.{Eviction}
@@ -26,19 +24,17 @@ use Rattle.eviction.specs.Pausing.{still}
 use Rattle.eviction.specs.Replay.{pod_ticks}
 use Rattle.event_book.specs.declared.totals.Totals.{Totals}
 use Rattle.event_book.specs.Totals.{plus}
-use Rattle.event_book.specs.Limits.{most_events, most_updates, IsLowAddition}
+use Rattle.event_book.specs.Limits.{IsLowAddition}
 use Rattle.event_book.specs.Rounds.{addition_of, IsAdditionOf, AreAdditionsOf, sums_of_additions}
 use Rattle.event_book.proofs.Made.{one_made, low_addition, empty_round}
 use Rattle.event_list.specs.declared.tick.TickEvents.{TickEvents}
-use Rattle.event_list.specs.Tick.{events_at, AreMadeBy, IsMomentOf, AreOfTicks, MomentsRise}
-use Rattle.node_pods.specs.Pods.{waits, sent_from, after_each}
+use Rattle.event_list.specs.Tick.{AreMadeBy, IsMomentOf, AreOfTicks, MomentsRise}
+use Rattle.node_pods.specs.Pods.{sent_from, after_each}
 use Rattle.node_pods.proofs.Candidates.{same_piece}
 use Rattle.tick_round.specs.Node.{MayBeHandedAll}
 use Rattle.tick_round.specs.Round.{AreFewEvents}
 use Rattle.tick_round.specs.Stretch.{AreCalm, handed_all}
-use Rattle.tick_round.specs.Update.{AreAdded}
 use Rattle.tick_round.proofs.Counts.{AreRows, AreFor}
-use Rattle.tick_round.proofs.Folds.{TellAll}
 use Rattle.tick_round.proofs.Handing.{IsGrown, not_grown, handed_at, handed_all-length}
 use Rattle.tick_round.proofs.Told.{AreBehind, AreTold, told_from}
 

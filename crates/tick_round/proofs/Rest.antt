@@ -1,7 +1,7 @@
 -- The ticks that are left behind those of a round.
-use Rattle.std.proofs.Common.{◌≡◌, ◌∙◌, ℕ, zero, suc, ◌+◌, ◌<◌, ◌≤◌, List, [], ◌∷◌, ◌++◌, length, map, Option, Some, None}
+use Rattle.std.proofs.Common.{◌≡◌, ◌∙◌, ℕ, ◌≤◌, List, [], ◌∷◌, ◌++◌, length, map, Option, Some, None}
 use Rattle.std.proofs.Common.{refl, ap, sym, subst, arith, append_assoc, append-nil}
-use Rattle.std.specs.Prelude.{slice_get, IfSome}
+use Rattle.std.specs.Prelude.{slice_get}
 use Rattle.std.specs.List.{cons_option}
 use Rattle.std.proofs.lemmas.List.{length-append, map-append}
 use Rattle.std.proofs.lemmas.List.Elements.{filter_map-append}
@@ -14,12 +14,14 @@ use Rattle.observations.specs.declared.tick.TickObs.{TickObs}
 use Rattle.observations.specs.Observations.{shown_of, own_ticks}
 use Rattle.pod_state.specs.Pods.{PodTick, pod_tick}
 use Rattle.pod_piece.specs.Listings.{IsNextTick}
-use Rattle.pod_piece.specs.Piece.{Piece}
+use Rattle.pod_piece.specs.Piece.{Piece, pods_in}
 use Rattle.eviction.specs.Replay.{pod_ticks}
-use Rattle.node_pods.specs.Pods.{MayBeHanded, after_one, after_each}
+use Rattle.node_pods.specs.Pods.{after_one, after_each}
 use Rattle.node_pods.proofs.Steps.{with_shown_at, with_shown_length}
 use Rattle.node_pods.proofs.Candidates.{same_piece}
-use Rattle.tick_round.specs.Node.{State, HasTaken, FitAll, MayBeHandedAll, last_of, IsNextByAll}
+use Rattle.tick_round.specs.Node.{State, HasTaken, FitAll, MayBeHandedAll, last_of, IsNextBy}
+use Rattle.tick_round.specs.Round.{IsKept}
+use Rattle.tick_round.specs.Stretch.{HasTakenSome}
 use Rattle.tick_round.proofs.Ends.{after_all-length}
 use Rattle.tick_round.proofs.GoesOn.{last_more}
 use Rattle.tick_round.proofs.Handing.{after_all, last_with, rest_handed, own_first}
@@ -145,16 +147,53 @@ rest_fit pods before s new xs rest had has fits = record {
     }
 
 -- ticks that come behind others
-pub next_all : (xs ys : List TickObs) (a b c : State) → IsNextByAll xs a b → IsNextByAll ys b c
-    → IsNextByAll (xs ++ ys) a c
+pub next_all : (xs ys : List TickObs) (a b c : State) → IsNextBy xs a b → IsNextBy ys b c
+    → IsNextBy (xs ++ ys) a c
 next_all xs ys a b c first then = record {
   config = then.config ∙ first.config;
   taken = λ pods before had. subst (λ (h : List TickObs). HasTaken pods h c) (append_assoc before xs ys)
       (then.taken pods (before ++ xs) (first.taken pods before had));
 }
 
-pub next_none : (a : State) → IsNextByAll [] a a
+pub next_none : (a : State) → IsNextBy [] a a
 next_none a = record {
   config = refl;
   taken = λ pods before had. subst (λ (h : List TickObs). HasTaken pods h a) (sym (append-nil before)) had;
 }
+
+-- a node that has taken the first of these ticks may take the others
+pub has_taken_some : (ticks taken rest : List TickObs) (s new : State) → IsKept s → FitAll s ticks
+    → ticks ≡ taken ++ rest → IsNextBy taken s new → HasTakenSome ticks s new rest
+has_taken_some ticks taken rest s new kept fits all next = record {
+  taken = taken;
+  all = all;
+  next = next;
+  fits = rest_fit (pods_in s.pods.pieces) kept.ticks s new taken rest kept.taken
+      (next.taken (pods_in s.pods.pieces) kept.ticks kept.taken) (subst (λ (xs : List TickObs). FitAll s xs) all fits);
+}
+
+-- none were taken yet, some more are, and all
+pub none_taken : (s : State) (ticks : List TickObs) → FitAll s ticks → HasTakenSome ticks s s ticks
+none_taken s ticks fits = record { taken = []; all = refl; next = next_none s; fits = fits }
+
+pub some_more : (ticks left rest : List TickObs) (a b c : State) → HasTakenSome ticks a b left → HasTakenSome left b c rest
+    → HasTakenSome ticks a c rest
+some_more ticks left rest a b c some more = record {
+  taken = some.taken ++ more.taken;
+  all = some.all ∙ ap (λ (xs : List TickObs). some.taken ++ xs) more.all
+      ∙ sym (append_assoc some.taken more.taken rest);
+  next = next_all some.taken more.taken a b c some.next more.next;
+  fits = more.fits;
+}
+
+pub all_taken : (ticks rest : List TickObs) (a b : State) → HasTakenSome ticks a b rest → length rest ≤ 0
+    → IsNextBy ticks a b
+all_taken ticks [] a b some none =
+    subst (λ (xs : List TickObs). IsNextBy xs a b) (sym (some.all ∙ append-nil some.taken)) some.next
+all_taken ticks (x ∷ rest) a b some none = absurd (omega (arith, none))
+
+-- a round takes one at least
+pub fewer : (x : TickObs) (more calm : List TickObs) (last : TickObs) (rest : List TickObs)
+    → x ∷ more ≡ (calm ++ last ∷ []) ++ rest → length rest ≤ length more
+fewer x more calm last rest is =
+    omega (arith, ap length is, length-append (calm ++ last ∷ []) rest, length-append calm (last ∷ []))

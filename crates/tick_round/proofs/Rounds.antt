@@ -1,5 +1,5 @@
 -- A round that workers play, or update by threads.
-use Rattle.std.proofs.Common.{◌≡◌, ◌∙◌, ℕ, zero, suc, ◌+◌, ◌<◌, List, [], ◌∷◌, length, get_or, Option, Some}
+use Rattle.std.proofs.Common.{◌≡◌, ◌∙◌, ℕ, zero, suc, ◌+◌, ◌<◌, List, [], ◌∷◌, length, get_or, Some}
 use Rattle.std.proofs.Common.{refl, ap, subst, arith}
 use Rattle.std.specs.Prelude.{slice_get}
 use Rattle.std.specs.List.{All}
@@ -17,11 +17,15 @@ item_at [] n d lt = absurd (omega arith)
 item_at (p ∷ pieces) zero d lt = refl
 item_at (p ∷ pieces) (suc n) d lt = item_at pieces n d (omega arith)
 
+-- what holds of the piece at each place holds of all
+pub all_by : (P : Piece → Type 0) (pieces : List Piece)
+    → ((n : ℕ) (piece : Piece) → slice_get pieces n ≡ Some piece → P piece) → All P pieces
+all_by P pieces each = λ n d lt. each n (get_or pieces n d) (item_at pieces n d lt)
+
 -- pieces that may be updated are all pending
 pub all_pending : (pieces : List Piece) (totals : Totals) → MayUpdate pieces totals
     → All (λ (piece : Piece). 0 < piece.waiting) pieces
-all_pending pieces totals may =
-    λ n d lt. may.pending n (get_or pieces n d) (item_at pieces n d lt)
+all_pending pieces totals may = all_by (λ (piece : Piece). 0 < piece.waiting) pieces may.pending
 
 -- what was added
 pub are_added : (pieces : List Piece) (old new : Totals)

@@ -1,23 +1,23 @@
 -- A round of one tick: one tick waits for each piece that goes out, and what it adds to the totals is its entry.
-use Rattle.std.proofs.Common.{◌≡◌, ◌∙◌, ℕ, suc, ◌+◌, ◌-◌, ◌<◌, ◌≤◌, List, [], ◌∷◌, length, map, take, Some, refl, ap, sym, subst}
+use Rattle.std.proofs.Common.{◌≡◌, ◌∙◌, ℕ, suc, ◌+◌, ◌≤◌, List, [], ◌∷◌, length, map, Some, refl, ap, sym, subst}
 use Rattle.std.proofs.Common.{arith}
 use Rattle.std.specs.Prelude.{slice_get, option_map}
 use Rattle.std.specs.List.{sum_by}
-use Rattle.std.proofs.lemmas.List.{length-append, length-drop, length-map}
+use Rattle.std.proofs.lemmas.List.{length-append, length-map}
 use Rattle.std.proofs.lemmas.List.Sums.{sum_by-cons}
 use Rattle.std.proofs.lemmas.Option.{slice_get_within, slice_get-map}
 use Rattle.histories.proofs.Lists.{given_at}
 use Rattle.observations.specs.declared.tick.TickObs.{TickObs}
 use Rattle.observations.specs.Observations.{all_shown}
-use Rattle.pod_state.specs.Pods.{PodTick}
-use Rattle.pod_piece.specs.Piece.{Piece, ticks, evicted_at, before_last, updated, all_updated, pods_in}
-use Rattle.pod_piece.specs.Made.{AreMadeOver, AreEarlierEvents, made_at, round_of, round_length}
+use Rattle.pod_piece.specs.Piece.{Piece, updated, all_updated, pods_in}
+use Rattle.pod_piece.specs.Made.{round_length}
 use Rattle.eviction.specs.Replay.{pod_ticks}
 use Rattle.event_book.specs.declared.totals.Entry.{Entry}
 use Rattle.event_book.specs.declared.totals.Totals.{Totals}
-use Rattle.event_book.specs.Totals.{IsEntryOf, sums_of, plus}
+use Rattle.event_book.specs.Totals.{sums_of, plus}
 use Rattle.event_book.specs.Rounds.{IsAdditionOf, sums_of_additions}
-use Rattle.event_book.proofs.Made.{last_tick, round_events, length_made_at, orders_made_at}
+use Rattle.event_book.specs.Shares.{one_update}
+use Rattle.event_book.proofs.Made.{entry_added}
 use Rattle.node_pods.specs.Pods.{MayBeHanded, sent_from}
 use Rattle.node_pods.proofs.Sent.{sent_at, sent_count}
 use Rattle.node_pods.proofs.Candidates.{same_piece}
@@ -30,51 +30,36 @@ use Rattle.tick_round.proofs.Opens.{rest_of}
 use Rattle.tick_round.proofs.Owns.{own_few}
 use Rattle.tick_round.proofs.Updates.{same_totals}
 
--- an entry, with the one update that it is of
-abbrev one_of : Entry → Totals
-one_of entry = record { updates = 1; events = entry.events; orders = entry.orders }
-
-single : (q : Piece) (entry : Entry) → round_length q ≡ 1 → IsEntryOf q entry → IsAdditionOf q (one_of entry)
-single q entry one (events, are, is) =
-    let h = round_of q in
-    let long : length h ≡ round_length q = length-drop q.begun (ticks q) in
-    let none : before_last h ≡ [] = ap (λ (n : ℕ). take (n - 1) h) (long ∙ one) in
-    let x = last_tick q (omega (arith, one)) in
-    let earlier : AreEarlierEvents q [] =
-    subst (λ (b : List PodTick). AreMadeOver q.pod q.max_restart_delay (evicted_at q) (take q.begun (ticks q)) b [])
-    (sym none) refl in
-    (
-      made_at (x.0).moment events,
-      round_events q [] events x.0 (omega (arith, one)) x.1 earlier are,
-      same_totals 1 entry.events entry.orders (round_length q) _ _ (sym one)
-          (ap (λ (e : Entry). e.events) is ∙ sym (length_made_at (x.0).moment events))
-          (ap (λ (e : Entry). e.orders) is ∙ sym (orders_made_at (x.0).moment events)),
-    )
-
-single_sums : (entries : List Entry) → sums_of_additions (map one_of entries) ≡ sums_of entries
-single_sums entries = same_totals _ _ _ (length entries) _ _ (ones entries) (all_events entries) (all_orders entries)
+-- what entries add up to, with one update each
+single_sums : (entries : List Entry) → sums_of_additions (map one_update entries) ≡ sums_of entries
+single_sums entries =
+    same_totals (sum_by (λ (t : Totals). t.updates) (map one_update entries))
+    (sum_by (λ (t : Totals). t.events) (map one_update entries))
+    (sum_by (λ (t : Totals). t.orders) (map one_update entries)) (length entries)
+    (sum_by (λ (e : Entry). e.events) entries) (sum_by (λ (e : Entry). e.orders) entries) (ones entries)
+    (all_events entries) (all_orders entries)
   where
-    ones : (entries : List Entry) → sum_by (λ (t : Totals). t.updates) (map one_of entries) ≡ length entries
+    ones : (entries : List Entry) → sum_by (λ (t : Totals). t.updates) (map one_update entries) ≡ length entries
     ones [] = refl
     ones (e ∷ entries) =
         let u : Totals → ℕ = λ t. t.updates in
-        let one : sum_by u (map one_of (e ∷ entries)) ≡ 1 + sum_by u (map one_of entries) =
-        sum_by-cons u (one_of e) (map one_of entries) in
-        let rest : sum_by u (map one_of entries) ≡ length entries = ones entries in
+        let one : sum_by u (map one_update (e ∷ entries)) ≡ 1 + sum_by u (map one_update entries) =
+        sum_by-cons u (one_update e) (map one_update entries) in
+        let rest : sum_by u (map one_update entries) ≡ length entries = ones entries in
         omega (arith, one, rest)
 
     all_events : (entries : List Entry)
-        → sum_by (λ (t : Totals). t.events) (map one_of entries) ≡ sum_by (λ (e : Entry). e.events) entries
+        → sum_by (λ (t : Totals). t.events) (map one_update entries) ≡ sum_by (λ (e : Entry). e.events) entries
     all_events [] = refl
     all_events (e ∷ entries) =
-        sum_by-cons (λ (t : Totals). t.events) (one_of e) (map one_of entries)
+        sum_by-cons (λ (t : Totals). t.events) (one_update e) (map one_update entries)
         ∙ ap (λ n. e.events + n) (all_events entries) ∙ sym (sum_by-cons (λ (x : Entry). x.events) e entries)
 
     all_orders : (entries : List Entry)
-        → sum_by (λ (t : Totals). t.orders) (map one_of entries) ≡ sum_by (λ (e : Entry). e.orders) entries
+        → sum_by (λ (t : Totals). t.orders) (map one_update entries) ≡ sum_by (λ (e : Entry). e.orders) entries
     all_orders [] = refl
     all_orders (e ∷ entries) =
-        sum_by-cons (λ (t : Totals). t.orders) (one_of e) (map one_of entries)
+        sum_by-cons (λ (t : Totals). t.orders) (one_update e) (map one_update entries)
         ∙ ap (λ n. e.orders + n) (all_orders entries) ∙ sym (sum_by-cons (λ (x : Entry). x.orders) e entries)
 
 -- the entries of rounds of one tick are what they add
@@ -82,17 +67,17 @@ pub entered_added : (pieces : List Piece) (old new : Totals)
     → ((n : ℕ) (q : Piece) → slice_get pieces n ≡ Some q → round_length q ≡ 1) → AreEntered pieces old new
     → AreAdded pieces old new
 entered_added pieces old new one entered = record {
-  additions = map one_of entered.entries;
+  additions = map one_update entered.entries;
   are_additions = record {
-    as_many = length-map entered.entries one_of ∙ entered.are_entries.as_many;
+    as_many = length-map entered.entries one_update ∙ entered.are_entries.as_many;
     each = λ n q a at there.
-        let lt = slice_get_within (map one_of entered.entries) n a there in
-        let e = given_at entered.entries n (omega (arith, lt, length-map entered.entries one_of)) in
-        let found : Some (one_of e.0) ≡ Some a =
-        sym (slice_get-map one_of entered.entries n ∙ ap (option_map one_of) e.1) ∙ there in
-        let same : one_of e.0 ≡ a = cc in
+        let lt = slice_get_within (map one_update entered.entries) n a there in
+        let e = given_at entered.entries n (omega (arith, lt, length-map entered.entries one_update)) in
+        let found : Some (one_update e.0) ≡ Some a =
+        sym (slice_get-map one_update entered.entries n ∙ ap (option_map one_update) e.1) ∙ there in
+        let same : one_update e.0 ≡ a = cc in
         subst (λ (t : Totals). IsAdditionOf q t) same
-        (single q e.0 (one n q at) (entered.are_entries.each n q e.0 at e.1));
+        (entry_added q e.0 (one n q at) (entered.are_entries.each n q e.0 at e.1));
   };
   totals = entered.totals ∙ ap (λ (t : Totals). plus old t) (sym (single_sums entered.entries));
 }

@@ -14,7 +14,7 @@ use Rattle.pod_piece.specs.Piece.{Piece, all_updated}
 use Rattle.event_book.specs.declared.totals.Totals.{Totals}
 use Rattle.event_book.specs.Totals.{plus}
 use Rattle.event_book.specs.Shares.{greatest_total, AreWithin}
-use Rattle.event_book.specs.Limits.{most_events, most_updates, most_round_events, IsLowAddition}
+use Rattle.event_book.specs.Limits.{most_round_events, IsLowAddition}
 use Rattle.event_book.specs.Rounds.{IsAdditionOf, sums_of_additions}
 use Rattle.node_pods.proofs.Candidates.{same_piece}
 use Rattle.tick_round.specs.Update.{AreUpTo, MayUpdate, AreAdded, UpdatesAt}
@@ -22,7 +22,7 @@ use Rattle.tick_round.specs.Update.{AreUpTo, MayUpdate, AreAdded, UpdatesAt}
 abbrev totals : ℕ → ℕ → ℕ → Totals
 totals updates events orders = record { updates = updates; events = events; orders = orders }
 
-same_totals : (u e o u' e' o' : ℕ) → u ≡ u' → e ≡ e' → o ≡ o' → totals u e o ≡ totals u' e' o'
+pub same_totals : (u e o u' e' o' : ℕ) → u ≡ u' → e ≡ e' → o ≡ o' → totals u e o ≡ totals u' e' o'
 same_totals u e o u' e' o' p q r = λ i. totals (p i) (q i) (r i)
 
 sum_more : (f : Totals → ℕ) (additions : List Totals) (x : Totals)

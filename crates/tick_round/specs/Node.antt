@@ -111,12 +111,6 @@ HasRoom node = IfSome node (λ s. length s.pods.pieces < most_pods)
 abbrev pub IsAfter : NodeConfig → List PodSpec → List TickObs → Option State → Type 0
 IsAfter config pods ticks node = IsSomeAnd node (λ s. (s.config ≡ config) × HasTaken pods ticks s)
 
--- the same node, once it has taken this tick too
-pub record IsNextBy (tick : TickObs) (old new : State) : Type 0 where
-  pub config : new.config ≡ old.config
-  pub taken : (pods : List PodSpec) (ticks : List TickObs) → HasTaken pods ticks old
-      → HasTaken pods (ticks ++ tick ∷ []) new
-
 -- where a call does not fail, the node that it leaves has taken this tick too
 abbrev pub TakesTick : {V F : Type 0} → TickObs → Option State → Option State → Result V F → Type 0
 TakesTick tick old new result =
@@ -140,7 +134,7 @@ pub record FitAll (s : State) (ticks : List TickObs) : Type 0 where
   pub handed : MayBeHandedAll s.pods.pieces s.last ticks
 
 -- the same node, once it has taken these ticks too, one after the other
-pub record IsNextByAll (ticks : List TickObs) (old new : State) : Type 0 where
+pub record IsNextBy (ticks : List TickObs) (old new : State) : Type 0 where
   pub config : new.config ≡ old.config
   pub taken : (pods : List PodSpec) (before : List TickObs) → HasTaken pods before old
       → HasTaken pods (before ++ ticks) new

@@ -1,6 +1,6 @@
 -- Ticks of a node that make one round: which ticks may follow each other in it, and what comes before the updates of its
 -- pods.
-use Rattle.std.specs.Prelude.{◌≡◌, ℕ, List, [], ◌∷◌, ◌++◌, map, Option, None}
+use Rattle.std.specs.Prelude.{◌≡◌, List, [], ◌∷◌, ◌++◌, map, Option, None}
 use Rattle.node_config.specs.declared.node.NodeConfig.{NodeConfig}
 use Rattle.observations.specs.declared.tick.TickObs.{TickObs}
 use Rattle.node_signals.specs.declared.node.NodeSignals.{NodeSignals}
@@ -19,7 +19,7 @@ use Rattle.node_pods.specs.Pods.{Pods, pods_of, AreNumbered, handed_each, sent_f
 use Rattle.tick_round.specs.declared.stretch.Begun.{Begun}
 use Rattle.tick_round.specs.declared.stretch.Stretch.{Stretch}
 use Rattle.tick_round.specs.declared.stretch.Round.{Round}
-use Rattle.tick_round.specs.Node.{State, FitAll, IsNextByAll}
+use Rattle.tick_round.specs.Node.{State, FitAll, IsNextBy}
 use Rattle.tick_round.specs.Round.{IsKept}
 use Rattle.tick_round.specs.Update.{AreAdded}
 
@@ -202,5 +202,5 @@ pub record CanEnd (round : Round) (back : List Piece) (totals : Totals) : Type 0
 pub record HasTakenSome (ticks : List TickObs) (old new : State) (rest : List TickObs) : Type 0 where
   pub taken : List TickObs
   pub all : ticks ≡ taken ++ rest
-  pub next : IsNextByAll taken old new
+  pub next : IsNextBy taken old new
   pub fits : FitAll new rest

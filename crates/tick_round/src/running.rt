@@ -14,7 +14,7 @@ ghost use Rattle.observations.specs.Limits.{most_pods};
 ghost use Rattle.event_book.specs.Totals.{nothing};
 ghost use Rattle.event_book.specs.Limits.{most_workers};
 ghost use Rattle.node_pods.specs.Pods.{AreNext};
-ghost use Rattle.tick_round.specs.Node.{HasTaken, Fits, FitAll, IsNextBy, IsNextByAll, IsWhole};
+ghost use Rattle.tick_round.specs.Node.{HasTaken, Fits, FitAll, IsNextBy, IsWhole};
 ghost use Rattle.tick_round.specs.Played.{AreFinished};
 ghost use Rattle.tick_round.specs.Round.{IsKept};
 ghost use Rattle.tick_round.specs.Stretch.{IsOpen, IsOut, AreOut, HasTakenSome};
@@ -184,7 +184,7 @@ impl<U: Ledger, E: Ledger, O: Ledger> Running<U, E, O> {
         tick: TickObs,
     ) -> Result<(Vec<PodPiece>, WholeBook<U, E, O>, Round), AllocError>
         requires { Fits self tick }
-        ensures out { IfOk result (λ r. IsOut self [] tick r.0.items r.1 r.2) }
+        ensures { IfOk result (λ r. IsOut self [] tick r.0.items r.1 r.2) }
     {
         let (stretch, book) = self.begin(tick)?;
         match stretch.send() {
@@ -224,7 +224,7 @@ impl<U: Ledger, E: Ledger, O: Ledger> Running<U, E, O> {
     /// The node after one more tick, on one thread. A refused growth of memory drops the node.
     pub(crate) fn after_alone(self, tick: TickObs) -> Result<Running<U, E, O>, AllocError>
         requires { Fits self tick }
-        ensures { IfOk result (IsNextBy tick self) }
+        ensures { IfOk result (IsNextBy (tick ∷ []) self) }
     {
         let (pieces, book, round) = self.begin_one(tick)?;
         match update_alone(pieces, book, &NoGate) {
@@ -247,7 +247,7 @@ impl<U: Ledger, E: Ledger, O: Ledger> Running<U, E, O> {
         requires fits { Fits self tick }
         requires some { 0 < workers }
         requires most { workers ≤ most_workers }
-        ensures next { IfOk result (λ r. IsNextBy tick self r.0) }
+        ensures next { IfOk result (λ r. IsNextBy (tick ∷ []) self r.0) }
         ensures finished { IfOk result (λ r.
             AreFinished (length (all_shown tick)) workers steps.now (map (λ list. list.items) r.1.items)) }
     {
@@ -295,7 +295,7 @@ impl<U: Ledger + Send, E: Ledger + Send, O: Ledger + Send> Running<U, E, O> {
         requires fits { Fits self tick }
         requires some { 0 < workers }
         requires most { workers ≤ most_workers }
-        ensures { IfOk result (IsNextBy tick self) }
+        ensures { IfOk result (IsNextBy (tick ∷ []) self) }
     {
         let alloc = self.alloc;
         let (pieces, book, round) = self.begin_one(tick)?;
@@ -321,7 +321,8 @@ impl<U: Ledger + Send, E: Ledger + Send, O: Ledger + Send> Running<U, E, O> {
         requires fits { FitAll self (tick ∷ more.old.rest.items) }
         requires some { 0 < workers }
         requires most { workers ≤ most_workers }
-        ensures { IfOk result (λ r. HasTakenSome (tick ∷ more.old.rest.items) self r more.new.rest.items) }
+        ensures some { IfOk result (λ r. HasTakenSome (tick ∷ more.old.rest.items) self r more.new.rest.items) }
+        ensures fewer { OnOk result (length more.new.rest.items ≤ length more.old.rest.items) }
     {
         let alloc = self.alloc;
         let (pieces, book, round) = self.begin_some(tick, more)?;
@@ -346,7 +347,7 @@ impl<U: Ledger + Send, E: Ledger + Send, O: Ledger + Send> Running<U, E, O> {
         requires fits { FitAll self ticks.items }
         requires some { 0 < workers }
         requires most { workers ≤ most_workers }
-        ensures { IfOk result (IsNextByAll ticks.items self) }
+        ensures { IfOk result (IsNextBy ticks.items self) }
     {
         let mut running = self;
         let mut rest = ticks.into_iter();

@@ -1,13 +1,13 @@
 //! A node in the midst of a round, of one tick or of several.
 
-ghost use Rattle.std.specs.Prelude.{◌≡◌, ◌∷◌, ◌++◌, [], List, map, IfOk, OnOk};
+ghost use Rattle.std.specs.Prelude.{◌≡◌, ◌∷◌, ◌++◌, [], List, map, None, IsTrue, IfOk, OnOk};
 ghost use Rattle.std.specs.Option.{option_or};
 ghost use Rattle.observations.specs.declared.tick.TickObs.{TickObs as ATick};
 ghost use Rattle.eviction.specs.Pausing.{kept};
 ghost use Rattle.event_list.specs.Events.{of_eviction};
 ghost use Rattle.pod_piece.specs.Piece.{all_updated};
 ghost use Rattle.node_pods.specs.Pods.{AreNext, AreNumbered, sent_from, staying, awaited, joined};
-ghost use Rattle.tick_round.specs.Node.{State, FitAll, IsNextByAll};
+ghost use Rattle.tick_round.specs.Node.{State, IsNextBy};
 ghost use Rattle.tick_round.specs.Stretch.{IsOpen, MayGoOn, GoesOnWith, Takes, IsPassed, CanClose, MayClose, CanEnd};
 ghost use Rattle.tick_round.specs.Stretch.{MayEnd};
 
@@ -97,15 +97,21 @@ impl Stretch {
         self.begun.evictions.push(None)
     }
 
+    /// Whether another tick may come: no threshold is heeded in the last one, and not so many updates wait yet.
+    fn has_room(&self) -> bool
+        ensures { IsTrue result → self.now.begun.heeded ≡ None }
+    {
+        self.begun.heeded.is_none() && self.waiting < MOST_WAITING
+    }
+
     /// Takes more ticks, up to the next in which a threshold is heeded, or until so many updates wait.
     pub(crate) fn go_on(&mut self, more: &mut IntoIter<TickObs>) -> Result<(), AllocError>
         requires { MayGoOn self.old more.old.rest.items }
         ensures { (s : State) (calm : List ATick) (tick : ATick) → IsOpen s calm tick self.old
-            → FitAll s ((calm ++ tick ∷ []) ++ more.old.rest.items)
             → OnOk result (GoesOnWith s calm tick more.old.rest.items self.new more.new.rest.items) }
     {
         for _ in 0..more.len() {
-            if self.begun.heeded.is_some() || self.waiting >= MOST_WAITING {
+            if !self.has_room() {
                 return Ok(());
             }
             let Some(tick) = more.next() else {
@@ -171,7 +177,7 @@ fn close<U: Ledger, E: Ledger, O: Ledger>(
 ) -> Result<Running<U, E, O>, AllocError>
     requires { CanClose begun pods book }
     ensures { (s : State) (calm : List ATick) (tick : ATick) → MayClose s calm tick begun pods book
-        → IfOk result (IsNextByAll (calm ++ tick ∷ []) s) }
+        → IfOk result (IsNextBy (calm ++ tick ∷ []) s) }
 {
     let Begun {
         alloc,
@@ -228,7 +234,7 @@ impl Round {
     ) -> Result<Running<U, E, O>, AllocError>
         requires { CanEnd self back.items book }
         ensures { (s : State) (calm : List ATick) (tick : ATick) → MayEnd s calm tick self back.items book
-            → IfOk result (IsNextByAll (calm ++ tick ∷ []) s) }
+            → IfOk result (IsNextBy (calm ++ tick ∷ []) s) }
     {
         let Round {
             begun,

@@ -1,7 +1,5 @@
-use Rattle.std.proofs.Common.{◌∙◌, ◌++◌, List, Option, length, append-nil, ap, sym, arith}
-use Rattle.pod_piece.specs.Piece.{Piece}
 use Rattle.node_pods.specs.Pods.{sent_from, staying}
-use Rattle.node_pods.proofs.Steps.{nothing_left, sent_more, kept_more}
+use Rattle.node_pods.proofs.Steps.{sent_more, kept_more}
 use Rattle.node_pods.proofs.each.all_sent.Goals as goal
 
 pub loop-piece-preserved : goal.loop-piece-preserved

@@ -1,4 +1,4 @@
-use Rattle.std.proofs.Common.{◌∙◌, Option, Some, sym, subst}
+use Rattle.std.proofs.Common.{Option, sym, subst}
 use Rattle.std.specs.Prelude.{slice_set}
 use Rattle.observations.specs.Pods.{PodObs}
 use Rattle.pod_state.specs.Pods.{pod_tick}

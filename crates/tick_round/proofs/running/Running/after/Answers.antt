@@ -1,0 +1,29 @@
+use Rattle.std.proofs.Common.{[], ◌∷◌}
+use Rattle.tick_round.proofs.Opens.{can_end, may_end, fit_one}
+use Rattle.tick_round.proofs.Out.{may_update}
+use Rattle.tick_round.proofs.Rounds.{are_numbered}
+use Rattle.tick_round.specs.Stretch.{handed_all}
+use Rattle.tick_round.proofs.running.Running.after.Goals as goal
+
+pub update_by_workers-requires-clause-may : goal.update_by_workers-requires-clause-may
+update_by_workers-requires-clause-may g c κs within =
+    let out = c.in_ok-pieces.ensures in
+    may_update c.args.self (c.args.tick ∷ []) c.in_ok-pieces.pieces.items c.in_ok-pieces.book out.kept out.sent out.book
+
+pub update_by_workers-requires-clause-numbered : goal.update_by_workers-requires-clause-numbered
+update_by_workers-requires-clause-numbered g c κs within =
+    are_numbered (handed_all c.args.self.pods.pieces (c.args.tick ∷ [])) c.in_ok-pieces.pieces.items
+    c.in_ok-pieces.ensures.sent
+
+pub end-requires : goal.end-requires
+end-requires g c =
+    let out = c.in_ok-pieces in
+    can_end c.args.self [] c.args.tick out.pieces.items c.in-Ok.pieces.items out.book c.in-Ok.book out.round out.ensures
+    (fit_one c.args.self c.args.tick c.requires.fits) c.in-Ok.ensures.pieces c.in-Ok.ensures.book
+
+pub returns-in-Ok : goal.returns-in-Ok
+returns-in-Ok g c =
+    let out = c.in_ok-pieces in
+    c.end.ensures c.args.self [] c.args.tick
+    (may_end c.args.self [] c.args.tick out.pieces.items c.in-Ok.pieces.items out.book c.in-Ok.book out.round
+    out.ensures (fit_one c.args.self c.args.tick c.requires.fits) c.in-Ok.ensures.pieces c.in-Ok.ensures.book)

@@ -1,0 +1,9 @@
+use Rattle.std.proofs.Common.{◌+◌, ◌≤◌, length}
+use Rattle.tick_round.specs.Stretch.{HasTakenSome}
+use Rattle.tick_round.proofs.running.Running.after_all.Given as goal
+
+abbrev pub invariant-loop : goal.invariant-loop
+invariant-loop g l = record {
+  some : HasTakenSome l.fn.ticks.items l.fn.self l.running l.rest.rest.items;
+  left : length l.rest.rest.items + l.counter ≤ l.end;
+}
