@@ -143,6 +143,12 @@ class Counted(Case):
             row = counted.row_of("exits", "died", real, said)
             self.assertEqual((row.real, row.missing, row.false), (0, 0, 0))
 
+    def test_an_exit_before_an_eviction_of_the_same_name(self):
+        """What is said of the pod before is not taken for the exit behind the eviction of the next one."""
+        real = [Fact("shop/a", "app", "died 0 137", 50), Fact("shop/a", "app", "ends 0 137", 71)]
+        row = counted.row_of("exits", "died", real, [Fact("shop/a", "app", "died 0 137", 50)])
+        self.assertEqual((row.real, row.near, row.missing, row.false), (1, 1, 0, 0))
+
     def test_nearest_first(self):
         """Of two evictions of a name each has the nearest one, and none is later than half a minute."""
         real = [Fact("shop/a", "-", "evicted", moment) for moment in (10, 20, 60)]
