@@ -57,7 +57,7 @@ def given(found, gather=None):
 
 def is_utc(found, given_to):
     """Whether moments are written as times: that was asked for, or a time was given."""
-    return "--utc" in found or given_to.several is not None and given_to.several.asked.is_utc
+    return "--utc" in found or given_to.several is not None and given_to.several.is_utc
 
 
 def key_named(report, name, kubelet=None):
@@ -66,6 +66,16 @@ def key_named(report, name, kubelet=None):
     A name that fits none stays as it is."""
     of_no_line = [] if kubelet is None else [each.pod for each, _ in kubelet.decisions() if each.number is None]
     return naming.only_key(name, list(dict.fromkeys([*keys_of(report), *of_no_line]))) or name
+
+
+def keys_named(report, name):
+    """The keys that a name means: those of a namespace, which ends with a slash, or the one that it fits."""
+    if not name.endswith("/"):
+        return [key_named(report, name)]
+    keys = [key for key in keys_of(report) if key.startswith(name)]
+    if not keys:
+        raise entry.Fault(f"the report has no pod in the namespace {name[:-1]}")
+    return keys
 
 
 def pods_named(report, name, others=""):

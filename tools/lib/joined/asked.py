@@ -49,14 +49,25 @@ def asked_of(found):
             if word in found:
                 raise entry.Fault(f"{word} wants --traces too, which says where traces are (--help says more)")
         return None
-    if "--since" in found and "--at" in found:
-        raise entry.Fault("--since and --at exclude each other (--help says more)")
     if "--trace" in found:
         raise entry.Fault("--trace and --traces exclude each other (--help says more)")
-    since = found.get("--since") and since_of(found["--since"], time.time())
-    at = found.get("--at") and moment_of(found["--at"], "--at", time.time())
+    return asked_at(found, time.time())
+
+
+def asked_at(found, now):
+    """What words ask for, of which --since may count from now."""
+    if "--since" in found and "--at" in found:
+        raise entry.Fault("--since and --at exclude each other (--help says more)")
+    since = since_of(found["--since"], now) if "--since" in found else None
+    at = moment_of(found["--at"], "--at", now) if "--at" in found else None
     is_utc = any(not found[word].isdigit() for word in ("--since", "--at") if word in found)
-    return Asked(found["--traces"], found.get("--node"), since, at, is_utc)
+    return Asked(found.get("--traces", []), found.get("--node"), since, at, is_utc)
+
+
+def span_of(found, now):
+    """The first and the last moment that words ask for; None for each that they leave open."""
+    wanted = asked_at(found, now)
+    return wanted.first, wanted.last
 
 
 def since_of(text, now):

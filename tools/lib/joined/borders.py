@@ -27,11 +27,13 @@ def border_of(before, part):
 
 
 def is_of(name, before):
-    """Whether the name of a trace is that of a part, whatever its file is called here. It has the second at which the
-    trace begins, before which at most so many ticks show what was known."""
-    _, begun, _ = files.parts_of(name)
+    """Whether the name of a trace is that of a part. Where its file is called otherwise here, the name still has the
+    second at which the trace begins, before which at most so many ticks show what was known."""
+    _, begun, number = files.parts_of(name)
     if begun is None:
         return name == before.source.name
+    if before.source.begun is not None:
+        return (begun, number) == (before.source.begun, before.source.number)
     return before.first <= begun <= before.first + parts.MOST_CARRIED
 
 

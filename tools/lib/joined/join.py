@@ -25,6 +25,8 @@ class Joined:
     count: int
     first: int
     last: int
+    is_utc: bool
+    """a time was given, or the name of a trace has one"""
 
     def is_near(self, at):
         """Whether a moment is told, where one was asked for."""
@@ -49,13 +51,14 @@ def joined(asked):
     trace = None if found[0].trace is None else of_traces.join_traces(found, borders, numbers)
     if trace is not None:
         report.tick_count = len(trace.ticks)
-    return Joined(asked, report, trace, len(found), found[0].first, found[-1].last)
+    is_utc = asked.is_utc or any(part.source.begun is not None for part in found)
+    return Joined(asked, report, trace, len(found), found[0].first, found[-1].last, is_utc)
 
 
 def check_time(asked, found, borders):
     """Raises Fault where nothing was recorded at the time that is asked for."""
     def show(at):
-        return reports.moment_text(at, asked.is_utc)
+        return reports.moment_text(at, asked.is_utc or found[0].source.begun is not None)
 
     last = found[-1].last
     if asked.since is not None and last < asked.since:
