@@ -66,8 +66,8 @@ def check_time(asked, found, borders):
     if asked.at is None:
         return
     if not found[0].first <= asked.at <= last + QUIET:
-        raise entry.Fault(f"nothing was recorded at {show(asked.at)}: the traces are of {show(found[0].first)} to "
-                          f"{show(last)}")
+        raise entry.Fault(f"nothing was recorded at {show(asked.at)}: the traces around it are of "
+                          f"{show(found[0].first)} to {show(last)}")
     for border in borders:
         if border.is_gap and border.since + QUIET < asked.at < border.at:
             raise entry.Fault(f"nothing was recorded at {show(asked.at)}: there is a gap from {show(border.since)} to "

@@ -67,6 +67,12 @@ class Part:
         return self.first
 
 
+    @property
+    def shown_until(self):
+        """The moment up to which its ticks are there to show what was known; a report alone has none of its own."""
+        return self.first if self.trace is None else self.known_until
+
+
 def parts_of(asked):
     """The parts that are asked for, in the order of their times."""
     sources = files.sources_of(asked)

@@ -42,7 +42,7 @@ def go_on(pod, found, border, part):
     until = part.known_until
     if stays_ended(pod, found, until):
         return []
-    news = news_of(pod, found, border, until)
+    news = news_of(pod, found, border, part)
     if pod.reason == "Evicted":
         pod.anew = len(pod.events)
     pod.events += news
@@ -66,9 +66,10 @@ def stays_ended(pod, found, until):
 # --- events ---
 
 
-def news_of(pod, found, border, until):
+def news_of(pod, found, border, part):
     """The events of a part's pod that say more than what the pod had come to, each of them with its number, and behind
     the border."""
+    until = part.known_until
     before = {container.name: container for container in pod.containers}
     seen = {name: Seen() for name in before}
     told = {(event.container, event.word, event.rest[0]) for event in pod.events if event.word in OF_INSTANCE}
@@ -83,7 +84,7 @@ def news_of(pod, found, border, until):
         else:
             is_news = not is_known(event, before[event.container], seen[event.container], told, backed)
         if is_news:
-            at = border.at if event.at <= until and border.is_gap else max(event.at, border.at)
+            at = border.at if event.at <= part.shown_until and border.is_gap else max(event.at, border.at)
             news.append(replace(event, at=at, number=pod.number))
     return [*lost(pod, found, border, until), *news]
 

@@ -2,6 +2,7 @@
 
 from __future__ import annotations
 
+import glob
 import os
 import signal
 import subprocess
@@ -16,8 +17,12 @@ from plugin import files, words
 
 def is_meant(found):
     """Whether the words are of several traces, or of a time of them."""
-    return (len(found.files) > 1 or any(map(os.path.isdir, found.files))
+    return (len(found.files) > 1 or any(os.path.isdir(file) or is_pattern(file) for file in found.files)
             or any(word in found.rest for word in words.SEVERAL))
+
+
+def is_pattern(file):
+    return glob.has_magic(file) and not os.path.exists(file)
 
 
 def run(name, command, found, tool):
