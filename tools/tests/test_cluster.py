@@ -128,7 +128,7 @@ def test_fetch_refused():
         for words, status, said in (
             ([], 2, "it takes nodes, or --all and none"),
             (["n1", "--all"], 2, "it takes nodes, or --all and none"),
-            (["n12"], 2, "no recorder on n12; the nearest: n1, n2"),
+            (["n12"], 2, "no recorder on n12; the nearest: n2, n1"),
             (["worker-9"], 2, "no recorder on worker-9; there are those of n1, n2, n3"),
             (["n1", "--since", "soon"], 2, "--since takes a time"),
             (["n1", "--since", "2h", "--at", "03:10Z"], 2, "exclude each other"),
@@ -178,7 +178,7 @@ def test_story_of_a_cluster():
         expect("kubectl replay timeline of a node", (answer[0], answer[2], cluster.asked()),
                (0, f"timeline: {WRITTEN}", ["00-01-00", "00-01-20"]))
         for words, status, said in (
-            (["story", "web", "--node", "n12"], 2, "no recorder on n12; the nearest: n1, n2"),
+            (["story", "web", "--node", "n12"], 2, "no recorder on n12; the nearest: n2, n1"),
             (["story", "web", "--node", "n3"], 1, "n3: its recorder recorder-c is Pending"),
             (["story", "web", "--node", "n1", "--since", "1h"], 1, "n1: its recorder holds no trace of that time"),
             (["story", "web", "--since", "1h"], 2, "it wants -f FILE or FOLDER for traces that are here, or --node NODE"),

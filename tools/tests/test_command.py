@@ -9,7 +9,8 @@ import tempfile
 from checks import HERE, REPLAY, TOOLS, TOP, expect, expect_refused, read, run
 
 COMMAND = f"{TOOLS}/kubelet-replay"
-NAMES = ("record", "run", "check", "explain", "story", "why", "page", "timeline", "json", "what-if", "fleet")
+NAMES = ("record", "run", "check", "explain", "story", "why", "page", "timeline", "json", "what-if", "fleet",
+         "fetch", "nodes")
 TRACE, REPORT = (f"{TOP}/examples/memory_pressure.{kind}" for kind in ("trace", "report"))
 
 

@@ -43,6 +43,7 @@ def go_on(pod, found, border, part):
     if stays_ended(pod, found, until):
         return []
     news = news_of(pod, found, border, part)
+    is_told = ready_is_told(pod) and ready_is_told(found)
     if pod.reason == "Evicted":
         pod.anew = len(pod.events)
     pod.events += news
@@ -53,6 +54,8 @@ def go_on(pod, found, border, part):
     pod.containers = [replace(each) for each in found.containers]
     pod.conditions = [replace(each) for each in found.conditions]
     tell_conditions(pod, before, border, until)
+    if is_told:
+        tell_ready(pod)
     return news
 
 
@@ -180,8 +183,18 @@ def tell_conditions(pod, before, border, until):
             condition.at = was.at
         elif condition.at <= until:
             condition.at = was.at if was is not None and was.value == condition.value else border.at
-    spans = reports.changes_of_ready(pod)
+
+
+def ready_is_told(pod):
+    """Whether the events of a pod tell since when it is Ready or not; of containers that are never ready they don't."""
+    last, final = reports.changes_of_ready(pod)[-1], pod.condition("Ready")
+    return (last.value, last.since) == (final.value, final.at)
+
+
+def tell_ready(pod):
+    """Since when it is Ready or not, by its events over the border."""
+    last = reports.changes_of_ready(pod)[-1]
     for kind in ("ContainersReady", "Ready"):
         condition = pod.condition(kind)
-        if spans[-1].value == condition.value:
-            condition.at = spans[-1].since
+        if last.value == condition.value:
+            condition.at = last.since

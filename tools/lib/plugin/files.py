@@ -17,6 +17,7 @@ import program as programs
 import report as reports
 import trace as traces
 from explain import beside
+from joined import files as traces_of
 
 # a longer one is no line of a trace
 LONGEST_LINE = 1 << 21
@@ -151,8 +152,11 @@ def whole(report):
 
 
 def keys_of(path):
-    """The keys of the pods that a trace or a report names, for a completion: without one where it can't be read."""
+    """The keys of the pods that a trace or a report names, or the last trace of a folder, for a completion: without one
+    where it can't be read."""
     try:
+        if os.path.isdir(path):
+            path = os.path.join(path, max(name for name in os.listdir(path) if name.endswith(traces_of.ENDINGS)))
         if is_report(path):
             with open(path, encoding="utf-8") as file:
                 return [pod.key for pod in reports.read_report(file.read()).pods]
