@@ -12,7 +12,7 @@ import report as reports
 import trace as traces
 import why as why_ticks
 import why_text
-from joined import asked, join
+from joined import asked, join, known
 
 
 # words of a tool that takes several traces in place of a report
@@ -108,6 +108,8 @@ def trace_of(report, path, watch=None):
         trace = traces.read_trace(path, watch)
         traces.check_belongs(trace, report, path)
         tell_left(trace, report)
+        if trace.follows():
+            known.tell_known(report, trace.follows()["at"])
     except traces.TraceFault as fault:
         raise entry.Fault(str(fault)) from None
     except (ValueError, TypeError, KeyError, AttributeError):

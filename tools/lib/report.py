@@ -27,6 +27,8 @@ class Event:
     """that of its pod, where it has one"""
     anew: int | None = None
     """the moment of a border behind which what it counts began anew"""
+    was_so: bool = False
+    """it was so in the trace before, which is not there"""
 
 
 @dataclass

@@ -72,6 +72,8 @@ ANEW = {"backoff": "exits", "restart": "exits", "evicted": "the grace period or 
 
 def beside_words(pod, event, show):
     """What is not known of an event of several traces: it happened in a gap, or it is counted anew in a trace."""
+    if event.was_so:
+        return " (so before this trace)"
     since = next((since for since, until in pod.gaps if until == event.at), None)
     if since is not None:
         return f" (by then, in the gap since {show(since)})"

@@ -218,8 +218,19 @@ class Trace:
         """Whether the trace says what the kubelet did: where it then says nothing, the kubelet did nothing."""
         return self.settings.get("recordsKubelet") is True or bool(self.decisions)
 
+    def follows(self):
+        """What its node line says of the trace before it: its name, `until`, up to when that says all, and `at`, up to
+        when this one shows what was so before; None where it says nothing of this form."""
+        said = self.settings.get("follows")
+        return said if is_follows(said) else None
+
     def dedicated(self):
         return value_at(self.settings, "dedicatedImagefs", False)
+
+
+def is_follows(said):
+    return (isinstance(said, dict) and isinstance(said.get("trace"), str)
+            and all(isinstance(said.get(name), int) for name in ("until", "at")))
 
 
 def present_at_each(trace):

@@ -10,6 +10,7 @@ import zlib
 
 import entry
 import packed
+import trace as traces
 
 ENDINGS = (".trace", ".trace.gz")
 LONGEST_LINE = 1 << 20
@@ -72,12 +73,7 @@ def follows_of(path):
             said = json.loads(file.readline(LONGEST_LINE)).get("follows")
     except (OSError, EOFError, zlib.error, ValueError, AttributeError, RecursionError):
         return None
-    return said if is_follows(said) else None
-
-
-def is_follows(said):
-    return (isinstance(said, dict) and isinstance(said.get("trace"), str)
-            and all(isinstance(said.get(name), int) for name in ("until", "at")))
+    return said if traces.is_follows(said) else None
 
 
 def shown(path):

@@ -21,7 +21,6 @@ import program as programs
 import records
 import report as reports
 import trace as traces
-from fleet import traces as fleet_traces
 
 LONGEST_INPUT = 64 << 20
 # events are in the report alone: they would be most of the rows
@@ -96,7 +95,7 @@ def begun_of(text):
         said = json.loads(text.lstrip().split(b"\n", 1)[0]).get("follows")
     except (ValueError, AttributeError, RecursionError):
         return None
-    return said["at"] if fleet_traces.is_follows(said) else None
+    return said["at"] if traces.is_follows(said) else None
 
 
 def span_of(text):

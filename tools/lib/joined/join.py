@@ -5,6 +5,7 @@ from __future__ import annotations
 from dataclasses import dataclass
 
 import entry
+import records
 import report as reports
 import trace as traces
 from joined import asked as asking_for
@@ -25,6 +26,8 @@ class Joined:
     count: int
     first: int
     last: int
+    known: int
+    """the moment up to which the first of them shows what was so in one that is not there"""
     is_utc: bool
     """a time was given, or the name of a trace has one"""
 
@@ -52,7 +55,8 @@ def joined(asked):
     if trace is not None:
         report.tick_count = len(trace.ticks)
     is_utc = asked.is_utc or any(part.source.begun is not None for part in found)
-    return Joined(asked, report, trace, len(found), found[0].first, found[-1].last, is_utc)
+    known = found[0].known_until if found[0].follows else records.NEVER
+    return Joined(asked, report, trace, len(found), found[0].shown_until, found[-1].last, known, is_utc)
 
 
 def check_time(asked, found, borders):

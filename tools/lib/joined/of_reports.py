@@ -6,6 +6,7 @@ from __future__ import annotations
 from dataclasses import replace
 
 import report as reports
+from joined import known
 from joined import pods as joined_pods
 
 # of these events the last word is the state
@@ -23,6 +24,8 @@ def join_reports(found, borders):
         take_evictions(made, part, border, numbers[-1])
         present = present_at_end(made, part, numbers[-1])
     made.events.sort(key=lambda event: event.at)
+    if found[0].follows:
+        known.tell_known(made, found[0].known_until)
     made.pod_count, made.tick_count = len(made.pods), sum(part.report.tick_count for part in found)
     made.totals = totals_of(made, found)
     for pod in made.pods:

@@ -47,9 +47,7 @@ class Part:
     @property
     def follows(self):
         """What a trace of a recorder says of the one before it; None where it says nothing of its form."""
-        said = None if self.trace is None else self.trace.settings.get("follows")
-        numbers = isinstance(said, dict) and all(isinstance(said.get(name), int) for name in ("until", "at"))
-        return said if numbers and isinstance(said.get("trace"), str) else None
+        return None if self.trace is None else self.trace.follows()
 
     @property
     def known_until(self):
@@ -88,7 +86,7 @@ def parts_of(asked):
     if not found:
         raise entry.Fault("none of the traces can be used")
     check_alike(found)
-    return sorted(found, key=lambda part: (part.first, part.source.begun or 0, part.source.number))
+    return sorted(found, key=lambda part: (part.shown_until, part.source.number))
 
 
 def is_report(source):
