@@ -1,18 +1,30 @@
 """The tests of several traces that are told as one: beside one recording of the same play, with gaps, and with files
 that can't be told together."""
 
+import glob
 import gzip
 import json
 import os
 import random
 import shutil
+import sys
 import tempfile
 import time
 from concurrent.futures import ThreadPoolExecutor
 
 from chance import BEGIN, SECONDS, play_of
-from checks import HERE, TOOLS, expect, expect_kept, expect_refused, read, replayed, run
+from checks import HERE, REPLAY, TOOLS, TOP, expect, expect_kept, expect_refused, read, replayed, run
 from into_plays import Into, probed_play, series, unpacked
+
+sys.path.insert(0, f"{TOOLS}/lib")
+import trace as lib_trace  # noqa: E402
+from joined import asked, join  # noqa: E402
+
+try:
+    import jsonschema
+    VALIDATOR = jsonschema.Draft7Validator(json.loads(read(f"{TOP}/docs/report.schema.json")))
+except ImportError:
+    jsonschema = None
 
 PLAYS = 16
 KEPT = f"{HERE}/joined"
@@ -142,6 +154,47 @@ def test_joined_of_a_real_kubelet():
         expect(f"joined traces of {name}", joined_fault({}, *words, each="23s", recording=folder), None)
 
 
+def belongs_fault(folder):
+    """Why the joined trace is not one of the joined report, or what a tool says of them; None where all is well."""
+    environment = os.environ.get("KUBELET_REPLAY")
+    os.environ["KUBELET_REPLAY"] = REPLAY
+    try:
+        made = join.joined(asked.Asked([folder]))
+        lib_trace.check_belongs(made.trace, made.report, "the joined trace")
+    finally:
+        os.environ.pop("KUBELET_REPLAY")
+        os.environ.update({"KUBELET_REPLAY": environment} if environment else {})
+    pods = dict.fromkeys(pod.key for pod in made.report.pods)
+    for words in (["story"], ["json"], ["page"], ["timeline"], *(["story", pod] for pod in pods)):
+        status, _, said = run([f"{TOOLS}/{words[0]}", "--traces", folder, *words[1:]])
+        if status != 0 or said:
+            return f"{words}: {status} {said}"
+    for line in records(run([f"{TOOLS}/json", "--traces", folder])) if jsonschema else ():
+        fault = next(VALIDATOR.iter_errors(line), None)
+        if fault:
+            return f"{line}: {fault.message[:200]}"
+    return None
+
+
+def test_joined_belongs():
+    """Over borders each event of each play stands at a tick that lists it, and each tool takes it."""
+    for path in sorted(glob.glob(f"{HERE}/recordings/*/play.json")):
+        name = os.path.basename(os.path.dirname(path))
+        if read(f"{os.path.dirname(path)}/words").split()[:1] == ["--standard"] or "extended" not in name:
+            continue
+        into = Into(json.loads(read(path)))
+        seconds = read(f"{HERE}/recordings/{name}/words").split("--for ")[1].split()[0]
+        into.into("--for", seconds, "--each", "10s")
+        expect(f"joined traces of {name}", belongs_fault(into.folder), None)
+        into.clean()
+    folder = f"{HERE}/recordings/real_evictions"
+    words = [word for word in read(f"{folder}/words").split() if word not in ("--standard", "--extended")]
+    into = Into({}, folder)
+    into.into(*words, "--each", "60s", longest=200)
+    expect("joined traces of real_evictions", belongs_fault(into.folder), None)
+    into.clean()
+
+
 def test_story_over_borders():
     """A restart over a border is told once, and where exits are counted anew it is said."""
     with Folder() as folder:
@@ -172,6 +225,61 @@ def test_time_of_traces():
         whole = "5 traces, 2026-01-01 00:00:00Z to 2026-01-01 00:01:21Z"
         cut = "3 traces, 2026-01-01 00:00:40Z to 2026-01-01 00:01:21Z"
         expect("traces of a time", list(heads.values()), [whole, whole, cut, cut, cut])
+
+
+# starts and exits of one container, in seconds behind 00:00:00Z
+LIVES = [(0, 3700), (3705, 11000), (11010, 11420), (11430, None)]
+
+
+def listing_at(second):
+    """What an hourly trace lists of the container at a second."""
+    attempt = max(place for place, (start, _) in enumerate(LIVES) if start <= second)
+    end = LIVES[attempt][1]
+    if end is None or second < end:
+        return {"name": "app", "attempt": attempt, "state": "CONTAINER_RUNNING"}
+    return {"name": "app", "attempt": attempt, "state": "CONTAINER_EXITED", "exitCode": 3}
+
+
+def hourly(folder):
+    """Writes four traces of an hour each into a folder."""
+    moments = {0, *range(0, 14400, 600), *(at for life in LIVES for at in life if at is not None)}
+    for hour in range(4):
+        begin = hour * 3600
+        node = {"kind": "node", "version": 3, "name": "n1"}
+        if hour:
+            before = f"n1.{stamp(BEGIN + begin - 3600)}.trace.gz"
+            node["follows"] = {"trace": before, "until": BEGIN + begin, "at": BEGIN + begin}
+        pod = {"metadata": {"name": "web", "namespace": "shop"}, "spec": {"containers": [{"name": "app"}]}}
+        lines = [node, {"kind": "pod", "pod": pod}]
+        lines += [{"kind": "tick", "at": BEGIN + at, "pods": [{"pod": "shop/web", "containers": [listing_at(at)]}]}
+                  for at in sorted(moments) if begin <= at < begin + 3600]
+        with gzip.open(f"{folder}/n1.{stamp(BEGIN + begin)}.trace.gz", "wt") as file:
+            file.write("".join(f"{json.dumps(line, separators=(',', ':'))}\n" for line in lines))
+
+
+def test_a_moment():
+    """The oldest question: why was it restarted at 3:10? What is needed is replayed, and what is far is left out."""
+    with tempfile.TemporaryDirectory() as folder:
+        hourly(folder)
+        at = ["--traces", folder, "--at", "2026-01-01T03:10Z"]
+        status, told, said = run([f"{TOOLS}/story", *at, "shop/web"])
+        expect("story --at", (status, said), (0, ""))
+        expect_kept("story --at: the text", told, f"{KEPT}/moment")
+        expect("story --at of seconds", run([f"{TOOLS}/story", *at[:3], str(BEGIN + 11400), "shop/web"])[1], told)
+        status, told, said = run([f"{TOOLS}/story", *at[:3], "2026-01-01T02:10Z", "shop/web", "--without-why"])
+        expect("story --at without a restart", told.split("\n")[1:3], [
+            "no restart, kill, death or eviction within 600 s of 2026-01-01 02:10:00Z",
+            "2 traces, 2026-01-01 01:00:00Z to 2026-01-01 02:50:00Z"])
+        first = run([f"{TOOLS}/story", "--traces", folder, "--since", "2026-01-01T03:00Z", "shop/web"])[1]
+        expect("what a trace shows of one that is not there", [line.split("  ")[-1] for line in first.split("\n")
+                                                              if "so before this trace" in line and "app  " in line],
+               ["started (so before this trace)", "ready (so before this trace)"])
+        why = run([f"{TOOLS}/why", *at, "shop/web"])[1]
+        heads = [line.partition("  ")[2] for line in why.split("\n") if line.startswith("2026")]
+        expect("why --at", heads, [
+            "app died with code 3 (attempt 1)", "app unready", "app restart (attempt 1)", "app started (attempt 2)",
+            "app ready", "app died with code 3 (attempt 2)", "app unready", "app restart backed off by 10 s",
+            "app started (attempt 3)", "app ready"])
 
 
 def test_gap():

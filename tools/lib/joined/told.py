@@ -36,8 +36,8 @@ def nearest_lines(several, pod, restarts, show):
     near = [row for row in restarts if abs(row[0] - at) <= asked.NEAR]
     if near:
         moment, (_, name, attempt, by, led) = min(near, key=lambda row: abs(row[0] - at))
-        does = "was started again" if by == "ordered" else "came again"
-        return [f"nearest to {show(at)}: {name} {does} behind attempt {attempt} at {show(moment)}, led to by: {led}"]
+        does = "restart ordered" if by == "ordered" else "restarted"
+        return [f"nearest to {show(at)}: {name} {does} at {show(moment)}, after attempt {attempt}, led to by: {led}"]
     bad = [event for event in pod.events if event.word in ("evicted", "kill", "died", "unready")
            and abs(event.at - at) <= asked.NEAR]
     within = f"within {asked.NEAR} s of {show(at)}"
