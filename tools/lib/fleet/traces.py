@@ -66,6 +66,9 @@ def plain_name(path):
 
 def follows_of(path):
     """What the node line of a trace says of the one before it; None where it says nothing, or can't be read."""
+    if not os.path.isfile(path):
+        # a pipe would be waited for
+        return None
     try:
         with open(path, "rb") as plain:
             head = plain.read(len(packed.GZIP))

@@ -78,9 +78,11 @@ def news_of(pod, found, border, part):
     told = {(event.container, event.word, event.rest[0]) for event in pod.events if event.word in OF_INSTANCE}
     backed = backed_off(pod)
     shown = set(map(id, phases_known(pod, found, until)))
-    news = []
+    news = [*readiness_of(pod, found, border, part, seen), *phase_lost(pod, found, border, until)]
     for event in found.events:
-        if event.word == "phase":
+        if event.word in ("ready", "unready") and event.at <= part.shown_until:
+            is_news = False
+        elif event.word == "phase":
             is_news = id(event) not in shown
         elif event.container is None:
             is_news = True
@@ -89,7 +91,7 @@ def news_of(pod, found, border, part):
         if is_news:
             at = border.at if event.at <= part.shown_until and border.is_gap else max(event.at, border.at)
             news.append(replace(event, at=at, number=pod.number))
-    return [*lost(pod, found, border, until), *news]
+    return news
 
 
 def is_known(event, before, seen, told, backed):
@@ -131,18 +133,27 @@ def phases_known(pod, found, until):
     return changes[: same[-1] + 1] if same else []
 
 
-def lost(pod, found, border, until):
-    """What the pod had come to and the part does not show: only the rules had ended it, or it happened in a gap."""
+def readiness_of(pod, found, border, part, seen):
+    """That a container is ready at a border, or behind a gap is not, where it was otherwise before it. Without a gap it
+    stays ready, though a part that can't show as many results as its probe wants says so later."""
     news = []
-    for before in pod.containers if border.is_gap else ():
-        is_shown = any(event.word == "ready" and event.container == before.name and event.at <= until
-                       for event in found.events)
-        if before.ready == "true" and not is_shown:
-            news.append(reports.Event(border.at, pod.key, before.name, "unready", [], pod.number))
-    changes = [event for event in found.events if event.word == "phase" and event.at <= until]
-    if not changes and pod.phase != "Pending":
-        news.append(reports.Event(border.at, pod.key, None, "phase", ["Pending"], pod.number))
+    for before in pod.containers:
+        told = [event.word for event in found.events if event.word in ("ready", "unready")
+                and event.container == before.name and event.at <= part.shown_until]
+        is_ready, was_ready = told[-1:] == ["ready"], before.ready == "true"
+        if is_ready != was_ready and (is_ready or border.is_gap and part.trace is not None):
+            word = "ready" if is_ready else "unready"
+            news.append(reports.Event(border.at, pod.key, before.name, word, [], pod.number))
+        seen[before.name].has_readiness = is_ready or border.is_gap and part.trace is not None
     return news
+
+
+def phase_lost(pod, found, border, until):
+    """That the pod is pending again, where a part shows no other phase at its begin."""
+    changes = [event for event in found.events if event.word == "phase" and event.at <= until]
+    if changes or pod.phase == "Pending":
+        return []
+    return [reports.Event(border.at, pod.key, None, "phase", ["Pending"], pod.number)]
 
 
 # --- what is counted anew ---
