@@ -147,6 +147,10 @@ def test_fetch_refused():
                f"{os.path.getsize(folder.place(0))} bytes\n"))
         expect("fetch keeps nothing of what comes cut", cluster.here(), [])
         expect("fetch asks for what comes cut once more", cluster.asked(), ["00-00-00"] * 2)
+        cluster.put("recorder-a.cut", str(os.path.getsize(f"{cluster.traces}/{PART}") - 20))
+        status, told, said = cluster.fetch("n1", "--since", "2026-01-01T00:01:21Z")
+        expect("fetch of a part that is shorter by now", (status, said, told.split(" copied")[0], cluster.asked()),
+               (0, "", "n1: 1 trace", ["00-01-20"] * 2))
         answer = run([f"{TOOLS}/fetch", "n1"], PATH=f"{cluster.path}/empty:{os.path.dirname(shutil.which('python3'))}"
                                                     ":/usr/bin:/bin" if not shutil.which("kubectl", path="/usr/bin:/bin")
                      else python_alone(cluster.path))

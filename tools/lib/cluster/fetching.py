@@ -90,7 +90,7 @@ def take(cluster, recorder, file, folder, found):
         return
     name, data = whole(cluster, recorder, file)
     if name.endswith(files.PART):
-        data = data[: data.rfind(b"\n") + 1]
+        data = whole_lines(data)
         found.until = last_moment(data)
     path = os.path.join(folder, name)
     made = f"{path}.copy"
@@ -111,7 +111,7 @@ def drop(path):
 
 def whole(cluster, recorder, file):
     """The name and the bytes of a trace. A part may have ended since it was listed, and is packed then; what came cut
-    is asked for once more."""
+    is asked for once more. What the recorder writes ahead of a part may be less by then."""
     for each in range(TRIES):
         try:
             data = cluster.content(recorder, file)
@@ -120,9 +120,17 @@ def whole(cluster, recorder, file):
                 raise
             file = asking.File(f"{file.name.removesuffix('.part')}.gz", 0, 0)
             continue
-        if file.is_part and len(data) >= file.size or not file.is_part and is_whole(data, file.size):
+        if file.is_part:
+            fits = len(data) >= file.size or (each + 1 == TRIES and last_moment(whole_lines(data)) is not None)
+        else:
+            fits = is_whole(data, file.size)
+        if fits:
             return file.name, data
     raise asking.NoAnswer(f"{file.name} did not come whole: {len(data)} of {file.size} bytes")
+
+
+def whole_lines(data):
+    return data[: data.rfind(b"\n") + 1]
 
 
 def is_whole(data, size):
