@@ -70,6 +70,10 @@ class Pod:
     def condition(self, kind):
         return next((found for found in self.conditions if found.kind == kind), None)
 
+    def own_gaps(self):
+        """The gaps that begin before it was gone."""
+        return [(since, until) for since, until in self.gaps if self.left is None or since < self.left]
+
 
 @dataclass
 class Eviction:
@@ -362,7 +366,7 @@ def ready_spans(pod):
     final, spans = pod.condition("Ready"), changes_of_ready(pod)
     if (spans[-1].value, spans[-1].since) != (final.value, final.at):
         spans = [Span(final.value, final.at, None)]
-    return without_gaps(spans, pod.gaps)
+    return without_gaps(spans, pod.own_gaps())
 
 
 def changes_of_ready(pod):
@@ -389,8 +393,9 @@ def condition_spans(pod, condition):
         return ready_spans(pod)
     last = Span(condition.value, condition.at, None)
     if condition.kind == "Initialized" and condition.at > first_tick(pod):
-        return without_gaps([Span("False" if condition.value == "True" else "True", None, condition.at), last], pod.gaps)
-    return without_gaps([last], pod.gaps)
+        before = Span("False" if condition.value == "True" else "True", None, condition.at)
+        return without_gaps([before, last], pod.own_gaps())
+    return without_gaps([last], pod.own_gaps())
 
 
 def state_spans(pod, name):
@@ -406,7 +411,7 @@ def state_spans(pod, name):
     spans[-1].until = end_of_spans(pod)
     for span in spans:
         span.value, _, span.note = span.value.partition(" ")
-    return without_gaps(spans, pod.gaps)
+    return without_gaps(spans, pod.own_gaps())
 
 
 def pressure_spans(report, kind):

@@ -310,6 +310,21 @@ def test_gap():
         expect("a short gap at the moment that is asked for", answer[0], 0)
 
 
+def test_a_pod_that_went_before_a_gap():
+    """A gap is none of a pod that was gone by then: its conditions lasted until it went."""
+    play = restarting_play()
+    play["pods"]["shop/early"] = {"from": 1, "until": 30, "spec": {"containers": [{"name": "app"}]}}
+    play["containers"].append({"id": "e", "pod": "shop/early", "name": "app", "attempt": 0, "created": 2, "started": 3,
+                               "exited": 29, "code": 0, "removed": 31})
+    into = Into(play)
+    into.into("--for", "90", "--each", "20s")
+    os.remove(f"{into.folder}/n1.2026-01-01T00-00-40Z.trace.gz")
+    told = run([f"{TOOLS}/story", "--traces", into.folder, "shop/early"])[1]
+    conditions = told.partition("Conditions\n")[2].partition("\n\n")[0]
+    expect("a pod that went before a gap", ("00:00:32Z" in conditions, "00:01:00Z" in conditions), (True, False))
+    into.clean()
+
+
 def stamp(at):
     return time.strftime("%Y-%m-%dT%H-%M-%SZ", time.gmtime(at))
 
