@@ -66,8 +66,9 @@ def event_words(event, is_beside=False, trace=None, is_whole=True):
     return said[event.word]()
 
 
-# what a trace counts anew from its begin on
-ANEW = {"backoff": "exits", "restart": "exits", "evicted": "the grace period or the pause"}
+# what goes by what a trace counts anew from its begin on
+ANEW = {"backoff": "exits counted anew since", "restart": "exits counted anew since",
+        "evicted": "the rules begin anew at", "phase": "there again, as on the node, at"}
 
 
 def beside_words(pod, event, show):
@@ -78,7 +79,7 @@ def beside_words(pod, event, show):
     if since is not None:
         return f" (by then, in the gap since {show(since)})"
     if event.anew is not None and event.word in ANEW:
-        return f" ({ANEW[event.word]} counted anew since {show(event.anew)})"
+        return f" ({ANEW[event.word]} {show(event.anew)})"
     return ""
 
 

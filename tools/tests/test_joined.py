@@ -196,6 +196,19 @@ def test_joined_belongs():
     into = Into({}, folder)
     into.into(*words, "--each", "60s", longest=200)
     expect("joined traces of real_evictions", belongs_fault(into.folder), None)
+    whole = into.record(*words, "--extended", longest=200)[1]
+    with open(f"{into.run}/trace", "w", encoding="utf-8") as file:
+        file.write(whole)
+    one, several = (records(run([f"{TOOLS}/json", *words], given)) for words, given in (
+        (["--trace", f"{into.run}/trace"], replayed(whole)[1]), (["--traces", into.folder], "")))
+    did = [[(line["pod"], line["at"], line["rules_at"], line["agrees"]) for line in lines
+            if line["record"] == "decision"] for lines in (one, several)]
+    expect("joined traces of real_evictions: what the kubelet did, and the rules", did[1], did[0])
+    told = run([f"{TOOLS}/story", "--traces", into.folder, "shop/h-bulk", "--without-why"])[1]
+    again = [line.split("  ")[-1] for line in told.split("\n") if "14:28:00Z)" in line]
+    expect("a pod that the rules evicted before a border is there again", again, [
+        "phase Running (there again, as on the node, at 14:28:00Z)",
+        "the rules evict it: memory.available hard, grace 0 s (the rules begin anew at 14:28:00Z)"])
     into.clean()
 
 

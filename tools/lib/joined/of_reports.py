@@ -128,18 +128,20 @@ def take_evictions(made, part, border, numbers):
     for eviction in part.report.evictions:
         number, at = numbers.get(eviction.number), behind(eviction.at, border)
         if (number, at) in told:
-            anew = anew_of(made, part, border, eviction, at)
+            anew = anew_of(made, part, border, eviction, number, at)
             made.evictions.append(replace(eviction, at=at, number=number, anew=anew))
             for event in made.events:
                 if event.word == "evicted" and (event.number, event.at) == (number, at):
                     event.anew = anew
 
 
-def anew_of(made, part, border, eviction, at):
-    """The border behind which the grace period of an eviction, or the pause behind the one before, began anew; None
-    where neither lies over it."""
+def anew_of(made, part, border, eviction, number, at):
+    """The border behind which the grace period of an eviction, or the pause behind the one before, began anew, or
+    behind which the pod was there again that they had evicted; None where none of these lies over it."""
     if border is None:
         return None
+    if any(one.number == number for one in made.evictions):
+        return border.at
     if eviction.kind == "soft":
         since = reports.Thresholds(sorted_report(made)).at(at).get((eviction.signal, eviction.kind))
         return border.at if since is not None and since < border.at else None

@@ -46,6 +46,8 @@ def go_on(pod, found, border, part):
     is_told = ready_is_told(pod) and ready_is_told(found)
     if pod.reason == "Evicted":
         pod.anew = len(pod.events)
+        for event in news:
+            event.anew = border.at if event.word == "phase" and event.at == border.at else None
     pod.events += news
     pod.events.sort(key=lambda event: event.at)
     mark_anew(pod, found, news, border)
