@@ -93,6 +93,8 @@ def event_record(report, number, event):
         record.update(pod=event.pod, pod_number=event.number)
     if event.container is not None:
         record["container"] = event.container
+    if event.was_so:
+        record["so_before"] = True
     if event.anew is not None and event.word in ("backoff", "restart", "evicted"):
         record["counted_anew_since"] = event.anew
     return record | WORDS[event.word](event.rest)

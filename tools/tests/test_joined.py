@@ -487,6 +487,8 @@ def test_packed_traces():
            run(["sh", "-c", f"{shell}'{trace}'"]))
     piped = f"zcat '{folder}/trace.gz' | '{TOOLS}/kubelet-replay' run -"
     expect("zcat to the program", run(["sh", "-c", piped]), run([f"{TOOLS}/kubelet-replay", "run", trace]))
+    piped = f"zcat '{folder}/trace.gz' | '{REPLAY}' run /dev/stdin --extended"
+    expect("zcat to the program itself", run(["sh", "-c", piped]), run([REPLAY, "run", trace, "--extended"]))
     with open(f"{folder}/cut.gz", "wb") as file, open(f"{folder}/trace.gz", "rb") as whole:
         file.write(whole.read()[:300])
     for words in ("run CUT", "check CUT", "story -f CUT agree", "explain CUT", "page -f CUT"):

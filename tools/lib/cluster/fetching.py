@@ -93,15 +93,24 @@ def take(cluster, recorder, file, folder, found):
         data = whole_lines(data)
         found.until = last_moment(data)
     path = os.path.join(folder, name)
-    made = f"{path}.copy"
-    with open(made, "wb") as out:
-        out.write(data)
-    os.replace(made, path)
+    put(path, data)
     if not name.endswith(files.PART):
         # what was copied of it while it was written
         drop(f"{path.removesuffix('.gz')}.part")
     found.copied.append(name)
     found.size += len(data)
+
+
+def put(path, data):
+    """Writes a file, which has its name once it is whole."""
+    made = f"{path}.copy"
+    try:
+        with open(made, "wb") as out:
+            out.write(data)
+        os.replace(made, path)
+    except OSError:
+        drop(made)
+        raise
 
 
 def drop(path):

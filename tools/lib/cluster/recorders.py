@@ -14,6 +14,8 @@ from joined import files
 # as deploy/daemonset.yaml has them
 NAMESPACE, LABEL, CONTAINER = "kubelet-replay", "app=kubelet-replay-recorder", "recorder"
 FOLDER = "/var/lib/kubelet-replay"
+# kubectl says so behind what the command itself said
+ENDED = "command terminated with exit code"
 SECONDS, SECONDS_OF_COPY = 60, 600
 # words of a tool that asks them
 VALUED = ("--context", "--recorders")
@@ -70,8 +72,9 @@ class Cluster:
         except subprocess.TimeoutExpired:
             raise NoAnswer(f"kubectl has not answered within {seconds} s") from None
         if done.returncode != 0:
-            said = [line for line in done.stderr.decode("utf-8", "replace").split("\n") if line.strip()]
-            raise NoAnswer(said[-1].strip() if said else f"kubectl ended with status {done.returncode}")
+            said = [line.strip() for line in done.stderr.decode("utf-8", "replace").split("\n")
+                    if line.strip() and not line.startswith(ENDED)]
+            raise NoAnswer(said[-1] if said else f"kubectl ended with status {done.returncode}")
         return done.stdout
 
     def recorders(self):

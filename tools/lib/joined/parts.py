@@ -84,7 +84,7 @@ def parts_of(asked):
         if part is not None:
             found.append(part)
     if not found:
-        raise entry.Fault("none of the traces can be used")
+        raise entry.Fault("no trace is left that can be used and has something of that time")
     check_alike(found)
     return sorted(found, key=lambda part: (part.shown_until, part.source.number))
 
@@ -178,10 +178,19 @@ def of_source(source, text, made, asked):
         if source.is_named:
             raise entry.Fault(f"{source.shown} is of {part.report.node}, and not of {asked.node}")
         return None
+    if not source.is_named and is_of_another_time(part, asked):
+        return None
     if source.is_part:
         until = reports.moment_text(part.last, part.first > 10 ** 8)
         entry.say(f"{source.shown} is still written, or was left so: it is read up to {until}")
     return part
+
+
+def is_of_another_time(part, asked):
+    """Whether a trace of a folder, whose name may not say when it begins, has nothing of the time that is asked for.
+    The last one lasts beyond its last tick."""
+    return part.source.begun is None and (asked.first is not None and part.last < asked.first
+                                          or asked.last is not None and part.first > asked.last)
 
 
 def read_part(source, text, made):

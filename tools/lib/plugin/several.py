@@ -27,7 +27,7 @@ def is_pattern(file):
 
 def run(name, command, found, tool):
     """Runs a tool on several traces; its status, where it comes back."""
-    pods = [] if command.pods == "none" else words.pods_meant(command, found)
+    pods = found.plain if command.pods == "none" else words.pods_meant(command, found)
     if pods is None:
         pods = [f"{found.namespace}/"]
     rest = [*found.rest, *(["--without-why"] if name == "story" and pods and not pods[0].endswith("/")
