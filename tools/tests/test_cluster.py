@@ -23,6 +23,7 @@ class Cluster:
         self.traces = f"{self.path}/recorder-a"
         shutil.copytree(folder.path, self.traces)
         os.mkdir(f"{self.path}/recorder-b")
+        os.mkdir(f"{self.path}/kept")
         os.remove(f"{self.traces}/{PART.replace('.part', '.gz')}")
         self.part = folder.text(80)
         self.put(f"recorder-a/{PART}", self.part + '{"kind":"ti' * cuts)
@@ -57,7 +58,8 @@ class Cluster:
         return [name[14:22] for name in names]
 
     def run(self, tool, *words):
-        return run([f"{TOOLS}/{tool}", *words], CLUSTER=self.path, PATH=f"{COMMANDS}:{os.environ['PATH']}")
+        return run([f"{TOOLS}/{tool}", *words], CLUSTER=self.path, PATH=f"{COMMANDS}:{os.environ['PATH']}",
+                   TMPDIR=f"{self.path}/kept")
 
     def fetch(self, *words):
         return self.run("fetch", *words, "--into", f"{self.path}/here")
@@ -193,5 +195,4 @@ def test_story_of_a_cluster():
         answer = cluster.run("kubectl-replay", "story", "shop/wab", "--node", "n1")
         expect("kubectl replay of a pod that is not on the node", (answer[0], answer[1], answer[2].split("\n")[1:]),
                (2, "", ["story: the report has no pod shop/wab; the nearest: shop/web", ""]))
-        left = [name for name in os.listdir(tempfile.gettempdir()) if name.startswith("kubelet-replay-")]
-        expect("kubectl replay leaves no folder", left, [])
+        expect("kubectl replay leaves no folder", os.listdir(f"{cluster.path}/kept"), [])

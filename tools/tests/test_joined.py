@@ -357,13 +357,55 @@ def test_gap_of_a_recorder():
         status, told, said = folder.tell("story")
         expect("a recorder that did not run", (status, said, told.split("\n")[:2]), (0, "", [
             "5 traces, 2025-12-31 22:53:20Z to 2026-01-01 00:01:21Z",
-            "a gap from 2025-12-31 22:54:19Z to 2026-01-01 00:00:59Z: nothing was recorded, and nothing is told of it"]))
+            "a gap from 2025-12-31 22:54:19Z to 2026-01-01 00:01:00Z: nothing was recorded, and nothing is told of it"]))
         refused = folder.tell("story", "web", "--at", "2025-12-31T23:30Z")
         expect_refused("a moment in a gap", refused, 2, "nothing was recorded at 2025-12-31 23:30:00Z: the traces "
                        "around it are of 2025-12-31 22:53:20Z to 2025-12-31 22:54:19Z")
         refused = folder.tell("story", "web", "--at", "2025-12-31T23:55Z")
         expect_refused("a moment in a gap that another trace ends", refused, 2, "there is a gap from 2025-12-31 22:54:19Z "
-                       "to 2026-01-01 00:00:59Z")
+                       "to 2026-01-01 00:01:00Z")
+
+
+def restarted_play(shift):
+    """A play that is met a little later: a container that is ready, and one that exits while nobody records."""
+    probes = {"startupProbe": {"periodSeconds": 1}, "readinessProbe": {"periodSeconds": 3, "successThreshold": 3}}
+    ready = {"told": 10 ** 6, "shown": {"restartCount": 0, "started": True, "ready": True}}
+    made = [{"id": "a", "pod": "shop/a", "attempt": 0, "created": 2, "started": 3, **ready},
+            {"id": "b0", "pod": "shop/b", "attempt": 0, "created": 2, "started": 3, "exited": 31, "code": 2},
+            {"id": "b1", "pod": "shop/b", "attempt": 1, "created": 33, "started": 34, **ready}]
+    containers = [{name: value - shift if name in ("created", "started", "exited") else value
+                   for name, value in {"name": "app", **each}.items()} for each in made]
+    specs = {"a": probes, "b": {}}
+    return {"begin": BEGIN + shift, "containers": containers, "samples": {"-1": {"memory": 4294967296}},
+            "pods": {f"shop/{name}": {"from": 1 - shift, "spec": {"containers": [{"name": "app", **specs[name]}]}}
+                     for name in specs},
+            "probes": [*series("shop/a", "app", "startup", [5 - shift]),
+                       *series("shop/a", "app", "readiness", [at - shift for at in range(6, 90, 3) if at > shift])]}
+
+
+def test_recorder_that_starts_again():
+    """Its first ticks show what the statuses of the pods say, and stand before it began: nothing of that is told of the
+    gap, and a pod that was ready stays so."""
+    first = Into(restarted_play(0))
+    first.into("--for", "30", "--each", "1h")
+    for shift, name, wanted in (
+        (31, "a", ["started", "phase Running", "startup passed", "ready"]),
+        (31, "b", ["started", "ready", "phase Running", "died with code 2 (by then, in the gap since 00:00:22Z)",
+                   "restart (by then, in the gap since 00:00:22Z)", "unready (by then, in the gap since 00:00:22Z)",
+                   "started", "ready"]),
+        (36, "b", ["started", "ready", "phase Running", "started (by then, in the gap since 00:00:22Z)"]),
+    ):
+        again = Into(restarted_play(shift))
+        shutil.rmtree(again.folder)
+        shutil.copytree(first.folder, again.folder)
+        again.into("--for", "20", "--each", "1h")
+        status, told, said = run([f"{TOOLS}/story", "--traces", again.folder, f"shop/{name}", "--without-why"])
+        table = told.split("Events\n")[1].split("\n\n")[0].split("\n")[1:]
+        expect(f"a recorder that starts again {shift} s later: {name}",
+               (status, said, f"a gap from 2026-01-01 00:00:22Z to 2026-01-01 00:00:{shift}Z" in told,
+                [line[44:].strip() for line in table]), (0, "", True, wanted))
+        again.clean()
+    first.clean()
 
 
 def test_part_that_is_written():

@@ -44,6 +44,8 @@ def first_behind(before, part):
         check_order(before, part, part.first)
         return part.first
     check_order(before, part, part.first + parts.MOST_CARRIED)
+    if part.known_until > before.last:
+        return part.known_until
     at = next((tick.at for tick in part.trace.ticks if tick.at > before.last), None)
     if at is None:
         raise overlap(before, part)

@@ -56,6 +56,8 @@ class Part:
             return self.follows["at"]
         if self.trace is None:
             return self.first + MOST_CARRIED
+        if self.source.begun is not None and self.first <= self.source.begun <= self.first + MOST_CARRIED:
+            return self.source.begun
         for place, tick in enumerate(self.trace.ticks[: MOST_CARRIED + 1]):
             if tick.at != self.first + place:
                 break

@@ -80,7 +80,7 @@ def news_of(pod, found, border, part):
     told = {(event.container, event.word, event.rest[0]) for event in pod.events if event.word in OF_INSTANCE}
     backed = backed_off(pod)
     shown = set(map(id, phases_known(pod, found, until)))
-    news = [*readiness_of(pod, found, border, part, seen), *phase_lost(pod, found, border, until)]
+    news, at_border = [], readiness_of(pod, found, border, part, seen) + phase_lost(pod, found, border, until)
     for event in found.events:
         if event.word in ("ready", "unready") and event.at <= part.shown_until:
             is_news = False
@@ -93,7 +93,7 @@ def news_of(pod, found, border, part):
         if is_news:
             at = border.at if event.at <= part.shown_until and border.is_gap else max(event.at, border.at)
             news.append(replace(event, at=at, number=pod.number))
-    return news
+    return sorted(news + at_border, key=lambda event: event.at)
 
 
 def is_known(event, before, seen, told, backed):
