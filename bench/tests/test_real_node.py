@@ -5,10 +5,12 @@ import os
 import sys
 import tempfile
 
-from common import TOP, Case, run, write
+from common import TOP, Case, read, run, write
 
 sys.path[:0] = [os.path.join(TOP, "bench/lib/real_node"), os.path.join(TOP, "tools/lib")]
+import chained  # noqa: E402
 import counted  # noqa: E402
+import deployed  # noqa: E402
 import scenario  # noqa: E402
 from beside import Fact  # noqa: E402
 from cluster import Changes  # noqa: E402
@@ -143,6 +145,12 @@ class Counted(Case):
             row = counted.row_of("exits", "died", real, said)
             self.assertEqual((row.real, row.missing, row.false), (0, 0, 0))
 
+    def test_an_exit_before_an_eviction_of_the_same_name(self):
+        """What is said of the pod before is not taken for the exit behind the eviction of the next one."""
+        real = [Fact("shop/a", "app", "died 0 137", 50), Fact("shop/a", "app", "ends 0 137", 71)]
+        row = counted.row_of("exits", "died", real, [Fact("shop/a", "app", "died 0 137", 50)])
+        self.assertEqual((row.real, row.near, row.missing, row.false), (1, 1, 0, 0))
+
     def test_nearest_first(self):
         """Of two evictions of a name each has the nearest one, and none is later than half a minute."""
         real = [Fact("shop/a", "-", "evicted", moment) for moment in (10, 20, 60)]
@@ -158,6 +166,59 @@ class Counted(Case):
         self.assertEqual([line.split() for line in lines], [
             ["real", "within", "2", "s", "later", "missing", "false"], ["starts", "12", "11", "1", "0", "2"]])
         self.assertEqual(len(set(map(len, lines))), 1)
+
+
+class Chained(Case):
+    """Two traces of a recorder that was killed at 70, and one of the next."""
+    parts = [chained.Part("first", False, 10, 60, [Fact("shop/a", "app", "started 0", 20)]),
+             chained.Part("second", True, 60, 66, [Fact("shop/a", "app", "died 0 1", 62)]),
+             chained.Part("third", False, 80, 120, [Fact("shop/a", "app", "died 1 1", 99)])]
+
+    def test_counts(self):
+        """What was before the first look is not counted, and what was in the gap is lost, but not missing."""
+        real = [Fact("shop/a", "app", what, moment) for what, moment in (
+            ("started 9", 5), ("started 0", 20), ("died 0 1", 61), ("started 1", 72), ("died 1 1", 98),
+            ("started 2", 130))]
+        self.assertEqual(chained.gaps_of(self.parts), [(66, 80)])
+        rows, lost, codes = chained.counts_of(real, self.parts)
+        self.assertEqual(([fact.what for fact in lost], codes), (["started 1"], []))
+        self.assertEqual({row.name: (row.real, row.near, row.later, row.missing, row.false) for row in rows[:2]},
+                         {"starts": (1, 1, 0, 0, 0), "exits with their codes": (2, 2, 0, 0, 0)})
+
+    def test_ends(self):
+        """What happened in the second of the last look is lost where no trace has it, and what a trace has of the time
+        behind the last that the kubelet showed is not counted."""
+        real = [Fact("shop/a", "app", "started 0", 20), Fact("shop/a", "app", "died 0 1", 66)]
+        parts = [*self.parts[:1], chained.Part("second", True, 60, 66, []), self.parts[2]]
+        rows, lost, _ = chained.counts_of(real, parts, until=98)
+        self.assertEqual([fact.what for fact in lost], ["died 0 1"])
+        self.assertEqual([(row.real, row.near, row.false) for row in rows[:2]], [(1, 1, 0), (0, 0, 0)])
+
+    def test_told_twice(self):
+        """What a trace says once more behind its begin is false."""
+        twice = [*self.parts[:1], chained.Part("second", True, 60, 66, [Fact("shop/a", "app", "started 0", 61)])]
+        rows, lost, _ = chained.counts_of([Fact("shop/a", "app", "started 0", 20)], twice)
+        self.assertEqual((rows[0].near, rows[0].false, lost), (1, 1, []))
+
+
+class TheRecordersPod(Case):
+    def test_manifest(self):
+        """What an operator puts in is in the manifest, and nothing else is changed."""
+        text = read(TOP, "deploy/daemonset.yaml")
+        changed = deployed.manifest_of(text, "/w", "/w/node")
+        pairs = [pair for pair in zip(text.split("\n"), changed.split("\n"), strict=True) if pair[0] != pair[1]]
+        self.assertEqual([new.strip() for _, new in pairs], [
+            'args: ["--look", "1", "--each", "60s", "--keep", "48h", "--most", "2Gi",',
+            "hostPath: {path: /w/node, type: DirectoryOrCreate}", "hostPath: {path: /w/bin/crictl, type: File}"])
+        with self.assertRaises(RuntimeError):
+            deployed.manifest_of(changed, "/w", "/w/node")
+
+    def test_pod(self):
+        """The pod is the template's, on the node, and the DaemonSet's."""
+        template = {"metadata": {"labels": {"app": "a"}}, "spec": {"containers": []}}
+        pod = deployed.pod_of({"metadata": {"name": "recorder", "uid": "u"}, "spec": {"template": template}})
+        self.assertEqual((pod["spec"], pod["metadata"]["labels"], pod["metadata"]["ownerReferences"][0]["uid"]),
+                         ({"containers": [], "nodeName": "node-a"}, {"app": "a"}, "u"))
 
 
 class StandInCluster:

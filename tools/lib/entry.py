@@ -10,12 +10,21 @@ import first_bytes
 import report as reports
 
 
+# the tool that runs, which says what it says under its name
+TOOL = ["kubelet-replay"]
+
+
 class Fault(Exception):
     """What is said in one line on standard error, in one more what it means where that is known, and the status."""
 
     def __init__(self, said, status=2, means=None):
         super().__init__(said)
         self.status, self.means = status, means
+
+
+def say(text):
+    """A line on standard error that is no fault."""
+    print(f"{TOOL[0]}: {visible(text)}", file=sys.stderr)
 
 
 def standard_input():
@@ -66,6 +75,7 @@ def standard_output():
 def run(tool, main):
     """The status of a tool: that of main, or of a fault, 1 where standard output takes no more or the system refuses
     something that no tool expects."""
+    TOOL[0] = tool
     if sys.stderr is None:
         sys.stderr = open(os.devnull, "w", encoding="utf-8")
     if sys.stdout is None:
@@ -122,19 +132,25 @@ def counted(count, what):
     return f"{count} {what if count == 1 else several}"
 
 
-def words_with(words, flags=(), valued=()):
-    """The words apart: those that are none of the flags and valued words, and a dict of those that are."""
+def words_with(words, flags=(), valued=(), repeated=()):
+    """The words apart: those that are none of the flags and valued words, and a dict of those that are, which has a
+    list for one that may be repeated."""
     plain, found, waiting = [], {}, None
+
+    def take(name, value):
+        found[name] = [*found.get(name, ()), value] if name in repeated else value
+
     for word in words:
         name, equals, value = word.partition("=")
         if waiting:
-            found[waiting], waiting = word, None
+            take(waiting, word)
+            waiting = None
         elif word in flags:
             found[word] = True
-        elif word in valued:
+        elif word in (*valued, *repeated):
             waiting = word
-        elif equals and name in valued:
-            found[name] = value
+        elif equals and name in (*valued, *repeated):
+            take(name, value)
         elif word.startswith("-") and word != "-":
             raise Fault(f"{word} is no word of it (--help says more)")
         else:

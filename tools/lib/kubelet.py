@@ -76,7 +76,8 @@ def beside(trace, report):
     """What the kubelet did beside the report; None where the trace does not say what it did."""
     if not trace.tells():
         return None
-    by_number = {eviction.number: eviction for eviction in report.evictions}
+    # over several traces the rules may evict a pod twice, of which the first is what they do
+    by_number = {eviction.number: eviction for eviction in reversed(report.evictions)}
     found = Kubelet()
     for decision in trace.decisions:
         if decision.kind == "refused":

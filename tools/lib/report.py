@@ -25,6 +25,10 @@ class Event:
     rest: list[str]
     number: int | None = None
     """that of its pod, where it has one"""
+    anew: int | None = None
+    """the moment of a border behind which what it counts began anew"""
+    was_so: bool = False
+    """it was so in the trace before, which is not there"""
 
 
 @dataclass
@@ -58,9 +62,17 @@ class Pod:
     left: int | None = None
     """the moment by which it was gone: the first tick of the next pod of its key, or with the trace the first tick
     without it; None where there is none"""
+    gaps: list[tuple[int, int]] = field(default_factory=list)
+    """spans of moments of which nothing is known"""
+    anew: int = 0
+    """the place of the event from which on it is told anew, since only the rules had ended it before"""
 
     def condition(self, kind):
         return next((found for found in self.conditions if found.kind == kind), None)
+
+    def own_gaps(self):
+        """The gaps that begin before it was gone."""
+        return [(since, until) for since, until in self.gaps if self.left is None or since < self.left]
 
 
 @dataclass
@@ -72,6 +84,26 @@ class Eviction:
     grace: int
     number: int | None = None
     """that of the pod"""
+    anew: int | None = None
+    """the moment of a border behind which its grace period or the pause began anew"""
+
+
+@dataclass
+class Border:
+    """Where the report of one trace ends and that of the next begins, of those of several traces."""
+
+    since: int
+    """up to when the one says all that happened"""
+    at: int
+    """from when on the other does; what it says up to then was so before"""
+    name: str
+    """the trace that begins"""
+    missing: str | None = None
+    """the trace that lies between, where it is not there"""
+
+    @property
+    def is_gap(self):
+        return self.since < self.at
 
 
 @dataclass
@@ -85,6 +117,13 @@ class Report:
     evictions: list[Eviction] = field(default_factory=list)
     totals: tuple[int, ...] = ()
     """updates, events, orders"""
+    borders: list[Border] = field(default_factory=list)
+    """of one that is joined of several"""
+
+    @property
+    def gaps(self):
+        """The spans of moments in which nothing was recorded."""
+        return [(border.since, border.at) for border in self.borders if border.is_gap]
 
 
 @dataclass
@@ -272,7 +311,7 @@ def has_ticks(report, pod):
 
 def end_of(pod):
     """The moment at which a pod ended, and as what; None where it did not."""
-    for event in pod.events:
+    for event in pod.events[pod.anew :]:
         if event.word == "evicted":
             return event.at, "Evicted"
         if event.word == "phase" and event.rest[0] in ("Succeeded", "Failed"):
@@ -299,6 +338,23 @@ def spans_of(changes, first, value):
     return spans
 
 
+def without_gaps(spans, gaps):
+    """The same spans without what lies in gaps, of which nothing is known."""
+    for since, until in gaps:
+        spans = [piece for span in spans for piece in beside_gap(span, since, until)]
+    return spans
+
+
+def beside_gap(span, since, until):
+    """A span as what of it lies before a gap and behind it."""
+    begun = until if span.since is None else span.since
+    if begun >= until or (span.until is not None and span.until <= since):
+        return [span]
+    before = [Span(span.value, span.since, since, span.note)] if begun < since else []
+    is_longer = span.until is None or span.until > until
+    return before + ([Span(span.value, until, span.until, span.note)] if is_longer else [])
+
+
 def end_of_spans(pod):
     """Until when a pod's last states lasted: it ended, or it was gone by then; None where neither is known."""
     end = end_of(pod)
@@ -306,9 +362,17 @@ def end_of_spans(pod):
 
 
 def ready_spans(pod):
-    """The spans of Ready, which is ContainersReady here. Containers that are never ready are init containers, or the
-    pod was never ready; which of both the condition's own line says."""
-    final, first, end = pod.condition("Ready"), first_tick(pod), end_of(pod)
+    """The spans of Ready, which is ContainersReady here."""
+    final, spans = pod.condition("Ready"), changes_of_ready(pod)
+    if (spans[-1].value, spans[-1].since) != (final.value, final.at):
+        spans = [Span(final.value, final.at, None)]
+    return without_gaps(spans, pod.own_gaps())
+
+
+def changes_of_ready(pod):
+    """The spans of Ready by the pod's events. Containers that are never ready are init containers, or the pod was never
+    ready; which of both the condition's own line says."""
+    first, end = first_tick(pod), end_of(pod)
     ever = {event.container for event in pod.events if event.word == "ready"}
     now, changes = set(), []
     for index, event in enumerate(pod.events):
@@ -320,10 +384,7 @@ def ready_spans(pod):
         if not following or following[0].at != event.at:
             ended = end is not None and end[0] <= event.at
             changes.append((event.at, "True" if ever and now == ever and not ended else "False"))
-    spans = spans_of(changes, first, "False")
-    if (spans[-1].value, spans[-1].since) != (final.value, final.at):
-        return [Span(final.value, final.at, None)]
-    return spans
+    return spans_of(changes, first, "False")
 
 
 def condition_spans(pod, condition):
@@ -332,8 +393,9 @@ def condition_spans(pod, condition):
         return ready_spans(pod)
     last = Span(condition.value, condition.at, None)
     if condition.kind == "Initialized" and condition.at > first_tick(pod):
-        return [Span("False" if condition.value == "True" else "True", None, condition.at), last]
-    return [last]
+        before = Span("False" if condition.value == "True" else "True", None, condition.at)
+        return without_gaps([before, last], pod.own_gaps())
+    return without_gaps([last], pod.own_gaps())
 
 
 def state_spans(pod, name):
@@ -349,14 +411,14 @@ def state_spans(pod, name):
     spans[-1].until = end_of_spans(pod)
     for span in spans:
         span.value, _, span.note = span.value.partition(" ")
-    return spans
+    return without_gaps(spans, pod.own_gaps())
 
 
 def pressure_spans(report, kind):
     """The spans in which a condition of the node was True."""
     changes = [(event.at, event.rest[1]) for event in report.events
                if event.word == "pressure" and event.rest[0] == kind]
-    return [span for span in spans_of(changes, 0, "False") if span.value == "True"]
+    return without_gaps([span for span in spans_of(changes, 0, "False") if span.value == "True"], report.gaps)
 
 
 class Thresholds:

@@ -19,18 +19,20 @@ TABLES = {
                     "evicted_kind TEXT"),
     "container": ("containers", "node TEXT, pod TEXT, pod_number INTEGER, name TEXT, state TEXT, code INTEGER, "
                                 "restarts INTEGER, ready INTEGER, started INTEGER, starts INTEGER, deaths INTEGER, "
-                                "kills INTEGER, backoffs INTEGER"),
+                                "kills INTEGER, backoffs INTEGER, came_again INTEGER"),
     "event": ("events", "node TEXT, number INTEGER, at INTEGER, event TEXT, pod TEXT, pod_number INTEGER, "
                         "container TEXT, attempt INTEGER, code INTEGER, code_is_known INTEGER, reason TEXT, "
                         "message TEXT, probe TEXT, delay_seconds INTEGER, "
                         "phase TEXT, signal TEXT, kind TEXT, active INTEGER, condition TEXT, value INTEGER, "
-                        "grace_seconds INTEGER"),
+                        "grace_seconds INTEGER, counted_anew_since INTEGER, so_before INTEGER"),
     "condition": ("conditions", "node TEXT, pod TEXT, pod_number INTEGER, condition TEXT, value INTEGER, "
                                 "since INTEGER, reason TEXT"),
     "eviction": ("evictions", "node TEXT, number INTEGER, at INTEGER, pod TEXT, pod_number INTEGER, signal TEXT, "
                               "kind TEXT, grace_seconds INTEGER, kubelet_at INTEGER"),
     "decision": ("decisions", "node TEXT, number INTEGER, at INTEGER, pod TEXT, pod_number INTEGER, decision TEXT, "
                               "reason TEXT, message TEXT, rules_at INTEGER, agrees INTEGER, causes TEXT"),
+    "border": ("borders", "node TEXT, number INTEGER, since INTEGER, at INTEGER, is_gap INTEGER, trace TEXT, "
+                          "missing TEXT"),
     "cause": ("causes", "node TEXT, pod TEXT, pod_number INTEGER, container TEXT, cause TEXT, reason TEXT, "
                         "code INTEGER, times INTEGER, seconds INTEGER, first_at INTEGER, last_at INTEGER, "
                         "message TEXT"),

@@ -66,6 +66,23 @@ def event_words(event, is_beside=False, trace=None, is_whole=True):
     return said[event.word]()
 
 
+# what goes by what a trace counts anew from its begin on
+ANEW = {"backoff": "exits counted anew since", "restart": "exits counted anew since",
+        "evicted": "the rules begin anew at", "phase": "there again, as on the node, at"}
+
+
+def beside_words(pod, event, show):
+    """What is not known of an event of several traces: it happened in a gap, or it is counted anew in a trace."""
+    if event.was_so:
+        return " (so before this trace)"
+    since = next((since for since, until in pod.gaps if until == event.at), None)
+    if since is not None:
+        return f" (by then, in the gap since {show(since)})"
+    if event.anew is not None and event.word in ANEW:
+        return f" ({ANEW[event.word]} {show(event.anew)})"
+    return ""
+
+
 def containers_title(pod, ended):
     """The title of a pod's containers; where some still ran as it ended or went, that they stand as they were seen."""
     is_over = ended is not None or pod.left is not None

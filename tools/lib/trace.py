@@ -8,6 +8,7 @@ from dataclasses import dataclass, field
 
 import amounts
 import first_bytes
+import packed
 from reasons import Reasons
 
 STATES = ("CONTAINER_CREATED", "CONTAINER_RUNNING", "CONTAINER_EXITED", "CONTAINER_UNKNOWN")
@@ -217,8 +218,19 @@ class Trace:
         """Whether the trace says what the kubelet did: where it then says nothing, the kubelet did nothing."""
         return self.settings.get("recordsKubelet") is True or bool(self.decisions)
 
+    def follows(self):
+        """What its node line says of the trace before it: its name, `until`, up to when that says all, and `at`, up to
+        when this one shows what was so before; None where it says nothing of this form."""
+        said = self.settings.get("follows")
+        return said if is_follows(said) else None
+
     def dedicated(self):
         return value_at(self.settings, "dedicatedImagefs", False)
+
+
+def is_follows(said):
+    return (isinstance(said, dict) and isinstance(said.get("trace"), str)
+            and all(isinstance(said.get(name), int) for name in ("until", "at")))
 
 
 def present_at_each(trace):
@@ -285,15 +297,21 @@ def listing_of(found):
 
 
 def read_trace(path, watch=None):
-    """The trace of a file. Raises TraceFault."""
+    """The trace of a file, which may be packed. Raises TraceFault."""
+    return trace_of(text_of(path), path, watch)
+
+
+def text_of(path):
+    """The bytes of a trace of a file, unpacked. Raises TraceFault."""
     try:
-        with open(path, "rb") as file:
-            text = file.read(LONGEST_TRACE + 1)
+        text = packed.read(path, LONGEST_TRACE)
     except OSError as fault:
         raise TraceFault(f"{path} can't be read: {fault.strerror}") from None
+    except packed.Damaged as fault:
+        raise TraceFault(f"{path}: {fault}") from None
     if len(text) > LONGEST_TRACE:
         raise TraceFault(f"{path} is no trace: it has more than 64 MiB")
-    return trace_of(text, path, watch)
+    return text
 
 
 def trace_of(text, path, watch=None):

@@ -178,7 +178,15 @@ class Ticks:
 
     def take_last(self, trace, present):
         """Takes a trace's last tick, as it is read."""
-        tick = trace.ticks[-1]
+        self.take_whole(trace, trace.ticks[-1], present)
+
+    def take_all(self, trace):
+        """Takes the ticks of a trace that is read already."""
+        for tick, present in zip(trace.ticks, traces.present_at_each(trace)):
+            self.take_whole(trace, tick, present)
+
+    def take_whole(self, trace, tick, present):
+        """Takes a tick with what the pods use by then."""
         self.take(trace, tick, present)
         if may_sample(tick):
             for key, entry in tick.entries.items():

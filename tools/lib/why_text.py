@@ -7,7 +7,7 @@ import reasons
 import trace as traces
 import why
 from amounts import amount_text
-from telling import event_words, table
+from telling import beside_words, event_words, table
 
 MOST_ROWS = 12
 MOST_MOMENTS = 6
@@ -15,14 +15,22 @@ ORDERS = {True: "usage above the request first, then lower priority, then more u
           False: "lower priority first, then greater usage, then lower number"}
 
 
-def whole_text(trace, report, pod, show, kubelet=None):
-    """The lines for each event of a pod of the report, and for what the kubelet did to it; show writes a moment."""
-    parts = [(around.event.at, [heading(around.event, show, kubelet, trace), *beside(pod, around, show, kubelet),
+def always(_):
+    return True
+
+
+def whole_text(trace, report, pod, show, kubelet=None, is_near=always):
+    """The lines for each event of a pod of the report, and for what the kubelet did to it, of moments that are near;
+    show writes a moment."""
+    parts = [(around.event.at, [heading(around.event, show, kubelet, trace) + beside_words(pod, around.event, show),
+                                *beside(pod, around, show, kubelet),
                                 *told(trace, pod, around, show)]) for around in why.around_events(trace, report, pod)]
     parts += kubelet_parts(trace, report, pod, show, kubelet) + wait_parts(trace, pod, show)
-    lines = []
-    for _, (head, *rest) in sorted(parts, key=lambda part: part[0]):
+    lines, kept = [], [part for part in parts if is_near(part[0])]
+    for _, (head, *rest) in sorted(kept, key=lambda part: part[0]):
         lines += [head, *(f"  {line}".rstrip() for line in rest), ""]
+    if len(kept) < len(parts):
+        lines += [f"{len(parts) - len(kept)} events further from the moment that was asked for are left out", ""]
     lines = lines or ["no event", ""]
     gone = trace.pods[pod.number].gone
     if gone is not None:

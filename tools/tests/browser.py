@@ -1,7 +1,8 @@
 """Drives pages of tools/page in headless Chromium, and writes what it found as JSON lines: a name, what was there, what
 should be. test_page.py runs it with a python3 that has selenium, and counts.
 
-usage: browser.py FOLDER, which has node.html, plain.html, odd.html, again.html, kubelet.html, reasons.html and big.html
+usage: browser.py FOLDER, which has node.html, plain.html, odd.html, again.html, kubelet.html, reasons.html, gap.html
+and big.html
 """
 
 import json
@@ -338,6 +339,29 @@ def check_reasons(chromedriver, path):
         tell("of reasons: no error came", page.log(), [])
 
 
+INK = """const [canvas, x, y] = arguments;
+const scale = canvas.width / canvas.clientWidth;
+return [...canvas.getContext('2d').getImageData(x * scale, y * scale, 1, 1).data.slice(0, 3)];"""
+
+
+def check_gap(chromedriver, path):
+    """Two traces with a gap of 20 s between, of 81 s in all."""
+    with Page(chromedriver, path) as page:
+        row = page.row("shop/web")
+        chart = page.driver.find_elements(By.CSS_SELECTOR, ".chart canvas")[-1]
+        told = "2026-01-01 00:00:50Z\nnothing was recorded here"
+        tell("says in a lane that nothing was recorded", page.tip(row, 50 / 81, 20), told)
+        tell("says it in a chart", page.tip(chart, 50 / 81, 10), told)
+        tell("tells what was before it", page.tip(row, 36 / 81, 20).split("\n")[1], "app: running, attempt 2")
+        tell("tells what was behind it", page.tip(row, 65 / 81, 20).split("\n")[1], "app: running, attempt 4")
+        tell("says what is left out", any("of which nothing was recorded" in text for text in page.texts("#left li")),
+             True)
+        tell("of a gap: no error came", page.log(), [])
+        width = row.rect["width"] - LEFT - RIGHT
+        inks = [page.driver.execute_script(INK, row, LEFT + width * second / 81, 20) for second in (34, 52, 63)]
+        tell("draws no bar in it", (inks[0] == inks[2], inks[0] == inks[1]), (True, False))
+
+
 def timed(page, act):
     began = time.monotonic()
     act()
@@ -378,6 +402,7 @@ def main(folder, chromedriver):
     check_again(chromedriver, f"{folder}/again.html")
     check_kubelet(chromedriver, f"{folder}/kubelet.html")
     check_reasons(chromedriver, f"{folder}/reasons.html")
+    check_gap(chromedriver, f"{folder}/gap.html")
     check_big(chromedriver, f"{folder}/big.html")
 
 

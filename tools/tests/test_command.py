@@ -9,7 +9,8 @@ import tempfile
 from checks import HERE, REPLAY, TOOLS, TOP, expect, expect_refused, read, run
 
 COMMAND = f"{TOOLS}/kubelet-replay"
-NAMES = ("record", "run", "check", "explain", "story", "why", "page", "timeline", "json", "what-if", "fleet")
+NAMES = ("record", "run", "check", "explain", "story", "why", "page", "timeline", "json", "what-if", "fleet",
+         "fetch", "nodes")
 TRACE, REPORT = (f"{TOP}/examples/memory_pressure.{kind}" for kind in ("trace", "report"))
 
 
@@ -101,7 +102,8 @@ def test_command_completion():
         ([""], [*sorted(NAMES), ":4"]),
         (["story", "-f", TRACE, "d"], ["default/a", "default/b", "default/c", ":4"]),
         (["story", "-f", TRACE, "-n", "default", ""], ["a", "b", "c", ":4"]),
-        (["story", "--"], ["--filename", "--namespace", "--trace", "--utc", "--without-why", ":4"]),
+        (["story", "--"], ["--at", "--filename", "--namespace", "--node", "--recorders", "--since", "--trace", "--traces",
+                           "--utc", "--without-why", ":4"]),
         (["run", ""], [":0"]),
         (["record", "--e"], ["--each", "--every", "--eviction-pause", "--extended", ":4"]),
         (["record", "--curl", ""], [":0"]),

@@ -1,11 +1,13 @@
 """The tests of what starts the recorder on nodes: its words are those of tools/record, and the token is where it is
 read. Nothing is started by a service manager."""
 
+import json
 import os
 import shlex
 import shutil
 import subprocess
 import sys
+import tarfile
 import tempfile
 
 from checks import TOOLS, TOP, expect, expect_refused, read, run
@@ -87,6 +89,39 @@ def test_entry():
     os.unlink(f"{folder}/token")
     status, out, said = run([f"{DEPLOY}/entry"], longest=10, **settings)
     expect("the entry without a token", (status, out, f"{folder}/token" in said), (1, "", True))
+    shutil.rmtree(folder)
+
+
+# what deploy/image starts: a root of one device, and an image of one tag
+MMDEBSTRAP = """#!/bin/sh
+for word; do case $word in */root.tar) tar -C / -cf "$word" ./dev/null ;; esac; done
+"""
+UMOCI = """#!/bin/sh
+[ "$1" != init ] || {
+    mkdir "$3" && echo '{"manifests":[{"annotations":{"org.opencontainers.image.ref.name":"1.2.3"}}]}' >"$3/index.json"
+}
+"""
+CONTROL = "Package: kubelet-replay\nVersion: 1.2.3\nArchitecture: amd64\nMaintainer: n <n@n>\nDescription: d\n"
+
+
+def test_image_name():
+    """The runtime names the image as the manifest does, also where only a tag names it."""
+    if shutil.which("dpkg-deb") is None:
+        return
+    folder = tempfile.mkdtemp()
+    os.makedirs(f"{folder}/package/DEBIAN")
+    for path, text in (("package/DEBIAN/control", CONTROL), ("mmdebstrap", MMDEBSTRAP), ("umoci", UMOCI)):
+        with open(f"{folder}/{path}", "w", encoding="utf-8") as file:
+            file.write(text)
+        os.chmod(f"{folder}/{path}", 0o755)
+    run(["dpkg-deb", "--build", f"{folder}/package", f"{folder}/made.deb"])
+    made = run([f"{DEPLOY}/image", f"{folder}/made.deb", f"{folder}/made.tar"], PATH=f"{folder}:{os.environ['PATH']}")
+    expect("an image", made, (0, f"{os.path.realpath(folder)}/made.tar\n", ""))
+    with tarfile.open(f"{folder}/made.tar") as archive:
+        [listed] = json.load(archive.extractfile("./index.json"))["manifests"]
+    expect("the names of the image", listed["annotations"], {
+        "org.opencontainers.image.ref.name": "1.2.3",
+        "io.containerd.image.name": "docker.io/library/kubelet-replay:1.2.3"})
     shutil.rmtree(folder)
 
 

@@ -11,6 +11,7 @@ import sys
 import tempfile
 
 from checks import HERE, TOOLS, TOP, expect, expect_kept, expect_refused, read, run
+from test_joined import Folder, records
 
 FLEET = f"{TOOLS}/fleet"
 KEPT = f"{HERE}/fleet"
@@ -96,3 +97,50 @@ def test_fleet_metrics_of_others():
     expect_refused("fleet run --metrics over another file", answer, 2, "has no metrics of tools/fleet")
     expect("nothing is replayed then", os.path.exists(f"{folder}/new.db.done"), False)
     shutil.rmtree(folder)
+
+
+def asked(database, query):
+    connection = sqlite3.connect(database)
+    try:
+        return connection.execute(query).fetchall()
+    finally:
+        connection.close()
+
+
+def test_fleet_over_borders():
+    """Traces one behind the other, which gzip has packed, come to what they come to as one: no second, restart, death or
+    kill counts twice, and none is lost."""
+    with Folder() as folder:
+        database = f"{folder.into.run}/db"
+        one = records(folder.tell("json"))
+        status, told, said = run([FLEET, "run", folder.path, "--out", database, "--processes", "2"])
+        expect("fleet over borders", (status, said, told.split("\n")[0]),
+               (0, "", "5 traces: 5 replayed, 0 refused, 0 failed; 2 pods on 1 node"))
+        for kind, key, names in (("pod", "pod", ("unready_seconds", "deaths", "kills", "became_unready")),
+                                 ("container", "pod", ("starts", "deaths", "kills", "came_again"))):
+            wanted = sorted((line[key], *[line[name] for name in names]) for line in one if line["record"] == kind)
+            sums = ", ".join(f"SUM({name})" for name in names)
+            expect(f"fleet over borders: its {kind}s", asked(database, f"SELECT {key}, {sums} FROM {kind}s GROUP BY {key} "
+                                                                       "ORDER BY 1"), wanted)
+        expect("fleet over borders: the seconds that were recorded",
+               asked(database, "SELECT SUM(last_moment - first_moment) FROM nodes"), [(81,)])
+        row = next(line.split() for line in told.split("\n") if line.split()[:2] == ["n1", "0.02"])
+        expect("fleet over borders: the restarts of its node", row[2], "5")
+        os.remove(folder.place(20))
+        run([FLEET, "run", folder.path, "--out", database, "--processes", "2"])
+        expect("fleet: a trace that nothing follows ends with its last tick", asked(
+            database, "SELECT last_moment - first_moment FROM nodes ORDER BY first_moment"),
+            [(15,), (20,), (20,), (1,)])
+        shutil.copy(folder.place(0), f"{folder.path}/copy.trace.gz")
+        told = run([FLEET, "run", folder.path, "--out", database, "--processes", "2"])[1]
+        expect("fleet: a copy of a packed trace", told.split("\n")[0],
+               "5 traces: 4 replayed, 0 refused, 0 failed, 1 copy of others; 2 pods on 1 node")
+        folder.write("copy.trace", folder.text(0))
+        told = run([FLEET, "run", folder.path, "--out", database, "--processes", "2"])[1]
+        expect("fleet: a packed trace and what it was are copies", told.split(";")[0],
+               "6 traces: 4 replayed, 0 refused, 0 failed, 2 copies of others")
+        with open(f"{folder.path}/cut.trace.gz", "wb") as file, open(folder.place(0), "rb") as whole:
+            file.write(whole.read()[:200])
+        status, told, said = run([FLEET, "run", folder.path, "--out", database, "--processes", "2"])
+        expect("fleet of a damaged trace", (status, said, "it is damaged, and can't be unpacked" in told),
+               (1, "fleet: 1 trace failed; the table traces says why, and a further run tries it again\n", True))

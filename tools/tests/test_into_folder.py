@@ -171,6 +171,61 @@ def test_room_that_comes_again():
     into.clean()
 
 
+# --- a crash ---
+
+
+class Killed(Exception):
+    """The recorder is no more."""
+
+
+class ClockUntil(Clock):
+    """One at whose moment the recorder is killed."""
+
+    def __init__(self, moment, end):
+        super().__init__(moment)
+        self.end = end
+
+    def wait(self, seconds):
+        if self.moment + seconds > self.end:
+            raise Killed
+        super().wait(seconds)
+
+
+def killed_at(into, play, second, *words):
+    """What a recorder leaves that is killed behind its look at a second: the names, and the traces as one."""
+    clock = ClockUntil(BEGIN, BEGIN + second)
+    sources = Sources("n1", run=lambda asked, seconds: play.answer(asked, clock.now()))
+    words = words_of(["--node", "n1", "--into", into.folder, *words])
+    folder = Folder(into.folder, "n1", words.into.keep, words.into.most, print)
+    recording = LastingRecording(words, sources, clock, Traces(folder, words.into.each, 20000, print), lambda *_: None)
+    try:
+        recording.begin()
+        recording.go_on()
+    except Killed:
+        os.close(folder.descriptor)
+        os.close(recording.output.part.descriptor)
+    return into.names(), laid([*into.texts(), read(f"{into.folder}/{into.names()[-1]}")])
+
+
+def test_crashes():
+    """One that is killed leaves all that it has seen up to its last look, as one that ended there would have written
+    it, and a tick of that look."""
+    for second, each in ((6, "1h"), (7, "1h"), (14, "1h"), (40, "1h"), *((second, "10s") for second in range(20, 32))):
+        into = Into(probed_play())
+        whole = into.record("--for", str(second), "--extended")[1]
+        names, text = killed_at(into, Play(f"{into.run}/play.json"), second, "--each", each)
+        ticks = [json.loads(line) for line in text.splitlines() if '"kind":"tick"' in line]
+        own = f'{{"kind":"tick","at":{BEGIN + second}'
+        lines = [line for line in text.splitlines(True) if not line.startswith(own)]
+        expect(f"killed at {second}: its lines", "".join(lines),
+               "".join(line for line in whole.splitlines(True) if not line.startswith(own)))
+        expect(f"killed at {second}: the last look", BEGIN + second in [tick["at"] for tick in ticks], True)
+        status, _, said = into.into("--for", "10")
+        expect(f"killed at {second}: the next one", (status, said), (0, f"record: {names[-1]} was left by a recorder that "
+               f"did not end: it is {names[-1].replace('.part', '.gz')} now\n"))
+        into.clean()
+
+
 # --- clocks ---
 
 

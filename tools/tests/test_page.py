@@ -11,6 +11,7 @@ import tempfile
 
 import big_node
 from checks import HERE, TOOLS, TOP, expect, expect_refused, read, run
+from test_joined import Folder
 
 NODE = f"{HERE}/whys/file_system"
 PROBES = f"{HERE}/whys/probes"
@@ -124,6 +125,13 @@ def selenium_python():
     return None
 
 
+def page_of_gap():
+    with Folder() as folder:
+        os.remove(folder.place(40))
+        status, page, _ = folder.tell("page")
+        return status, page, ""
+
+
 def write_pages(folder):
     report = read(f"{NODE}/report")
     odd = read(f"{TOP}/examples/crash_loop.report").replace("worker-3", "</script><script>document.title='x'</script>")
@@ -133,6 +141,7 @@ def write_pages(folder):
         "again": page_of(read(f"{AGAIN}/evicted_pod_comes_again_and_is_evicted_again.report")),
         "kubelet": page_of(read(f"{KUBELET}/report"), f"{KUBELET}/trace"),
         "reasons": page_of(read(f"{REASONS}/report"), f"{REASONS}/trace"),
+        "gap": page_of_gap(),
         "big": page_of("".join(big_node.report_of(PODS, TICKS, PODS))),
     }
     for name, (status, page, said) in pages.items():

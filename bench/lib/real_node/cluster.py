@@ -9,7 +9,7 @@ import subprocess
 import urllib.error
 import urllib.request
 
-from kit import call, write
+from kit import call, read, write
 from machine import wait_until
 
 # an address of the machine's own, since a kubelet takes none of the loopback's for its node
@@ -23,13 +23,18 @@ ADMIN, RECORDER = "admin", "recorder"
 ROLE = [{"apiGroups": [""], "resources": ["nodes/proxy"], "verbs": ["get"]},
         {"apiGroups": [""], "resources": ["pods"], "verbs": ["list"]}]
 ACCESS = "rbac.authorization.k8s.io"
+# without a controller manager no account has a secret with a token, so pods have tokens that the kubelet asks for
+WITHOUT_ACCOUNTS = ["--disable-admission-plugins=ServiceAccount"]
+WITH_ACCOUNTS = ["--feature-gates=BoundServiceAccountTokenVolume=true"]
 
 
 class Cluster:
-    """etcd and an API server, whose folder keeps their certificates and what each user needs."""
+    """etcd and an API server, whose folder keeps their certificates and what each user needs. With accounts pods have
+    tokens of their own, and the kubelet asks the API server who may do what with it."""
 
-    def __init__(self, machine):
+    def __init__(self, machine, has_accounts=False):
         self.machine = machine
+        self.has_accounts = has_accounts
         self.folder = f"{machine.folder}/api"
         self.tokens = {user: secrets.token_hex(16) for user in (ADMIN, RECORDER)}
         self.has_address = False
@@ -57,7 +62,7 @@ class Cluster:
                 f"--cert-dir={self.folder}/certificates", f"--service-account-issuer={API}",
                 f"--service-account-key-file={key}", f"--service-account-signing-key-file={key}",
                 "--authorization-mode=RBAC", f"--token-auth-file={self.folder}/tokens",
-                "--disable-admission-plugins=ServiceAccount", "--service-cluster-ip-range=10.98.0.0/24",
+                *(WITH_ACCOUNTS if self.has_accounts else WITHOUT_ACCOUNTS), "--service-cluster-ip-range=10.98.0.0/24",
                 "--kubelet-preferred-address-types=InternalIP", f"--advertise-address={ADDRESS}",
                 "--endpoint-reconciler-type=none"]
 
@@ -79,10 +84,25 @@ class Cluster:
                   "value": 1000})
         self.ask(f"/apis/{ACCESS}/v1/clusterroles", {"apiVersion": f"{ACCESS}/v1", "kind": "ClusterRole",
                                                       "metadata": {"name": RECORDER}, "rules": ROLE})
+        self.bind(RECORDER, RECORDER)
+        if self.has_accounts:
+            # the bench itself, and the API server where it goes to the kubelet, have no name there
+            self.bind("system:anonymous", "system:kubelet-api-admin")
+            self.make_account(NAMESPACE)
+
+    def bind(self, user, role):
         self.ask(f"/apis/{ACCESS}/v1/clusterrolebindings",
-                 {"apiVersion": f"{ACCESS}/v1", "kind": "ClusterRoleBinding", "metadata": {"name": RECORDER},
-                  "roleRef": {"apiGroup": ACCESS, "kind": "ClusterRole", "name": RECORDER},
-                  "subjects": [{"kind": "User", "name": RECORDER, "apiGroup": ACCESS}]})
+                 {"apiVersion": f"{ACCESS}/v1", "kind": "ClusterRoleBinding", "metadata": {"name": user},
+                  "roleRef": {"apiGroup": ACCESS, "kind": "ClusterRole", "name": role},
+                  "subjects": [{"kind": "User", "name": user, "apiGroup": ACCESS}]})
+
+    def make_account(self, namespace):
+        """What the controller manager would make in a namespace."""
+        self.ask(f"/api/v1/namespaces/{namespace}/serviceaccounts",
+                 {"apiVersion": "v1", "kind": "ServiceAccount", "metadata": {"name": "default"}})
+        self.ask(f"/api/v1/namespaces/{namespace}/configmaps",
+                 {"apiVersion": "v1", "kind": "ConfigMap", "metadata": {"name": "kube-root-ca.crt"},
+                  "data": {"ca.crt": read(f"{self.folder}/certificates/apiserver.crt")}})
 
     def end(self):
         if self.has_address:

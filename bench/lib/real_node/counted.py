@@ -168,12 +168,11 @@ def row_of(name, kind, real, said):
     """A kind's counts. An exit behind an eviction may be said, and need not be."""
     ends = [Fact(fact.pod, fact.container, fact.what.replace(END, "died"), fact.moment) for fact in of_kind(real, END)]
     real, said = of_kind(real, kind), of_kind(said, kind)
-    told = set(matched(ends, said).values())
-    said = [fact for there, fact in enumerate(said) if there not in told]
-    found = matched(real, said)
+    both = matched(real + ends, said)
+    found = {here: there for here, there in both.items() if here < len(real)}
     apart = {here: said[there].moment - real[here].moment for here, there in found.items()}
     near = sum(abs(seconds) <= NEAR for seconds in apart.values())
-    left = [fact for there, fact in enumerate(said) if there not in found.values()]
+    left = [fact for there, fact in enumerate(said) if there not in both.values()]
     differences = [words_of(fact, f"in the report {apart[here]:+d} s" if here in apart else "missing")
                    for here, fact in enumerate(real) if abs(apart.get(here, FAR)) > NEAR]
     differences += [words_of(fact, "in the report alone") for fact in left]

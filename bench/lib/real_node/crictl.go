@@ -2,7 +2,8 @@
 //
 //	ps -a -o json, inspect -o json ID
 //
-// what crictl 1.20 prints of them, without the fields that tools/record does not read.
+// what crictl 1.20 prints of them, without the fields that tools/record does not read. Before these words it takes
+// --runtime-endpoint unix://SOCKET.
 package main
 
 import (
@@ -19,7 +20,7 @@ import (
 	pb "k8s.io/cri-api/pkg/apis/runtime/v1alpha2"
 )
 
-const socket = "/run/containerd/containerd.sock"
+var socket = "/run/containerd/containerd.sock"
 
 type object map[string]interface{}
 
@@ -74,6 +75,10 @@ func inspect(ctx context.Context, client pb.RuntimeServiceClient, id string) {
 func main() {
 	ctx, cancel := context.WithTimeout(context.Background(), 10*time.Second)
 	defer cancel()
+	words := os.Args[1:]
+	if len(words) > 1 && words[0] == "--runtime-endpoint" {
+		socket, words = strings.TrimPrefix(words[1], "unix://"), words[2:]
+	}
 	dial := func(ctx context.Context, _ string) (net.Conn, error) {
 		return (&net.Dialer{}).DialContext(ctx, "unix", socket)
 	}
@@ -82,13 +87,12 @@ func main() {
 		fail("connect endpoint", err)
 	}
 	client := pb.NewRuntimeServiceClient(connection)
-	words := strings.Join(os.Args[1:], " ")
-	switch {
-	case words == "ps -a -o json":
+	switch said := strings.Join(words, " "); {
+	case said == "ps -a -o json":
 		list(ctx, client)
-	case strings.HasPrefix(words, "inspect -o json ") && len(os.Args) == 5:
-		inspect(ctx, client, os.Args[4])
+	case strings.HasPrefix(said, "inspect -o json ") && len(words) == 4:
+		inspect(ctx, client, words[3])
 	default:
-		fail("words", fmt.Errorf("%q", words))
+		fail("words", fmt.Errorf("%q", said))
 	}
 }

@@ -11,7 +11,9 @@ import time
 import ending
 from beside import text_of
 from cluster import ADDRESS, ADMIN, KUBELET, RECORDER, Changes, Cluster
+from chained import show_chain
 from counted import counts_of, real_facts, table_of
+from deployed import Deployed
 from kit import PARTS, Kit, call, read, write
 from machine import NODE, Machine
 from scenario import RUNS
@@ -37,11 +39,11 @@ def available():
 
 def configuration_of(scenario):
     """The kubelet's configuration; JSON is YAML too."""
-    anyone = {"anonymous": {"enabled": True}, "webhook": {"enabled": False}}
+    anyone = {"anonymous": {"enabled": True}, "webhook": {"enabled": scenario.is_deployed}}
     return json.dumps({
         "apiVersion": "kubelet.config.k8s.io/v1beta1", "kind": "KubeletConfiguration", "address": ADDRESS,
         "port": 10250, "readOnlyPort": 0, "healthzBindAddress": "127.0.0.1", "authentication": anyone,
-        "authorization": {"mode": "AlwaysAllow"}, "failSwapOn": False, "cgroupDriver": "cgroupfs",
+        "authorization": {"mode": "Webhook" if scenario.is_deployed else "AlwaysAllow"}, "failSwapOn": False, "cgroupDriver": "cgroupfs",
         "cgroupsPerQOS": True, "enforceNodeAllocatable": ["pods"], "makeIPTablesUtilChains": False,
         "evictionPressureTransitionPeriod": "30s", "evictionMaxPodGracePeriod": 7,
         **scenario.configuration(available())}, indent=1)
@@ -68,10 +70,15 @@ class Recorders:
         self.folder = f"{machine.folder}/{scenario.name}"
         self.begun, self.processes = {}, {}
 
-    def start(self):
+    def prepare(self):
         shutil.rmtree(self.folder, ignore_errors=True)
         os.makedirs(self.folder)
         write(f"{self.machine.folder}/curl.conf", "insecure\n")
+
+    def leave(self):
+        """All that they made is in their folder."""
+
+    def start(self):
         for name in self.scenario.recorders:
             self.begun[name] = time.monotonic()
             with open(f"{self.folder}/{name}.trace", "wb") as trace:
@@ -87,7 +94,10 @@ class Recorders:
         return [sys.executable, *program, "--node", NODE, "--for", str(self.scenario.seconds), *source,
                 "--standard" if name == "standard" else "--extended"]
 
-    def costs(self, seconds=60):
+    def act(self, passed):
+        """They record by themselves."""
+
+    def end(self, seconds=60):
         """Waits for each; {name: processor seconds a minute, its children's with it}."""
         found, until = {}, time.monotonic() + seconds
         while len(found) < len(self.processes) and time.monotonic() < until:
@@ -106,8 +116,10 @@ class Recorders:
 def run_once(kit, scenario):
     """One run, from an empty cluster to its end; what each recorder cost."""
     machine = Machine(kit, KUBELET)
-    cluster, costs = Cluster(machine), {}
+    cluster, costs = Cluster(machine, scenario.is_deployed), {}
+    recorders = (Deployed if scenario.is_deployed else Recorders)(machine, cluster, scenario)
     try:
+        recorders.prepare()
         machine.start_runtime()
         machine.start("exits", ["ctr", "-n", "k8s.io", "events"])
         cluster.start()
@@ -115,14 +127,15 @@ def run_once(kit, scenario):
             make_small_disk(kit.folder)
         machine.start_kubelet(configuration_of(scenario), f"--kubeconfig={cluster.settings_of(ADMIN)}",
                               f"--node-ip={ADDRESS}", "--register-node=true")
-        recorders = Recorders(machine, cluster, scenario)
         recorders.start()
-        machine.watch(scenario.seconds, Changes(cluster, scenario.changes).act)
-        costs = recorders.costs()
+        changes = Changes(cluster, scenario.changes)
+        machine.watch(scenario.seconds, lambda passed: (changes.act(passed), recorders.act(passed)))
+        costs = recorders.end()
     finally:
         ending.hear_no_interrupts()
         machine.end()
         cluster.end()
+        recorders.leave()
         if os.path.exists(f"{kit.folder}/disk"):
             os.remove(f"{kit.folder}/disk")
     ending.hear_interrupts()
@@ -171,6 +184,8 @@ def measured(folder, names, replay, show):
     for name in names:
         costs = run_once(kit, RUNS[name])
         real = facts_of(f"{folder}/{name}")
+        if RUNS[name].is_deployed:
+            works = show_chain(real, f"{folder}/{name}", replay, show) and works
         for recorder in RUNS[name].recorders:
             found = show_recording(real, f"{folder}/{name}", recorder, replay, show)
             works = works and (found or recorder == "standard")

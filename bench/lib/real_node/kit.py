@@ -10,7 +10,9 @@ import tarfile
 
 PARTS = os.path.dirname(os.path.realpath(__file__))
 PACKAGES = ["containerd", "runc", "golang-1.19-go", "golang-1.19-src", "busybox-static"]
-API_PACKAGES = ["etcd-server", "kubernetes-client"]
+API_PACKAGES = ["etcd-server", "kubernetes-client", "containernetworking-plugins"]
+# where the packages have what gives pods a network
+PLUGINS = "usr/lib/cni"
 MIRROR = "http://deb.debian.org/debian bookworm main"
 VERSION = "k8s.io/component-base/version"
 FLAGS = f"-X {VERSION}.gitVersion=v1.20.2 -X {VERSION}.gitMajor=1 -X {VERSION}.gitMinor=20"
@@ -72,7 +74,7 @@ class Kit:
     def build(self):
         programs = ["kubelet", *(["kube-apiserver"] if self.has_api else [])]
         missing = [name for name in programs if not os.path.exists(f"{self.folder}/bin/{name}")]
-        if missing:
+        if missing or (self.has_api and not os.path.isdir(f"{self.folder}/root/{PLUGINS}")):
             self.fetch()
         for name in missing:
             if name == "kube-apiserver":

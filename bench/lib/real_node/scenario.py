@@ -16,8 +16,9 @@ UNTIL_TERM = "trap 'exit {0}' TERM; while :; do sleep 1 & wait $!; done"
 @dataclass
 class Scenario:
     """A run: its seconds, the recorders beside it, its changes (the second, what is done, the pod, its grace), whether
-    its kubelet has a small file system, and whether the answers that the recorder was given are kept, which costs.
-    `configuration` makes the kubelet's settings of the bytes of memory that are available."""
+    its kubelet has a small file system, whether the answers that the recorder was given are kept, which costs, and
+    whether the recorder is a pod of the node. `configuration` makes the kubelet's settings of the bytes of memory that
+    are available."""
     name: str
     seconds: int
     recorders: tuple
@@ -25,6 +26,7 @@ class Scenario:
     configuration: object
     has_small_disk: bool = False
     keeps_answers: bool = True
+    is_deployed: bool = False
 
 
 def named(name, command, grace=3, policy="Always", inits=(), has_volume=False, priority=None, **fields):
@@ -133,10 +135,18 @@ def quiet_pods():
     return created(*((6, by_name[name]) for name in ("db-0", "db-1", "leaver-late")))
 
 
+def three_pods():
+    """One that crashes, one that a probe kills, and one that is deleted and comes again under its name."""
+    by_name = basic()
+    return [*created(*((40, by_name[name]) for name in ("crash", "live-trap", "db-0"))),
+            *((second, "again", by_name["db-0"], grace) for second, grace in ((95, None), (150, 0), (215, None)))]
+
+
 BOTH = ("standard", "extended", "kubectl")
 RUNS = {each.name: each for each in (
     Scenario("hard", 300, BOTH, life(300) + memory_pods(), hard_memory),
     Scenario("soft", 300, BOTH, life(300) + memory_pods(), soft_memory),
     Scenario("nodefs", 300, BOTH, life(200) + disk_pods(), small_disk, True),
     Scenario("quiet", 120, ("extended", "kubectl"), quiet_pods(), quiet, keeps_answers=False),
+    Scenario("recorder", 340, (), three_pods(), quiet, is_deployed=True),
 )}

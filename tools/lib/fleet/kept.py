@@ -14,7 +14,7 @@ import entry
 
 
 # of which form the rows are: those of another one are no answers
-FORM = "2"
+FORM = "3"
 
 
 class Kept:
@@ -34,17 +34,18 @@ class Kept:
 
     def name(self, path):
         """The name of a trace's files: what people call it, and a key of its path, of the program and of the form."""
-        plain = re.sub(r"[^A-Za-z0-9.-]", "_", os.path.basename(path).removesuffix(".trace"))[:80]
+        plain = re.sub(r"[^A-Za-z0-9.-]", "_", os.path.basename(path).removesuffix(".gz").removesuffix(".trace"))[:80]
         key = hashlib.sha256(f"{FORM}\n{self.program_sum}\n".encode() + os.fsencode(path)).hexdigest()[:16]
         return f"{plain}-{key}"
 
     def file(self, path, kind):
         return os.path.join(self.folder, f"{self.name(path)}.{kind}.gz")
 
-    def known(self, path):
-        """The SHA-256 of the trace whose answer is kept, or None."""
+    def known(self, path, until):
+        """The SHA-256 of the trace whose answer is kept, as one that says all up to a moment; or None."""
         try:
-            return next(self.rows(path))["sha256"]
+            trace = next(self.rows(path))
+            return trace["sha256"] if trace["until"] == until else None
         except (OSError, EOFError, ValueError, KeyError, StopIteration):
             return None
 

@@ -8,7 +8,7 @@ import trace as traces
 
 # what a node is worst by, an hour of recording; the seconds of recording are those between a trace's ticks
 ORDERS = {"restarts": "restarts", "unready": "unready", "evicted": "evicted"}
-# an instance that a trace begins with is no restart of it
+# an instance that a trace begins with is no restart of it, and was counted in the trace before, where that is there
 NODES = """
 WITH recorded AS (
     SELECT node, SUM(last_moment - first_moment) AS seconds, SUM(memory_pressure_seconds) AS memory,
@@ -17,7 +17,7 @@ WITH recorded AS (
                    SELECT COUNT(*) FROM decisions WHERE decisions.report = nodes.report AND decision = 'evicted'
                    AND pod_number IS NOT NULL) ELSE evictions END) AS evicted
     FROM nodes GROUP BY node),
-ran AS (SELECT node, SUM(MAX(starts - 1, 0)) AS restarts, SUM(kills) AS kills FROM containers GROUP BY node),
+ran AS (SELECT node, SUM(came_again) AS restarts, SUM(kills) AS kills FROM containers GROUP BY node),
 were AS (SELECT node, SUM(unready_seconds) AS unready FROM pods GROUP BY node)
 SELECT node, COALESCE(seconds, 0) AS seconds, COALESCE(restarts, 0) AS restarts, COALESCE(kills, 0) AS kills,
        evicted, COALESCE(unready, 0) AS unready, memory, disk, pid

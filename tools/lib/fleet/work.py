@@ -12,9 +12,11 @@ import os
 import re
 import stat
 import subprocess
+from dataclasses import dataclass
 
 import entry
 import kubelet as kubelets
+import packed
 import program as programs
 import records
 import report as reports
@@ -28,35 +30,49 @@ SIGNS = (b'"kubelet"', b'"reason"', b'"waiting"', b'"ended"')
 REFUSED_LINE = re.compile(r"line (\d+): (\d+) (\S.*)")
 
 
+@dataclass(frozen=True)
+class Known:
+    """What is known of a trace before it is read: the SHA-256 of the one that was answered, where there is one, and up
+    to when it says all that happened, where one that follows it says so."""
+
+    sum: str | None
+    until: int | None = None
+
+
 class WorkFault(entry.Fault):
     """This process can't do the work of any trace; the message says why."""
 
 
 def answer(program, program_sum, path, known):
-    """What became of the trace of a path: a dict of its record, its rows and its report, both as gzip or None. `known`
-    is the SHA-256 of the trace that was answered before; where it is still the same there are neither rows nor report,
-    and the status is "known"."""
+    """What became of the trace of a path: a dict of its record, its rows and its report, both as gzip or None. Where the
+    trace that was answered before is still the same there are neither rows nor report, and the status is "known"."""
     check_program(program, program_sum)
     try:
         text, size = read_trace(path)
     except OSError as fault:
         return failed(path, f"can't be read: {fault.strerror}")
+    except packed.Damaged as fault:
+        return failed(path, str(fault))
     trace_sum = hashlib.sha256(text).hexdigest()
-    if trace_sum == known:
+    if trace_sum == known.sum:
         return answered(record_of(path, trace_sum, size, "known"))
     words = ["run", "/dev/stdin", "--workers", "1", *programs.format_words(io.BytesIO(text))]
     done = subprocess.run([program, *words], input=text, capture_output=True, check=False, start_new_session=True)
     if done.returncode != 0:
         said = done.stderr.decode("utf-8", "replace").split("\n")[0]
-        return answered(record_of(path, trace_sum, size, **refusal(done.returncode, said)))
+        return answered(record_of(path, trace_sum, size, **refusal(done.returncode, said)) | {"until": known.until})
     try:
         report = reports.read_report(done.stdout.decode("utf-8", "replace"))
     except reports.ReportFault as fault:
         said = str(fault).replace("standard input", "the report")
         return answered(record_of(path, trace_sum, size, "failed", fault=said))
     trace, kubelet = beside(text, report)
-    rows = [record for record in records.records_of(report, kubelet, trace, span_of(text)) if record["record"] in KINDS]
-    return answered(record_of(path, trace_sum, size, "replayed"), rows, done.stdout)
+    span, begun = span_of(text), begun_of(text)
+    if span:
+        span = span[0] if begun is None else max(span[0], begun), max(span[1], known.until or 0)
+    made = records.records_of(report, kubelet, trace, span, records.NEVER if begun is None else begun)
+    rows = [record for record in made if record["record"] in KINDS]
+    return answered(record_of(path, trace_sum, size, "replayed") | {"until": known.until}, rows, done.stdout)
 
 
 def beside(text, report):
@@ -71,6 +87,15 @@ def beside(text, report):
         return trace, kubelets.beside(trace, report)
     except (traces.TraceFault, ValueError, TypeError, KeyError, AttributeError):
         return None, None
+
+
+def begun_of(text):
+    """The moment behind which a trace that follows another one says what happened; None of any other."""
+    try:
+        said = json.loads(text.lstrip().split(b"\n", 1)[0]).get("follows")
+    except (ValueError, AttributeError, RecursionError):
+        return None
+    return said["at"] if traces.is_follows(said) else None
 
 
 def span_of(text):
@@ -116,12 +141,14 @@ def check_program(program, program_sum):
 
 
 def read_trace(path):
-    """The bytes of a trace, one more than the longest at most, and the size of its file."""
+    """The bytes of a trace, unpacked, one more than the longest at most, and how many it has."""
     with open(os.open(path, os.O_RDONLY | os.O_NONBLOCK), "rb") as file:
         found = os.fstat(file.fileno())
         if not stat.S_ISREG(found.st_mode):
             raise OSError(0, "it is no file")
-        return file.read(LONGEST_INPUT + 1), found.st_size
+        data = file.read(LONGEST_INPUT + 1)
+    text = packed.unpacked(data, LONGEST_INPUT)
+    return text, found.st_size if text is data else len(text)
 
 
 def refusal(status, said):
@@ -137,7 +164,7 @@ def refusal(status, said):
 
 def record_of(path, trace_sum, size, status, line=None, code=None, fault=None):
     return {"record": "trace", "path": os.fsencode(path).decode("utf-8", "replace"), "sha256": trace_sum,
-            "bytes": size, "status": status, "line": line, "code": code, "fault": fault}
+            "bytes": size, "status": status, "line": line, "code": code, "fault": fault, "until": None}
 
 
 def failed(path, said):

@@ -53,6 +53,7 @@ def data_of(report, trace, ticks, utc):
         "words": WORDS, "states": STATES, "results": RESULTS, "pods": report.pod_count, "ticks": report.tick_count,
         "tickSteps": repeated(differences([span.of(tick.at) for tick in trace.ticks])) if trace else [],
         "signals": signals_of(trace), "active": active_of(report, span), "pressure": pressure_of(report, span),
+        "gaps": [[span.of(since), span.of(at)] for since, at in report.gaps],
         "reclaims": [[span.of(event.at), *event.rest] for event in report.events if event.word == "reclaim"],
         "evictions": evictions_of(report, trace, ticks, span, left), "kubelet": kubelet_of(report, trace, span),
         "podList": [pod_of(report, trace, span, pod, ticks, budget, words) for pod in report.pods],
@@ -61,11 +62,23 @@ def data_of(report, trace, ticks, utc):
     refused = sorted({one["key"] for one in data["kubelet"]["refused"]} if data["kubelet"] else ())
     if refused:
         left.append(f"the pods that the kubelet refused under pressure, which never ran: {', '.join(refused)}")
+    left += not_known(report, utc)
     if budget.refused:
         left.append(f"the results of the probes of {budget.refused} containers, behind the first {MOST_RUNS} runs")
     if trace:
         left.append("the pods' usage but at evictions")
     return data | {"left": left}
+
+
+def not_known(report, utc):
+    """What is not known between the traces that a report is joined of."""
+    def show(at):
+        return reports.moment_text(at, utc)
+
+    gaps = [f"the time from {show(since)} to {show(at)}, of which nothing was recorded" for since, at in report.gaps]
+    anew = [show(border.at) for border in report.borders if not border.is_gap]
+    return gaps + ([f"the exits, grace periods and pauses before {', '.join(anew)}, where traces begin: they are "
+                    "counted anew from there"] if anew else [])
 
 
 class Budget:

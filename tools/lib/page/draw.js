@@ -111,6 +111,34 @@ function drawGrid(area) {
   pen.stroke();
 }
 
+// Of a gap nothing was recorded: what a line or a bar would go on with there is taken away, and the gap is hatched.
+function drawGaps(area) {
+  const {pen} = area;
+  for (const [since, until] of data.gaps) {
+    if (until < view.from || since > view.to) continue;
+    const [x, end] = [clip(area, xOf(area, since)), clip(area, xOf(area, until))];
+    pen.save();
+    pen.beginPath();
+    pen.rect(x, 0, Math.max(end - x, 1), area.height);
+    pen.clip();
+    pen.fillStyle = colours.panel;
+    pen.fill();
+    pen.strokeStyle = colours.line;
+    pen.lineWidth = 1;
+    pen.beginPath();
+    for (let at = Math.floor((x - area.height) / 8) * 8; at < end; at += 8) {
+      pen.moveTo(at, area.height);
+      pen.lineTo(at + area.height, 0);
+    }
+    pen.stroke();
+    pen.restore();
+  }
+}
+
+function isInGap(at) {
+  return data.gaps.some((gap) => gap[0] < at && at < gap[1]);
+}
+
 // Bars of spans [since, until, colour]; the worse of two on one pixel is drawn, which is the one with more weight.
 function drawBars(area, spans, top, height, weights) {
   const {pen} = area;
@@ -202,6 +230,7 @@ function drawNodeLanes(canvas) {
     y += NODE_LANE;
   }
   drawName(area, rulesName(data.evictions.length), y);
+  drawGaps(area);
   drawReclaims(area, y);
   drawEvictions(area, data.evictions, () => y, ruleColour());
 }
@@ -288,6 +317,7 @@ function drawSignal(canvas, signal) {
   drawGrid(area);
   drawThresholds(area, signal, yOf);
   drawLine(area, columns, yOf);
+  drawGaps(area);
   const valueAt = (at) => signal.values[placeBefore(tickMoments.length, (place) => tickMoments[place], at)] || 0;
   drawEvictions(area, data.evictions.filter((one) => one.signal === signal.name), (one) => yOf(valueAt(one.at)),
     ruleColour());
@@ -361,11 +391,17 @@ function didWords(at, reach) {
 function signalTip(signal, at, reach) {
   const place = placeBefore(tickMoments.length, (one) => tickMoments[one], at);
   if (place < 0) return '';
+  if (isInGap(at)) return gapTip(at);
   return [moment(tickMoments[place]), `${signal.name} ${amount(signal.values[place], signal.bytes)}`,
     ...evictionWords(data.evictions.filter((one) => one.signal === signal.name), at, reach)].join('\n');
 }
 
+function gapTip(at) {
+  return `${moment(Math.round(at))}\nnothing was recorded here`;
+}
+
 function nodeTip(at, reach) {
+  if (isInGap(at)) return gapTip(at);
   const holds = (since, until) => since <= at && (until === null || at < until);
   const found = data.pressure.filter((span) => holds(span[1], span[2])).map((span) => span[0]);
   const active = data.active.filter((span) => holds(span[2], span[3]))

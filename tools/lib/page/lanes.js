@@ -155,8 +155,9 @@ function drawRow(row) {
     drawName(area, container.name, laneTop(place) + 6);
     drawBars(area, inView(drawn.lanes[place]), laneTop(place), BAR, WEIGHTS);
     drawWaits(area, pod, place);
-    drawMarks(area, drawn.marks[place], laneTop(place));
   });
+  drawGaps(area);
+  pod.containers.forEach((_, place) => drawMarks(area, drawn.marks[place], laneTop(place)));
   if (pod.end) drawEnd(area, pod);
   if (pod.fact) drawFact(area, pod);
 }
@@ -294,6 +295,7 @@ function rowTip(row, area, x, y) {
   const at = momentAt(area, x);
   const lane = laneAt(pod, y);
   const lines = [moment(Math.round(at))];
+  if (isInGap(at)) return gapTip(at);
   if (pod.first === null || at < pod.first) return `${lines[0]}\n${pod.name} is not there yet`;
   if (at > endOf(pod)) return `${lines[0]}\n${pod.name} ${pod.end ? `has ended as ${pod.end[1]}` : 'is gone'}`;
   if (lane < 0) {

@@ -10,7 +10,7 @@ from dataclasses import dataclass
 
 import entry
 import program as programs
-from plugin import failing, files, words
+from plugin import failing, files, several, words
 
 # beside the command that was called, which may be reached by a link
 TOOLS = os.path.dirname(os.path.realpath(sys.argv[0]))
@@ -46,12 +46,13 @@ def run(given, caller):
     found = words.words_of(command, rest, caller.is_of_kubectl)
     if found.waiting:
         raise entry.Fault(f"{found.waiting} wants a value (--help says more)")
-    if found.file == "-":
-        found.file = files.kept_input()
+    found.files = [files.kept_input() if file == "-" else file for file in found.files]
     if name in ("run", "check"):
         return run_program(name, found, caller)
     if name == "explain":
         files.run_on(os.path.join(TOOLS, name), [*([found.file] if found.file else []), *found.plain, *found.rest])
+    if command.takes_several and several.is_meant(found):
+        return several.run(name, command, found, os.path.join(TOOLS, name))
     return run_tool(name, command, found)
 
 
@@ -83,6 +84,7 @@ def run_program(name, found, caller):
     rest, kinds = without_fail_on(found.rest)
     traces, copy, option = [*([found.file] if found.file else []), *found.plain], None, []
     traces = ["/dev/stdin" if trace == "-" else trace for trace in traces]
+    traces = [files.plain(traces[0])] if len(traces) == 1 else traces
     path = traces[0] if len(traces) == 1 else None
     if path and "--extended" not in rest:
         traces[0], copy, option = files.with_format(path)
@@ -116,16 +118,10 @@ def run_tool(name, command, found):
 
 
 def keys(command, found, report):
-    """The pods that are meant, and the report, which was read where a namespace alone says which. A name without a
-    namespace is for the tool to find among all."""
-    if found.is_everywhere:
-        return [words.name_of(name) for name in found.plain], report
-    named = [words.key_of(name, found.namespace, lambda: words.current_namespace(found.context))
-             for name in found.plain]
-    if named or found.namespace is None:
+    """The pods that are meant, and the report, which was read where a namespace alone says which."""
+    named = words.pods_meant(command, found)
+    if named is not None:
         return named, report
-    if command.pods == "one":
-        return [f"{found.namespace}/"] if command.lists_pods else [], report
     report = files.whole(report)
     named = files.pods_in(report, found.namespace)
     if not named:

@@ -10,7 +10,10 @@ MEASURES = ("restarts", "unready", "evicted")
 FAILURES = ("evicted", "restarted", "unready")
 # words whose value is no file
 COUNTS = ("--workers", "--processes", "--scheduler", "--top", "--node", "--every", "--look", "--ticks", "--for",
-          "--kubelet", "--crictl", "--eviction-pause", "--each", "--keep", "--most")
+          "--kubelet", "--crictl", "--eviction-pause", "--each", "--keep", "--most", "--since", "--at", "--recorders")
+OF_CLUSTER = ("--context", "--recorders")
+# of the tools that ask a cluster, and take no file
+CLUSTER_WORDS = {"fetch": ("--all", "--at", "--into", "--since", *OF_CLUSTER), "nodes": OF_CLUSTER}
 
 
 def candidates(given, is_of_kubectl=True):
@@ -30,6 +33,10 @@ def candidates(given, is_of_kubectl=True):
         return [], FILES if found.waiting not in (*COUNTS, *words.CONTEXT) else NO_FILES
     if before[0] == "fleet":
         return fleet_words(before, last)
+    if before[0] in CLUSTER_WORDS:
+        if before[-1] == "--into":
+            return [], FILES
+        return beginning(CLUSTER_WORDS[before[0]], last) if last.startswith("-") else [], NO_FILES
     if last.startswith("-"):
         of_pods = words.NAMESPACE + (words.EVERYWHERE + words.CONTEXT) * is_of_kubectl
         own = of_pods * (command.pods != "none") + words.FILE * command.takes_file
@@ -44,8 +51,9 @@ def beginning(names, start):
 
 
 def keys(found):
-    trace = dict(zip(found.rest, found.rest[1:])).get("--trace")
-    path = found.file or trace
+    named = dict(zip(found.rest, found.rest[1:]))
+    trace = named.get("--trace") or named.get("--traces")
+    path = found.files[-1] if found.files else trace
     return files.keys_of(path) if path else []
 
 

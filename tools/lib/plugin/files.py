@@ -12,16 +12,20 @@ import sys
 import tempfile
 
 import entry
+import packed
 import program as programs
 import report as reports
 import trace as traces
 from explain import beside
+from joined import files as traces_of
 
 # a longer one is no line of a trace
 LONGEST_LINE = 1 << 21
 PIECE = 1 << 16
 # files without names, which go when nobody holds them
 KEPT = []
+# how the operator knows what was copied, by the copy's path
+NAMES = {}
 
 
 def is_report(path):
@@ -33,6 +37,21 @@ def is_report(path):
             return file.read(5) == b"node "
     except OSError as fault:
         raise entry.Fault(f"{path} can't be read: {fault.strerror}") from None
+
+
+def plain(path):
+    """The path of a trace as the program takes it: of one that is packed that of a copy which is not."""
+    try:
+        if not os.path.isfile(path) or not packed.is_packed_file(path):
+            return path
+        text = packed.read(path, traces.LONGEST_TRACE)
+    except OSError:
+        return path
+    except packed.Damaged as fault:
+        raise entry.Fault(f"{path}: {fault}") from None
+    copy = path_of(whole(io.BytesIO(text)))
+    NAMES[copy] = shown(path)
+    return copy
 
 
 def open_report(path):
@@ -63,6 +82,7 @@ def no_room(said):
 
 def replayed(path):
     """The report of a trace, as a file without a name."""
+    path = plain(path)
     program, report = programs.path(), temporary()
     option = format_words(path)
     words = ["run", path, *option]
@@ -100,9 +120,11 @@ def with_format(path):
         with open(path, "rb") as file:
             if stat.S_ISREG(os.fstat(file.fileno()).st_mode):
                 return path, None, format_words_of(file)
-            text = file.read(traces.LONGEST_TRACE + 1)
+            text = packed.unpacked(file.read(traces.LONGEST_TRACE + 1), traces.LONGEST_TRACE)
     except OSError:
         return path, None, []
+    except packed.Damaged as fault:
+        raise entry.Fault(f"{path}: {fault}") from None
     copy = whole(io.BytesIO(text))
     return "/dev/stdin", copy, format_words_of(copy)
 
@@ -130,14 +152,17 @@ def whole(report):
 
 
 def keys_of(path):
-    """The keys of the pods that a trace or a report names, for a completion: without one where it can't be read."""
+    """The keys of the pods that a trace or a report names, or the last trace of a folder, for a completion: without one
+    where it can't be read."""
     try:
+        if os.path.isdir(path):
+            path = os.path.join(path, max(name for name in os.listdir(path) if name.endswith(traces_of.ENDINGS)))
         if is_report(path):
             with open(path, encoding="utf-8") as file:
                 return [pod.key for pod in reports.read_report(file.read()).pods]
-        with open(path, encoding="utf-8") as file:
-            manifests = [json.loads(line)["pod"]["metadata"] for line in file if '"metadata"' in line]
-    except (OSError, ValueError, KeyError, TypeError, entry.Fault, reports.ReportFault):
+        lines = packed.read(path, traces.LONGEST_TRACE).decode().split("\n")
+        manifests = [json.loads(line)["pod"]["metadata"] for line in lines if '"metadata"' in line]
+    except (OSError, ValueError, KeyError, TypeError, packed.Damaged, entry.Fault, reports.ReportFault):
         return []
     return [f"{found.get('namespace') or 'default'}/{found.get('name')}" for found in manifests]
 
@@ -182,7 +207,7 @@ def path_of(file):
 
 def shown(path):
     """A path as the operator knows it."""
-    return "standard input" if path.startswith(f"/proc/{os.getpid()}/fd/") else path
+    return NAMES.get(path) or ("standard input" if path.startswith(f"/proc/{os.getpid()}/fd/") else path)
 
 
 def kept_input():

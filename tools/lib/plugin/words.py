@@ -2,10 +2,12 @@
 
 from __future__ import annotations
 
+import os
 import subprocess
 from dataclasses import dataclass, field
 
 import entry
+from joined import asked, files
 
 NAMESPACE, FILE = ("-n", "--namespace"), ("-f", "--filename")
 EVERYWHERE, CONTEXT = ("-A", "--all-namespaces"), ("--context",)
@@ -25,8 +27,12 @@ class Command:
     flags: tuple[str, ...] = ()
     lists_pods: bool = False
     """without a pod it lists those of a namespace"""
+    takes_several: bool = False
+    """it tells of several traces, and of those of a cluster's node"""
 
 
+RECORDERS = "--recorders"
+SEVERAL = (*asked.REPEATED, *asked.VALUED, RECORDERS)
 RECORDER_VALUED = ("--node", "--every", "--look", "--ticks", "--for", "--kubelet", "--curl", "--node-line",
                    "--crictl", "--eviction-pause", "--into", "--each", "--keep", "--most")
 RECORDER_FLAGS = ("--check", "--standard", "--extended")
@@ -35,13 +41,18 @@ COMMANDS = {
     "run": Command("the report of a trace", valued=("--workers", "--fail-on"), flags=("--extended",)),
     "check": Command("whether a file is a trace", flags=("--extended",)),
     "explain": Command("what a refusal means", flags=("--extended", "--line")),
-    "story": Command("one pod's story", "one", valued=("--trace",), flags=("--utc", "--without-why"), lists_pods=True),
-    "why": Command("what the trace holds around each event of one pod", "one", valued=("--trace",), flags=("--utc",)),
-    "page": Command("a page of a node", flags=("--utc",)),
-    "timeline": Command("a picture of pods", "any", valued=("--trace",), flags=("--utc",)),
-    "json": Command("a report as JSON lines, or tables of SQLite", valued=("--sqlite", "--trace")),
+    "story": Command("one pod's story", "one", valued=("--trace", *SEVERAL), flags=("--utc", "--without-why"),
+                     lists_pods=True, takes_several=True),
+    "why": Command("what the trace holds around each event of one pod", "one", valued=("--trace", *SEVERAL),
+                   flags=("--utc",), takes_several=True),
+    "page": Command("a page of a node", valued=SEVERAL, flags=("--utc",), takes_several=True),
+    "timeline": Command("a picture of pods", "any", valued=("--trace", *SEVERAL), flags=("--utc",), takes_several=True),
+    "json": Command("a report as JSON lines, or tables of SQLite", valued=("--sqlite", "--trace", *SEVERAL),
+                    takes_several=True),
     "what-if": Command("a trace replayed with an edit"),
     "fleet": Command("the traces of many nodes", takes_file=False),
+    "fetch": Command("the traces of a cluster's nodes", takes_file=False),
+    "nodes": Command("which nodes of a cluster record", takes_file=False),
 }
 
 
@@ -52,11 +63,22 @@ class Words:
     namespace: str | None = None
     is_everywhere: bool = False
     context: str | None = None
-    file: str | None = None
+    files: list[str] = field(default_factory=list)
     plain: list[str] = field(default_factory=list)
     rest: list[str] = field(default_factory=list)
     waiting: str | None = None
     """the last word, where it wants a value"""
+
+    @property
+    def file(self):
+        """The one file that is named, or None."""
+        if len(self.files) > 1:
+            raise entry.Fault(f"it takes one file, not {len(self.files)} (--help says more)")
+        return self.files[0] if self.files else None
+
+    def value(self, name):
+        """The last value of a word of the tool."""
+        return next((value for word, value in zip(self.rest[-2::-1], self.rest[:0:-1]) if word == name), None)
 
 
 def words_of(command, given, is_of_kubectl=True):
@@ -65,6 +87,11 @@ def words_of(command, given, is_of_kubectl=True):
     found, given = Words(), list(given)
     while given:
         take(command, given, found)
+    if command.takes_several and found.files:
+        # the shell puts several words in place of a pattern
+        more = [word for word in found.plain if word.endswith(files.ENDINGS) and os.path.isfile(word)]
+        found.files += more
+        found.plain = [word for word in found.plain if word not in more]
     if not is_of_kubectl:
         if found.context is not None or found.waiting in CONTEXT:
             raise entry.Fault(f"{CONTEXT[0]} is no word of it (--help says more)")
@@ -94,7 +121,7 @@ def take(command, given, found):
     elif name in CONTEXT and command.pods != "none":
         found.context = value
     elif name in FILE and command.takes_file:
-        found.file = value
+        found.files.append(value)
     else:
         found.rest += [name, value]
 
@@ -118,6 +145,19 @@ def key_of(name, given, otherwise):
             raise entry.Fault(f"{name} is not in the namespace {given}")
         return name
     return f"{given or otherwise()}/{tail if slash else name}"
+
+
+def pods_meant(command, found):
+    """The pods that words name for a tool; None where they name a namespace alone, whose pods the tool does not list
+    itself. A name without a namespace is for the tool to find among all, where all are meant."""
+    if found.is_everywhere:
+        return [name_of(name) for name in found.plain]
+    named = [key_of(name, found.namespace, lambda: current_namespace(found.context)) for name in found.plain]
+    if named or found.namespace is None:
+        return named
+    if command.pods == "one":
+        return [f"{found.namespace}/"] if command.lists_pods else []
+    return None
 
 
 def name_of(name):

@@ -13,6 +13,11 @@ class Asides:
         self.waits = {}
         self.told = {}
 
+    def copied(self):
+        copied = Asides()
+        copied.ends, copied.waits, copied.told = dict(self.ends), dict(self.waits), dict(self.told)
+        return copied
+
     def take_end(self, uid, name, attempt, reason):
         """What is known now of why the newest instance of a container ended."""
         self.ends[uid, name] = attempt, reason

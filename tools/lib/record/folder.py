@@ -53,12 +53,14 @@ class Part:
     def __init__(self, folder, name):
         self.name = name
         self.size = self.ticks = self.pods = 0
+        self.has_more = False
         # the bytes that it begins with, once they are written
         self.head = float("inf")
         self.descriptor = os.open(os.path.join(folder, f"{name}.{PART}"),
                                   os.O_WRONLY | os.O_CREAT | os.O_EXCL | os.O_APPEND | os.O_CLOEXEC, 0o640)
 
     def write(self, data):
+        self.take_back()
         try:
             left = data
             while left:
@@ -70,7 +72,23 @@ class Part:
             raise
         self.size += len(data)
 
+    def write_ahead(self, data):
+        """Writes lines that stand until the next ones are written, or none of them."""
+        with contextlib.suppress(OSError):
+            self.take_back()
+            self.has_more = True
+            if os.write(self.descriptor, data) < len(data):
+                self.take_back()
+
+    def take_back(self):
+        """Takes away what was written ahead."""
+        if self.has_more:
+            os.ftruncate(self.descriptor, self.size)
+            self.has_more = False
+
     def close(self):
+        with contextlib.suppress(OSError):
+            self.take_back()
         with contextlib.suppress(OSError):
             os.close(self.descriptor)
 

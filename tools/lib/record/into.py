@@ -16,6 +16,7 @@ BACK_SECONDS = 60
 FORWARD_SECONDS = 120
 # a trace has at most one of so many parts of the bytes that are kept
 PARTS = 4
+POD_LINE = '{"kind":"pod"'
 # a trace with so many times what it begins with is long
 SHORT = 2
 AGAIN_SECONDS = 5
@@ -103,14 +104,23 @@ class Traces(Output):
         elif self.is_lost:
             self.go_on(second)
 
+    def write_ahead(self, due):
+        """Writes what is seen and not settled, so that a crash loses nothing of it; where there is room for it."""
+        lines = [line for lines, _ in due for line in lines]
+        data = "".join(f"{line}\n" for line in lines).encode()
+        arrivals, ticks = sum(line.startswith(POD_LINE) for line in lines), sum(has_tick for _, has_tick in due)
+        if self.part is not None:
+            fits = not self.is_full(len(data), arrivals, ticks) and self.has_room_for(len(data))
+            self.part.write_ahead(data if fits else b"")
+
     def border(self, second):
         """The newest border before a second, behind the begin of the trace; or None."""
         border = (second - 1) // self.each * self.each
         return border if border > self.begun else None
 
-    def is_full(self, size, arrivals):
+    def is_full(self, size, arrivals, ticks=1):
         part = self.part
-        return (part.ticks >= self.most_ticks or part.size + size > self.most_bytes
+        return (part.ticks + ticks > self.most_ticks or part.size + size > self.most_bytes
                 or part.pods + arrivals > MOST_PODS)
 
     # --- traces end and begin ---
@@ -234,6 +244,12 @@ class Traces(Output):
             self.is_lost = False
             say_again(self.say, f"{second}: there is room again, and a trace begins")
 
+    def has_room_for(self, size):
+        try:
+            return self.folder.has_room(size)
+        except OSError:
+            return False
+
     def can_write(self):
         try:
             return self.folder.has_room_again()
@@ -265,6 +281,7 @@ class LastingRecording(Recording):
                 self.recorder.take(seen)
                 self.output.write_due(self.recorder.due(moment))
                 self.output.settle(self.recorder.timeline.next_second)
+                self.output.write_ahead(self.recorder.foreseen(moment))
                 self.forget()
 
     def see_clock(self, before, moment):

@@ -48,6 +48,10 @@ class LastingRecorder(Recorder):
         self.timeline.now = seen.moment
         super().take(seen)
 
+    def foreseen(self, moment):
+        """What would be written if nothing came any more, with a tick of the look at this moment."""
+        return self.timeline.foreseen(moment, self.silent_from(moment))
+
     def has_room(self):
         """Pods that have gone have no line in the next trace."""
         return self.timeline.pods() < MOST_PODS

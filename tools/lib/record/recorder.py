@@ -345,6 +345,10 @@ class Recorder:
         if recorded.pod.uid in seen.summary.pods:
             recorded.sampled_at, recorded.unsampled_at = seen.moment, None
             return
+        is_deleted = recorded.going_since is not None and recorded.evicted_at is None
+        if is_deleted and (recorded.sampled_at or not self.has_running(recorded)):
+            # it has ended, and the kubelet evicts no such pod once it knows that
+            return
         newest = [container.newest for container in recorded.containers.values() if container.newest is not None]
         ran = [each for each in newest if each.state in (RUNNING, EXITED)]
         if ran and recorded.unsampled_at is None and self.format.says_gone:

@@ -7,6 +7,7 @@ the others, and each result of one probe at a second of its own.
 
 A success behind as many as its probe wants changes nothing, so it wants no tick: the next one has it, once."""
 
+import copy
 from dataclasses import dataclass, field, replace
 
 from .asides import Asides
@@ -228,6 +229,17 @@ class Timeline:
             self.next_second = second + 1
             yield self.lines_of(second, tick, silent_from is not None and second >= silent_from), tick.is_wanted
         self.next_second = max(self.next_second, before)
+
+    def foreseen(self, moment, silent_from=None):
+        """What would be due if nothing came any more, with a tick at a moment. All stays as it is."""
+        copied = copy.copy(self)
+        copied.ticks = {second: replace(tick) for second, tick in self.ticks.items()}
+        copied.present, copied.results = list(self.present), dict(self.results)
+        copied.listings = {uid: dict(listings) for uid, listings in self.listings.items()}
+        copied.usages = {uid: dict(usages) for uid, usages in self.usages.items()}
+        copied.asides = self.asides.copied()
+        copied.place_look(moment)
+        return list(copied.due(float("inf"), silent_from))
 
     def lines_of(self, second, tick, is_silent):
         """The lines of a second: the pods that come, the tick if one is wanted, the pods that go."""

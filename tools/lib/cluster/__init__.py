@@ -1,0 +1,1 @@
+"""The recorders of a cluster: which nodes record, and their traces."""
