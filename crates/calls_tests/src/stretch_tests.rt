@@ -4,13 +4,13 @@ use crate::replays::{report_by_ticks, report_by_workers};
 use crate::stretches::LongTrace;
 use crate::tally::Tally;
 use kubelet_replay::NoGate;
-use std::alloc::{AllocGlobal, Global};
+use std::alloc::AllocGlobal;
 use std::process::Abort;
 use std::sync::Wait;
 use std::test::Fail;
 use std::thread::Threads;
 
-/// So many updates that three rounds end by a tick in which memory is short, and two by what waits.
+/// Four of its rounds end by a tick in which memory is short, and two others with as many updates as a round takes.
 const LONG: LongTrace = LongTrace {
     pods: 60,
     ticks: 2_000,
