@@ -9,7 +9,8 @@ class TooLarge(Exception):
 
 
 class Shape(NamedTuple):
-    """How many pods and ticks. Every `calm`-th tick evicts a pod; each `period`-th has what the probes found."""
+    """How many pods and ticks. Every `calm`-th tick evicts a pod while one is left; each `period`-th has what the probes
+    found."""
     pods: int
     ticks: int
     calm: int
@@ -33,6 +34,7 @@ SHAPES = {
     "many_pods": Shape(256, 500, 50),
     "many_ticks": few_pods(20_000),
     "long_lines": long_lines(20_000),
+    "pressed_pods": Shape(256, 500, 1),
     "ticks_2000": few_pods(2_000),
     "ticks_6000": few_pods(6_000),
     "small_pods": Shape(256, 60, 20),

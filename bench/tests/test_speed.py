@@ -12,13 +12,15 @@ from speed_page import Trace
 
 TRACES = {
     "many_pods": Trace(256, 500, 320, 33_354_649, 757), "many_ticks": Trace(20, 20_000, 25, 64_909_183, 20_021),
-    "long_lines": Trace(1, 20_000, 16, 63_375_918, 20_002), "ticks_2000": Trace(20, 2_000, 25, 6_455_855, None),
+    "long_lines": Trace(1, 20_000, 16, 63_375_918, 20_002), "pressed_pods": Trace(256, 500, 320, 33_354_649, 757),
+    "ticks_2000": Trace(20, 2_000, 25, 6_455_855, None),
     "ticks_6000": Trace(20, 6_000, 25, 19_442_964, None),
 }
 SECONDS = {
     ("many_pods", 0): 1.0, ("many_pods", 1): 2.0, ("many_pods", 2): 1.5, ("many_pods", 4): 1.25,
     ("many_ticks", 0): 2.0, ("many_ticks", 1): 5.0, ("many_ticks", 2): 4.9, ("many_ticks", 4): 6.0,
     ("long_lines", 0): 1.0, ("long_lines", 1): 3.0, ("long_lines", 2): 3.2, ("long_lines", 4): 3.1,
+    ("pressed_pods", 0): 1.0, ("pressed_pods", 1): 2.0, ("pressed_pods", 2): 2.0, ("pressed_pods", 4): 2.0,
     ("ticks_2000", 1): 0.5, ("ticks_6000", 1): 1.5,
 }
 PEAKS = {key: 16_000_000 if key[1] == 0 else 100_000_000 + 1_000_000 * key[1] for key in SECONDS}
@@ -72,11 +74,12 @@ class Page(Case):
     def test_when_workers_pay(self):
         def told(seconds):
             return speed_page.workers_words(MEASURED._replace(seconds={**SECONDS, **seconds}))[0].split(". ")[0]
-        self.assertEqual(told({}), "More workers pay in `many_pods`, and not in `many_ticks` or `long_lines`")
+        self.assertEqual(told({}),
+                         "More workers pay in `many_pods`, and not in `many_ticks` or `long_lines` or `pressed_pods`")
         self.assertEqual(told({("many_pods", 2): 1.95, ("many_pods", 4): 1.95}),
                          "More workers pay in none of these traces")
         self.assertEqual(told({("many_ticks", 4): 4.75, ("long_lines", 2): 1.0}),
-                         "More workers pay in `many_pods` and `many_ticks` and `long_lines`")
+                         "More workers pay in `many_pods` and `many_ticks` and `long_lines`, and not in `pressed_pods`")
 
     def test_counts_of_a_report(self):
         report = ["node n1 pods=2 ticks=30\n", "event 1 node\n", "container 0 a\n", "container 0 b\n", "totals\n"]
