@@ -533,7 +533,7 @@ def test_packed_traces():
     expect("zcat to the program itself", run(["sh", "-c", piped]), run([REPLAY, "run", trace, "--extended"]))
     with open(f"{folder}/cut.gz", "wb") as file, open(f"{folder}/trace.gz", "rb") as whole:
         file.write(whole.read()[:300])
-    for words in ("run CUT", "check CUT", "story -f CUT agree", "explain CUT", "page -f CUT"):
+    for words in ("run CUT", "check CUT", "story -f CUT agree", "page -f CUT"):
         answer = run([f"{TOOLS}/kubelet-replay", *words.replace("CUT", f"{folder}/cut.gz").split()])
         expect_refused(f"kubelet-replay {words}, damaged", answer, 2, "it is damaged, and can't be unpacked")
     expect_refused("what-if, damaged", run(["sh", "-c", f"'{TOOLS}/what-if' . < '{folder}/cut.gz'"]), 2,
