@@ -35,7 +35,7 @@ def run(name, command, found, tool):
     named = [word for file in found.files for word in (asked.REPEATED[0], file)]
     if named or asked.REPEATED[0] in found.rest:
         if words.RECORDERS in found.rest:
-            raise entry.Fault(f"{words.RECORDERS} is for the traces of a cluster, and files are named (--help says more)")
+            raise entry.Fault(f"{words.RECORDERS} is for the traces of a cluster, and files are named")
         files.run_on(tool, [*rest, *pods, *named])
     node = found.value("--node")
     if node is None:
