@@ -4,11 +4,15 @@ together or at all, reports, and traces that gzip has packed."""
 import gzip
 import os
 import shutil
+import sys
 import tempfile
 
 from chance import BEGIN
 from checks import HERE, REPLAY, TOOLS, expect, expect_refused, read, replayed, run
 from joined_plays import Folder
+
+sys.path.insert(0, f"{TOOLS}/lib")
+from joined import files, parts  # noqa: E402
 
 
 def test_time_of_traces():
@@ -41,6 +45,11 @@ def test_part_that_is_written():
         expect("a part without a whole line", (status, said), (
             0, "story: n1.2026-01-01T00-01-20Z.trace.part is left out: it has no line\n"))
         shutil.copy(folder.place(60), folder.place(80))
+        ended = files.source_of(folder.place(60, "part"), False)
+        expect("a part that has ended since the folder was read", (parts.text_of(ended).decode(), ended.is_part),
+               (folder.text(60), False))
+        gone = run([f"{TOOLS}/story", "web", "--traces", f"{folder.path}/n1.2026-01-01T00-01-20Z.trace.part"])
+        expect_refused("a part without a whole line by its name", gone, 2, "trace.part: it has no line")
         expect_refused("traces that overlap", folder.tell("story", "web"), 2, "overlap: the one ends at")
 
 
