@@ -95,17 +95,21 @@ def hourly(folder):
 
 
 def restarted_play(shift):
-    """A play that is met a little later: a container that is ready, and one that exits while nobody records."""
+    """A play that is met a little later: a container that is ready, one that exits while
+    nobody records, and one that begins to fail then."""
     probes = {"startupProbe": {"periodSeconds": 1}, "readinessProbe": {"periodSeconds": 3, "successThreshold": 3}}
     ready = {"told": 10 ** 6, "shown": {"restartCount": 0, "started": True, "ready": True}}
     made = [{"id": "a", "pod": "shop/a", "attempt": 0, "created": 2, "started": 3, **ready},
             {"id": "b0", "pod": "shop/b", "attempt": 0, "created": 2, "started": 3, "exited": 31, "code": 2},
-            {"id": "b1", "pod": "shop/b", "attempt": 1, "created": 33, "started": 34, **ready}]
+            {"id": "b1", "pod": "shop/b", "attempt": 1, "created": 33, "started": 34, **ready},
+            {"id": "c", "pod": "shop/c", "attempt": 0, "created": 2, "started": 3, **ready}]
     containers = [{name: value - shift if name in ("created", "started", "exited") else value
                    for name, value in {"name": "app", **each}.items()} for each in made]
-    specs = {"a": probes, "b": {}}
+    specs = {"a": probes, "b": {}, "c": {"readinessProbe": {"periodSeconds": 2}}}
     return {"begin": BEGIN + shift, "containers": containers, "samples": {"-1": {"memory": 4294967296}},
             "pods": {f"shop/{name}": {"from": 1 - shift, "spec": {"containers": [{"name": "app", **specs[name]}]}}
                      for name in specs},
             "probes": [*series("shop/a", "app", "startup", [5 - shift]),
-                       *series("shop/a", "app", "readiness", [at - shift for at in range(6, 90, 3) if at > shift])]}
+                       *series("shop/a", "app", "readiness", [at - shift for at in range(6, 90, 3) if at > shift]),
+                       *series("shop/c", "app", "readiness", [at - shift for at in range(4, 30, 2) if at > shift],
+                               [at - shift for at in range(28, 90, 2) if at > shift])]}

@@ -273,10 +273,11 @@ def test_recorder_that_starts_again():
     first.into("--for", "30", "--each", "1h")
     for shift, name, wanted in (
         (31, "a", ["started", "phase Running", "startup passed", "ready"]),
-        (31, "b", ["started", "ready", "phase Running", "died with code 2 (by then, in the gap since 00:00:22Z)",
-                   "restart (by then, in the gap since 00:00:22Z)", "unready (by then, in the gap since 00:00:22Z)",
+        (31, "b", ["started", "ready", "phase Running", "died with code 2 (by then, in the gap since 00:00:30Z)",
+                   "restart (by then, in the gap since 00:00:30Z)", "unready (by then, in the gap since 00:00:30Z)",
                    "started", "ready"]),
-        (36, "b", ["started", "ready", "phase Running", "started (by then, in the gap since 00:00:22Z)"]),
+        (31, "c", ["started", "phase Running", "ready", "unready (results counted anew since 00:00:31Z)"]),
+        (36, "b", ["started", "ready", "phase Running", "started (by then, in the gap since 00:00:30Z)"]),
     ):
         again = Into(restarted_play(shift))
         shutil.rmtree(again.folder)
@@ -285,7 +286,7 @@ def test_recorder_that_starts_again():
         status, told, said = run([f"{TOOLS}/story", "--traces", again.folder, f"shop/{name}", "--without-why"])
         table = told.split("Events\n")[1].split("\n\n")[0].split("\n")[1:]
         expect(f"a recorder that starts again {shift} s later: {name}",
-               (status, said, f"a gap from 2026-01-01 00:00:22Z to 2026-01-01 00:00:{shift}Z" in told,
+               (status, said, f"a gap from 2026-01-01 00:00:30Z to 2026-01-01 00:00:{shift}Z" in told,
                 [line[44:].strip() for line in table]), (0, "", True, wanted))
         again.clean()
     first.clean()
