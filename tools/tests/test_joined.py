@@ -1,6 +1,8 @@
 """The tests of several traces that are told as one: beside one recording of the same play, over borders and gaps."""
 
+import contextlib
 import glob
+import io
 import json
 import os
 import random
@@ -111,7 +113,8 @@ def belongs_fault(folder, has_gaps=False):
     environment = os.environ.get("KUBELET_REPLAY")
     os.environ["KUBELET_REPLAY"] = REPLAY
     try:
-        made = join.joined(asked.Asked([folder]))
+        with contextlib.redirect_stderr(io.StringIO()):
+            made = join.joined(asked.Asked([folder]))
         lib_trace.check_belongs(made.trace, made.report, "the joined trace")
     finally:
         os.environ.pop("KUBELET_REPLAY")
