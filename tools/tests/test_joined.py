@@ -156,6 +156,10 @@ def test_joined_belongs():
             if line["record"] == "decision"] for lines in (one, several)]
     expect("joined traces of real_evictions: what the kubelet did, and the rules", did[1], did[0])
     told = run([f"{TOOLS}/story", "--traces", into.folder, "shop/h-bulk", "--without-why"])[1]
+    near = run([f"{TOOLS}/story", "--traces", into.folder, "shop/h-bulk", "--at", "2026-11-27T14:28Z"])[1]
+    expect("a pod that the kubelet evicted near a moment", near.split("\n")[1],
+           "no restart within 600 s of 2026-11-27 14:28:00Z; nearest to it, at 2026-11-27 14:28:11Z: the kubelet "
+           "evicted it")
     again = [line.split("  ")[-1] for line in told.split("\n") if "14:28:00Z)" in line]
     expect("a pod that the rules evicted before a border is there again", again, [
         "phase Running (there again, as on the node, at 14:28:00Z)",
