@@ -153,6 +153,9 @@ def test_packed_traces():
     shell = f"'{TOOLS}/what-if' 'node(.name = \"n9\")' < "
     expect("what-if of a packed one", run(["sh", "-c", f"{shell}'{folder}/trace.gz'"]),
            run(["sh", "-c", f"{shell}'{trace}'"]))
+    answer = run(["sh", "-c", f"'{TOOLS}/story' < '{folder}/trace.gz'"])
+    expect_refused("story of a packed trace on standard input", answer, 2,
+                   "standard input is packed by gzip, and it wants a report; if it is a trace, --traces FILE replays")
     piped = f"zcat '{folder}/trace.gz' | '{TOOLS}/kubelet-replay' run -"
     expect("zcat to the program", run(["sh", "-c", piped]), run([f"{TOOLS}/kubelet-replay", "run", trace]))
     piped = f"zcat '{folder}/trace.gz' | '{REPLAY}' run /dev/stdin --extended"
