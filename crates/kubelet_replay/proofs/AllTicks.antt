@@ -41,8 +41,7 @@ had_more : (pods : List PodSpec) (front : List TickObs) (x : TickObs) (pieces : 
 had_more pods front x pieces had = record {
   as_many = with_shown_length after_one pieces x.pods ∙ had.as_many;
   each = λ n pod at.
-      let w = had.each n pod at in
-      (
+      let w = had.each n pod at in (
         after_one w.0 (shown_of x n),
         with_shown_at after_one (λ p. refl) pieces x.pods n w.0 w.1,
         pod_of w.0 (shown_of x n) ∙ w.2,
@@ -68,8 +67,7 @@ rest_may pods ticks front [] pieces last may whole had is_last = tt
 rest_may pods ticks front (x ∷ rest) pieces last may whole had is_last =
     let t = length front in
     let at : slice_get ticks t ≡ Some x = ap (λ (xs : List TickObs). slice_get xs t) whole ∙ middle front x rest in
-    let cut : take t ticks ≡ front = ap (take t) whole ∙ take-append_seam front (x ∷ rest) in
-    (
+    let cut : take t ticks ≡ front = ap (take t) whole ∙ take-append_seam front (x ∷ rest) in (
       record {
         next = record {
           within = omega (arith, had.as_many, may.within t x at);

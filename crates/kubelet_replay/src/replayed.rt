@@ -60,7 +60,7 @@ pub(crate) fn take_by_steps<U: Ledger, E: Ledger, O: Ledger>(
     Ok(())
 }
 
-/// A new node takes the ticks of a trace, on which all its pods have arrived; this many workers update them in threads of
+/// A new node takes the ticks of a trace once all its pods have arrived; this many workers update them in threads of
 /// their own, round by round. A pod is present from the first tick on that shows it.
 pub(crate) fn take_by_workers<
     U: Ledger + Send,

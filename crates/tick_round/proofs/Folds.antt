@@ -147,8 +147,7 @@ folds (x ∷ ticks) pods before s rows now paused owns taken many few may calm t
     let evs : (s.events ++ part_of x made ne None) ++ of_ticks calm.1 owns ≡ s.events ++ of_ticks rows owns =
     append_assoc s.events (part_of x made ne None) (of_ticks calm.1 owns)
     ∙ ap (λ (k : List Event). s.events ++ k) (part_first x row calm.1 s.pods.pieces owns here.at many first)
-    ∙ ap (λ (rs : List TickEvents). s.events ++ of_ticks rs owns) (sym calm.5) in
-    (
+    ∙ ap (λ (rs : List TickEvents). s.events ++ of_ticks rs owns) (sym calm.5) in (
       rest.0,
       subst (λ (l : List Event). HasTaken pods (before ++ x ∷ ticks)
           (state s.config now after (kept (s.evictions ++ None ∷ no_evictions ticks) paused) l rest.0 moment)) evs

@@ -127,10 +127,13 @@ handed_at p more pieces [] n q at is = (q, at, subst (λ (k : List PodTick). IsG
 handed_at p more pieces (x ∷ ticks) n q at is =
     let o = shown_of x n in
     let next = handed_at p (more ++ map pod_tick (cons_option o [])) (handed_each pieces x.pods) ticks n (handed_one q o)
-    (with_shown_at handed_one (λ r. refl) pieces x.pods n q at) (grown_more p more q o is) in
-    (next.0, next.1, subst (λ (k : List PodTick). IsGrown p k next.0)
-    (append_assoc more (map pod_tick (cons_option o [])) (pod_ticks ticks n)
-    ∙ ap (λ (k : List PodTick). more ++ k) (own_first x ticks n o refl)) next.2)
+    (with_shown_at handed_one (λ r. refl) pieces x.pods n q at) (grown_more p more q o is) in (
+      next.0,
+      next.1,
+      subst (λ (k : List PodTick). IsGrown p k next.0)
+          (append_assoc more (map pod_tick (cons_option o [])) (pod_ticks ticks n)
+          ∙ ap (λ (k : List PodTick). more ++ k) (own_first x ticks n o refl)) next.2,
+    )
 
 pub handed_all-length : (pieces : List Piece) (ticks : List TickObs) → length (handed_all pieces ticks) ≡ length pieces
 handed_all-length pieces [] = refl

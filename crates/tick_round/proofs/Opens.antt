@@ -52,8 +52,7 @@ use Rattle.tick_round.proofs.Pieces.{pod_at}
 pub rest_of : (config : NodeConfig) (pods : List PodSpec) (ticks : List TickObs) (es : List (Option Eviction))
     (pieces : List Piece) → ArePieces config pods ticks es pieces → AreAtRest pieces
 rest_of config pods ticks es pieces are n p at =
-    let is = pod_at config pods ticks es pieces n p are at in
-    (
+    let is = pod_at config pods ticks es pieces n p are at in (
       ap (λ (q : Piece). q.waiting) is.2,
       ap (λ (q : Piece). q.begun) is.2 ∙ sym (ap (λ (q : Piece). length q.handed) is.2),
     )

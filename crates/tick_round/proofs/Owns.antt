@@ -153,9 +153,12 @@ round_at pieces xs n q rest at =
     let p = given_at pieces n (omega (arith, lt, length-map all all_updated, handed_all-length pieces xs)) in
     let at_rest = rest n p.0 p.1 in
     let g = handed_at p.0 [] pieces xs n p.0 p.1 (not_grown p.0 at_rest.0 at_rest.1) in
-    let is = slice_get-map all_updated all n ∙ ap (option_map all_updated) g.1 in
-    (p.0, p.1, subst (λ (r : Piece). IsRoundOf p.0 (pod_ticks xs n) r)
-    (same_piece (map all_updated all) n (all_updated g.0) q is at) (round_grown p.0 (pod_ticks xs n) g.0 g.2))
+    let is = slice_get-map all_updated all n ∙ ap (option_map all_updated) g.1 in (
+      p.0,
+      p.1,
+      subst (λ (r : Piece). IsRoundOf p.0 (pod_ticks xs n) r)
+          (same_piece (map all_updated all) n (all_updated g.0) q is at) (round_grown p.0 (pod_ticks xs n) g.0 g.2),
+    )
 
 -- its events, by what it was before
 made_over : (p : Piece) (own : List PodTick) (q : Piece) (made : List MadeEvent) → IsRoundOf p own q

@@ -42,8 +42,7 @@ alike_after qs rs x are = record {
       let r = given_at rs n (let long = with_shown_length after_one rs x.pods in omega (arith, lt, long)) in
       let w = are.each n r.0 r.1 in
       let is = same_piece (after_each rs x.pods) n s (after_one r.0 (shown_of x n)) at
-      (with_shown_at after_one (λ p. refl) rs x.pods n r.0 r.1) in
-      (
+      (with_shown_at after_one (λ p. refl) rs x.pods n r.0 r.1) in (
         after_one w.0 (shown_of x n),
         with_shown_at after_one (λ p. refl) qs x.pods n w.0 w.1,
         ap (λ (p : Piece). p.pod) is ∙ pod_of r.0 w.0 (shown_of x n) w.2,
@@ -89,8 +88,7 @@ after_at pieces [] n p at = (p, at, refl, sym (append-nil p.handed))
 after_at pieces (x ∷ xs) n p at =
     let o = shown_of x n in
     let next = after_at (after_each pieces x.pods) xs n (after_one p o)
-    (with_shown_at after_one (λ r. refl) pieces x.pods n p at) in
-    (
+    (with_shown_at after_one (λ r. refl) pieces x.pods n p at) in (
       next.0,
       next.1,
       next.2 ∙ pod_of o,
@@ -137,8 +135,7 @@ rest_fit pods before s new xs rest had has fits = record {
       each = λ n r at.
           let is = pod_at new.config pods (before ++ xs) new.evictions new.pods.pieces n r has.pieces at in
           let was = had.pieces.each n is.0 is.1 in
-          let q = after_at s.pods.pieces xs n _ was in
-          (
+          let q = after_at s.pods.pieces xs n _ was in (
             q.0,
             q.1,
             ap (λ (p : Piece). p.pod) is.2 ∙ sym q.2,

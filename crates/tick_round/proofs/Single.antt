@@ -99,8 +99,7 @@ one_waits s tick pieces kept sent n q at =
     let few : length (pod_ticks xs w.n) ≤ 1 = own_few xs w.n in
     let waits : w.piece.waiting ≡ 1 = omega (arith, w.pending, few, is.waiting) in
     let long : length w.piece.handed ≡ length (p.0).handed + length (pod_ticks xs w.n) =
-    ap length is.handed ∙ length-append (p.0).handed (pod_ticks xs w.n) in
-    (
+    ap length is.handed ∙ length-append (p.0).handed (pod_ticks xs w.n) in (
       ap (λ (r : Piece). r.waiting) w.is ∙ waits,
       ap (λ (r : Piece). round_length (all_updated r)) w.is ∙ omega (arith, long, waits, is.waiting, is.begun),
     )
@@ -118,8 +117,7 @@ pub one_added : (s : State) (tick : TickObs) (pieces back : List Piece) (old new
     → (back ≡ map all_updated pieces) × AreAdded back old new
 one_added s tick pieces back old new kept sent is entered =
     let same : back ≡ map all_updated pieces =
-    is ∙ one_taken pieces (λ n q at. (one_waits s tick pieces kept sent n q at).0) in
-    (
+    is ∙ one_taken pieces (λ n q at. (one_waits s tick pieces kept sent n q at).0) in (
       same,
       entered_added back old new
           (λ n q at.

@@ -72,7 +72,7 @@ all_at : (at m : ℕ) (events : List PodEvent) → m ≡ at → events_at at (ma
 all_at at m [] same = refl
 all_at at m (e ∷ events) same = elim (eqb_tells m at) [
   | inl w ↦ ap (λ (b : Bool). cons_option (cond b (Some e) None) (events_at at (made_at m events))) w.0
-        ∙ ap (λ (es : List PodEvent). e ∷ es) (all_at at m events same)
+      ∙ ap (λ (es : List PodEvent). e ∷ es) (all_at at m events same)
   | inr w ↦ absurd (w.1 same)
 ]
 
@@ -224,9 +224,11 @@ told_from pod max_restart_delay evicted before n from (x ∷ ticks) front made a
         (before_at (suc x.at) o.at parts.0 (omega (arith, same)))) parts.3 in
         record {
           tells = subst (λ (s : Option PodObs). TellsTick pod max_restart_delay evicted before s (events_at x.at all)
-              × Tells pod max_restart_delay evicted (with_own before s) n ticks all) (sym shown)
-              (subst (λ (es : List PodEvent). AreEventsOf pod max_restart_delay (evicted_before evicted (length before))
-              before (pod_tick o) es) (sym here) parts.2, told.tells);
+              × Tells pod max_restart_delay evicted (with_own before s) n ticks all) (sym shown) (
+                subst (λ (es : List PodEvent). AreEventsOf pod max_restart_delay (evicted_before evicted (length before))
+                    before (pod_tick o) es) (sym here) parts.2,
+                told.tells,
+              );
           weighs = λ f.
               ap (weight_of f) parts.4
               ∙ sum_by-append (λ (e : MadeEvent). f e.event) (made_at o.at parts.0) parts.1

@@ -1,4 +1,4 @@
--- Ticks of a node that make one round: which ticks may follow each other in it, and what comes before the updates of its
+-- Ticks of a node that make one round: which may follow each other in it, and what comes before the updates of its
 -- pods.
 use Rattle.std.specs.Prelude.{◌≡◌, List, [], ◌∷◌, ◌++◌, map, Option, None}
 use Rattle.node_config.specs.declared.node.NodeConfig.{NodeConfig}

@@ -22,8 +22,8 @@ ghost use Rattle.tick_round.specs.Summary.{IsSummary};
 
 use crate::alone::update_alone;
 use crate::steps::update_by_steps;
-use crate::summary::{Summary, conditions_of};
 use crate::stretch::{Begun, Round, Stretch};
+use crate::summary::{Summary, conditions_of};
 use crate::workers::update_by_workers;
 use event_book::WholeBook;
 use event_list::Event;

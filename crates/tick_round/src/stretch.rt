@@ -77,16 +77,22 @@ impl Stretch {
         ensures { OnOk result (Takes tick self.old self.new) }
     {
         let begun = &mut self.begun;
-        let node_events = begun.signals.take(begun.alloc, &begun.config.eviction, &tick)?;
+        let node_events = begun
+            .signals
+            .take(begun.alloc, &begun.config.eviction, &tick)?;
         let served = begun.signals.served(&begun.config.eviction, &tick);
         begun.evictions.look(&begun.config, &tick);
-        begun.heeded = begun.evictions.unless_paused(&begun.config, tick.at, served);
+        begun.heeded = begun
+            .evictions
+            .unless_paused(&begun.config, tick.at, served);
         begun.at = tick.at;
         begun.ticks.push(TickEvents {
             at: tick.at,
             node_events,
         })?;
-        self.waiting = self.waiting.saturating_add(count_present(tick.pods.as_slice()));
+        self.waiting = self
+            .waiting
+            .saturating_add(count_present(tick.pods.as_slice()));
         self.pods.hand(tick.pods.into_vec())
     }
 
