@@ -2,6 +2,7 @@
 
 from __future__ import annotations
 
+import entry
 import kubelet as kubelets
 import reasons
 import trace as traces
@@ -30,7 +31,9 @@ def whole_text(trace, report, pod, show, kubelet=None, is_near=always):
     for _, (head, *rest) in sorted(kept, key=lambda part: part[0]):
         lines += [head, *(f"  {line}".rstrip() for line in rest), ""]
     if len(kept) < len(parts):
-        lines += [f"{len(parts) - len(kept)} events further from the moment that was asked for are left out", ""]
+        count = len(parts) - len(kept)
+        lines += [f"{entry.counted(count, 'event')} further from the moment that was asked for "
+                  f"{'is' if count == 1 else 'are'} left out", ""]
     lines = lines or ["no event", ""]
     gone = trace.pods[pod.number].gone
     if gone is not None:

@@ -77,6 +77,8 @@ class Recorder:
         self.begun = self.planned_at = self.listed_at = self.sampled_at = None
         self.wanted_at = self.newest = float("-inf")
         self.samples = {}
+        # the newest summary, and the pods that had gone by the time at which the kubelet evicted them
+        self.summary, self.evicted_behind = None, []
         self.counters = self.planned_counters = {}
 
     def begin(self, node_line):
@@ -99,6 +101,7 @@ class Recorder:
         if seen.instances is not None:
             self.take_instances(seen)
         self.take_summary(seen)
+        self.see_evicted_behind()
         has_both = seen.instances is not None and seen.counters is not None
         if has_both or seen.moment - self.planned_at > PATIENCE:
             self.plan(seen.moment)
@@ -198,6 +201,17 @@ class Recorder:
         if recorded is not None:
             recorded.changes_from = second + 1
             recorded.evicted_at = second
+            self.evicted_behind += [] if recorded.is_followed else [recorded]
+
+    def see_evicted_behind(self):
+        """Of a pod that was deleted and had ended the kubelet's sample has none, and until it knows of that end the
+        kubelet evicts such a pod first. So that is said where the sample is from before the pod has gone."""
+        second = int(max(self.newest, 0))
+        for recorded in self.evicted_behind:
+            is_open = self.timeline.next_second <= second <= self.gone_at.get(recorded.pod.key, -1)
+            if self.format.says_gone and is_open and recorded.pod.uid not in self.summary.pods:
+                self.timeline.place_unsampled(recorded.pod, second)
+        self.evicted_behind = []
 
     def decided_at(self, pod, seen):
         """When the kubelet decided: as the pod's status says, else when that or an exit that it led to was seen."""
@@ -321,7 +335,7 @@ class Recorder:
                          "/stats/summary answers", ("signals", self.sampled_at))
                 self.take_signals({}, seen, False)
             return
-        self.sampled_at = seen.moment
+        self.sampled_at, self.summary = seen.moment, seen.summary
         self.newest = max(self.newest, self.newest_moment(seen))
         self.take_signals(seen.summary.signals, seen, True)
         for recorded in self.followed():
