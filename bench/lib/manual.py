@@ -13,6 +13,8 @@ EXAMPLES = (
     ("kubelet_replay run --extended worker-3.trace", "That of a trace of version 3, in which pods go."),
     ("zcat worker-3.trace.gz | kubelet_replay", "That of a trace that is packed."),
     ("kubelet-replay story shop/web < worker-3.report", "The story of one pod of a report."),
+    ("kubelet-replay story -f /var/lib/kubelet-replay --at 03:10Z shop/web",
+     "The same over the traces of a recorder, around a moment."),
 )
 # what stands above the list of statuses
 STATUSES = "\nThe program ends with a status, and says on standard error:\n\n"

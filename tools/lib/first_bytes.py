@@ -76,6 +76,8 @@ def instead_of_report(head, what="standard input"):
         return f"{what} is {kind}: tools/explain TRACE says what it means"
     if kind == TRACE:
         return f"{what} is a trace, and it wants the report: run it first, as in: kubelet_replay run TRACE | .."
+    if kind == PACKED[b"\x1f\x8b"][0]:
+        return f"{what} is {kind}, and it wants a report; if it is a trace, --traces FILE replays it"
     return f"{what} is {kind}, and it wants a report{how_to_unpack(kind)}"
 
 

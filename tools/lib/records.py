@@ -10,6 +10,8 @@ import report as reports
 
 # a moment before all others
 NEVER = -1
+# events that go by what a trace counts anew from its begin on
+COUNTED = ("backoff", "restart", "evicted", "kill", "ready", "unready")
 
 
 def records_of(report, kubelet=None, trace=None, span=None, known=NEVER):
@@ -95,7 +97,7 @@ def event_record(report, number, event):
         record["container"] = event.container
     if event.was_so:
         record["so_before"] = True
-    if event.anew is not None and event.word in ("backoff", "restart", "evicted"):
+    if event.anew is not None and event.word in COUNTED:
         record["counted_anew_since"] = event.anew
     return record | WORDS[event.word](event.rest)
 

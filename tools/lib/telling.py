@@ -68,6 +68,7 @@ def event_words(event, is_beside=False, trace=None, is_whole=True):
 
 # what goes by what a trace counts anew from its begin on
 ANEW = {"backoff": "exits counted anew since", "restart": "exits counted anew since",
+        **dict.fromkeys(("kill", "ready", "unready"), "results counted anew since"),
         "evicted": "the rules begin anew at", "phase": "there again, as on the node, at"}
 
 

@@ -170,6 +170,8 @@ class Trace:
     """what the kubelet did, in the order of the ticks"""
     reasons: Reasons = field(default_factory=Reasons)
     """why instances ended and containers wait"""
+    gaps: list[tuple[int, int]] = field(default_factory=list)
+    """of one that is joined of several, the spans in which nothing was recorded"""
 
     def entry(self, pod, place):
         """What a tick has of a pod, as it is written; None where the pod is not in it."""

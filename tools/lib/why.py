@@ -145,10 +145,14 @@ class PodTicks:
         for at, result in zip(moments[first:], kept[first:]):
             if at > until:
                 break
-            if not runs or runs[-1][0] != result:
+            if not runs or runs[-1][0] != result or self.is_over_gap(runs[-1][1][-1], at):
                 runs.append((result, []))
             runs[-1][1].append(at)
         return runs
+
+
+    def is_over_gap(self, before, at):
+        return any(before <= since and until <= at for since, until in self.trace.gaps)
 
 
 class Ticks:

@@ -72,7 +72,7 @@ def test_files():
     report = read(f"{TOP}/examples/liveness_kill.report")
     for name, text, wanted in (
         ("a.report", report.encode(), "it is a report"),
-        ("a.gz", b"\x1f\x8b\x08", "it is packed by gzip\n"),
+        ("a.gz", b"\x1f\x8b\x08", "it is packed by gzip: it is damaged, and can't be unpacked"),
         ("empty", b"", "it is empty: it has no line of a trace"),
         ("blank", b" \n\n", "it is empty: it has no line of a trace"),
         ("pod.json", b'{\n  "apiVersion": "v1",\n  "kind": "Pod"\n}\n', "it is a manifest\n"),

@@ -11,7 +11,7 @@ import sys
 import tempfile
 
 from checks import HERE, TOOLS, TOP, expect, expect_kept, expect_refused, read, run
-from test_joined import Folder, records
+from joined_plays import Folder, records
 
 FLEET = f"{TOOLS}/fleet"
 KEPT = f"{HERE}/fleet"
@@ -108,8 +108,8 @@ def asked(database, query):
 
 
 def test_fleet_over_borders():
-    """Traces one behind the other, which gzip has packed, come to what they come to as one: no second, restart, death or
-    kill counts twice, and none is lost."""
+    """Traces one behind the other, which gzip has packed, come to what they come to as one: no second, restart, death
+    or kill counts twice, and none is lost."""
     with Folder() as folder:
         database = f"{folder.into.run}/db"
         one = records(folder.tell("json"))
@@ -120,8 +120,8 @@ def test_fleet_over_borders():
                                  ("container", "pod", ("starts", "deaths", "kills", "came_again"))):
             wanted = sorted((line[key], *[line[name] for name in names]) for line in one if line["record"] == kind)
             sums = ", ".join(f"SUM({name})" for name in names)
-            expect(f"fleet over borders: its {kind}s", asked(database, f"SELECT {key}, {sums} FROM {kind}s GROUP BY {key} "
-                                                                       "ORDER BY 1"), wanted)
+            query = f"SELECT {key}, {sums} FROM {kind}s GROUP BY {key} ORDER BY 1"
+            expect(f"fleet over borders: its {kind}s", asked(database, query), wanted)
         expect("fleet over borders: the seconds that were recorded",
                asked(database, "SELECT SUM(last_moment - first_moment) FROM nodes"), [(81,)])
         row = next(line.split() for line in told.split("\n") if line.split()[:2] == ["n1", "0.02"])

@@ -1,20 +1,20 @@
-"""The tests of several traces that are told as one: beside one recording of the same play, with gaps, and with files
-that can't be told together."""
+"""The tests of several traces that are told as one: beside one recording of the same play, over borders and gaps."""
 
+import contextlib
 import glob
-import gzip
+import io
 import json
 import os
 import random
 import shutil
 import sys
 import tempfile
-import time
 from concurrent.futures import ThreadPoolExecutor
 
 from chance import BEGIN, SECONDS, play_of
 from checks import HERE, REPLAY, TOOLS, TOP, expect, expect_kept, expect_refused, read, replayed, run
-from into_plays import Into, probed_play, series, unpacked
+from into_plays import Into, probed_play
+from joined_plays import Folder, hourly, records, restarted_play, restarting_play, stamp
 
 sys.path.insert(0, f"{TOOLS}/lib")
 import trace as lib_trace  # noqa: E402
@@ -34,57 +34,6 @@ OF_POD = ("pod", "phase", "ready", "ready_since", "first_tick", "restarts", "dea
           "unready_seconds")
 OF_CONTAINER = ("pod", "name", "state", "code", "restarts", "ready", "started", "starts", "deaths", "kills",
                 "came_again")
-
-
-def restarting_play():
-    """A pod whose container exits six times, at last behind a kill, and one that is not ready for a while."""
-    made, at = [], 5
-    for attempt, (runs, waits) in enumerate([(8, 2), (8, 3), (12, 5), (14, 2), (10, 12), (60, 0)]):
-        made.append({"id": f"w{attempt}", "pod": "shop/web", "name": "app", "attempt": attempt, "created": at,
-                     "started": at + 0.2, "exited": at + runs, "code": 1})
-        at += runs + waits
-    made.append({"id": "q", "pod": "shop/quiet", "name": "app", "attempt": 0, "created": 2, "started": 3})
-    specs = {"web": {"livenessProbe": {"periodSeconds": 5}},
-             "quiet": {"readinessProbe": {"periodSeconds": 4, "successThreshold": 2}}}
-    return {"begin": BEGIN, "containers": made, "samples": {"-1": {"memory": 4294967296}},
-            "pods": {f"shop/{name}": {"from": 1, "spec": {"containers": [{"name": "app", **probe}]}}
-                     for name, probe in specs.items()},
-            "probes": [*series("shop/quiet", "app", "readiness", range(4, 90, 4), (24, 28, 32, 36)),
-                       *series("shop/web", "app", "liveness", (), range(40, 56, 5))]}
-
-
-class Folder:
-    """A folder with the traces of the restarting play, one each 20 s."""
-
-    def __init__(self):
-        into = Into(restarting_play())
-        into.into("--for", "90", "--each", "20s")
-        self.path = f"{into.run}/traces"
-        self.into = into
-
-    def __enter__(self):
-        return self
-
-    def __exit__(self, *_):
-        self.into.clean()
-
-    def place(self, second, kind="gz"):
-        return f"{self.path}/n1.2026-01-01T00-0{second // 60}-{second % 60:02}Z.trace.{kind}"
-
-    def text(self, second):
-        return unpacked(self.place(second))
-
-    def write(self, name, text):
-        with open(f"{self.path}/{name}", "w", encoding="utf-8") as file:
-            file.write(text)
-        return f"{self.path}/{name}"
-
-    def tell(self, tool, *words, traces=None):
-        return run([f"{TOOLS}/{tool}", "--traces", traces or self.path, *words])
-
-
-def records(answer):
-    return [json.loads(line) for line in answer[1].splitlines()]
 
 
 def told_of(lines):
@@ -158,12 +107,14 @@ def test_joined_of_a_real_kubelet():
         expect(f"joined traces of {name}", joined_fault({}, *words, each="23s", recording=folder), None)
 
 
-def belongs_fault(folder):
-    """Why the joined trace is not one of the joined report, or what a tool says of them; None where all is well."""
+def belongs_fault(folder, has_gaps=False):
+    """Why the joined trace is not one of the joined report, or what a tool says of them, where there is no gap to say;
+    None where all is well."""
     environment = os.environ.get("KUBELET_REPLAY")
     os.environ["KUBELET_REPLAY"] = REPLAY
     try:
-        made = join.joined(asked.Asked([folder]))
+        with contextlib.redirect_stderr(io.StringIO()):
+            made = join.joined(asked.Asked([folder]))
         lib_trace.check_belongs(made.trace, made.report, "the joined trace")
     finally:
         os.environ.pop("KUBELET_REPLAY")
@@ -171,7 +122,7 @@ def belongs_fault(folder):
     pods = dict.fromkeys(pod.key for pod in made.report.pods)
     for words in (["story"], ["json"], ["page"], ["timeline"], *(["story", pod] for pod in pods)):
         status, _, said = run([f"{TOOLS}/{words[0]}", "--traces", folder, *words[1:]])
-        if status != 0 or said:
+        if status != 0 or (said and not has_gaps) or "Traceback" in said:
             return f"{words}: {status} {said}"
     for line in records(run([f"{TOOLS}/json", "--traces", folder])) if jsonschema else ():
         fault = next(VALIDATOR.iter_errors(line), None)
@@ -205,11 +156,34 @@ def test_joined_belongs():
             if line["record"] == "decision"] for lines in (one, several)]
     expect("joined traces of real_evictions: what the kubelet did, and the rules", did[1], did[0])
     told = run([f"{TOOLS}/story", "--traces", into.folder, "shop/h-bulk", "--without-why"])[1]
+    near = run([f"{TOOLS}/story", "--traces", into.folder, "shop/h-bulk", "--at", "2026-11-27T14:28Z"])[1]
+    expect("a pod that the kubelet evicted near a moment", near.split("\n")[1],
+           "no restart within 600 s of 2026-11-27 14:28:00Z; nearest to it, at 2026-11-27 14:28:11Z: the kubelet "
+           "evicted it")
     again = [line.split("  ")[-1] for line in told.split("\n") if "14:28:00Z)" in line]
     expect("a pod that the rules evicted before a border is there again", again, [
         "phase Running (there again, as on the node, at 14:28:00Z)",
         "the rules evict it: memory.available hard, grace 0 s (the rules begin anew at 14:28:00Z)"])
     into.clean()
+
+
+def gaps_fault(seed):
+    chance = random.Random(seed)
+    look = chance.choice([1, 1, 2, 5])
+    into = Into(play_of(chance, look))
+    into.into("--look", str(look), "--for", str(SECONDS), "--each", "10s")
+    names = into.names()
+    for name in chance.sample(names, len(names) // 3):
+        os.remove(f"{into.folder}/{name}")
+    fault = belongs_fault(into.folder, has_gaps=True)
+    into.clean()
+    return fault and f"play {seed}: {fault}"
+
+
+def test_joined_with_gaps_by_chance():
+    """Also where traces are missing each event stands at a tick that lists it, and each tool takes it."""
+    faults = list(filter(None, map(gaps_fault, range(3000, 3006))))
+    expect("joined traces with gaps of plays by chance", faults[:1], [])
 
 
 def test_story_over_borders():
@@ -228,50 +202,6 @@ def test_story_over_borders():
         expect("several traces, named in another order", by_name, folder.tell("story", "web"))
         by_pattern = folder.tell("story", "web", traces=f"{folder.path}/*.gz")
         expect("several traces, by a pattern", by_pattern, folder.tell("story", "web"))
-
-
-def test_time_of_traces():
-    """--at and --since take the traces of a time and no more."""
-    with Folder() as folder:
-        heads = {}
-        for words in (("--at", "2026-01-01T00:00:50Z"), ("--at", str(BEGIN + 50)), ("--since", str(BEGIN + 45)),
-                      ("--since", "2026-01-01T01:00:45+01:00"), ("--since", "2026-01-01 00:00:45Z")):
-            status, told, said = folder.tell("story", *words)
-            heads[words] = told.split("\n")[0]
-            expect(f"traces {' '.join(words)}", (status, said), (0, ""))
-        whole = "5 traces, 2026-01-01 00:00:00Z to 2026-01-01 00:01:21Z"
-        cut = "3 traces, 2026-01-01 00:00:40Z to 2026-01-01 00:01:21Z"
-        expect("traces of a time", list(heads.values()), [whole, whole, cut, cut, cut])
-
-
-# starts and exits of one container, in seconds behind 00:00:00Z
-LIVES = [(0, 3700), (3705, 11000), (11010, 11420), (11430, None)]
-
-
-def listing_at(second):
-    """What an hourly trace lists of the container at a second."""
-    attempt = max(place for place, (start, _) in enumerate(LIVES) if start <= second)
-    end = LIVES[attempt][1]
-    if end is None or second < end:
-        return {"name": "app", "attempt": attempt, "state": "CONTAINER_RUNNING"}
-    return {"name": "app", "attempt": attempt, "state": "CONTAINER_EXITED", "exitCode": 3}
-
-
-def hourly(folder):
-    """Writes four traces of an hour each into a folder."""
-    moments = {0, *range(0, 14400, 600), *(at for life in LIVES for at in life if at is not None)}
-    for hour in range(4):
-        begin = hour * 3600
-        node = {"kind": "node", "version": 3, "name": "n1"}
-        if hour:
-            before = f"n1.{stamp(BEGIN + begin - 3600)}.trace.gz"
-            node["follows"] = {"trace": before, "until": BEGIN + begin, "at": BEGIN + begin}
-        pod = {"metadata": {"name": "web", "namespace": "shop"}, "spec": {"containers": [{"name": "app"}]}}
-        lines = [node, {"kind": "pod", "pod": pod}]
-        lines += [{"kind": "tick", "at": BEGIN + at, "pods": [{"pod": "shop/web", "containers": [listing_at(at)]}]}
-                  for at in sorted(moments) if begin <= at < begin + 3600]
-        with gzip.open(f"{folder}/n1.{stamp(BEGIN + begin)}.trace.gz", "wt") as file:
-            file.write("".join(f"{json.dumps(line, separators=(',', ':'))}\n" for line in lines))
 
 
 def test_a_moment():
@@ -338,10 +268,6 @@ def test_a_pod_that_went_before_a_gap():
     into.clean()
 
 
-def stamp(at):
-    return time.strftime("%Y-%m-%dT%H-%M-%SZ", time.gmtime(at))
-
-
 def test_gap_of_a_recorder():
     """A recorder that did not run for a while follows nothing: the time between is a gap."""
     with Folder() as folder:
@@ -357,30 +283,14 @@ def test_gap_of_a_recorder():
         status, told, said = folder.tell("story")
         expect("a recorder that did not run", (status, said, told.split("\n")[:2]), (0, "", [
             "5 traces, 2025-12-31 22:53:20Z to 2026-01-01 00:01:21Z",
-            "a gap from 2025-12-31 22:54:19Z to 2026-01-01 00:01:00Z: nothing was recorded, and nothing is told of it"]))
+            "a gap from 2025-12-31 22:54:19Z to 2026-01-01 00:01:00Z: nothing was recorded, and nothing is told of it",
+        ]))
         refused = folder.tell("story", "web", "--at", "2025-12-31T23:30Z")
         expect_refused("a moment in a gap", refused, 2, "nothing was recorded at 2025-12-31 23:30:00Z: the traces "
                        "around it are of 2025-12-31 22:53:20Z to 2025-12-31 22:54:19Z")
         refused = folder.tell("story", "web", "--at", "2025-12-31T23:55Z")
-        expect_refused("a moment in a gap that another trace ends", refused, 2, "there is a gap from 2025-12-31 22:54:19Z "
-                       "to 2026-01-01 00:01:00Z")
-
-
-def restarted_play(shift):
-    """A play that is met a little later: a container that is ready, and one that exits while nobody records."""
-    probes = {"startupProbe": {"periodSeconds": 1}, "readinessProbe": {"periodSeconds": 3, "successThreshold": 3}}
-    ready = {"told": 10 ** 6, "shown": {"restartCount": 0, "started": True, "ready": True}}
-    made = [{"id": "a", "pod": "shop/a", "attempt": 0, "created": 2, "started": 3, **ready},
-            {"id": "b0", "pod": "shop/b", "attempt": 0, "created": 2, "started": 3, "exited": 31, "code": 2},
-            {"id": "b1", "pod": "shop/b", "attempt": 1, "created": 33, "started": 34, **ready}]
-    containers = [{name: value - shift if name in ("created", "started", "exited") else value
-                   for name, value in {"name": "app", **each}.items()} for each in made]
-    specs = {"a": probes, "b": {}}
-    return {"begin": BEGIN + shift, "containers": containers, "samples": {"-1": {"memory": 4294967296}},
-            "pods": {f"shop/{name}": {"from": 1 - shift, "spec": {"containers": [{"name": "app", **specs[name]}]}}
-                     for name in specs},
-            "probes": [*series("shop/a", "app", "startup", [5 - shift]),
-                       *series("shop/a", "app", "readiness", [at - shift for at in range(6, 90, 3) if at > shift])]}
+        expect_refused("a moment in a gap that another trace ends", refused, 2,
+                       "there is a gap from 2025-12-31 22:54:19Z to 2026-01-01 00:01:00Z")
 
 
 def test_recorder_that_starts_again():
@@ -390,10 +300,11 @@ def test_recorder_that_starts_again():
     first.into("--for", "30", "--each", "1h")
     for shift, name, wanted in (
         (31, "a", ["started", "phase Running", "startup passed", "ready"]),
-        (31, "b", ["started", "ready", "phase Running", "died with code 2 (by then, in the gap since 00:00:22Z)",
-                   "restart (by then, in the gap since 00:00:22Z)", "unready (by then, in the gap since 00:00:22Z)",
+        (31, "b", ["started", "ready", "phase Running", "died with code 2 (by then, in the gap since 00:00:30Z)",
+                   "restart (by then, in the gap since 00:00:30Z)", "unready (by then, in the gap since 00:00:30Z)",
                    "started", "ready"]),
-        (36, "b", ["started", "ready", "phase Running", "started (by then, in the gap since 00:00:22Z)"]),
+        (31, "c", ["started", "phase Running", "ready", "unready (results counted anew since 00:00:31Z)"]),
+        (36, "b", ["started", "ready", "phase Running", "started (by then, in the gap since 00:00:30Z)"]),
     ):
         again = Into(restarted_play(shift))
         shutil.rmtree(again.folder)
@@ -402,162 +313,7 @@ def test_recorder_that_starts_again():
         status, told, said = run([f"{TOOLS}/story", "--traces", again.folder, f"shop/{name}", "--without-why"])
         table = told.split("Events\n")[1].split("\n\n")[0].split("\n")[1:]
         expect(f"a recorder that starts again {shift} s later: {name}",
-               (status, said, f"a gap from 2026-01-01 00:00:22Z to 2026-01-01 00:00:{shift}Z" in told,
+               (status, said, f"a gap from 2026-01-01 00:00:30Z to 2026-01-01 00:00:{shift}Z" in told,
                 [line[44:].strip() for line in table]), (0, "", True, wanted))
         again.clean()
     first.clean()
-
-
-def test_part_that_is_written():
-    """The trace that is still written is read as far as its last whole line, which is said."""
-    with Folder() as folder:
-        whole = folder.tell("story", "web")
-        text = folder.text(80)
-        os.remove(folder.place(80))
-        part = folder.write("n1.2026-01-01T00-01-20Z.trace.part", text + '{"kind":"tick","at":17672')
-        said = "story: n1.2026-01-01T00-01-20Z.trace.part is still written, or was left so: it is read up to " \
-               "2026-01-01 00:01:21Z\n"
-        expect("a part", folder.tell("story", "web"), (0, whole[1], said))
-        os.remove(part)
-        folder.write("n1.2026-01-01T00-01-20Z.trace.part", '{"kind":"node","na')
-        status, told, said = folder.tell("story", "web")
-        expect("a part without a whole line", (status, said), (
-            0, "story: n1.2026-01-01T00-01-20Z.trace.part is left out: it has no line\n"))
-        shutil.copy(folder.place(60), folder.place(80))
-        expect_refused("traces that overlap", folder.tell("story", "web"), 2, "overlap: the one ends at")
-
-
-def test_traces_that_are_left_out():
-    """Of a folder what can't be used is left out, and said; by its name it is refused."""
-    with Folder() as folder:
-        with open(folder.place(40), "rb") as file:
-            packed = file.read()
-        with open(folder.place(40), "wb") as file:
-            file.write(packed[:200])
-        name = "n1.2026-01-01T00-00-40Z.trace.gz"
-        status, _, said = folder.tell("story", "web")
-        expect("a damaged trace of a folder", (status, said.split("\n")[0]), (
-            0, f"story: {name} is left out: it is damaged, and can't be unpacked: Compressed file ended before the "
-               "end-of-stream marker was reached"))
-        expect("a damaged trace of a folder is a gap", said.split("\n")[1][:60],
-               "story: n1.2026-01-01T00-01-00Z.trace.gz follows n1.2026-01-01T00-00-40Z"[:60])
-        expect_refused("a damaged trace by its name", folder.tell("story", "web", traces=folder.place(40)), 2,
-                       "n1.2026-01-01T00-00-40Z.trace.gz: it is damaged, and can't be unpacked")
-        for tool in ("json", "timeline", "page", "why", "story"):
-            words = [f"{TOOLS}/{tool}", *(["web"] if tool in ("why", "story") else []), "--traces", folder.place(40)]
-            expect_refused(f"{tool} of a damaged trace", run(words), 2, "it is damaged")
-        with gzip.open(folder.place(40), "wt") as file:
-            file.write('{"kind":"node","name":"n1","version":3}\n{"kind":"tick","at":5}\n{"kind":"tick","at":5}\n')
-        status, _, said = folder.tell("story", "web")
-        expect("a refused trace of a folder", (status, said.split("\n")[0]), (
-            0, f"story: {name} is left out: it is refused: line 3: 42 Moment (at is 5: the tick of line 2 has 5, and "
-               "each is later than the one before: keep one tick of each second, in the order of their moments)"))
-        expect_refused("a refused trace by its name", folder.tell("story", "web", traces=folder.place(40)), 2,
-                       "it is refused: line 3: 42 Moment", "")
-
-
-def test_traces_that_are_none_together():
-    with Folder() as folder:
-        other = folder.write("n2.2026-01-01T00-00-00Z.trace", folder.text(0).replace('"n1"', '"n2"'))
-        expect_refused("a folder of two nodes", folder.tell("story", "web"), 2,
-                       "has traces of 2 nodes, n1, n2: --node says which is meant")
-        status, told, said = folder.tell("story", "web", "--node", "n1")
-        expect("a node of a folder", (status, said, told.split(":")[0]), (0, "", "shop/web on n1"))
-        expect_refused("a node that a folder has not", folder.tell("story", "--node", "n3"), 2,
-                       "has no trace of n3; it has those of n1, n2")
-        two = run([f"{TOOLS}/story", "--traces", folder.place(0), "--traces", other])
-        expect_refused("traces of two nodes by their names", two, 2, "is of n1 and")
-        report = folder.write("report", replayed(folder.text(20))[1])
-        mixed = run([f"{TOOLS}/story", "--traces", folder.place(0), "--traces", report])
-        expect_refused("a trace and a report", mixed, 2, "all have to be the one, or all the other")
-        twice = run([f"{TOOLS}/story", "--traces", folder.place(0), "--traces", folder.place(0)])
-        expect_refused("a trace that is named twice", twice, 2, "overlap")
-        for words, said in (
-            (["--traces", f"{folder.path}/none"], "no trace found:"),
-            (["--traces", HERE], "has no trace: no file in it ends with .trace"),
-            (["--traces", "/dev/null"], "/dev/null: it is a device or a pipe"),
-            (["--traces", f"{HERE}/run.py"], "run.py: it is refused: line 1: 32 NotJson"),
-            (["--traces", folder.place(0), "--at", "2026-01-02T00:00Z"], "nothing was recorded at 2026-01-02 00:00:00Z"),
-            (["--traces", folder.path, "--node", "n1", "--at", "2025-12-31T12:00Z"], "there is no trace by 2025-12-31"),
-            (["--traces", folder.path, "--node", "n1", "--since", "2h"], "nothing was recorded since "),
-            (["--traces", folder.path, "--since", "2h", "--at", "03:10Z"], "exclude each other"),
-            (["--traces", folder.path, "--at", "03:10"], "--at 03:10 lacks its zone: 03:10Z is UTC"),
-            (["--traces", folder.path, "--at", "2026-02-30T03:10Z"], "is no time that there is"),
-            (["--traces", folder.path, "--since", "tonight"], "--since takes a time, as 2026-11-27T03:10Z"),
-            (["--traces", folder.path, "--trace", folder.place(0)], "--trace and --traces exclude each other"),
-            (["--since", "2h"], "--since wants --traces too"),
-            (["--node", "n1"], "--node wants --traces too"),
-        ):
-            answer = run([f"{TOOLS}/story", *words])
-            expect_refused(f"story {' '.join(words)}", answer, 2, said,
-                           "" if "NotJson" in said else None)
-
-
-def test_reports_alone():
-    """Reports without their traces are told as one too; between them nothing is known."""
-    with Folder() as folder:
-        words = []
-        for second in (0, 20, 40):
-            words += ["--traces", folder.write(f"report{second}", replayed(folder.text(second))[1])]
-        status, told, said = run([f"{TOOLS}/story", "web", *words])
-        starts = [line.split()[2:] for line in told.split("\n") if " started" in line and "ready" not in line]
-        expect("reports alone", (status, said, starts), (0, "", [["0", "started"], ["1", "started"], ["2", "started"],
-                                                                ["3", "started"], ["4", "started"]]))
-        expect_refused("why of reports alone", run([f"{TOOLS}/why", "web", *words]), 2, "--traces names reports")
-
-
-def test_packed_traces():
-    """Each tool reads a trace that gzip has packed as the one that it was."""
-    trace = f"{HERE}/whys/kubelet/trace"
-    folder = tempfile.mkdtemp()
-    with gzip.open(f"{folder}/trace.gz", "wt") as file:
-        file.write(read(trace))
-    report = read(f"{HERE}/whys/kubelet/report")
-    for words in ("story shop/agree --trace TRACE", "why shop/agree --trace TRACE", "timeline --trace TRACE",
-                  "json --trace TRACE", "page TRACE"):
-        one, other = (run([f"{TOOLS}/{words.split()[0]}", *words.replace("TRACE", path).split()[1:]], report)
-                      for path in (trace, f"{folder}/trace.gz"))
-        expect(f"{words} of a packed one", other, one)
-    for words in ("run TRACE", "check TRACE", "run -f TRACE --fail-on evicted", "story -f TRACE agree",
-                  "json -f TRACE", "explain TRACE"):
-        one, other = (run([f"{TOOLS}/kubelet-replay", *words.replace("TRACE", path).split()])
-                      for path in (trace, f"{folder}/trace.gz"))
-        expect(f"kubelet-replay {words} of a packed one", (other[0], other[1].replace(f"{folder}/trace.gz", trace),
-                                                          other[2]), one)
-    shell = f"'{TOOLS}/what-if' 'node(.name = \"n9\")' < "
-    expect("what-if of a packed one", run(["sh", "-c", f"{shell}'{folder}/trace.gz'"]),
-           run(["sh", "-c", f"{shell}'{trace}'"]))
-    piped = f"zcat '{folder}/trace.gz' | '{TOOLS}/kubelet-replay' run -"
-    expect("zcat to the program", run(["sh", "-c", piped]), run([f"{TOOLS}/kubelet-replay", "run", trace]))
-    piped = f"zcat '{folder}/trace.gz' | '{REPLAY}' run /dev/stdin --extended"
-    expect("zcat to the program itself", run(["sh", "-c", piped]), run([REPLAY, "run", trace, "--extended"]))
-    with open(f"{folder}/cut.gz", "wb") as file, open(f"{folder}/trace.gz", "rb") as whole:
-        file.write(whole.read()[:300])
-    for words in ("run CUT", "check CUT", "story -f CUT agree", "explain CUT", "page -f CUT"):
-        answer = run([f"{TOOLS}/kubelet-replay", *words.replace("CUT", f"{folder}/cut.gz").split()])
-        expect_refused(f"kubelet-replay {words}, damaged", answer, 2, "it is damaged, and can't be unpacked")
-    expect_refused("what-if, damaged", run(["sh", "-c", f"'{TOOLS}/what-if' . < '{folder}/cut.gz'"]), 2,
-                   "standard input is damaged, and can't be unpacked")
-    expect_refused("story --trace, damaged", run([f"{TOOLS}/story", "--trace", f"{folder}/cut.gz"], report), 2,
-                   "it is damaged")
-    shutil.rmtree(folder)
-
-
-def test_command_of_several():
-    """kubelet-replay hands files, folders and times on."""
-    with Folder() as folder:
-        wanted = folder.tell("story", "web", "--without-why")
-        first, *rest = (folder.place(second) for second in (0, 20, 40, 60, 80))
-        for words in (["-f", folder.path], ["-f", f"{folder.path}/*.gz"], ["-f", first, *rest],
-                      [word for path in (first, *rest) for word in ("-f", path)], ["-f", folder.path, "--node", "n1"]):
-            expect(f"kubelet-replay story {' '.join(words)[:60]}",
-                   run([f"{TOOLS}/kubelet-replay", "story", *words, "web"]), wanted)
-        listed = run([f"{TOOLS}/kubelet-replay", "story", "-f", folder.path, "-n", "shop"])
-        expect("kubelet-replay story of a namespace", listed, folder.tell("story", "shop/"))
-        at = ["--at", "2026-01-01T00:00:50Z"]
-        expect("kubelet-replay why --at", run([f"{TOOLS}/kubelet-replay", "why", "-f", folder.path, *at, "web"]),
-               folder.tell("why", "web", *at))
-        expect_refused("kubelet-replay run of several", run([f"{TOOLS}/kubelet-replay", "run", "-f", first, "-f", rest[0]]),
-                       2, "it takes one file, not 2")
-        expect_refused("kubelet-replay story --since alone", run([f"{TOOLS}/kubelet-replay", "story", "--since", "2h"]), 2,
-                       "-f FILE or FOLDER for traces that are here, or --node NODE for those of a cluster")

@@ -11,7 +11,7 @@ import tempfile
 
 import big_node
 from checks import HERE, TOOLS, TOP, expect, expect_refused, read, run
-from test_joined import Folder
+from joined_plays import Folder
 
 NODE = f"{HERE}/whys/file_system"
 PROBES = f"{HERE}/whys/probes"

@@ -58,11 +58,14 @@ def gaps_of(parts):
 
 def lost_of(real, said, gaps):
     """What happened in a gap, and is in no trace."""
-    def is_told(fact):
-        return any((each.pod, each.container, each.what) == (fact.pod, fact.container, fact.what)
-                   and abs(each.moment - fact.moment) <= NEAR for each in said)
+    return [fact for fact in real if any(begun <= fact.moment <= ended for begun, ended in gaps)
+            and not is_among(fact, said)]
 
-    return [fact for fact in real if any(begun <= fact.moment <= ended for begun, ended in gaps) and not is_told(fact)]
+
+def is_among(fact, others):
+    """Whether the same is among others, at about the same moment."""
+    return any((each.pod, each.container, each.what) == (fact.pod, fact.container, fact.what)
+               and abs(each.moment - fact.moment) <= NEAR for each in others)
 
 
 def joined_said(folder, parts):
@@ -75,11 +78,11 @@ def joined_said(folder, parts):
 
 def counts_of(real, parts, said=None, until=float("inf")):
     """The rows of each trace alone or of what all of them say, what is lost in gaps, and the exits with a false code;
-    up to what the kubelet showed last."""
+    up to what the kubelet showed last, which shows a little later what the runtime knows at once."""
     said = [fact for part in parts for fact in part.said] if said is None else said
     until = min(until, parts[-1].ended)
     real = [fact for fact in real if parts[0].begun < fact.moment <= until]
-    said = [fact for fact in said if fact.moment <= until]
+    said = [fact for fact in said if fact.moment <= until - NEAR or is_among(fact, real)]
     lost = lost_of(real, said, gaps_of(parts))
     rows = [row_of(name, kind, [fact for fact in real if fact not in lost], said)
             for name, kind in KINDS.items() if name not in LEFT_OUT]

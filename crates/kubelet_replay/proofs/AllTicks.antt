@@ -1,9 +1,9 @@
 -- A node on which all pods of a trace have arrived may take all its ticks.
-use Rattle.std.proofs.Common.{◌≡◌, ◌∙◌, ℕ, suc, ◌-◌, ◌<◌, ◌≤◌, List, [], ◌∷◌, ◌++◌, length, take, append_assoc, append-nil}
+use Rattle.std.proofs.Common.{◌≡◌, ◌∙◌, ℕ, ◌-◌, ◌<◌, List, [], ◌∷◌, ◌++◌, length, take, append_assoc}
 use Rattle.std.proofs.Common.{Option, Some, None, refl, ap, sym, subst, arith}
 use Rattle.std.specs.Prelude.{slice_get, IfSome}
 use Rattle.std.specs.Option.{option_flatten}
-use Rattle.std.proofs.lemmas.List.{length-append, take_all}
+use Rattle.std.proofs.lemmas.List.{take_all}
 use Rattle.std.proofs.lemmas.Option.{slice_get_within}
 use Rattle.std.proofs.Math.Seq.{take-append_seam}
 use Rattle.histories.specs.Histories.{EndsBefore}
@@ -14,7 +14,6 @@ use Rattle.node_config.specs.declared.node.NodeConfig.{NodeConfig}
 use Rattle.observations.specs.Pods.{PodObs}
 use Rattle.observations.specs.declared.tick.TickObs.{TickObs}
 use Rattle.observations.specs.Observations.{shown_of}
-use Rattle.observations.specs.Limits.{most_ticks}
 use Rattle.pod_state.specs.Pods.{PodTick, pod_tick}
 use Rattle.pod_piece.specs.Listings.{IsNextTick}
 use Rattle.pod_piece.specs.Piece.{Piece}
@@ -134,9 +133,9 @@ have_all config pods left old new rest is after have =
     (ap (λ (ps : List PodSpec). take (length ps - 0) ps) is ∙ take_all (length pods - 0) pods (omega arith))
     (have.arrived config [] [] after)
 
-pub may_all_arrive : (config : NodeConfig) (pods left : List PodSpec) (ticks : List TickObs) (node : Option State)
-    → left ≡ pods → AreReplayable pods ticks → IsAfter config [] [] node → MayArrive (length left - 0) node
-may_all_arrive config pods left ticks node is may after = record {
+pub may_all_arrive : (config : NodeConfig) (pods left : List PodSpec) (ticks : List TickObs) (new : Option State)
+    → left ≡ pods → AreReplayable pods ticks → IsAfter config [] [] new → MayArrive (length left - 0) new
+may_all_arrive config pods left ticks new is may after = record {
   config = config;
   arrived = [];
   taken = [];

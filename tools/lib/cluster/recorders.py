@@ -91,8 +91,8 @@ class Cluster:
             if recorder.node:
                 by_node[recorder.node] = recorder
         if not by_node:
-            raise entry.Fault(f"no recorder in the namespace {self.namespace}: deploy/daemonset.yaml starts one on each "
-                              "node, and --recorders names another namespace")
+            raise entry.Fault(f"no recorder in the namespace {self.namespace}: deploy/daemonset.yaml starts one on "
+                              "each node, and --recorders names another namespace")
         return dict(sorted(by_node.items()))
 
     def run(self, recorder, *words, seconds=SECONDS):

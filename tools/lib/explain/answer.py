@@ -99,6 +99,12 @@ def advice_for(kind):
     return "a trace is JSON lines in UTF-8: docs/formats.md begins with one"
 
 
+def of_damaged(said):
+    """What is packed, and can't be unpacked."""
+    return Answer("it can't be read", True, [Found((), f"it is packed by gzip: {said}")],
+                  "copy it once more from where it was written; gzip -t FILE says whether it is whole")
+
+
 def of_file(path, said):
     """Why a file can't be read, or how much too long it is."""
     if said == "input too long":

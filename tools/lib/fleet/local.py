@@ -16,7 +16,7 @@ WAITING_EACH = 4
 
 
 def answers(tasks, program, program_sum, processes):
-    """Path and answer of each task, as they come; tasks are pairs of a path and the sum that is known of it."""
+    """Path and answer of each task, as they come; tasks are pairs of a path and what is known of it."""
     left = dict(tasks)
     while left:
         try:

@@ -8,7 +8,7 @@ from dataclasses import dataclass
 
 import entry
 import program as programs
-from fleet import database, kept, local, progress, traces, work
+from fleet import database, kept, local, progress, traces
 
 # what these parts of it stand on is asked for with their words alone
 PARTS = {
@@ -41,10 +41,10 @@ def run(order):
             parquet.make_folder(order.parquet)
         store = kept.Kept(order.database + ".done", program_sum)
         ends = traces.known_ends(order.paths)
-        tasks = [(path, work.Known(None if order.anew else store.known(path, ends.get(path)), ends.get(path)))
+        tasks = [(path, (None if order.anew else store.known(path, ends.get(path)), ends.get(path)))
                  for path in order.paths]
         # what is kept comes first, so that the time which is left is that of the others
-        tasks.sort(key=lambda task: task[1].sum is None)
+        tasks.sort(key=lambda task: task[1][0] is None)
         coming = (scheduler.answers(tasks, order.program, program_sum, client) if scheduler else
                   local.answers(tasks, order.program, program_sum, order.processes))
         failed = taken(coming, store, len(tasks))

@@ -60,7 +60,7 @@ def no_answer(address, fault):
 
 
 def answers(tasks, program, program_sum, client):
-    """Path and answer of each task, as they come; tasks are pairs of a path and the sum that is known of it."""
+    """Path and answer of each task, as they come; tasks are pairs of a path and what is known of it."""
     try:
         yield from answers_of_workers(tasks, program, program_sum, client)
     except entry.Fault:

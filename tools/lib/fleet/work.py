@@ -12,7 +12,6 @@ import os
 import re
 import stat
 import subprocess
-from dataclasses import dataclass
 
 import entry
 import kubelet as kubelets
@@ -30,22 +29,16 @@ SIGNS = (b'"kubelet"', b'"reason"', b'"waiting"', b'"ended"')
 REFUSED_LINE = re.compile(r"line (\d+): (\d+) (\S.*)")
 
 
-@dataclass(frozen=True)
-class Known:
-    """What is known of a trace before it is read: the SHA-256 of the one that was answered, where there is one, and up
-    to when it says all that happened, where one that follows it says so."""
-
-    sum: str | None
-    until: int | None = None
-
-
 class WorkFault(entry.Fault):
     """This process can't do the work of any trace; the message says why."""
 
 
 def answer(program, program_sum, path, known):
-    """What became of the trace of a path: a dict of its record, its rows and its report, both as gzip or None. Where the
-    trace that was answered before is still the same there are neither rows nor report, and the status is "known"."""
+    """What became of the trace of a path: a dict of its record, its rows and its report, both as gzip or None. What is
+    known are the SHA-256 of the trace that was answered before, or None, and up to when it says all that happened, where
+    one that follows it says so. Where the trace is still the same there are neither rows nor report, and the status is
+    "known"."""
+    known_sum, until = known
     check_program(program, program_sum)
     try:
         text, size = read_trace(path)
@@ -54,13 +47,13 @@ def answer(program, program_sum, path, known):
     except packed.Damaged as fault:
         return failed(path, str(fault))
     trace_sum = hashlib.sha256(text).hexdigest()
-    if trace_sum == known.sum:
+    if trace_sum == known_sum:
         return answered(record_of(path, trace_sum, size, "known"))
     words = ["run", "/dev/stdin", "--workers", "1", *programs.format_words(io.BytesIO(text))]
     done = subprocess.run([program, *words], input=text, capture_output=True, check=False, start_new_session=True)
     if done.returncode != 0:
         said = done.stderr.decode("utf-8", "replace").split("\n")[0]
-        return answered(record_of(path, trace_sum, size, **refusal(done.returncode, said)) | {"until": known.until})
+        return answered(record_of(path, trace_sum, size, **refusal(done.returncode, said)) | {"until": until})
     try:
         report = reports.read_report(done.stdout.decode("utf-8", "replace"))
     except reports.ReportFault as fault:
@@ -69,10 +62,10 @@ def answer(program, program_sum, path, known):
     trace, kubelet = beside(text, report)
     span, begun = span_of(text), begun_of(text)
     if span:
-        span = span[0] if begun is None else max(span[0], begun), max(span[1], known.until or 0)
+        span = span[0] if begun is None else max(span[0], begun), max(span[1], until or 0)
     made = records.records_of(report, kubelet, trace, span, records.NEVER if begun is None else begun)
     rows = [record for record in made if record["record"] in KINDS]
-    return answered(record_of(path, trace_sum, size, "replayed") | {"until": known.until}, rows, done.stdout)
+    return answered(record_of(path, trace_sum, size, "replayed") | {"until": until}, rows, done.stdout)
 
 
 def beside(text, report):

@@ -60,5 +60,5 @@ def check_order(before, part, at):
 def overlap(before, part):
     is_utc = before.first > 10 ** 8
     last, first = (reports.moment_text(at, is_utc) for at in (before.last, part.first))
-    return entry.Fault(f"{before.source.shown} and {part.source.shown} overlap: the one ends at {last}, the other begins "
-                       f"at {first}, so they are no story one behind the other")
+    return entry.Fault(f"{before.source.shown} and {part.source.shown} overlap: the one ends at {last}, the other "
+                       f"begins at {first}, so they are no story one behind the other")

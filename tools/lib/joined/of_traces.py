@@ -26,6 +26,7 @@ def join_traces(found, borders, numbers):
         take_pods(made, part.trace, of, place, dropped)
         take_decisions(made, part.trace, of)
         take_reasons(made, part.trace, of, border)
+    made.gaps = [(border.since, border.at) for border in borders if border.is_gap]
     made.places = {tick.at: place for place, tick in enumerate(made.ticks)}
     return made
 

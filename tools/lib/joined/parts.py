@@ -78,10 +78,9 @@ def parts_of(asked):
     sources = files.sources_of(asked)
     program = None if all(map(is_report, sources)) else program_path()
     with ThreadPoolExecutor(AT_ONCE) as threads:
-        texts = list(threads.map(lambda source: tried(text_of, source), sources))
-        made = list(threads.map(lambda pair: tried(replayed, *pair, program), zip(sources, texts)))
+        made = list(threads.map(lambda source: made_of(source, program), sources))
     found = []
-    for source, text, report in zip(sources, texts, made):
+    for source, (text, report) in zip(sources, made):
         part = of_source(source, text, report, asked)
         if part is not None:
             found.append(part)
@@ -104,6 +103,17 @@ def program_path():
     return programs.path() if os.environ.get("KUBELET_REPLAY") else programs.checked_path()
 
 
+def made_of(source, program):
+    """The text of a source and its report, or why there is none in its place. A part may be written while it is read,
+    so it is read once more where it can't be used."""
+    for _ in range(2 if source.is_part else 1):
+        text = tried(text_of, source)
+        report = tried(replayed, source, text, program)
+        if not isinstance(report, Unusable):
+            break
+    return text, report
+
+
 def tried(does, *given):
     """What comes of a step, or why that can't be done, for the next one to hand on."""
     fault = next((each for each in given if isinstance(each, Unusable)), None)
@@ -117,6 +127,9 @@ def tried(does, *given):
 
 def text_of(source):
     """The bytes of a trace or a report, of a part that is still written as far as its last whole line."""
+    if source.is_part and not os.path.exists(source.path):
+        # it has ended since the folder was read
+        source.path = f"{source.path.removesuffix('.part')}.gz"
     if os.path.exists(source.path) and not os.path.isfile(source.path):
         raise Unusable("it is a device or a pipe")
     try:

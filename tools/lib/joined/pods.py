@@ -51,6 +51,8 @@ def go_on(pod, found, border, part):
     pod.events += news
     pod.events.sort(key=lambda event: event.at)
     mark_anew(pod, found, news, border)
+    if border.is_gap and part.follows is None:
+        mark_results(news, border)
     before = pod.conditions
     pod.phase, pod.reason = found.phase, found.reason
     pod.containers = [replace(each) for each in found.containers]
@@ -171,6 +173,19 @@ def mark_anew(pod, found, news, border):
             exit_of = event.container, died.get(event.container)
             if whole.get(exit_of) != alone.get(exit_of):
                 event.anew = border.at
+
+
+def mark_results(news, border):
+    """Of each container that ran on over a gap the first change by its probes, whose results before the gap are not
+    known to the part behind it."""
+    told, died = set(), {(event.container, event.at) for event in news if event.word == "died"}
+    for event in news:
+        if event.word in ("started", "died"):
+            told.add(event.container)
+        elif event.word in ("kill", "ready", "unready") and event.at > border.at and event.container not in told:
+            if (event.container, event.at) not in died:
+                event.anew = border.at
+            told.add(event.container)
 
 
 def numbers_of(pod):

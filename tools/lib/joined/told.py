@@ -4,7 +4,7 @@ happened nearest to the moment that was asked for."""
 from __future__ import annotations
 
 import entry
-import reasons
+import telling
 from joined import asked
 
 MOST_LISTED = 4
@@ -28,8 +28,9 @@ def head_lines(several, show):
     return lines
 
 
-def nearest_lines(several, pod, restarts, show):
-    """What happened to a pod nearest to the moment that was asked for: a restart, else something else that is bad."""
+def nearest_lines(several, pod, restarts, fact, show):
+    """What happened to a pod nearest to the moment that was asked for: a restart, else something else that is bad.
+    The fact is that the kubelet evicted it, where it did."""
     at = several.asked.at
     if at is None:
         return []
@@ -38,11 +39,16 @@ def nearest_lines(several, pod, restarts, show):
         moment, (_, name, attempt, by, led) = min(near, key=lambda row: abs(row[0] - at))
         does = "restart ordered" if by == "ordered" else "restarted"
         return [f"nearest to {show(at)}: {name} {does} at {show(moment)}, after attempt {attempt}, led to by: {led}"]
-    bad = [event for event in pod.events if event.word in ("evicted", "kill", "died", "unready")
-           and abs(event.at - at) <= asked.NEAR]
+    bad = [(fact.decision.at, "the kubelet evicted it")] if fact is not None else []
+    bad += [(event.at, bad_words(event, fact is not None, several.trace)) for event in pod.events
+            if event.word in ("evicted", "kill", "died", "unready")]
+    bad = [each for each in bad if abs(each[0] - at) <= asked.NEAR]
     within = f"within {asked.NEAR} s of {show(at)}"
     if not bad:
         return [f"no restart, kill, death or eviction {within}"]
-    event = min(bad, key=lambda event: abs(event.at - at))
-    what = reasons.died_words(event, several.trace, False) if event.word == "died" else event.word
-    return [f"no restart {within}; nearest to it: {event.container or 'the pod'} {what} at {show(event.at)}"]
+    moment, what = min(bad, key=lambda each: abs(each[0] - at))
+    return [f"no restart {within}; nearest to it, at {show(moment)}: {what}"]
+
+
+def bad_words(event, is_beside, trace):
+    return " ".join(filter(None, [event.container, telling.event_words(event, is_beside, trace, False)[1]]))

@@ -7,6 +7,7 @@ import kubelet as kubelets
 import reasons
 import records
 import report as reports
+import telling
 import trace as traces
 import why
 import why_text
@@ -56,7 +57,8 @@ def data_of(report, trace, ticks, utc):
         "gaps": [[span.of(since), span.of(at)] for since, at in report.gaps],
         "reclaims": [[span.of(event.at), *event.rest] for event in report.events if event.word == "reclaim"],
         "evictions": evictions_of(report, trace, ticks, span, left), "kubelet": kubelet_of(report, trace, span),
-        "podList": [pod_of(report, trace, span, pod, ticks, budget, words) for pod in report.pods],
+        "podList": [pod_of(report, trace, span, pod, ticks, budget, words) | notes_of(pod, utc)
+                    for pod in report.pods],
         "causes": words.causes, "waits": words.waits,
     }
     refused = sorted({one["key"] for one in data["kubelet"]["refused"]} if data["kubelet"] else ())
@@ -250,6 +252,14 @@ def pod_of(report, trace, span, pod, ticks, budget, words):
                   "listings": [listings_of(span, ticks, container.name) for container in pod.containers],
                   "probes": probes_of(span, ours, ticks, budget), "waits": waits_of(trace, span, pod, words)}
     return found
+
+
+def notes_of(pod, utc):
+    """What is not known of events of several traces, by the places of the events; nothing where all is."""
+    told = {str(place): telling.beside_words(pod, event, lambda at: reports.moment_text(at, utc))
+            for place, event in enumerate(pod.events)}
+    told = {place: words for place, words in told.items() if words}
+    return {"notes": told} if told else {}
 
 
 def waits_of(trace, span, pod, words):

@@ -183,7 +183,12 @@ function waitWord(wait) {
   return data.waits[wait[3]].split(':')[0];
 }
 
+// An event in words, with what several traces do not know of it.
 function told(event) {
+  return toldOf(event) + ((event.pod.notes || {})[event.number] || '');
+}
+
+function toldOf(event) {
   const rest = event.rest;
   switch (event.word) {
     case 'started': return `started, attempt ${rest[0]}`;

@@ -4,7 +4,6 @@ from __future__ import annotations
 
 import glob
 import os
-import signal
 import subprocess
 import sys
 import tempfile
@@ -35,7 +34,7 @@ def run(name, command, found, tool):
     named = [word for file in found.files for word in (asked.REPEATED[0], file)]
     if named or asked.REPEATED[0] in found.rest:
         if words.RECORDERS in found.rest:
-            raise entry.Fault(f"{words.RECORDERS} is for the traces of a cluster, and files are named (--help says more)")
+            raise entry.Fault(f"{words.RECORDERS} is for the traces of a cluster, and files are named")
         files.run_on(tool, [*rest, *pods, *named])
     node = found.value("--node")
     if node is None:
@@ -66,10 +65,10 @@ def run_fetched(found, node, words_for):
         if came.fault:
             entry.say(f"{node}: {came.fault}")
         sys.stdout.flush()
-        # a tool that is not waited for must not outlive the folder
-        process = subprocess.Popen(words_for(path), stdin=subprocess.DEVNULL,
-                                   preexec_fn=lambda: signal.signal(signal.SIGPIPE, signal.SIG_DFL))
+        process = subprocess.Popen(words_for(path), stdin=subprocess.DEVNULL)
         try:
-            return process.wait()
+            status = process.wait()
         except KeyboardInterrupt:
-            return process.wait()
+            # the tool has it too, and must not outlive the folder
+            status = process.wait()
+        return status if status >= 0 else 128 - status

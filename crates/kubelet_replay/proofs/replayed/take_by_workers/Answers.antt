@@ -6,17 +6,17 @@ pub arrive-requires : goal.arrive-requires
 arrive-requires g c =
     let new = c.requires.new in
     may_all_arrive new.config c.args.pods.items c.into_iter.result.rest.items c.args.ticks.items c.args.node.now
-    c.into_iter.ensures c.requires.replayable new.after
+    c.into_iter.ensures.rest c.requires.replayable new.after
 
 pub ticks-requires-clause-fits : goal.ticks-requires-clause-fits
 ticks-requires-clause-fits g c κs within =
     let new = c.requires.new in
     may_take_all new.config c.args.pods.items c.args.ticks.items c.arrive.new.node c.requires.replayable
     (have_all new.config c.args.pods.items c.into_iter.result.rest.items c.args.node.now c.arrive.new.node
-    c.arrive.new.arriving.rest.items c.into_iter.ensures new.after c.in_ok-arrive.ensures)
+    c.arrive.new.arriving.rest.items c.into_iter.ensures.rest new.after c.in_ok-arrive.ensures)
 
 pub returns : goal.returns
 returns g c = λ config is.
     c.ticks.ensures.taken config c.args.pods.items []
     (have_all config c.args.pods.items c.into_iter.result.rest.items c.args.node.now c.arrive.new.node
-    c.arrive.new.arriving.rest.items c.into_iter.ensures is c.in_ok-arrive.ensures)
+    c.arrive.new.arriving.rest.items c.into_iter.ensures.rest is c.in_ok-arrive.ensures)
