@@ -7,7 +7,7 @@ use Rattle.kubelet_replay.proofs.Replayable.{are_replayable}
 use Rattle.refused_calls.proofs.several.node_and_ticks.Goals as goal
 
 pub returns : goal.returns
-returns c =
+returns g c =
     let trace = c.in_ok-trace.trace in
     let node = c.in_ok-node.node in
     let new = subst (λ (ps : List PodSpec). IsAfter trace.node ps [] node) c.into_vec.ensures c.in_ok-node.ensures in
