@@ -1,4 +1,4 @@
-//! The updates of all pods in a tick, by workers.
+//! The updates of all pods in a round, by workers.
 
 ghost use Rattle.std.specs.Prelude.{◌≡◌, ◌⊎◌, ◌<◌, ◌≤◌, map, IfOk};
 ghost use Rattle.pod_piece.specs.Piece.{all_updated};
