@@ -36,7 +36,7 @@ pub fn is_plain(value: &Value<'_>) -> bool
     is_plain_in(value)
 }
 
-/// The same of a value whose memory is of any allocator.
+/// Whether each number in the value is one that digits alone write, below 2^64, whatever allocator its memory is of.
 #[cycle(is_plain)]
 pub fn is_plain_in<A: Allocator>(value: &Value<'_, A>) -> bool
     ensures { result ≡ is_plain (value_view value.now) }
