@@ -19,8 +19,8 @@ pub enum Limit {
 }
 
 impl Limit {
-    /// Reads a percentage where the text ends with `%`, and a quantity from any other text, each
-    /// with its own faults.
+    /// Reads a percentage where the text ends with `%`, and a quantity from any other text. The fault is the first
+    /// one of the text, in the order of [`Percent::parse`] or of [`Quantity::parse`].
     #[tactic(auto, unfolding(crate::specs::Limit::limit_of))]
     pub fn parse(text: &[u8]) -> Result<Limit, QuantityFault>
         ensures { result ≡ limit_of text.now }
