@@ -99,7 +99,8 @@ fn unread(line: &[u8]) -> Option<TextLine>
     None
 }
 
-/// What a line says by itself.
+/// What a line says by itself, whatever the lines beside it are. An `Err` says that memory was refused, and nothing of
+/// the line.
 pub fn text_line(
     alloc: Global,
     line: &[u8],
@@ -114,7 +115,7 @@ pub fn text_line(
 }
 
 /// What a line says, as [`text_line`] reads it, of which [`tick_tape`](crate::tick_tape) made no tape: it has another
-/// shape than the common one, so that `serde_json` alone can read it.
+/// shape than the common one, so that `serde_json` alone can read it. An `Err` says that memory was refused.
 pub fn other_line(alloc: Global, line: &[u8]) -> Result<TextLine, AllocError>
     ensures { IfOk result (λ read. data_of read ≡ line_data line.now) }
 {

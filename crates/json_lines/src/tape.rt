@@ -50,6 +50,7 @@ fn is_tick_tape(tape: &Tape<'_>) -> bool
 
 /// The tape of a line, if it is a tick line of the common shape. So almost every tick line is read; the other lines are
 /// read by `other_line`. Of a line without the word of ticks no tape is begun: a pod's would be long, and of no use.
+/// That a tape is made of any line no clause says.
 pub fn tick_tape<'a>(
     alloc: Global,
     line: &'a [u8],

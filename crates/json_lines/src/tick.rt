@@ -31,7 +31,7 @@ pub(crate) fn moment_written<V: Json>(found: Option<&V>) -> Option<u64>
     found?.unsigned()
 }
 
-/// Reads a tick line.
+/// What a tick line says of its moment, and beside it. An `Err` says that memory was refused.
 pub fn tick_record<V: TickValue>(alloc: Global, line: &V) -> Result<TickRecord, AllocError>
     ensures at { IfOk result (λ tick. tick.at ≡ moment_at (V.data line.now)) }
     ensures written { IfOk result (λ tick. tick.written ≡ tick_line_of (V.data line.now)) }

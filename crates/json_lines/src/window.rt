@@ -65,7 +65,8 @@ fn looks_of(line: &[u8]) -> Looks {
 
 /// The next lines, of at least this many bytes with their newlines where there are this many, and the text after them;
 /// or fewer: this many lines at most, and none behind lines of trees, which are those of pods and very long ones,
-/// behind 1 MiB of these, or behind many blank ones.
+/// behind 1 MiB of these, or behind many blank ones. How many there are no clause says, but that they are no more than
+/// asked for.
 pub fn next_tick_lines(
     alloc: Global,
     text: &[u8],

@@ -96,7 +96,8 @@ fn text(alloc: Global, grammar: Grammar, field: Field, value: &Value) -> Result<
     }
 }
 
-/// A text of this grammar. `Missing` where there is none, `WrongKind` where it is another value or no such name.
+/// A text of this grammar. `Missing` where there is none, `WrongKind` where it is another value or no such name;
+/// `OutOfMemory` where there is no memory for it.
 pub fn required_text(
     alloc: Global,
     grammar: Grammar,
@@ -112,7 +113,8 @@ pub fn required_text(
     }
 }
 
-/// A text of this grammar, the default where it is left out. `WrongKind` where it is another value or no such name.
+/// A text of this grammar, the default where it is left out. `WrongKind` where it is another value or no such name;
+/// `OutOfMemory` where there is no memory for it.
 pub fn text_or(
     alloc: Global,
     default: &str,

@@ -277,7 +277,8 @@ fn settings_in(spec: &Value) -> Result<Settings, ManifestFault>
 
 /// The pod that a manifest describes, or the manifest's first fault in the order of its fields
 /// (`metadata`, its `name` and `namespace`, `spec`, its `restartPolicy`, `priority`,
-/// `terminationGracePeriodSeconds`, `initContainers` and `containers`; then each container).
+/// `terminationGracePeriodSeconds`, `initContainers` and `containers`; then each container);
+/// `OutOfMemory` where there is no memory for its texts. A pod keeps each range of the format by its types.
 #[tactic(auto, unfolding(crate::specs::Manifest::pod_at, crate::specs::Manifest::spec_of))]
 pub fn read_pod(alloc: Global, value: &Value) -> Result<PodSpec, ManifestFault>
     ensures { GivesUnlessMemory (λ p. p) result (pod_at (view value.now)) }

@@ -30,7 +30,8 @@ pub struct TickLine {
     pub after_reclaim: BySignal<Option<Quantity>>,
 }
 
-/// Reads the entries of a tick line, which come before its samples.
+/// Reads the entries of a tick line, which come before its samples. `Usage` where one of them is faulty, and
+/// `OutOfMemory` where there is no memory for them.
 pub fn entries_of<V: TickValue>(
     alloc: Global,
     line: &V,
@@ -45,7 +46,8 @@ pub fn entries_of<V: TickValue>(
 /// codes are read as far as they are codes, and never refused.
 ///
 /// `Usage` where a field that has to be there is missing, or one has a value of another kind or out
-/// of its range, a faulty quantity, or a signal that it may not name.
+/// of its range, a faulty quantity, or a signal that it may not name; `OutOfMemory` where there is no memory for what
+/// it says.
 #[tactic(auto, unfolding(crate::specs::Line::tick_line_of))]
 pub fn tick_line_of<V: TickValue>(alloc: Global, line: &V) -> Result<TickLine, TickLineFault>
     ensures { GivesUnlessMemory (λ t. t) result (tick_line_of (V.data line.now)) }

@@ -274,6 +274,12 @@ fn read_windows<W: WindowReader>(
 
 /// The trace that a text says in a format, or its first faulty line with that line's first fault. Where a
 /// growth of memory is refused the answer is `OutOfMemory`; of its line nothing is promised.
+///
+/// Of each trace that is answered: a listing may follow those before it of its container. Moments rise, and are below
+/// 2^40. Each tick shows exactly the pods that are present, whose lines stand before it and no line of which says that
+/// they are gone, each with one entry a container. A pod arrives once, none before an earlier one, and leaves after
+/// that or never, in version 3 alone. Of two pods of one key the earlier has left before the later arrives. There are
+/// at most 20,000 ticks and 256 pods.
 pub fn read_trace(alloc: Global, format: Format, text: &[u8]) -> Result<Trace, LineFault>
     ensures gives { GivesAt (λ t. t) result (trace_of format text.now) }
     ensures acceptable { IfOk result (λ t. AreAcceptable t.ticks) }
@@ -284,8 +290,8 @@ pub fn read_trace(alloc: Global, format: Format, text: &[u8]) -> Result<Trace, L
     read_windows(&OneThread, alloc, format, text)
 }
 
-/// The trace that a text says in a format, or its first faulty line with that line's first fault, as [`read_trace`]
-/// answers; this many workers share the lines of a text behind its first 64 KiB.
+/// The trace that a text says in a format, or its first faulty line with that line's first fault, with all that
+/// [`read_trace`] promises of it; this many workers share the lines of a text behind its first 64 KiB.
 pub fn read_trace_by_workers<R: Threads + Sync>(
     rt: &R,
     alloc: Global,
