@@ -104,8 +104,8 @@ impl Evictions {
         Ok(())
     }
 
-    /// The threshold that is served at a moment, in seconds, or none while evictions pause. The tick of the moment was
-    /// looked at.
+    /// The threshold that is served at a moment, in seconds, or none while evictions pause; in versions 1 and 2 they
+    /// never do. The tick of the moment was looked at.
     pub fn unless_paused(
         &self,
         config: &NodeConfig,

@@ -130,7 +130,7 @@ fn moment_before(history: &ChunkedList<PodObs>, place: usize) -> Option<u64>
 
 impl PodPiece {
     /// The pod with this number and specification, on a node with this maximum restart delay.
-    /// Nothing was handed to it yet.
+    /// Nothing was handed to it yet. An `Err` says that memory was refused, and the specification is dropped.
     pub fn new(
         alloc: Global,
         number: usize,
@@ -205,7 +205,8 @@ impl PodPiece {
             && are_acceptable(&parts.differs, observed)
     }
 
-    /// Hands it what a tick shows of the pod, behind what was handed to it before. An `Err` changes nothing.
+    /// Hands it what a tick shows of the pod, behind what was handed to it before; it waits until an update takes it.
+    /// An `Err` says that memory was refused: the piece is as it was, and what was handed is dropped.
     pub fn hand(&mut self, observed: PodObs) -> Result<(), AllocError>
         requires { IsNextTick self.old.pod self.old.handed (pod_tick observed) }
         ensures ok { OnOk result (self.new ≡ with_tick self.old (pod_tick observed)) }
@@ -219,7 +220,8 @@ impl PodPiece {
         Ok(())
     }
 
-    /// Takes the next tick that was handed to it into its status. A refused growth of memory gives the piece back.
+    /// Takes the next tick that was handed to it into its status. A refused growth of memory gives the piece back as it
+    /// was, so its tick still waits.
     pub fn update(mut self) -> Result<PodPiece, Refused>
         requires { 0 < self.waiting }
         ensures ok { IfOk result (λ piece. piece ≡ updated self) }
@@ -267,7 +269,7 @@ impl PodPiece {
         parts.earlier.clear();
     }
 
-    /// Evicts the pod by the tick that came last. It makes no event.
+    /// Evicts the pod, which had not ended, by the tick that came last. It makes no event, and takes no memory.
     pub fn evict(&mut self, order: EvictOrder)
         requires free { self.old.waiting ≡ 0 }
         requires lives { Lives self.old }
@@ -294,7 +296,8 @@ impl PodPiece {
         parts.status.number = number;
     }
 
-    /// Its status after the last update, or eviction.
+    /// Its status after the last update, or eviction: by its whole history, its phase with its conditions and its
+    /// containers, its class, its effective requests, its usage, its priority, and the order to evict it.
     pub fn status(&self) -> &PodStatus
         ensures { IsStatusOf self.now result.now }
     {

@@ -32,7 +32,8 @@ pub struct PodState {
 }
 
 impl PodState {
-    /// A pod that no tick has shown yet, on a node with this maximum restart delay.
+    /// A pod that no tick has shown yet, on a node with this maximum restart delay. An `Err` says that memory was
+    /// refused.
     pub fn new(
         alloc: Global,
         spec: &PodSpec,
@@ -142,7 +143,8 @@ impl PodState {
         Ok(events)
     }
 
-    /// The pod is evicted by the tick that came last, at the moment. It makes no event.
+    /// The pod, which had not ended, is evicted by the tick that came last, at the moment, and ends with it. It makes
+    /// no event.
     pub fn evict(&mut self, at: u64)
         requires { IsTerminal self.old.lifecycle.phase → ⊥ }
         ensures state { (pod : PodSpec) (max_restart_delay : ℕ) (h : List PodTick) (entry : PodEntry)
