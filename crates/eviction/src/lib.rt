@@ -1,8 +1,8 @@
 //! Which pod is evicted in each tick. (Kubernetes, "Node-pressure Eviction".)
 //!
-//! The rule is defined in `specs/Replay.antt`, over all ticks of a node: their evictions are a list as long, of each
-//! tick one or none, and each is determined by the ticks up to its own and by the evictions before it. No index and no
-//! counter occurs in it. In words:
+//! The rule is defined in the module `Replay` of `specs/`, over all ticks of a node: their evictions are a list as
+//! long, of each tick one or none, and each is determined by the ticks up to its own and by the evictions before it. No
+//! index and no counter occurs in it. In words:
 //!
 //! ```text
 //! served threshold ──┐
@@ -10,7 +10,7 @@
 //!                                   that are present and have not ended ──> its order: moment, signal, grace
 //! ```
 //!
-//! What is promised of the rule itself stands in `specs/Laws.antt`: each list of ticks has one list of evictions and no
+//! What is promised of the rule itself stands in the module `Laws` of `specs/`: each list of ticks has one list of evictions and no
 //! other; no pod is evicted twice, and who is evicted had not ended; each eviction has the threshold that asked for it;
 //! and between two the node's pause passes, or it ends with the first one's pod.
 //!

@@ -1,7 +1,8 @@
 //! The trace that a text says, read line by line, or the text's first faulty line.
 //!
-//! `specs/Trace.antt` defines it line by line (`line_at`): what a line says depends on the lines before it alone, and
-//! on the format. A text says a trace, or it has a first faulty line with that line's first fault, and never both.
+//! The module `Trace` of `specs/` defines it line by line (`line_at`): what a line says depends on the lines before it
+//! alone, and on the format. A text says a trace, or it has a first faulty line with that line's first fault, and never
+//! both.
 //!
 //! ```text
 //! a line:  length -> JSON -> kind -> its place -> what it says by itself -> beside the lines before it
