@@ -10,9 +10,9 @@
 //!                                   that are present and have not ended ──> its order: moment, signal, grace
 //! ```
 //!
-//! What is promised of the rule itself stands in the module `Laws` of `specs/`: each list of ticks has one list of evictions and no
-//! other; no pod is evicted twice, and who is evicted had not ended; each eviction has the threshold that asked for it;
-//! and between two the node's pause passes, or it ends with the first one's pod.
+//! What is promised of the rule itself stands in the module `Laws` of `specs/`: each list of ticks has one list of
+//! evictions and no other; no pod is evicted twice, and who is evicted had not ended; each eviction has the threshold
+//! that asked for it; and between two the node's pause passes, or it ends with the first one's pod.
 //!
 //! The code of this crate is small, since most of the rule is done elsewhere: `node_signals` says which threshold is
 //! served, `ranking` and `node_pods` keep the victims in order, `tick_round` carries the eviction out. Here are
