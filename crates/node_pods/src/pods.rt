@@ -84,7 +84,7 @@ impl NodePods {
         shown.len() == self.pieces.len() && are_next(&self.pieces, shown, tick.at)
     }
 
-    /// The same pods, to which ticks may be handed: a round begins.
+    /// These pods as they are, to which ticks may be handed from now on: a round begins.
     pub fn open(self) -> OpenPods
         ensures { result ≡ self }
     {
@@ -126,8 +126,8 @@ impl NodePods {
     }
 }
 
-/// The pods of a node in the midst of a round, by their numbers: ticks are handed to them, one after the other, and then
-/// those for which some wait go out for their updates.
+/// The pods of a node in the midst of a round, by their numbers: ticks are handed to them, one after the other, and
+/// then those for which some wait go out for their updates.
 #[derive(Drop)]
 pub struct OpenPods {
     alloc: Global,

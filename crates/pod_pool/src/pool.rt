@@ -75,7 +75,12 @@ fn pool<D: Deal + Send, U: Ledger + Send, E: Ledger + Send, O: Ledger + Send, R:
 /// Takes all waiting ticks of each pending piece of a round into its status, in their order, and enters it once in the
 /// book with the whole share of the book: this many workers, 1 to 64, do it in threads of their own, no more than there
 /// are pieces, and take what is left in the deques of others once their own are empty. It gives the pieces in the order
-/// of their numbers, whatever the threads do, and the share. An `Err` says that memory was refused.
+/// of their numbers, whatever the threads do, and the share, whose totals have grown by what the round of each piece
+/// adds: an update for each of its ticks, with their events.
+///
+/// An `Err` says that memory was refused. At `NoRoom` no piece was dealt: pieces and share are as they were handed in.
+/// At `Update` one of the pieces comes back with those of its ticks left that are still to come, one at least and no
+/// more than it was dealt with; the others and the share are dropped.
 pub fn update_all<U: Ledger + Send, E: Ledger + Send, O: Ledger + Send, R: Spawner, G: Gate>(
     rt: &R,
     alloc: Global,
