@@ -151,7 +151,7 @@ fn asked_job<'a, S: AsStr>(alloc: Global, words: &'a [S]) -> Result<Job<'a>, Err
     }
 }
 
-/// The job that the words ask for. The first word is the program's name.
+/// The job that the words ask for, with 1 to 64 workers. The first word is the program's name.
 ///
 /// `Refused` has clap's error, with the text for the user: a mistake in the words, or help that was
 /// asked for.

@@ -9,11 +9,11 @@
 //! of the eviction:          one, if a pod was evicted
 //! ```
 //!
-//! `specs/Events.antt` defines the events of a list of ticks and its evictions over the whole history (`AreEvents`):
-//! the parts of the ticks, one behind the other, each made by the definitions of `pod_state`, `node_signals` and
-//! `eviction`. By [`laws`] ticks with their evictions have one such list and no other. [`add_events`] adds the events
-//! of more ticks to a list, from the pieces that took them, and [`add_eviction`] that of an eviction;
-//! `specs/Text.antt` says what an event reads like, and [`event_text`] writes it.
+//! The module `Events` of `specs/` defines the events of a list of ticks and its evictions over the whole history
+//! (`AreEvents`): the parts of the ticks, one behind the other, each made by the definitions of `pod_state`,
+//! `node_signals` and `eviction`. By [`laws`] ticks with their evictions have one such list and no other.
+//! [`add_events`] adds the events of more ticks to a list, from the pieces that took them, and [`add_eviction`] that of
+//! an eviction; the module `Text` says what an event reads like, and [`event_text`] writes it.
 #![tactic(auto)]
 
 mod event;

@@ -143,7 +143,8 @@ fn sort_from(events: &mut Vec<Event>, place: usize) -> Result<(), AllocError>
 }
 
 /// Adds the events of these ticks, whose moments rise, tick after tick: those that the rounds of these pods made in
-/// the tick, by the pods' numbers, and the node's. Each tick of the rounds is one of these ticks.
+/// the tick, by the pods' numbers, and the node's. Each tick of the rounds is one of these ticks. An `Err` says that
+/// memory was refused, and nothing of the list.
 pub fn add_events(
     events: &mut Vec<Event>,
     pieces: &[PodPiece],
@@ -162,7 +163,8 @@ pub fn add_events(
     Ok(())
 }
 
-/// Adds the event of the eviction at the moment, in seconds, if there is one.
+/// Adds the event of the eviction at the moment, in seconds, if there is one. An `Err` says that memory was refused,
+/// and nothing of the list.
 pub fn add_eviction(
     events: &mut Vec<Event>,
     at: u64,

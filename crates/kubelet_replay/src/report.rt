@@ -143,7 +143,8 @@ fn by_workers<U: Ledger + Send, E: Ledger + Send, O: Ledger + Send, R: Spawner, 
     report
 }
 
-/// The report of a trace, each of whose ticks is a round that this many workers play by these steps.
+/// The report of a trace that may be replayed, as each one may that is read: its ticks are rounds that this many
+/// workers play by these steps. An `Err` says that memory was refused.
 pub fn report_by_steps(
     alloc: Global,
     trace: Trace,
@@ -160,7 +161,8 @@ pub fn report_by_steps(
     by_steps::<Brand, Brand, Brand>(alloc, trace, Blanks::new(), workers, steps)
 }
 
-/// The report of a trace, the pods of each of whose ticks this many workers update in threads of their own.
+/// The report of a trace that may be replayed, as each one may that is read: this many workers update its pods in
+/// threads of their own. An `Err` says that memory was refused.
 pub fn report_by_workers<R: Spawner, G: Gate>(
     rt: &R,
     alloc: Global,

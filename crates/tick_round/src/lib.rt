@@ -14,10 +14,11 @@
 //! end     pods and book come back; the events are added, tick after tick; one pod at most is evicted
 //! ```
 //!
-//! What a node promises is said of all its ticks at once (`IsAfter`, in `specs/Node.antt`): the pods that have arrived
-//! and the ticks that it took determine its evictions, its pods' statuses, its events, its totals and its conditions.
-//! Each way to take ticks leads from `IsAfter` of some to `IsAfter` of these and those, by the same words (`TakesTick`,
-//! `TakesTicks`): so the ways can't differ, and neither can any number of workers, nor how many ticks a round takes.
+//! What a node promises is said of all its ticks at once (`IsAfter`, in the module `Node` of `specs/`): the pods that
+//! have arrived and the ticks that it took determine its evictions, its pods' statuses, its events, its totals and its
+//! conditions. Each way to take ticks leads from `IsAfter` of some to `IsAfter` of these and those, by the same words
+//! (`TakesTick`, `TakesTicks`): so the ways can't differ, and neither can any number of workers, nor how many ticks a
+//! round takes. That is one at least; no clause says more of it.
 //!
 //! Where memory is refused within a round the node is halted: it takes no further tick and tells nothing, so that
 //! nothing half done is ever told.

@@ -45,7 +45,7 @@ impl<U: Ledger, E: Ledger, O: Ledger> Model for Node<U, E, O> {
 
 impl<U: Ledger, E: Ledger, O: Ledger> Node<U, E, O> {
     /// A node with these pods, at most 256, numbered in their order, and with an empty book, before any
-    /// tick.
+    /// tick. An `Err` says that memory was refused, and what was handed in is dropped.
     pub fn new(
         alloc: Global,
         config: NodeConfig,
@@ -69,7 +69,7 @@ impl<U: Ledger, E: Ledger, O: Ledger> Node<U, E, O> {
     }
 
     /// A pod arrives, with the next number, where there are fewer than 256: it is present from the next
-    /// tick on. An `Err` changes nothing.
+    /// tick on. An `Err` says that memory was refused, or that the node is halted, and changes nothing.
     pub fn arrive(&mut self, pod: PodSpec) -> Result<(), TickFault>
         requires { HasRoom self.old }
         ensures arrived { (config : NodeConfig) (pods : List PodSpec) (ticks : List TickObs)
