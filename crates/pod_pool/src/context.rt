@@ -13,7 +13,8 @@ use piece_deques::{Deal, Owner};
 use std::sync::ledger::Ledger;
 
 /// The owner's end of a deque, the place of that deque among all, a permit of each deque in their order, and what the
-/// worker keeps: the pieces that it took, once each. By the permit of its own deque nothing is taken.
+/// worker keeps: the pieces that it took, once each. By the permit of its own deque nothing is taken. There is room for
+/// all pieces of the round, once each.
 #[derive(Drop)]
 pub(crate) struct WorkerContext<D: Deal, U: Ledger, E: Ledger, O: Ledger> {
     pub owner: Owner<D>,

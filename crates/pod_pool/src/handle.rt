@@ -8,7 +8,8 @@ use piece_deques::{Deal, Permit, Thief, steal};
 use pod_piece::PodPiece;
 use std::sync::Wait;
 
-/// The thieves' end of a first in first out deque, with a permit of that deque.
+/// The thieves' end of a first in first out deque, with a permit of that deque: one part of the right to know the
+/// deque, by which no more pieces were taken than were pushed.
 #[derive(Drop)]
 pub(crate) struct StealHandle<D: Deal> {
     pub thief: Thief<D>,
