@@ -1,0 +1,4 @@
+pub mod Totals
+pub mod Shares
+pub mod Limits
+pub mod Rounds
