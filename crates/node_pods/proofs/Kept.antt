@@ -96,7 +96,8 @@ numbered_updated : (old : List Piece) (max_restart_delay : ℕ) (dedicated : Boo
     → AreNumbered (pods_of old max_restart_delay dedicated)
     → AreNumbered (pods_of (map all_updated old) max_restart_delay dedicated)
 numbered_updated old max_restart_delay dedicated numbered =
-    numbered_by (λ n p. all_updated p) old (map all_updated old) max_restart_delay dedicated (length-map old all_updated)
+    numbered_by (λ n p. all_updated p) old (map all_updated old) max_restart_delay dedicated
+    (length-map old all_updated)
     (λ n p at. slice_get-map all_updated old n ∙ ap (option_map all_updated) at)
     (λ n p was. record { number_is = was.number_is; max_restart_delay_is = was.max_restart_delay_is }) numbered
 
@@ -145,7 +146,13 @@ placed_evicted old max_restart_delay dedicated number order new placed are n pie
       let there = subst (λ (k : ℕ). slice_get old k ≡ Some p.0) same p.1 in
       let here = subst (λ (k : ℕ). slice_get new k ≡ Some (with_eviction p.0 order)) (sym same) (are.here p.0 there) in
       subst (λ (q : Piece). IsPlaced max_restart_delay n q) (same_piece new n (with_eviction p.0 order) piece here at)
-      (record { number_is = was.number_is; max_restart_delay_is = was.max_restart_delay_is; free = was.free; rested = was.rested })
+      (record {
+        number_is = was.number_is;
+        max_restart_delay_is = was.max_restart_delay_is;
+        free = was.free;
+        rested =
+            was.rested;
+      })
   | inr apart ↦ placed n piece (sym (are.others n apart) ∙ at)
 ]
 

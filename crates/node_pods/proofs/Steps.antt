@@ -134,7 +134,8 @@ sent_more all out new ps p rest so_far next more =
     so_far ∙ ap (λ (qs : List Piece). out ++ sent_from (length out) qs) next ∙ by (waits p) refl
   where
     by : (b : Bool) → waits p ≡ b
-        → out ++ (if b then with_number p (length out) ∷ sent_from (length out + 1) rest else sent_from (length out) rest)
+        → out ++ (if b then with_number p (length out) ∷ sent_from (length out + 1) rest else sent_from
+        (length out) rest)
         ≡ new ++ sent_from (length new) rest
     by true e =
         let given : new ≡ out ++ with_number p (length out) ∷ [] =

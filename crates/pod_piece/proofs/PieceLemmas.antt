@@ -1,5 +1,6 @@
 -- What a piece keeps, from call to call.
-use Rattle.std.proofs.Common.{◌≡◌, ◌∙◌, inl, inr, ℕ, zero, suc, ◌+◌, ◌-◌, ◌<◌, ◌≤◌, Bool, true, false, List, [], ◌∷◌, ◌++◌}
+use Rattle.std.proofs.Common.{◌≡◌, ◌∙◌, inl, inr, ℕ, zero, suc, ◌+◌, ◌-◌, ◌<◌, ◌≤◌, Bool, true, false, List, []}
+use Rattle.std.proofs.Common.{◌∷◌, ◌++◌}
 use Rattle.std.proofs.Common.{length, map, take, drop, get_or, Option, Some, None, refl, ap, sym, subst, arith}
 use Rattle.std.specs.Prelude.{◌↔◌, IsTrue, IsSome, is_some, IfSome, MatchOption, nat_lt, slice_get}
 use Rattle.std.specs.Prelude.{if◌then◌else◌}
@@ -168,7 +169,8 @@ kept_handed p tick differs state status old new events next fresh unchanged kept
     let same : ticks p ≡ ticks (with_tick p tick) = sym (taken_handed p.waiting p.handed tick) in
     let long = taken_length p.waiting p.handed in
     let here : begun_with p.waiting (length p.handed) p.begun ≤ length (ticks p) =
-    begun_within p.waiting (length p.handed) p.begun (length (ticks p)) (λ none. omega (arith, long, none)) kept.begun in
+    begun_within p.waiting (length p.handed) p.begun (length (ticks p)) (λ none. omega
+    (arith, long, none)) kept.begun in
     let earlier = earlier_with p.waiting (length p.handed) p.begun p.pod p.max_restart_delay (evicted_at p) (ticks p)
     old new (λ none. omega (arith, long, none)) fresh unchanged kept.made_earlier in
     let begun = begun_with p.waiting (length p.handed) p.begun in
@@ -200,7 +202,8 @@ kept_at_rest p differs state status earlier events kept = record {
   after = kept.after;
   shown = kept.shown;
   made_earlier = subst (λ (k : List PodTick). AreMadeOver p.pod p.max_restart_delay (evicted_at p)
-      (take (length (ticks p)) (ticks p)) (before_last k) []) (sym (drop_all (length (ticks p)) (ticks p) (omega arith)))
+      (take (length (ticks p)) (ticks p)) (before_last k) []) (sym (drop_all (length (ticks p)) (ticks p)
+      (omega arith)))
       refl;
   made = kept.made;
 }
@@ -551,7 +554,8 @@ at_next parts owned seen place observed same view kept some placed is =
       pending = pending;
       long = omega (arith, taken_length parts.waiting handed, many, placed);
       is = here;
-      next = subst (λ (k : List PodTick). IsNextTick parts.pod k (pod_tick observed)) (sym (taken_is parts.waiting handed))
+      next = subst (λ (k : List PodTick). IsNextTick parts.pod k (pod_tick observed)) (sym
+          (taken_is parts.waiting handed))
           (held.next (length handed - parts.waiting) (pod_tick observed) (omega (arith, within, many)) here);
       now = held.after.now (place_of parts.eviction) (may_self (place_of parts.eviction) (length h));
       not_now = not_now (place_of parts.eviction) (length h) (suc (length h)) (place_of parts.eviction) (omega arith)

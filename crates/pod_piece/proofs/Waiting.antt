@@ -52,7 +52,8 @@ next_is items w n observed long some within is =
     ap (λ m. slice_get (map pod_tick items) m) {x = length (map pod_tick items) - w} {y = n}
     (omega (arith, long, length-map items pod_tick))
     ∙ slice_get-map pod_tick items n
-    ∙ ap (option_map pod_tick) (slice_get-get_or items n observed (omega (arith, long, some, within)) ∙ ap Some (sym is))
+    ∙ ap (option_map pod_tick) (slice_get-get_or items n observed (omega (arith, long, some, within)) ∙ ap Some
+    (sym is))
 
 -- the observation of a tick that has come
 pub observed_at : (items : List PodObs) (w n : ℕ) (x : PodTick) → slice_get (taken w (map pod_tick items)) n ≡ Some x

@@ -169,7 +169,8 @@ all_weights f rows ticks owns are weighs =
     each [] weighs = refl
     each (own ∷ owns) weighs =
         sum_by-cons (λ (o : List MadeEvent). sum_by (λ (x : TickObs). sum_by f (events_at x.at o)) ticks) own owns
-        ∙ ap (λ k. k + sum_by (λ (o : List MadeEvent). sum_by (λ (x : TickObs). sum_by f (events_at x.at o)) ticks) owns)
+        ∙ ap (λ k. k + sum_by (λ (o : List MadeEvent). sum_by (λ (x : TickObs). sum_by f
+        (events_at x.at o)) ticks) owns)
         (sym (weighs 0 own refl))
         ∙ ap (λ k. weight_of f own + k) (each owns (λ n o at. weighs (suc n) o at))
         ∙ sym (sum_by-cons (weight_of f) own owns)

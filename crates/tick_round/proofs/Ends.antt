@@ -35,7 +35,8 @@ use Rattle.tick_round.proofs.Told.{Tells, with_own}
 
 -- of the first ticks, and of the last one
 tells_front : (pod : PodSpec) (max_restart_delay : ℕ) (evicted : Option ℕ) (before : List PodTick) (n : ℕ)
-    (ticks more : List TickObs) (own : List MadeEvent) → Tells pod max_restart_delay evicted before n (ticks ++ more) own
+    (ticks more : List TickObs) (own : List MadeEvent) → Tells pod max_restart_delay evicted before n
+    (ticks ++ more) own
     → Tells pod max_restart_delay evicted before n ticks own
 tells_front pod max_restart_delay evicted before n [] more own tells = tt
 tells_front pod max_restart_delay evicted before n (x ∷ ticks) more own tells = (
@@ -52,7 +53,8 @@ tell_last : (pieces : List Piece) (ticks : List TickObs) (x : TickObs) (owns : L
     → TellAll pieces (ticks ++ x ∷ []) owns → TellAllOf (after_all pieces ticks) x owns
 tell_last pieces [] x owns tell n p own at there = (tell n p own at there).0
 tell_last pieces (y ∷ ticks) x owns tell n p own at there =
-    tell_last (after_each pieces y.pods) ticks x owns (tell_others pieces y (ticks ++ x ∷ []) owns tell) n p own at there
+    tell_last (after_each pieces y.pods) ticks x owns (tell_others pieces y
+    (ticks ++ x ∷ []) owns tell) n p own at there
 
 pub after_all-length : (pieces : List Piece) (ticks : List TickObs) → length (after_all pieces ticks) ≡ length pieces
 after_all-length pieces [] = refl
@@ -62,7 +64,8 @@ after_all-length pieces (x ∷ ticks) =
 -- the events of one tick more
 of_ticks-more : (rows : List TickEvents) (row : TickEvents) (owns : List (List MadeEvent))
     → of_ticks (rows ++ row ∷ []) owns
-    ≡ of_ticks rows owns ++ (of_pods row.at 0 (map (events_at row.at) owns) ++ (of_node row.at row.node_events.items ++ []))
+    ≡ of_ticks rows owns ++ (of_pods row.at 0 (map (events_at row.at) owns) ++
+    (of_node row.at row.node_events.items ++ []))
 of_ticks-more [] row owns = refl
 of_ticks-more (r ∷ rows) row owns =
     let A = of_pods r.at 0 (map (events_at r.at) owns) in

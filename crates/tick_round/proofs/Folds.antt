@@ -58,9 +58,10 @@ tell_others pieces x ticks owns tell n q own at there =
   where
     by : (p : Piece) (o : Option PodObs)
         → Tells p.pod p.max_restart_delay (evicted_at p) (with_own p.handed o) n ticks own
-        → Tells (after_one p o).pod (after_one p o).max_restart_delay (evicted_at (after_one p o)) (after_one p o).handed n
-        ticks own
-    by p None tells = subst (λ h. Tells p.pod p.max_restart_delay (evicted_at p) h n ticks own) (append-nil p.handed) tells
+        → Tells (after_one p o).pod (after_one p o).max_restart_delay (evicted_at (after_one p o))
+        (after_one p o).handed n ticks own
+    by p None tells = subst (λ h. Tells p.pod p.max_restart_delay (evicted_at p) h n ticks own)
+        (append-nil p.handed) tells
     by p (Some o) tells = tells
 
 -- the threshold that is heeded in a tick, over all ticks

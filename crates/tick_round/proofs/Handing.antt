@@ -37,7 +37,8 @@ pub after_all-more : (pieces : List Piece) (ticks : List TickObs) (x : TickObs)
 after_all-more pieces [] x = refl
 after_all-more pieces (y ∷ ticks) x = after_all-more (after_each pieces y.pods) ticks x
 
-pub last_with-more : (last : Option ℕ) (ticks : List TickObs) (x : TickObs) → last_with last (ticks ++ x ∷ []) ≡ Some x.at
+pub last_with-more : (last : Option ℕ) (ticks : List TickObs) (x : TickObs) → last_with last
+    (ticks ++ x ∷ []) ≡ Some x.at
 last_with-more last [] x = refl
 last_with-more last (y ∷ ticks) x = last_with-more (Some y.at) ticks x
 
@@ -126,7 +127,8 @@ pub handed_at : (p : Piece) (more : List PodTick) (pieces : List Piece) (ticks :
 handed_at p more pieces [] n q at is = (q, at, subst (λ (k : List PodTick). IsGrown p k q) (sym (append-nil more)) is)
 handed_at p more pieces (x ∷ ticks) n q at is =
     let o = shown_of x n in
-    let next = handed_at p (more ++ map pod_tick (cons_option o [])) (handed_each pieces x.pods) ticks n (handed_one q o)
+    let next = handed_at p (more ++ map pod_tick (cons_option o [])) (handed_each pieces x.pods) ticks n
+    (handed_one q o)
     (with_shown_at handed_one (λ r. refl) pieces x.pods n q at) (grown_more p more q o is) in (
       next.0,
       next.1,

@@ -140,7 +140,8 @@ made_told config pods ticks es x pieces owns replay few many are tell = record {
       let told = subst (λ (o : Option PodObs). TellsTick pod config.max_restart_delay
       (place_of (own_eviction n ticks es)) (pod_ticks ticks n) o (events_at x.at own.0)) is
       (tell n piece own.0 (are.each n pod at) own.1) in
-      subst (λ (e : Option ℕ). AreEventsOf pod config.max_restart_delay e (pod_ticks ticks n) (pod_tick observed) events)
+      subst (λ (e : Option ℕ). AreEventsOf pod config.max_restart_delay e (pod_ticks ticks n)
+      (pod_tick observed) events)
       (before_is (place_of (own_eviction n ticks es)) (length (pod_ticks ticks n))
       (evicted_by_own config pods ticks es n replay))
       (subst (λ (l : List PodEvent). AreEventsOf pod config.max_restart_delay

@@ -351,7 +351,13 @@ has_closed pods before s calm x begun back totals eviction new added evs es take
     let owns = adds.made in
     let made : AreMadeBy all owns = subst (λ (p : Pods). AreMadeBy p.pieces owns) may.pods_are adds.are_made in
     let many : length owns ≡ length s.pods.pieces =
-    omega (arith, made.as_many, length-map (handed_all s.pods.pieces xs) all_updated, handed_all-length s.pods.pieces xs)
+    omega (
+      arith,
+      made.as_many,
+      length-map (handed_all s.pods.pieces xs) all_updated,
+      handed_all-length s.pods.pieces
+          xs,
+    )
     in
     let told = λ (n : ℕ) (p : Piece) (own : List MadeEvent) (at : slice_get s.pods.pieces n ≡ Some p)
     (there : slice_get owns n ≡ Some own).

@@ -109,15 +109,18 @@ own_moment (r ∷ rows) (x ∷ xs) n from k tick are behind at =
         → ((j : ℕ) → slice_get (pod_ticks xs n) j ≡ Some tick → IsMomentOf (r ∷ rows) tick.moment)
         → IsMomentOf (r ∷ rows) tick.moment
     by None e k moment at rest =
-        rest k (subst (λ (o : Option PodObs). slice_get (map pod_tick (cons_option o (own_ticks xs n))) k ≡ Some tick) e at)
+        rest k (subst (λ (o : Option PodObs). slice_get (map pod_tick (cons_option o
+        (own_ticks xs n))) k ≡ Some tick) e at)
     by (Some o) e zero moment at rest =
-        let here = subst (λ (s : Option PodObs). slice_get (map pod_tick (cons_option s (own_ticks xs n))) 0 ≡ Some tick)
+        let here = subst (λ (s : Option PodObs). slice_get (map pod_tick (cons_option s
+        (own_ticks xs n))) 0 ≡ Some tick)
         e at in
         let same : pod_tick o ≡ tick = (let w : Some (pod_tick o) ≡ Some tick = here in cc) in
         let now : o.at ≡ x.at = subst (λ (s : Option PodObs). IfSome s (λ observed. observed.at ≡ x.at)) e moment in
         (0, r, refl, are.0 ∙ sym now ∙ ap (λ (y : PodTick). y.moment) same)
     by (Some o) e (suc k) moment at rest =
-        rest k (subst (λ (s : Option PodObs). slice_get (map pod_tick (cons_option s (own_ticks xs n))) (suc k) ≡ Some tick)
+        rest k (subst (λ (s : Option PodObs). slice_get (map pod_tick (cons_option s (own_ticks xs n)))
+        (suc k) ≡ Some tick)
         e at)
 
 -- pods between two rounds
@@ -171,7 +174,8 @@ made_over p own q made is are =
     is.evicted
     (subst (λ (d : ℕ). AreMadeOver p.pod d (evicted_at q) (take q.begun (ticks q)) (round_of q) made)
     is.max_restart_delay
-    (subst (λ (s : PodSpec). AreMadeOver s q.max_restart_delay (evicted_at q) (take q.begun (ticks q)) (round_of q) made)
+    (subst (λ (s : PodSpec). AreMadeOver s q.max_restart_delay (evicted_at q) (take q.begun (ticks q))
+    (round_of q) made)
     is.pod are))))
 
 -- the events of the rounds tell of the ticks
@@ -189,7 +193,8 @@ told_by pieces last xs owns n p own rest may by at there =
     let same = same_piece pieces n r.0 p r.1 at in
     told_from p.pod p.max_restart_delay (evicted_at p) p.handed n 0 xs [] own own refl tt
     (behind_each_other n pieces last xs 0 (λ x lt. omega arith) may)
-    (subst (λ (s : Piece). AreMadeOver s.pod s.max_restart_delay (evicted_at s) s.handed (pod_ticks xs n) own) same over)
+    (subst (λ (s : Piece). AreMadeOver s.pod s.max_restart_delay (evicted_at s) s.handed
+    (pod_ticks xs n) own) same over)
 
 -- their ticks are those of the rows
 pub of_rows : (pieces : List Piece) (last : Option ℕ) (xs : List TickObs) (rows : List TickEvents) → AreAtRest pieces
@@ -271,7 +276,8 @@ add_one q pieces some a is rest = record { as_many = ap suc rest.are.as_many; ea
     each zero p b at there =
         let same_p : all_updated q ≡ p = (let w : Some (all_updated q) ≡ Some p = at in cc) in
         let same_b : a ≡ b = (let w : Some a ≡ Some b = there in cc) in
-        subst (λ (r : Piece). IsAdditionOf r b) same_p (subst (λ (t : Totals). IsAdditionOf (all_updated q) t) same_b is)
+        subst (λ (r : Piece). IsAdditionOf r b) same_p (subst (λ (t : Totals). IsAdditionOf
+        (all_updated q) t) same_b is)
     each (suc n) p b at there = rest.are.each n p b at there
 
 pub add_all : (pieces : List Piece) (k : ℕ) (some : List Totals)
@@ -301,8 +307,8 @@ add_all (q ∷ pieces) k some rest are =
           same = more_sums a some behind.all behind.same;
         }
 
-    by : (w : ℕ) → q.waiting ≡ w → (some : List Totals) → AreAdditionsOf (map all_updated (sent_from k (q ∷ pieces))) some
-        → ((m : ℕ) (more : List Totals) → AreAdditionsOf (map all_updated (sent_from m pieces)) more
+    by : (w : ℕ) → q.waiting ≡ w → (some : List Totals) → AreAdditionsOf (map all_updated (sent_from k (q ∷ pieces)))
+        some → ((m : ℕ) (more : List Totals) → AreAdditionsOf (map all_updated (sent_from m pieces)) more
         → AddAll pieces more) → AddAll (q ∷ pieces) some
     by zero none some are others =
         let behind = others k some (subst (λ (w : ℕ). AreAdditionsOf (map all_updated (sent w)) some) none are) in

@@ -54,7 +54,8 @@ alike_after qs rs x are = record {
     pod_of r q None same = same
     pod_of r q (Some o) same = same
 
-    handed_of : (r q : Piece) (o : Option PodObs) → r.handed ≡ q.handed → (after_one r o).handed ≡ (after_one q o).handed
+    handed_of : (r q : Piece) (o : Option PodObs) → r.handed ≡ q.handed → (after_one r o).handed
+        ≡ (after_one q o).handed
     handed_of r q None same = same
     handed_of r q (Some o) same = ap (λ (h : List PodTick). h ++ pod_tick o ∷ []) same
 
@@ -173,7 +174,8 @@ has_taken_some ticks taken rest s new kept fits all next = record {
 pub none_taken : (s : State) (ticks : List TickObs) → FitAll s ticks → HasTakenSome ticks s s ticks
 none_taken s ticks fits = record { taken = []; all = refl; next = next_none s; fits = fits }
 
-pub some_more : (ticks left rest : List TickObs) (a b c : State) → HasTakenSome ticks a b left → HasTakenSome left b c rest
+pub some_more : (ticks left rest : List TickObs) (a b c : State) → HasTakenSome ticks a b left
+    → HasTakenSome left b c rest
     → HasTakenSome ticks a c rest
 some_more ticks left rest a b c some more = record {
   taken = some.taken ++ more.taken;

@@ -136,4 +136,5 @@ pub one_each : (s : State) (tick : TickObs) (pieces : List Piece) → IsKept s �
 one_each s tick pieces kept may sent =
     ap length sent
     ∙ sent_count 0 s.pods.pieces tick.pods may.next.within
-    (λ n p at. (rest_of s.config (pods_in s.pods.pieces) kept.ticks s.evictions s.pods.pieces kept.taken.pieces n p at).0)
+    (λ n p at. (rest_of s.config (pods_in s.pods.pieces) kept.ticks s.evictions s.pods.pieces kept.taken.pieces n p
+    at).0)

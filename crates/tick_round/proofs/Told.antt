@@ -1,6 +1,7 @@
 -- What the round of a pod tells of each of its ticks.
 use Rattle.std.proofs.Common.{◌≡◌, ◌∙◌, inl, inr, ℕ, suc, ◌+◌, ◌<◌, ◌≤◌, Bool, cond, List, [], ◌∷◌}
-use Rattle.std.proofs.Common.{◌++◌, length, map, Option, Some, None, refl, ap, sym, subst, arith, append_assoc, append-nil}
+use Rattle.std.proofs.Common.{◌++◌, length, map, Option, Some, None, refl, ap, sym, subst, arith, append_assoc}
+use Rattle.std.proofs.Common.{append-nil}
 use Rattle.std.specs.Prelude.{IfSome}
 use Rattle.std.specs.List.{cons_option, sum_by}
 use Rattle.std.proofs.lemmas.Bool.Decides.{eqb_tells}
@@ -84,11 +85,13 @@ behind_at : (at m : ℕ) (events : List PodEvent) → at < m → AllBehind at (m
 behind_at at m [] lt = tt
 behind_at at m (e ∷ events) lt = (lt, behind_at at m events lt)
 
-before_more : (at : ℕ) (made more : List MadeEvent) → AllBefore at made → AllBefore at more → AllBefore at (made ++ more)
+before_more : (at : ℕ) (made more : List MadeEvent) → AllBefore at made → AllBefore at more → AllBefore at
+    (made ++ more)
 before_more at [] more all rest = rest
 before_more at (e ∷ made) more all rest = (all.0, before_more at made more all.1 rest)
 
-behind_more : (at : ℕ) (made more : List MadeEvent) → AllBehind at made → AllBehind at more → AllBehind at (made ++ more)
+behind_more : (at : ℕ) (made more : List MadeEvent) → AllBehind at made → AllBehind at more → AllBehind at
+    (made ++ more)
 behind_more at [] more all rest = rest
 behind_more at (e ∷ made) more all rest = (all.0, behind_more at made more all.1 rest)
 
@@ -107,7 +110,8 @@ all_behind : (pod : PodSpec) (max_restart_delay : ℕ) (evicted : Option ℕ) (b
 all_behind pod max_restart_delay evicted before n at [] made behind none =
     subst (λ (m : List MadeEvent). AllBehind at m) (sym none) tt
 all_behind pod max_restart_delay evicted before n at (x ∷ ticks) made behind over =
-    by (shown_of x n) refl behind.1 (λ from more are lt. all_behind pod max_restart_delay evicted from n at ticks more lt are)
+    by (shown_of x n) refl behind.1 (λ from more are lt. all_behind pod max_restart_delay evicted from n at ticks
+    more lt are)
   where
     over_of : (o : Option PodObs) → shown_of x n ≡ o
         → AreMadeOver pod max_restart_delay evicted before (map pod_tick (cons_option o (own_ticks ticks n))) made
@@ -188,7 +192,8 @@ told_from pod max_restart_delay evicted before n from (x ∷ ticks) front made a
         → AreTold pod max_restart_delay evicted later n ticks more all)
         → AreTold pod max_restart_delay evicted before n (x ∷ ticks) made all
     by None none moment rest =
-        let behind_it = all_behind pod max_restart_delay evicted before n x.at ticks made behind.2 (over_of None none) in
+        let behind_it = all_behind pod max_restart_delay evicted before n x.at ticks made behind.2
+        (over_of None none) in
         let empty : events_at x.at all ≡ [] = ap (events_at x.at) is
         ∙ filter_map-append (event_at x.at) front made
         ∙ ap (λ (es : List PodEvent). es ++ events_at x.at made) (none_before x.at front gone)
@@ -209,11 +214,13 @@ told_from pod max_restart_delay evicted before n from (x ∷ ticks) front made a
         let parts = over_of (Some o) shown in
         let same : o.at ≡ x.at =
         subst (λ (s : Option PodObs). IfSome s (λ observed. observed.at ≡ x.at)) shown moment in
-        let behind_it = all_behind pod max_restart_delay evicted (before ++ pod_tick o ∷ []) n x.at ticks parts.1 behind.2
+        let behind_it = all_behind pod max_restart_delay evicted (before ++ pod_tick o ∷ []) n x.at ticks parts.1
+        behind.2
         parts.3 in
         let here : events_at x.at all ≡ parts.0 = ap (events_at x.at) (is ∙ ap (λ m. front ++ m) parts.4)
         ∙ filter_map-append (event_at x.at) front (made_at o.at parts.0 ++ parts.1)
-        ∙ ap (λ (es : List PodEvent). es ++ events_at x.at (made_at o.at parts.0 ++ parts.1)) (none_before x.at front gone)
+        ∙ ap (λ (es : List PodEvent). es ++ events_at x.at (made_at o.at parts.0 ++ parts.1))
+        (none_before x.at front gone)
         ∙ filter_map-append (event_at x.at) (made_at o.at parts.0) parts.1
         ∙ ap (λ (es : List PodEvent). es ++ events_at x.at parts.1) (all_at x.at o.at parts.0 same)
         ∙ ap (λ (es : List PodEvent). parts.0 ++ es) (none_behind x.at parts.1 behind_it)
@@ -225,7 +232,8 @@ told_from pod max_restart_delay evicted before n from (x ∷ ticks) front made a
         record {
           tells = subst (λ (s : Option PodObs). TellsTick pod max_restart_delay evicted before s (events_at x.at all)
               × Tells pod max_restart_delay evicted (with_own before s) n ticks all) (sym shown) (
-                subst (λ (es : List PodEvent). AreEventsOf pod max_restart_delay (evicted_before evicted (length before))
+                subst (λ (es : List PodEvent). AreEventsOf pod max_restart_delay (evicted_before evicted
+                    (length before))
                     before (pod_tick o) es) (sym here) parts.2,
                 told.tells,
               );

@@ -46,7 +46,8 @@ one_added before now after additions x is more =
     let updates = λ (a : Totals). a.updates in
     let events = λ (a : Totals). a.events in
     let orders = λ (a : Totals). a.orders in
-    let u : sum_by updates (additions ++ x ∷ []) ≡ sum_by updates additions + x.updates = sum_more updates additions x in
+    let u : sum_by updates (additions ++ x ∷ []) ≡ sum_by updates additions + x.updates = sum_more updates additions
+    x in
     let e : sum_by events (additions ++ x ∷ []) ≡ sum_by events additions + x.events = sum_more events additions x in
     let o : sum_by orders (additions ++ x ∷ []) ≡ sum_by orders additions + x.orders = sum_more orders additions x in
     more ∙ ap (λ (t : Totals). plus t x) is
@@ -79,7 +80,8 @@ low_sums (x ∷ additions) low =
 pub record AreUpdatedBelow (old : List Piece) (before : Totals) (i : ℕ) (now : List Piece)
     (after : Totals) : Type 0 where
   pub as_many : length now ≡ length old
-  pub below : (n : ℕ) (piece : Piece) → n < i → slice_get old n ≡ Some piece → slice_get now n ≡ Some (all_updated piece)
+  pub below : (n : ℕ) (piece : Piece) → n < i → slice_get old n ≡ Some piece → slice_get now n
+      ≡ Some (all_updated piece)
   pub rest : (n : ℕ) → i ≤ n → slice_get now n ≡ slice_get old n
   pub additions : List Totals
   pub made : length additions ≡ i
@@ -141,7 +143,8 @@ one_updated old before i now after new then so_far step = record {
 }
   where
     here : slice_get new i ≡ Some (all_updated step.piece)
-    here = ap (λ (ps : List Piece). slice_get ps i) step.set ∙ set_here now i (all_updated step.piece) step.piece step.at
+    here = ap (λ (ps : List Piece). slice_get ps i) step.set ∙ set_here now i
+        (all_updated step.piece) step.piece step.at
 
     others : (n : ℕ) → (n ≡ i → ⊥) → slice_get new n ≡ slice_get now n
     others n apart =

@@ -23,12 +23,15 @@ invariant_of-self-2 c =
     let obs = c.args.observed in
     let next = subst (λ (p : Piece). IsNextTick p.pod p.handed (pod_tick obs)) (sym view) c.requires in
     let kept = kept_handed (piece_of i) (pod_tick obs) i.differs.items i.state i.status i.earlier.items
-    c.begin_round-parts.new.earlier.items i.events.items next c.begin_round-parts.ensures.none c.begin_round-parts.ensures.same held in
+    c.begin_round-parts.new.earlier.items i.events.items next c.begin_round-parts.ensures.none
+    c.begin_round-parts.ensures.same held in
     subst (λ (os : List PodObs). IsKept
     (piece i.number i.pod i.max_restart_delay os (i.waiting + 1) c.begin_round-parts.result i.eviction)
     i.differs.items i.state i.status c.begin_round-parts.new.earlier.items i.events.items) (sym c.in_ok-push.ensures.ok)
-    (subst (λ (p : Piece). IsKept p i.differs.items i.state i.status c.begin_round-parts.new.earlier.items i.events.items)
-    (sym (piece_handed i.number i.pod i.max_restart_delay i.history i.waiting i.begun c.begin_round-parts.result i.eviction
+    (subst (λ (p : Piece). IsKept p i.differs.items i.state i.status c.begin_round-parts.new.earlier.items
+    i.events.items)
+    (sym (piece_handed i.number i.pod i.max_restart_delay i.history i.waiting i.begun c.begin_round-parts.result
+    i.eviction
     obs (c.begin_round-parts.ensures.begun ∙ ap (λ n. begun_with i.waiting n i.begun) c.len-handed.ensures))) kept)
 
 pub returns-clause-ok : goal.returns-clause-ok

@@ -15,7 +15,8 @@ overflow_sub-result-2 c =
 pub returns-clause-is : goal.returns-clause-is
 returns-clause-is c =
     let i = c.deref-parts.result.now in
-    ap (λ n. n - i.begun) (sym (come c.deref-parts.result.now c.len.result c.len.ensures)) ∙ ap round_length (ap piece_of c.deref-parts.ensures ∙ c.self.view_is)
+    ap (λ n. n - i.begun) (sym (come c.deref-parts.result.now c.len.result c.len.ensures)) ∙ ap round_length
+    (ap piece_of c.deref-parts.ensures ∙ c.self.view_is)
 
 pub returns-clause-few : goal.returns-clause-few
 returns-clause-few c =

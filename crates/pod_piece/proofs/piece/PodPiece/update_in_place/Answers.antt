@@ -83,7 +83,8 @@ invariant_of-self-2 c =
     (λ t last at. c.move_on.ensures.moved t last at
     ∙ ap (λ (rows : List MadeTick). made_of rows ++ made_at last.at c.replace-before.result.items)
     c.make_room.ensures.same
-    ∙ ap (λ (es : List PodEvent). made_of i.earlier.items ++ made_at last.at es) (ap (λ v. v.items) c.replace-before.ensures.value))
+    ∙ ap (λ (es : List PodEvent). made_of i.earlier.items ++ made_at last.at es) (ap
+    (λ v. v.items) c.replace-before.ensures.value))
     (λ f. c.move_on.ensures.same f ∙ c.make_room.ensures.same) in
     kept_updated (piece i.number i.pod i.max_restart_delay i.history i.waiting i.begun i.eviction) (pod_tick observed)
     i.differs.items c.follow.new.differs.items

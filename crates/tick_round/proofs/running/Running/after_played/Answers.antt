@@ -40,6 +40,7 @@ returns-in_ok-next-in-Ok-clause-next g c =
 pub returns-in_ok-next-in-Ok-clause-finished : goal.returns-in_ok-next-in-Ok-clause-finished
 returns-in_ok-next-in-Ok-clause-finished g c =
     let out = c.in_ok-pieces in
-    subst (λ (n : ℕ). AreFinished n c.args.workers c.args.steps.now (map (λ list. list.items) c.in-Ok.played.finished.items))
+    subst (λ (n : ℕ). AreFinished n c.args.workers c.args.steps.now (map
+    (λ list. list.items) c.in-Ok.played.finished.items))
     (one_each c.args.self c.args.tick out.pieces.items out.ensures.kept c.requires.fits.pods.handed out.ensures.sent)
     c.in-Ok.ensures.finished
