@@ -11,8 +11,8 @@ pub update_by_workers-requires-clause-may : goal.update_by_workers-requires-clau
 update_by_workers-requires-clause-may g c κs within =
     let some = c.in_ok-pieces.ensures in
     let out = some.out in
-    may_update c.args.self (some.calm ++ some.tick ∷ []) c.in_ok-pieces.pieces.items c.in_ok-pieces.book out.kept out.sent
-    out.book
+    may_update c.args.self (some.calm ++ some.tick ∷ []) c.in_ok-pieces.pieces.items c.in_ok-pieces.book
+    out.kept out.sent out.book
 
 pub update_by_workers-requires-clause-numbered : goal.update_by_workers-requires-clause-numbered
 update_by_workers-requires-clause-numbered g c κs within =
@@ -24,7 +24,8 @@ pub end-requires : goal.end-requires
 end-requires g c =
     let out = c.in_ok-pieces in
     let some = out.ensures in
-    can_end c.args.self some.calm some.tick out.pieces.items c.in-Ok.pieces.items out.book c.in-Ok.book out.round some.out
+    can_end c.args.self some.calm some.tick out.pieces.items c.in-Ok.pieces.items out.book c.in-Ok.book out.round
+    some.out
     (fit_taken c.args.self (c.args.tick ∷ c.args.more.now.rest.items) (some.calm ++ some.tick ∷ [])
     c.begin_some.new.more.rest.items c.requires.fits some.all) c.in-Ok.ensures.pieces c.in-Ok.ensures.book
 
@@ -39,7 +40,8 @@ returns-in-Ok-clause-some g c =
     IfOk-weaker c.end.result _ _
     (λ next is. has_taken_some all front rest c.args.self _ some.out.kept c.requires.fits some.all is)
     (c.end.ensures c.args.self some.calm some.tick
-    (may_end c.args.self some.calm some.tick out.pieces.items c.in-Ok.pieces.items out.book c.in-Ok.book out.round some.out
+    (may_end c.args.self some.calm some.tick out.pieces.items c.in-Ok.pieces.items out.book c.in-Ok.book out.round
+    some.out
     fits c.in-Ok.ensures.pieces c.in-Ok.ensures.book))
 
 pub returns-in-Ok-clause-fewer : goal.returns-in-Ok-clause-fewer
@@ -49,7 +51,9 @@ returns-in-Ok-clause-fewer g c =
     let all = c.args.tick ∷ c.args.more.now.rest.items in
     let rest = c.begin_some.new.more.rest.items in
     let fits = fit_taken c.args.self all (some.calm ++ some.tick ∷ []) rest c.requires.fits some.all in
-    IfOk-weaker c.end.result _ _ (λ next is. fewer c.args.tick c.args.more.now.rest.items some.calm some.tick rest some.all)
+    IfOk-weaker c.end.result _ _
+    (λ next is. fewer c.args.tick c.args.more.now.rest.items some.calm some.tick rest some.all)
     (c.end.ensures c.args.self some.calm some.tick
-    (may_end c.args.self some.calm some.tick out.pieces.items c.in-Ok.pieces.items out.book c.in-Ok.book out.round some.out
+    (may_end c.args.self some.calm some.tick out.pieces.items c.in-Ok.pieces.items out.book c.in-Ok.book out.round
+    some.out
     fits c.in-Ok.ensures.pieces c.in-Ok.ensures.book))

@@ -7,7 +7,8 @@ use Rattle.tick_round.proofs.stretch.Stretch.go_on.Goals as goal
 pub take-requires : goal.take-requires
 take-requires c =
     may_hand_more c.loop.self c.pass.new.self c.in-Some.tick c.next.new.self.rest.items
-    (subst (λ (xs : List TickObs). MayGoOn c.loop.self xs) c.in-Some.ensures.items c.loop.invariant.may) c.in_ok-pass.ensures
+    (subst (λ (xs : List TickObs). MayGoOn c.loop.self xs) c.in-Some.ensures.items c.loop.invariant.may)
+    c.in_ok-pass.ensures
 
 pub loop-preserved : goal.loop-preserved
 loop-preserved c =
