@@ -3,11 +3,12 @@
 ghost use Rattle.std.specs.Prelude.{◌≡◌, ◌<◌};
 
 use crate::rounds::{BookCall, over_book};
-use event_book::{Entry, EventBook, Shares, Totals};
+use event_book::{EventBook, Shares};
 use kubelet_replay::NoGate;
 use std::process::Abort;
 use std::sync::ledger::Ledger;
 use std::test::Fail;
+use totals::{Entry, Totals};
 
 /// Whether the book has room for an update with this many events and orders, which it then has.
 fn is_entered<U: Ledger, E: Ledger, O: Ledger>(

@@ -1,7 +1,7 @@
 //! The calls that update pods under a gate.
 
 ghost use Rattle.std.specs.Prelude.{◌≡◌};
-ghost use Rattle.event_book.specs.state.Totals.{nothing};
+ghost use Rattle.totals.specs.state.Totals.{nothing};
 ghost use Rattle.event_book.specs.state.Shares.{most_parts, share_with};
 
 use crate::book_tests::fill;

@@ -3,17 +3,18 @@
 ghost use Rattle.std.specs.Prelude.{◌≡◌, ◌≤◌, ◌↔◌, ℕ, IsTrue, IfOk, IfErr, MatchOption, map, option_map};
 ghost use Rattle.clap.specs.Words.{found_of, rows_of, subcommand_rows_of};
 ghost use Rattle.commands.specs.declared.job.Job.{Job};
-ghost use Rattle.commands.specs.state.Program.{most_workers};
+ghost use Rattle.worker_count.specs.rule.Limit.{most_workers};
 ghost use Rattle.commands.specs.state.Jobs.{HasWorkers, format_asked, format_of, IsJobFor, IsJobOf, IsAskedBy};
 ghost use Rattle.commands.specs.state.Jobs.{IsRefusal, IsJobAs, Refutes, Refuses};
 
 use crate::fault::UsageFault;
-use crate::program::{MOST_WORKERS, program};
+use crate::program::program;
 use clap::error::ErrorKind;
 use clap::{ArgMatches, Error};
 use node_config::Format;
 use std::alloc::Global;
 use std::convert::AsStr;
+use worker_count::MOST_WORKERS;
 
 /// What the program is asked to do.
 #[derive(Clone, Copy, Debug, PartialEq, Eq)]

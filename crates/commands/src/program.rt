@@ -7,12 +7,10 @@ ghost use Rattle.commands.specs.state.Program.{run, check, play, program, IsComm
 
 use clap::{Arg, ArgAction, Command};
 use std::alloc::{AllocError, Global};
+use worker_count::MOST_WORKERS;
 
 /// The program's version: the file VERSION at the top of the repository has the same.
 const VERSION: &str = "0.9.0";
-
-/// The most workers that may be asked for.
-pub(crate) const MOST_WORKERS: usize = 64;
 
 const ABOUT: &str =
     "Replays what a kubelet would have decided on a node, from the node's recorded trace.";

@@ -11,7 +11,7 @@ use Rattle.histories.proofs.Places.{moment_given-below}
 use Rattle.histories.proofs.Picked.{picked_one, so_picked_back}
 use Rattle.histories.proofs.TheOne.{IsTheOne-exists}
 use Rattle.manifest.specs.rule.Probe.{Probe}
-use Rattle.manifest.specs.rule.Policy.{WantsRestart}
+use Rattle.restarts.specs.rule.Policy.{WantsRestart}
 use Rattle.manifest.specs.declared.policy.Policy.{Policy}
 use Rattle.manifest.specs.declared.pod.ContainerSpec.{ContainerSpec}
 use Rattle.state_diff.specs.declared.seen.CriState.TheVariants.{Running}

@@ -5,7 +5,7 @@ use Rattle.std.specs.Prelude.{◌↔◌, IsSome, IsSomeAnd, IfSome, IsTrue}
 use Rattle.histories.specs.rule.Histories.{IsFirstMoment, last_moment}
 use Rattle.histories.proofs.First.{IsFirstMoment-unique}
 use Rattle.histories.proofs.Lists.{some_given}
-use Rattle.manifest.specs.rule.Policy.{WantsRestart}
+use Rattle.restarts.specs.rule.Policy.{WantsRestart}
 use Rattle.manifest.specs.declared.policy.Policy.{Policy}
 use Rattle.manifest.specs.declared.pod.Role.{Role}
 use Rattle.manifest.specs.declared.pod.ContainerSpec.{ContainerSpec}

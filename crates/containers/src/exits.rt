@@ -3,7 +3,7 @@
 ghost use Rattle.std.specs.Prelude.{◌≡◌, ◌⊎◌, ◌↔◌, ◌<◌, ◌-◌, ◌++◌, ℕ, List, Option, Some, None, IsTrue, IsSome};
 ghost use Rattle.std.specs.Prelude.{IsSomeAnd, unwrap_or, if◌then◌else◌};
 ghost use Rattle.quantity.specs.rule.Duration.{end_of_time};
-ghost use Rattle.manifest.specs.rule.Policy.{WantsRestart};
+ghost use Rattle.restarts.specs.rule.Policy.{WantsRestart};
 ghost use Rattle.restarts.specs.rule.Exits.{Exit};
 ghost use Rattle.restarts.specs.rule.Delays.{IsDelay};
 ghost use Rattle.restarts.specs.state.Backoff.{IsStateOf};

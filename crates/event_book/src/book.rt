@@ -1,14 +1,14 @@
 //! The book that counts what happens.
 
 ghost use Rattle.std.specs.Prelude.{◌≡◌, ◌<◌, ◌^◌, OnOk, OnErr};
-ghost use Rattle.event_book.specs.state.Totals.{plus, nothing};
-ghost use Rattle.event_book.specs.state.Shares.{most_parts, share_with, one_update, AreWithin, ArePast};
+ghost use Rattle.totals.specs.state.Totals.{plus, nothing, one_update};
+ghost use Rattle.event_book.specs.state.Shares.{most_parts, share_with, AreWithin, ArePast};
 
 use crate::blanks::Blanks;
 use crate::shares::Shares;
-use crate::totals::{Entry, Totals};
 use std::marker::Model;
 use std::sync::ledger::{Book, Ledger};
+use totals::{Entry, Totals};
 
 /// No total passes this.
 const GREATEST_TOTAL: u64 = 1 << 63;
@@ -29,7 +29,7 @@ pub struct EventBook<U: Ledger, E: Ledger, O: Ledger> {
 
 impl<U: Ledger, E: Ledger, O: Ledger> Model for EventBook<U, E, O> {
     ghost use Rattle.std.specs.Prelude.{◌≡◌};
-    ghost use Rattle.event_book.specs.declared.totals.Totals.{Totals};
+    ghost use Rattle.totals.specs.declared.totals.Totals.{Totals};
     ghost use Rattle.event_book.specs.state.Shares.{AreWithin};
 
     ghost Value = { Totals };

@@ -9,11 +9,9 @@
 mod blanks;
 mod book;
 mod shares;
-mod totals;
 mod whole_book;
 
 pub use blanks::Blanks;
 pub use book::{EventBook, Full};
 pub use shares::Shares;
-pub use totals::{Entry, Totals};
 pub use whole_book::WholeBook;

@@ -1,7 +1,7 @@
 //! A part of each of a book's totals.
 
 ghost use Rattle.std.specs.Prelude.{◌≡◌, ◌<◌, ◌+◌};
-ghost use Rattle.event_book.specs.state.Totals.{plus, nothing};
+ghost use Rattle.totals.specs.state.Totals.{plus, nothing};
 ghost use Rattle.event_book.specs.state.Shares.{share_with};
 
 use std::marker::Model;

@@ -1,15 +1,15 @@
 //! A book beside its whole share.
 
 ghost use Rattle.std.specs.Prelude.{◌≡◌};
-ghost use Rattle.event_book.specs.state.Totals.{plus, nothing};
-ghost use Rattle.event_book.specs.state.Shares.{most_parts, share_with, one_update, AreWithin};
+ghost use Rattle.totals.specs.state.Totals.{plus, nothing, one_update};
+ghost use Rattle.event_book.specs.state.Shares.{most_parts, share_with, AreWithin};
 
 use crate::blanks::Blanks;
 use crate::book::EventBook;
 use crate::shares::Shares;
-use crate::totals::{Entry, Totals};
 use std::marker::Model;
 use std::sync::ledger::Ledger;
+use totals::{Entry, Totals};
 
 /// A book in the hands of one: beside it is its whole share, so what was entered is what it holds.
 /// Contracts see its totals.
@@ -21,7 +21,7 @@ pub struct WholeBook<U: Ledger, E: Ledger, O: Ledger> {
 
 impl<U: Ledger, E: Ledger, O: Ledger> Model for WholeBook<U, E, O> {
     ghost use Rattle.std.specs.Prelude.{◌≡◌};
-    ghost use Rattle.event_book.specs.declared.totals.Totals.{Totals};
+    ghost use Rattle.totals.specs.declared.totals.Totals.{Totals};
     ghost use Rattle.event_book.specs.state.Shares.{most_parts, share_with};
 
     ghost Value = { Totals };

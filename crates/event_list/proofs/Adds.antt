@@ -14,7 +14,7 @@ use Rattle.pod_piece.specs.state.Piece.{Piece, ticks}
 use Rattle.pod_piece.specs.state.Made.{MadeEvent, made_at, made_of, round_length, AreRoundEvents, AreEarlierEvents}
 use Rattle.pod_piece.specs.state.Status.{AreLastEvents}
 use Rattle.pod_piece.proofs.LastTicks.{tick_at}
-use Rattle.event_book.proofs.Made.{made_of-more, round_events, empty_round}
+use Rattle.totals.proofs.Made.{made_of-more, round_events, empty_round}
 use Rattle.event_list.specs.declared.event.Event.{Event}
 use Rattle.event_list.specs.declared.event.EventKind.TheVariants.{Pod}
 use Rattle.event_list.specs.declared.tick.TickEvents.{TickEvents}

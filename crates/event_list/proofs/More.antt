@@ -19,10 +19,10 @@ use Rattle.observations.specs.rule.Observations.{all_shown}
 use Rattle.node_signals.specs.declared.event.NodeEvent.{NodeEvent}
 use Rattle.pod_state.specs.declared.events.PodEvent.{PodEvent}
 use Rattle.eviction.specs.declared.eviction.Eviction.{Eviction}
-use Rattle.event_book.specs.declared.totals.Totals.{Totals}
-use Rattle.event_book.specs.declared.totals.Entry.{Entry}
-use Rattle.event_book.specs.rule.Totals.{is_order}
-use Rattle.event_book.specs.state.Totals.{entry_of, sums_of, plus}
+use Rattle.totals.specs.declared.totals.Totals.{Totals}
+use Rattle.totals.specs.declared.totals.Entry.{Entry}
+use Rattle.totals.specs.rule.Totals.{is_order}
+use Rattle.totals.specs.state.Totals.{entry_of, sums_of, plus}
 use Rattle.event_list.specs.declared.event.Event.{Event}
 use Rattle.event_list.specs.declared.event.EventKind.TheVariants.{Pod}
 use Rattle.event_list.specs.rule.Events.{event, of_pods, of_node, of_eviction, AreTickEvents, AreEvents}

@@ -16,8 +16,7 @@ use Rattle.pod_piece.specs.declared.status.PodStatus.{PodStatus}
 use Rattle.ranking.proofs.LawLemmas.{victim_unique}
 use Rattle.eviction.specs.declared.eviction.Eviction.{Eviction}
 use Rattle.eviction.specs.rule.Replay.{IsCandidate, order_of, Evicts, IsOfVictim, IsEvictionFor, is_paused}
-use Rattle.eviction.specs.rule.Replay.{unless_paused}
-use Rattle.eviction.specs.rule.Replay.{IsEvictionOfTick}
+use Rattle.eviction.specs.rule.Replay.{unless_paused, IsEvictionOfTick}
 use Rattle.eviction.specs.state.Laws.{OneReplay}
 
 -- two lists of which each place is determined by the places before it are one

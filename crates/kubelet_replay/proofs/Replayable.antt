@@ -9,11 +9,10 @@ use Rattle.std.proofs.lemmas.Option.{slice_get_within}
 use Rattle.node_config.specs.declared.node.Version.{Version}
 use Rattle.node_config.specs.declared.node.Version.TheVariants.{One, Two, Three}
 use Rattle.std.proofs.lemmas.Bool.{cases_lt}
-use Rattle.quantity.specs.rule.Duration.{end_of_time}
+use Rattle.quantity.specs.rule.Duration.{end_of_time, end_of_time}
 use Rattle.histories.specs.rule.Histories.{recorded, last_moment, moment_at}
 use Rattle.histories.specs.state.Histories.{EndsBefore}
 use Rattle.histories.proofs.Places.{length-project, moment_at-project}
-use Rattle.quantity.specs.rule.Duration.{end_of_time}
 use Rattle.manifest.specs.declared.pod.PodSpec.{PodSpec}
 use Rattle.state_diff.specs.declared.seen.Seen.{Seen}
 use Rattle.state_diff.specs.rule.Instances.{Tick}

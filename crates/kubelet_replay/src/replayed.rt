@@ -2,7 +2,7 @@
 
 ghost use Rattle.std.specs.Prelude.{◌-◌, ◌<◌, ◌≤◌, [], length, OnOk};
 ghost use Rattle.node_config.specs.declared.node.NodeConfig.{NodeConfig};
-ghost use Rattle.event_book.specs.rule.Limits.{most_workers};
+ghost use Rattle.worker_count.specs.rule.Limit.{most_workers};
 ghost use Rattle.tick_round.specs.state.Node.{IsAfter};
 ghost use Rattle.kubelet_replay.specs.state.Ticks.{AreReplayable, AreWhole, HaveArrived, IsNew, MayArrive};
 

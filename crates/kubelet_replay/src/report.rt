@@ -5,7 +5,7 @@ ghost use Rattle.manifest.specs.declared.pod.PodSpec.{PodSpec};
 ghost use Rattle.node_config.specs.declared.node.NodeConfig.{NodeConfig};
 ghost use Rattle.observations.specs.declared.tick.TickObs.{TickObs};
 ghost use Rattle.trace.specs.state.Sound.{AreAcceptable, HasShape, LeaveInThree};
-ghost use Rattle.event_book.specs.rule.Limits.{most_workers};
+ghost use Rattle.worker_count.specs.rule.Limit.{most_workers};
 ghost use Rattle.tick_round.specs.state.Node.{IsAfter};
 ghost use Rattle.node_report.specs.rule.Report.{IsReport};
 ghost use Rattle.kubelet_replay.specs.rule.Report.{IsReportOf};

@@ -1,7 +1,7 @@
 //! The replay of a trace, from its bytes to the bytes of its report.
 
 ghost use Rattle.std.specs.Prelude.{◌≡◌, ◌+◌, ◌^◌, ◌<◌, ◌≤◌, IfOk, IfErr, OnOk, IsErrOf, string_bytes};
-ghost use Rattle.event_book.specs.rule.Limits.{most_workers};
+ghost use Rattle.worker_count.specs.rule.Limit.{most_workers};
 ghost use Rattle.kubelet_replay.specs.rule.Run.{failed_reads, failed_writes, HasRead, IsReportIn, IsReportOfText};
 ghost use Rattle.kubelet_replay.specs.state.Run.{read_fault_of, text_as, RefusesText, Refuses, IsWritten, fault_of};
 ghost use Rattle.kubelet_replay.specs.state.Run.{read_as};

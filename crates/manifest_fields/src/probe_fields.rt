@@ -8,8 +8,7 @@ ghost use Rattle.manifest.specs.declared.pod.Role.TheVariants.{Init};
 ghost use Rattle.manifest.specs.rule.Probe.{no_probes};
 ghost use Rattle.manifest.specs.state.Probe.{SucceedsByOne};
 ghost use Rattle.manifest_fields.specs.rule.ProbeFields.{in_range, number_of, probe_in, probe_of, some_probes};
-ghost use Rattle.manifest_fields.specs.rule.ProbeFields.{unprobed};
-ghost use Rattle.manifest_fields.specs.rule.ProbeFields.{probes_of};
+ghost use Rattle.manifest_fields.specs.rule.ProbeFields.{unprobed, probes_of};
 
 use crate::fault::{Field, ManifestFault};
 use crate::fields::{absent, object};

@@ -5,8 +5,7 @@ ghost use Rattle.serde_json.specs.View.{view};
 ghost use Rattle.json_fields.specs.state.Reading.{GivesExactly};
 ghost use Rattle.manifest.specs.rule.Resources.{some_above};
 ghost use Rattle.manifest_fields.specs.rule.ResourceFields.{quantity_at, amounts_in, amounts_of, within};
-ghost use Rattle.manifest_fields.specs.rule.ResourceFields.{resources_in};
-ghost use Rattle.manifest_fields.specs.rule.ResourceFields.{resources_of};
+ghost use Rattle.manifest_fields.specs.rule.ResourceFields.{resources_in, resources_of};
 
 use crate::fault::{Field, ManifestFault};
 use crate::fields::object;

@@ -26,12 +26,10 @@ use Rattle.manifest_fields.specs.rule.Fields.{object_of, tested_text, required_t
 use Rattle.manifest_fields.specs.rule.Fields.{array_or_none, some_items, absent}
 use Rattle.manifest.specs.rule.Probe.{no_probes}
 use Rattle.manifest_fields.specs.rule.ProbeFields.{not_from_0, number_from, number_of, probe_in, probe_of}
-use Rattle.manifest_fields.specs.rule.ProbeFields.{some_probes}
-use Rattle.manifest_fields.specs.rule.ProbeFields.{unprobed, probes_of}
+use Rattle.manifest_fields.specs.rule.ProbeFields.{some_probes, unprobed, probes_of}
 use Rattle.manifest.specs.rule.Resources.{nothing, no_resources, some_above}
 use Rattle.manifest_fields.specs.rule.ResourceFields.{quantity_read, quantity_at, amounts_in, amounts_of}
-use Rattle.manifest_fields.specs.rule.ResourceFields.{resources_in}
-use Rattle.manifest_fields.specs.rule.ResourceFields.{resources_of}
+use Rattle.manifest_fields.specs.rule.ResourceFields.{resources_in, resources_of}
 use Rattle.manifest_reader.specs.rule.Manifest.{policy_from, policy_of, priority_from, priority_of, grace_period_from}
 use Rattle.manifest_reader.specs.rule.Manifest.{grace_period_of, field_of, sidecar_from, role_of, container_of}
 use Rattle.manifest_reader.specs.rule.Manifest.{containers_of, app_items_of, containers_in, metadata_of, settings_in}

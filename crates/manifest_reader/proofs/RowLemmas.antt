@@ -30,8 +30,7 @@ use Rattle.manifest_fields.specs.rule.Fields.{some_items}
 use Rattle.manifest.specs.rule.Resources.{some_above}
 use Rattle.manifest_fields.specs.rule.ResourceFields.{quantity_at, amounts_in, amounts_of, resources_in, resources_of}
 use Rattle.json_fields.specs.rule.Numbers.{max_int32, is_int32}
-use Rattle.manifest_fields.specs.rule.ProbeFields.{number_of, probe_in, probe_of, some_probes, unprobed}
-use Rattle.manifest_fields.specs.rule.ProbeFields.{probes_of}
+use Rattle.manifest_fields.specs.rule.ProbeFields.{number_of, probe_in, probe_of, some_probes, unprobed, probes_of}
 use Rattle.manifest_reader.specs.rule.Manifest.{policy_from, policy_of, priority_from, priority_of, grace_period_from}
 use Rattle.manifest_reader.specs.rule.Manifest.{grace_period_of, field_of, sidecar_from, role_of, container_of}
 use Rattle.manifest_reader.specs.rule.Manifest.{containers_of, app_items_of, containers_in, metadata_of, settings_in}

@@ -26,8 +26,7 @@ use Rattle.node_lines.specs.declared.eviction.Written.{Written}
 use Rattle.node_lines.specs.declared.fault.NodeFault.{NodeFault}
 use Rattle.node_lines.specs.declared.fault.NodeFault.TheVariants.{Config}
 use Rattle.node_lines.specs.state.Laws.{held, reclaim_written, SwitchesOff, DefaultsWhereNoneIsWritten}
-use Rattle.node_lines.specs.state.Laws.{HardIsAsWritten}
-use Rattle.node_lines.specs.state.Laws.{SoftIsAsWritten, OffSetsNoHard, OffSetsNoSoft}
+use Rattle.node_lines.specs.state.Laws.{HardIsAsWritten, SoftIsAsWritten, OffSetsNoHard, OffSetsNoSoft}
 use Rattle.node_lines.specs.rule.Limits.{has_capacity, is_off, with_capacity, limit_at, reclaim_at, default_limit}
 use Rattle.node_lines.specs.rule.Limits.{where_possible, default_limits, hard_limits}
 use Rattle.node_lines.specs.rule.Maps.{map_of, or_config, duration_from, duration_at, quantity_at}
@@ -36,8 +35,7 @@ use Rattle.json_fields.specs.rule.SignalMaps.{in_map}
 use Rattle.json_fields.proofs.EachSignal.{each_read, map_read as read_from_map}
 use Rattle.node_lines.specs.rule.Node.{name_from, settings_in, node_of}
 use Rattle.node_lines.specs.rule.Thresholds.{hard_threshold, soft_threshold, written_over, written_in}
-use Rattle.node_lines.specs.rule.Thresholds.{hard_thresholds}
-use Rattle.node_lines.specs.rule.Thresholds.{soft_thresholds, eviction_from}
+use Rattle.node_lines.specs.rule.Thresholds.{hard_thresholds, soft_thresholds, eviction_from}
 
 pub map_read : {A : Type 0} (read : Signal → Option Data → Result A NodeFault) (found : Option Data) (all : BySignal A)
     → map_of read found ≡ Ok all → (signal : Signal) → read signal (in_map found signal) ≡ Ok (of all signal)

@@ -2,9 +2,8 @@
 
 ghost use Rattle.std.specs.Prelude.{◌≡◌, IfOk, IfSome};
 ghost use Rattle.node_lines.specs.rule.Thresholds.{hard_threshold_of, soft_threshold_of};
-ghost use Rattle.node_lines.specs.state.Thresholds.{IsBuiltFor};
+ghost use Rattle.node_lines.specs.state.Thresholds.{IsBuiltFor, AreBuiltOf};
 ghost use Rattle.node_lines.specs.rule.Thresholds.{hard_thresholds, soft_thresholds};
-ghost use Rattle.node_lines.specs.state.Thresholds.{AreBuiltOf};
 
 use crate::eviction::Written;
 use crate::fault::NodeFault;

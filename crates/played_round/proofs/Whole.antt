@@ -8,8 +8,8 @@ use Rattle.std.proofs.lemmas.List.Elements.{All-get_or}
 use Rattle.std.proofs.lemmas.Option.{slice_get-get_or, slice_get_within, get_or_from_slice_get}
 use Rattle.round_steps.specs.declared.step.Step.{Step}
 use Rattle.pod_piece.specs.state.Piece.{Piece, updated}
-use Rattle.event_book.specs.declared.totals.Entry.{Entry}
-use Rattle.event_book.specs.state.Limits.{IsLow}
+use Rattle.totals.specs.declared.totals.Entry.{Entry}
+use Rattle.totals.specs.state.Limits.{IsLow}
 use Rattle.round_core.specs.state.Pool.{WorkerState, PoolState, no_entry, entry_at, deal, run, drain_steps}
 use Rattle.round_core.specs.state.Pool.{after_steps, after_drain}
 use Rattle.round_core.specs.state.Places.{one_at, times_marked, sum_of_shares, with_drain}

@@ -2,15 +2,15 @@
 
 ghost use Rattle.std.specs.Prelude.{◌≡◌, ◌<◌, length, replicate, IsTrue, OnOk, IfOk};
 ghost use Rattle.pod_piece.specs.state.Piece.{updated};
-ghost use Rattle.event_book.specs.state.Totals.{IsEntryOf};
-ghost use Rattle.event_book.specs.state.Limits.{IsLow};
+ghost use Rattle.totals.specs.state.Totals.{IsEntryOf};
+ghost use Rattle.totals.specs.state.Limits.{IsLow};
 ghost use Rattle.round_core.specs.state.Pool.{no_entry, entry_at};
 ghost use Rattle.played_round.specs.state.Table.{IsWaiting, IsUpdate};
 
-use event_book::Entry;
 use pod_piece::PodPiece;
 use std::alloc::{AllocError, Global};
 use std::marker::Model;
+use totals::Entry;
 
 const NO_ENTRY: Entry = Entry {
     events: 0,

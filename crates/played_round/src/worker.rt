@@ -1,18 +1,19 @@
 //! A worker of a played round.
 
 ghost use Rattle.std.specs.Prelude.{◌≡◌, ◌∷◌, [], length, OnOk, MatchOption};
-ghost use Rattle.event_book.specs.state.Totals.{plus, nothing};
-ghost use Rattle.event_book.specs.state.Shares.{share_with, one_update, AreWithin};
+ghost use Rattle.totals.specs.state.Totals.{plus, nothing, one_update};
+ghost use Rattle.event_book.specs.state.Shares.{share_with, AreWithin};
 ghost use Rattle.round_core.specs.state.Pool.{idle, with_piece, with_deque, holding, popped, is_empty, with_hand};
-ghost use Rattle.round_core.specs.state.Pool.{marked};
-ghost use Rattle.round_core.specs.state.Pool.{finished_with};
+ghost use Rattle.round_core.specs.state.Pool.{marked, finished_with};
 
-use event_book::{Entry, EventBook, Shares};
+use event_book::{EventBook, Shares};
+
 use round_core::Hand;
 use std::alloc::{AllocError, Global};
 use std::collections::VecDeque;
 use std::marker::Model;
 use std::sync::ledger::Ledger;
+use totals::Entry;
 
 /// A worker: the numbers of the pieces in its deque, its hand, the numbers of those that it has finished, and its share
 /// of the book, which is one part.

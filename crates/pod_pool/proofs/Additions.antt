@@ -9,12 +9,12 @@ use Rattle.std.proofs.lemmas.Option.{slice_get-get_or, slice_get_within}
 use Rattle.histories.proofs.Lists.{place_split}
 use Rattle.observations.specs.rule.Limits.{most_pods}
 use Rattle.pod_piece.specs.state.Piece.{Piece, all_updated}
-use Rattle.event_book.specs.declared.totals.Totals.{Totals}
-use Rattle.event_book.specs.state.Totals.{plus, nothing}
-use Rattle.event_book.specs.state.Rounds.{IsAdditionOf, AreAdditionsOf, sums_of_additions}
-use Rattle.event_book.specs.state.Shares.{ShareState, share_with, greatest_total}
-use Rattle.event_book.specs.state.Limits.{most_round_events}
-use Rattle.event_book.proofs.Numbers.{totals_same}
+use Rattle.totals.specs.declared.totals.Totals.{Totals}
+use Rattle.totals.specs.state.Totals.{plus, nothing}
+use Rattle.totals.specs.state.Rounds.{IsAdditionOf, AreAdditionsOf, sums_of_additions}
+use Rattle.event_book.specs.state.Shares.{ShareState, share_with}
+use Rattle.totals.specs.state.Limits.{greatest_total, most_round_events}
+use Rattle.totals.proofs.Numbers.{totals_same}
 use Rattle.piece_deques.proofs.Lists.{sum_map}
 use Rattle.piece_deques.specs.state.Rule.{AreNumbered}
 use Rattle.pod_pool.specs.state.Done.{HaveAdditions, AreSumsOf}

@@ -6,12 +6,12 @@ use Rattle.std.specs.List.Sorted.{IsPermutation}
 use Rattle.std.proofs.lemmas.List.Sums.{sum_by-cons, sum_by-append}
 use Rattle.std.proofs.lemmas.List.Sorted.{All-permutation, IsPermutation-sym, sum_by-IsPermutation}
 use Rattle.pod_piece.specs.state.Piece.{Piece}
-use Rattle.event_book.specs.declared.totals.Totals.{Totals}
-use Rattle.event_book.specs.state.Totals.{plus, nothing}
-use Rattle.event_book.specs.state.Rounds.{IsAdditionOf}
-use Rattle.event_book.specs.state.Limits.{IsLowAddition}
-use Rattle.event_book.proofs.Made.{one_addition}
-use Rattle.event_book.proofs.Numbers.{totals_same}
+use Rattle.totals.specs.declared.totals.Totals.{Totals}
+use Rattle.totals.specs.state.Totals.{plus, nothing}
+use Rattle.totals.specs.state.Rounds.{IsAdditionOf}
+use Rattle.totals.specs.state.Limits.{IsLowAddition}
+use Rattle.totals.proofs.Made.{one_addition}
+use Rattle.totals.proofs.Numbers.{totals_same}
 use Rattle.piece_deques.proofs.Lists.{all_left, all_right, ones}
 use Rattle.pod_pool.specs.state.Done.{HaveAdditions, AreSumsOf}
 

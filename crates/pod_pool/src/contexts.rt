@@ -7,7 +7,7 @@ ghost use lib.ListN.{get_elem?};
 ghost use Rattle.crossbeam_deque.specs.Handles.{worker_view};
 ghost use Rattle.observations.specs.rule.Limits.{most_pods};
 ghost use Rattle.event_book.specs.state.Shares.{most_parts};
-ghost use Rattle.event_book.specs.rule.Limits.{most_workers};
+ghost use Rattle.worker_count.specs.rule.Limit.{most_workers};
 ghost use Rattle.piece_deques.specs.state.Rule.{IsPieceDue};
 ghost use Rattle.piece_deques.specs.state.Ends.{IsOwner, pushed_weight};
 ghost use Rattle.pod_pool.specs.state.Permits.{owner_deque, permit_deque, pushed_to};

@@ -3,7 +3,7 @@
 ghost use Rattle.std.specs.Prelude.{◌≡◌, ◌<◌, ◌≤◌, ◌+◌, [], ℕ, true, None, Some, vec_capacity};
 ghost use Rattle.std.specs.Prelude.{IfOk, IfErr, IfSome, OnOk, OnErr, is_ok, if◌then◌else◌};
 ghost use Rattle.pod_piece.specs.state.Piece.{all_updated};
-ghost use Rattle.event_book.specs.state.Totals.{nothing, plus};
+ghost use Rattle.totals.specs.state.Totals.{nothing, plus};
 ghost use Rattle.event_book.specs.state.Shares.{share_with};
 ghost use Rattle.piece_deques.specs.state.Rule.{IsPieceDue};
 ghost use Rattle.pod_pool.specs.state.Done.{IsDone, IsLeftFrom, IsLeftOf};
@@ -11,13 +11,14 @@ ghost use Rattle.pod_pool.specs.state.WorkerResults.{kept, KeepsOneMore, HasRoom
 
 use crate::gate::{Gate, update};
 use crate::worker_result::WorkerResult;
-use event_book::{EventBook, Full, Shares, Totals};
+use event_book::{EventBook, Full, Shares};
 use piece_deques::Deal;
 use pod_piece::PodPiece;
 use std::alloc::AllocError;
 use std::marker::PhantomData;
 use std::sync::ledger::Ledger;
 use std::sync::{Mutex, Wait};
+use totals::Totals;
 
 /// Takes all ticks of a piece that wait into its status, in their order, each between the two calls of the gate. An
 /// `Err` leaves the piece pending: the ticks before the refused one are taken.

@@ -3,7 +3,7 @@
 ghost use Rattle.std.specs.Prelude.{◌≡◌, ◌<◌, ◌≤◌, ◌+◌, IfOk, IfErr, length, map, vec_len};
 ghost use Rattle.observations.specs.rule.Limits.{most_pods};
 ghost use Rattle.event_book.specs.state.Shares.{most_parts};
-ghost use Rattle.event_book.specs.state.Limits.{AreLow};
+ghost use Rattle.totals.specs.state.Limits.{AreLow};
 ghost use Rattle.piece_deques.specs.state.Rule.{AreNumbered};
 ghost use Rattle.pod_pool.specs.state.Done.{IsLeftOf};
 ghost use Rattle.pod_pool.specs.state.Contexts.{context_tag, AreLaid};

@@ -2,7 +2,7 @@
 
 ghost use Rattle.std.specs.Prelude.{◌≡◌, ◌<◌, ◌≤◌, ◌+◌, ℕ, [], All, map, vec_len, vec_capacity};
 ghost use Rattle.crossbeam_deque.specs.Handles.{stealer_deque, worker_deque};
-ghost use Rattle.event_book.specs.rule.Limits.{most_workers};
+ghost use Rattle.worker_count.specs.rule.Limit.{most_workers};
 ghost use Rattle.pod_pool.specs.state.Permits.{owner_deque, permit_deque};
 ghost use Rattle.pod_pool.specs.state.Slots.{IsHost, IsRich, IsDealtSlot};
 

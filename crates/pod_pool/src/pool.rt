@@ -4,8 +4,8 @@ ghost use Rattle.std.specs.Prelude.{◌≡◌, ◌<◌, ◌≤◌, All, IfOk, If
 ghost use Rattle.observations.specs.rule.Limits.{most_pods};
 ghost use Rattle.pod_piece.specs.state.Piece.{all_updated};
 ghost use Rattle.event_book.specs.state.Shares.{most_parts};
-ghost use Rattle.event_book.specs.rule.Limits.{most_workers};
-ghost use Rattle.event_book.specs.state.Limits.{AreLow};
+ghost use Rattle.worker_count.specs.rule.Limit.{most_workers};
+ghost use Rattle.totals.specs.state.Limits.{AreLow};
 ghost use Rattle.piece_deques.specs.state.Rule.{AreNumbered};
 ghost use Rattle.pod_pool.specs.state.Faults.{GivesBack};
 ghost use Rattle.pod_pool.specs.state.Order.{HasEntered};

@@ -2,10 +2,10 @@
 
 ghost use Rattle.std.specs.Prelude.{◌≡◌, ◌≤◌, ◌+◌, ℕ, List, None, length, vec_capacity};
 ghost use Rattle.observations.specs.rule.Limits.{most_pods};
-ghost use Rattle.event_book.specs.declared.totals.Totals.{Totals as SomeTotals};
-ghost use Rattle.event_book.specs.state.Rounds.{AreAdditionsOf};
+ghost use Rattle.totals.specs.declared.totals.Totals.{Totals as SomeTotals};
+ghost use Rattle.totals.specs.state.Rounds.{AreAdditionsOf};
 ghost use Rattle.event_book.specs.state.Shares.{most_parts};
-ghost use Rattle.event_book.specs.state.Limits.{AreLow};
+ghost use Rattle.totals.specs.state.Limits.{AreLow};
 ghost use Rattle.piece_deques.specs.state.Rule.{AreNumbered};
 ghost use Rattle.pod_pool.specs.state.Done.{weigh};
 ghost use Rattle.pod_pool.specs.state.WorkerResults.{kept};
@@ -13,11 +13,12 @@ ghost use Rattle.pod_pool.specs.state.Order.{IsRoundDone};
 
 use crate::order::in_order;
 use crate::worker_result::WorkerResult;
-use event_book::{EventBook, Shares, Totals};
+use event_book::{EventBook, Shares};
 use piece_deques::Deal;
 use pod_piece::PodPiece;
 use std::sync::ledger::Ledger;
 use std::sync::{Mutex, Wait};
+use totals::Totals;
 
 /// Looks at the events of each piece's round: by them it adds something.
 fn look_over(pieces: &[PodPiece])

@@ -4,7 +4,7 @@ ghost use Rattle.std.specs.Prelude.{◌≡◌, ◌≢◌, ◌<◌, ◌≤◌, �
 ghost use mathlib.Core.Option.{some};
 ghost use lib.ListN.{get_elem?};
 ghost use Rattle.crossbeam_deque.specs.Handles.{worker_view};
-ghost use Rattle.event_book.specs.state.Totals.{nothing};
+ghost use Rattle.totals.specs.state.Totals.{nothing};
 ghost use Rattle.event_book.specs.state.Shares.{share_with};
 ghost use Rattle.piece_deques.specs.state.Rule.{FoundEmpty};
 ghost use Rattle.piece_deques.specs.state.Ends.{IsOwner};

@@ -17,9 +17,8 @@ use Rattle.containers.specs.rule.Ticks.{ContainerTick}
 use Rattle.containers.specs.rule.Probed as probed
 use Rattle.containers.specs.state.Shown as shown
 use Rattle.containers.proofs.ViewLemmas.{view_code}
-use Rattle.pod_state.specs.rule.Pods.{PodTick, ticks_of, OfSpec, Serves, facts, numbers}
+use Rattle.pod_state.specs.rule.Pods.{PodTick, ticks_of, OfSpec, Serves, facts, numbers, IsRawPhaseAfter}
 use Rattle.pod_state.specs.state.Pods.{IsViewOf, AreViewsOf}
-use Rattle.pod_state.specs.rule.Pods.{IsRawPhaseAfter}
 use Rattle.pod_state.proofs.TickLemmas.{whatever}
 
 same_role : (o : Option ContainerSpec) (ticks : List ContainerTick) (view : ContainerView) (role : Role)

@@ -14,9 +14,8 @@ use Rattle.probes.specs.rule.Ticks.{Tick, IsStarted, HasPassed, HasStartupFailed
 use Rattle.probes.specs.state.Startup.{IsStartupOf, IsProgressWith}
 use Rattle.probes.specs.state.Liveness.{IsLivenessOf}
 use Rattle.probes.specs.state.Readiness.{IsReadinessOf}
-use Rattle.probes.specs.rule.Container.{AreCounted, IsKillOrdered, IsPassTick}
+use Rattle.probes.specs.rule.Container.{AreCounted, IsKillOrdered, IsPassTick, IsInstanceReady}
 use Rattle.probes.specs.state.Container.{AreInRange, IsSomeKillOrdered, IsKillTick}
-use Rattle.probes.specs.rule.Container.{IsInstanceReady}
 use Rattle.probes.specs.state.ProbeSet.{Follows, IsStateOf}
 use Rattle.histories.proofs.Lasting.{ComesTrue-now}
 use Rattle.probes.proofs.Counted.{AreCounted-unique, AreCounted-more, AreCounted-none, AreCounted-start, passed_lasts}

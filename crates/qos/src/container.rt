@@ -4,8 +4,7 @@ ghost use Rattle.std.specs.Prelude.{◌≡◌, ◌≤◌, ◌↔◌, IfSome, IsT
 ghost use Rattle.manifest.specs.declared.resources.Resource.TheVariants.{Cpu, Memory};
 ghost use Rattle.quantity.specs.rule.Quantity.{greatest_quantity};
 ghost use Rattle.qos.specs.rule.Container.{set_amount, limit_of, request_of, requested, RequestEqualsLimit};
-ghost use Rattle.qos.specs.rule.Container.{IsGuaranteed};
-ghost use Rattle.qos.specs.rule.Container.{HasRequestOrLimit, HasSomeRequestOrLimit};
+ghost use Rattle.qos.specs.rule.Container.{IsGuaranteed, HasRequestOrLimit, HasSomeRequestOrLimit};
 
 use manifest::{ContainerSpec, Resource};
 use quantity::Quantity;

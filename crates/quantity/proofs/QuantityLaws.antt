@@ -13,9 +13,8 @@ use Rattle.std.proofs.lemmas.List.Elements.{All-cons, All-append}
 use Rattle.quantity.specs.rule.Digits.{after_digits, leading_digits}
 use Rattle.quantity.specs.state.Digits.{AllDigits}
 use Rattle.quantity.specs.rule.Number.{whole_of, fraction_of, after_number}
-use Rattle.quantity.specs.rule.Quantity.{greatest_quantity, after_plus, digit_count, number_value}
+use Rattle.quantity.specs.rule.Quantity.{greatest_quantity, after_plus, digit_count, number_value, thousandths_of}
 use Rattle.quantity.specs.state.Quantity.{HasThousandths}
-use Rattle.quantity.specs.rule.Quantity.{thousandths_of}
 use Rattle.quantity.specs.rule.Quantity.{scaled_number_of, quantity_of}
 use Rattle.quantity.specs.rule.Suffix.{factor_of}
 use Rattle.quantity.specs.state.Suffix.{IsInBounds}

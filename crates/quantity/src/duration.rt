@@ -4,9 +4,8 @@ ghost use Rattle.std.specs.Prelude.{◌≡◌, ◌<◌, ◌≤◌, ◌^◌, ◌*
 ghost use Rattle.std.specs.Prelude.{slice_get, length};
 ghost use Rattle.std.specs.List.{prefix_len};
 ghost use Rattle.std.specs.Char.{is_ascii_digit};
-ghost use Rattle.quantity.specs.rule.Duration.{duration_of, piece_seconds, pieces_of};
+ghost use Rattle.quantity.specs.rule.Duration.{duration_of, piece_seconds, pieces_of, sum_onto, unit_seconds};
 ghost use Rattle.quantity.specs.state.Duration.{HasSeconds, HasDurationFault};
-ghost use Rattle.quantity.specs.rule.Duration.{sum_onto, unit_seconds};
 
 use crate::digits::{count_digits, decimal};
 use crate::fault::QuantityFault;

@@ -1,7 +1,7 @@
 //! All ticks of the trace at once, which make one round.
 
 ghost use Rattle.std.specs.Prelude.{◌≡◌, IfOk};
-ghost use Rattle.event_book.specs.state.Totals.{nothing};
+ghost use Rattle.totals.specs.state.Totals.{nothing};
 ghost use Rattle.tick_round.specs.state.Node.{MayTakeAll};
 
 use crate::nodes::told;

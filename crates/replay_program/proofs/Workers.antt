@@ -4,7 +4,8 @@ use Rattle.clap.specs.Words.{Row, Text, subcommand_of}
 use Rattle.commands.specs.declared.job.Job.{Job}
 use Rattle.commands.specs.declared.job.Job.TheVariants.{Run, Check, Play}
 use Rattle.commands.specs.state.Jobs.{HasWorkers, IsJobOf, IsJobFor, IsAskedBy}
-use Rattle.commands.specs.state.Program.{most_workers, program}
+use Rattle.commands.specs.state.Program.{program}
+use Rattle.worker_count.specs.rule.Limit.{most_workers}
 use Rattle.replay_program.specs.state.Jobs.{HasFewWorkers}
 
 few : (rows : List Row) (workers : ℕ) → HasWorkers rows workers → (0 < workers) × (workers ≤ most_workers)

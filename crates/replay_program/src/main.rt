@@ -6,7 +6,7 @@ mod fault;
 mod progress;
 
 ghost use Rattle.std.specs.Prelude.{◌<◌, ◌≤◌, ◌^◌};
-ghost use Rattle.commands.specs.state.Program.{most_workers};
+ghost use Rattle.worker_count.specs.rule.Limit.{most_workers};
 ghost use Rattle.replay_program.specs.state.Jobs.{HasFewWorkers};
 
 use fault::Fault;

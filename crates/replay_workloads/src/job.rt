@@ -4,12 +4,10 @@ use anyhow::{Result, bail};
 use kubelet_replay::{Counted, Format, MemSource, NoGate, check_in, fault_line, replay_in};
 use std::sync::Wait;
 use std::thread::Threads;
+use worker_count::MOST_WORKERS;
 
 /// This many bytes a call gives, as a file's reader would.
 const BYTES_A_READ: usize = 64 << 10;
-
-/// This many workers share the pods of a tick at most.
-const MOST_WORKERS: usize = 64;
 
 /// What is asked of a trace.
 #[derive(Clone, Copy)]

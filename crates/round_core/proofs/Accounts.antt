@@ -4,17 +4,15 @@ use Rattle.std.proofs.Common.{◌≡◌, ℕ, ◌+◌, ◌≤◌, List, [], ◌�
 use Rattle.std.specs.Prelude.{sum_by}
 use Rattle.std.proofs.lemmas.List.{get_or_past}
 use Rattle.std.proofs.lemmas.List.Sums.{sum_by-cons, sum_by_push}
-use Rattle.event_book.specs.declared.totals.Entry.{Entry}
-use Rattle.event_book.specs.declared.totals.Totals.{Totals}
+use Rattle.totals.specs.declared.totals.Entry.{Entry}
+use Rattle.totals.specs.declared.totals.Totals.{Totals}
 use Rattle.round_core.specs.declared.hand.Hand.{Hand}
 use Rattle.round_core.specs.declared.hand.Hand.TheVariants.{Empty, Taken, Updated}
 use Rattle.round_steps.specs.declared.step.Step.{Step}
 use Rattle.round_steps.specs.declared.step.Step.TheVariants.{Pop, Steal, Update, Enter}
-use Rattle.event_book.specs.state.Shares.{one_update}
-use Rattle.event_book.specs.state.Totals.{plus}
+use Rattle.totals.specs.state.Totals.{one_update, plus}
 use Rattle.round_core.specs.state.Pool.{WorkerState, PoolState, idle, worker_at, with_deque, holding, with_hand}
-use Rattle.round_core.specs.state.Pool.{is_empty}
-use Rattle.round_core.specs.state.Pool.{marked, popped, finishing, entered, entry_at, steal, step}
+use Rattle.round_core.specs.state.Pool.{is_empty, marked, popped, finishing, entered, entry_at, steal, step}
 use Rattle.round_core.specs.state.Places.{held, held_updated, worker_weight, waiting}
 use Rattle.round_core.proofs.Sums.{sum_set_gain, sum_set_moved, steal_cases}
 

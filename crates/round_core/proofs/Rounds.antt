@@ -6,13 +6,13 @@ use Rattle.std.proofs.lemmas.Bool.{cases_lt}
 use Rattle.std.proofs.lemmas.List.{take_all}
 use Rattle.std.proofs.lemmas.List.Elements.{recursion_from_All}
 use Rattle.std.proofs.lemmas.List.Sums.{sum_by-cons, sum_by-le-sum_by}
-use Rattle.event_book.specs.declared.totals.Entry.{Entry}
-use Rattle.event_book.specs.declared.totals.Totals.{Totals}
+use Rattle.totals.specs.declared.totals.Entry.{Entry}
+use Rattle.totals.specs.declared.totals.Totals.{Totals}
 use Rattle.round_core.specs.declared.hand.Hand.{Hand}
 use Rattle.round_core.specs.declared.hand.Hand.TheVariants.{Empty, Taken, Updated}
 use Rattle.round_steps.specs.declared.step.Step.{Step}
-use Rattle.event_book.specs.state.Totals.{sums_of}
-use Rattle.event_book.proofs.Numbers.{totals_same}
+use Rattle.totals.specs.state.Totals.{sums_of}
+use Rattle.totals.proofs.Numbers.{totals_same}
 use Rattle.round_core.specs.state.Pool.{WorkerState, PoolState, idle, entry_at, deal, drain_steps, after_steps}
 use Rattle.round_core.specs.state.Pool.{after_drain}
 use Rattle.round_core.specs.state.Places.{sum_below, one_at, held, held_updated, worker_weight, pool_weight}

@@ -8,13 +8,12 @@ use Rattle.std.proofs.lemmas.Bool.Decides.{nat_tests}
 use Rattle.std.proofs.lemmas.List.{length-replicate}
 use Rattle.std.proofs.lemmas.List.Sums.{sum_by-append, sum_by_push, sum_by_more}
 use Rattle.std.proofs.lemmas.List.Folds.{sum_by-replicate}
-use Rattle.event_book.specs.declared.totals.Entry.{Entry}
-use Rattle.event_book.specs.declared.totals.Totals.{Totals}
+use Rattle.totals.specs.declared.totals.Entry.{Entry}
+use Rattle.totals.specs.declared.totals.Totals.{Totals}
 use Rattle.round_steps.specs.declared.step.Step.{Step}
 use Rattle.round_steps.specs.declared.step.Step.TheVariants.{Pop, Steal, Update, Enter}
 use Rattle.round_core.specs.state.Pool.{WorkerState, PoolState, idle, no_entry, worker_at, with_piece, deal, entry_at}
-use Rattle.round_core.specs.state.Pool.{step}
-use Rattle.round_core.specs.state.Pool.{run}
+use Rattle.round_core.specs.state.Pool.{step, run}
 use Rattle.round_core.specs.state.Places.{sum_below, one_at, worker_weight, pool_weight, waiting, updated_by}
 use Rattle.round_core.specs.state.Places.{updates_of}
 use Rattle.round_core.proofs.Sums.{sum_set_gain}

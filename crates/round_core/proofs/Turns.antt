@@ -3,8 +3,8 @@ use Rattle.std.proofs.Common.{◌≡◌, ◌≢◌, ℕ, ◌+◌, ◌<◌, ◌�
 use Rattle.std.proofs.Common.{take, refl, sym, ap, ◌∙◌, append_assoc, append-nil, length-set, get_or-set_other, arith}
 use Rattle.std.specs.Prelude.{if◌then◌else◌}
 use Rattle.std.proofs.lemmas.List.{take_more, length-take-le}
-use Rattle.event_book.specs.declared.totals.Entry.{Entry}
-use Rattle.event_book.specs.declared.totals.Totals.{Totals}
+use Rattle.totals.specs.declared.totals.Entry.{Entry}
+use Rattle.totals.specs.declared.totals.Totals.{Totals}
 use Rattle.round_steps.specs.declared.step.Step.{Step}
 use Rattle.round_steps.specs.declared.step.Step.TheVariants.{Pop, Steal, Update, Enter}
 use Rattle.round_core.specs.state.Pool.{WorkerState, PoolState, idle, worker_at, can_steal, stolen, step, run}

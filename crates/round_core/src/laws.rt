@@ -4,13 +4,12 @@
 //! contract is what it is for, and its body is empty.
 
 ghost use Rattle.std.specs.Prelude.{◌≡◌, ℕ, ◌<◌, ◌≤◌, List, length};
-ghost use Rattle.event_book.specs.declared.totals.Entry.{Entry};
+ghost use Rattle.totals.specs.declared.totals.Entry.{Entry};
 ghost use Rattle.round_steps.specs.declared.step.Step.{Step};
-ghost use Rattle.event_book.specs.state.Totals.{sums_of};
+ghost use Rattle.totals.specs.state.Totals.{sums_of};
 ghost use Rattle.round_core.specs.state.Pool.{deal, after_steps, after_drain};
 ghost use Rattle.round_core.specs.state.Places.{places, pool_weight, sum_below, times_finished, times_marked};
-ghost use Rattle.round_core.specs.state.Places.{times_updated};
-ghost use Rattle.round_core.specs.state.Places.{sum_of_shares, with_drain, IsQuiet, AreAlike};
+ghost use Rattle.round_core.specs.state.Places.{times_updated, sum_of_shares, with_drain, IsQuiet, AreAlike};
 
 /// After any steps each piece stands at exactly one place: in a deque, in a hand or on a finished list.
 pub fn each_piece_at_one_place()

@@ -13,8 +13,7 @@ use Rattle.state_diff.specs.declared.seen.CriState.TheVariants.{Created, Running
 use Rattle.state_diff.specs.rule.Instances.{Tick, seen_at, IsOf, IsOfAs, IsOfKnown, Listed, IsLastKnown, IsEffective}
 use Rattle.state_diff.specs.state.Instances.{IsAcceptable}
 use Rattle.state_diff.specs.rule.Acceptable.{is_of, is_at_most, known_after, last_known, effective_state}
-use Rattle.state_diff.specs.rule.Acceptable.{is_not_older}
-use Rattle.state_diff.specs.rule.Acceptable.{is_not_gone, is_not_back, is_acceptable}
+use Rattle.state_diff.specs.rule.Acceptable.{is_not_older, is_not_gone, is_not_back, is_acceptable}
 use Rattle.state_diff.proofs.Places.{known_of}
 use Rattle.state_diff.proofs.Steps.{IsEffective-unique}
 

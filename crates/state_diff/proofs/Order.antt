@@ -10,8 +10,7 @@ use Rattle.state_diff.specs.declared.seen.CriState.{CriState}
 use Rattle.state_diff.specs.declared.seen.CriState.TheVariants.{Created, Running, Exited}
 use Rattle.state_diff.specs.rule.States.{rank}
 use Rattle.state_diff.specs.rule.Instances.{Tick, listing_of, seen_at, IsOf, IsOfAs, Listed, ListedAs, IsExit}
-use Rattle.state_diff.specs.state.Instances.{tick}
-use Rattle.state_diff.specs.state.Instances.{MayFollow, IsAcceptable, IsAcceptableHistory}
+use Rattle.state_diff.specs.state.Instances.{tick, MayFollow, IsAcceptable, IsAcceptableHistory}
 use Rattle.state_diff.specs.rule.Acceptable.{known_after, last_known, effective_state}
 use Rattle.state_diff.specs.state.Laws.{StartsBeforeExit, ExitedStaysExited, NewestNeverFalls, AcceptableIsNewest}
 use Rattle.state_diff.proofs.Places.{added, split, seen_at-below}

@@ -3,9 +3,8 @@
 ghost use Rattle.std.specs.Prelude.{◌≡◌, ◌↔◌, ◌<◌, ◌≤◌, ◌-◌, ℕ, ℤ, List, [], ◌∷◌, ◌++◌, length, Option, Some, None};
 ghost use Rattle.std.specs.Prelude.{IsSomeAnd, IsTrue, IsSome, IfSome, MatchOption};
 ghost use Rattle.state_diff.specs.rule.Instances.{Tick, IsOf, seen_at, Listed, ListedAs, IsNewest, IsState, IsExit};
-ghost use Rattle.state_diff.specs.state.Instances.{tick};
+ghost use Rattle.state_diff.specs.state.Instances.{tick, IsAcceptable};
 ghost use Rattle.state_diff.specs.rule.Instances.{IsExitCode, IsStart, Ends, IsSetUp, IsEffective};
-ghost use Rattle.state_diff.specs.state.Instances.{IsAcceptable};
 ghost use Rattle.state_diff.specs.rule.Acceptable.{is_acceptable};
 ghost use Rattle.histories.specs.rule.Histories.{IsFirstMoment, last_moment};
 ghost use Rattle.state_diff.specs.rule.States.{rank};

@@ -15,8 +15,7 @@ use Rattle.json_fields.specs.declared.scope.Scope.{Scope}
 use Rattle.json_fields.specs.declared.scope.Scope.TheVariants.{Node, FileSystems}
 use Rattle.tick_lines.specs.rule.Fields.{items_from, items_of, only_object, quantity_at, value_named}
 use Rattle.tick_lines.specs.rule.Listings.{attempt_from, attempt_of, state_names, state_numbered, state_from}
-use Rattle.tick_lines.specs.rule.Listings.{state_of}
-use Rattle.tick_lines.specs.rule.Listings.{instance_of, listing_of}
+use Rattle.tick_lines.specs.rule.Listings.{state_of, instance_of, listing_of}
 use Rattle.tick_lines.specs.rule.Results.{probe_names, probe_named, outcome_names, outcome_named, result_of}
 use Rattle.tick_lines.specs.rule.Usages.{usage_in, usage_of}
 use Rattle.tick_lines.specs.rule.Entries.{entry_of, entries_of}

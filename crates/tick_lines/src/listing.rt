@@ -4,8 +4,7 @@ ghost use Rattle.std.specs.Prelude.{◌≡◌, option_map};
 ghost use Rattle.json_fields.specs.state.Reading.{GivesExactly};
 ghost use Rattle.tick_lines.specs.state.GivesUnlessMemory.{GivesUnlessMemory};
 ghost use Rattle.tick_lines.specs.rule.Listings.{attempt_of, state_named, state_numbered, state_of, code_of};
-ghost use Rattle.tick_lines.specs.rule.Listings.{instance_of};
-ghost use Rattle.tick_lines.specs.rule.Listings.{listing_of};
+ghost use Rattle.tick_lines.specs.rule.Listings.{instance_of, listing_of};
 
 use crate::fault::TickLineFault;
 use crate::fields::text_of;

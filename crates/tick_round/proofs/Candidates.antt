@@ -20,8 +20,7 @@ use Rattle.pod_piece.specs.state.Status.{IsStatusOf}
 use Rattle.ranking.proofs.LawLemmas.{same_victim}
 use Rattle.eviction.specs.declared.eviction.Eviction.{Eviction}
 use Rattle.eviction.specs.rule.Replay.{IsCandidate as IsCandidateIn, IsOfVictim, IsEvictionFor, is_paused}
-use Rattle.eviction.specs.rule.Replay.{unless_paused}
-use Rattle.eviction.specs.rule.Replay.{IsEvictionOfTick}
+use Rattle.eviction.specs.rule.Replay.{unless_paused, IsEvictionOfTick}
 use Rattle.node_pods.specs.state.Pods.{IsCandidate, MayBeHanded, AreAfter}
 use Rattle.node_pods.proofs.Kept.{present_shown, shown_present}
 use Rattle.tick_round.specs.state.Evict.{IsEvictionAt, MayBeEvicted}

@@ -15,10 +15,10 @@ use Rattle.pod_state.specs.rule.Pods.{pod_tick}
 use Rattle.pod_piece.specs.state.Made.{MadeEvent}
 use Rattle.eviction.specs.declared.eviction.Eviction.{Eviction}
 use Rattle.eviction.specs.rule.Replay.{pod_ticks}
-use Rattle.event_book.specs.declared.totals.Totals.{Totals}
-use Rattle.event_book.specs.rule.Totals.{is_order}
-use Rattle.event_book.specs.state.Totals.{plus}
-use Rattle.event_book.specs.state.Rounds.{is_made_order, addition_of, sums_of_additions}
+use Rattle.totals.specs.declared.totals.Totals.{Totals}
+use Rattle.totals.specs.rule.Totals.{is_order}
+use Rattle.totals.specs.state.Totals.{plus}
+use Rattle.totals.specs.state.Rounds.{is_made_order, addition_of, sums_of_additions}
 use Rattle.event_list.specs.declared.event.Event.{Event}
 use Rattle.event_list.specs.declared.event.EventKind.TheVariants.{Pod}
 use Rattle.event_list.specs.declared.tick.TickEvents.{TickEvents}

@@ -15,7 +15,7 @@ use Rattle.pod_piece.specs.state.Made.{MadeEvent}
 use Rattle.eviction.specs.declared.eviction.Eviction.{Eviction}
 use Rattle.eviction.specs.state.Pausing.{Kept, kept, still}
 use Rattle.eviction.specs.rule.Replay.{is_paused, unless_paused}
-use Rattle.event_book.specs.declared.totals.Totals.{Totals}
+use Rattle.totals.specs.declared.totals.Totals.{Totals}
 use Rattle.event_list.specs.declared.event.Event.{Event}
 use Rattle.event_list.specs.declared.tick.TickEvents.{TickEvents}
 use Rattle.event_list.specs.rule.Events.{of_pods, of_node, of_eviction}

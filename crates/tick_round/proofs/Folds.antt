@@ -18,7 +18,7 @@ use Rattle.eviction.specs.declared.eviction.Eviction.{Eviction}
 use Rattle.eviction.specs.state.Pausing.{kept, still}
 use Rattle.eviction.specs.rule.Replay.{is_paused, unless_paused}
 use Rattle.eviction.proofs.Pausing.{paused_now}
-use Rattle.event_book.specs.declared.totals.Totals.{Totals}
+use Rattle.totals.specs.declared.totals.Totals.{Totals}
 use Rattle.event_list.specs.declared.event.Event.{Event}
 use Rattle.event_list.specs.declared.tick.TickEvents.{TickEvents}
 use Rattle.event_list.specs.rule.Events.{of_pods, of_node}

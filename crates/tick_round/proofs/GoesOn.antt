@@ -23,8 +23,8 @@ use Rattle.eviction.specs.state.Pausing.{Kept, kept, still}
 use Rattle.eviction.specs.rule.Replay.{is_paused, pauses, unless_paused}
 use Rattle.eviction.proofs.More.{no_replay, replay_more}
 use Rattle.eviction.proofs.Pausing.{none_pausing, paused_now, pausing_more}
-use Rattle.event_book.specs.declared.totals.Totals.{Totals}
-use Rattle.event_book.specs.state.Totals.{nothing}
+use Rattle.totals.specs.declared.totals.Totals.{Totals}
+use Rattle.totals.specs.state.Totals.{nothing}
 use Rattle.node_pods.specs.state.Pods.{Pods, pods_of, IsCandidate, MayBeHanded, AreAfter}
 use Rattle.event_list.specs.declared.event.Event.{Event}
 use Rattle.event_list.specs.rule.Events.{of_pods, of_node, of_eviction, ArePodEvents}

@@ -15,9 +15,9 @@ use Rattle.pod_piece.specs.state.Made.{MadeEvent, round_length}
 use Rattle.eviction.specs.declared.eviction.Eviction.{Eviction}
 use Rattle.eviction.specs.state.Pausing.{Kept, kept, still}
 use Rattle.eviction.specs.rule.Replay.{pod_ticks}
-use Rattle.event_book.specs.declared.totals.Totals.{Totals}
-use Rattle.event_book.specs.state.Totals.{plus}
-use Rattle.event_book.specs.state.Rounds.{AreAdditionsOf, sums_of_additions}
+use Rattle.totals.specs.declared.totals.Totals.{Totals}
+use Rattle.totals.specs.state.Totals.{plus}
+use Rattle.totals.specs.state.Rounds.{AreAdditionsOf, sums_of_additions}
 use Rattle.event_list.specs.declared.event.Event.{Event}
 use Rattle.event_list.specs.declared.tick.TickEvents.{TickEvents}
 use Rattle.event_list.specs.rule.Events.{of_eviction}

@@ -23,11 +23,11 @@ use Rattle.pod_piece.specs.state.Made.{MadeEvent, AreMadeOver, AreRoundEvents, r
 use Rattle.eviction.specs.declared.eviction.Eviction.{Eviction}
 use Rattle.eviction.specs.state.Pausing.{still}
 use Rattle.eviction.specs.rule.Replay.{pod_ticks}
-use Rattle.event_book.specs.declared.totals.Totals.{Totals}
-use Rattle.event_book.specs.state.Totals.{plus}
-use Rattle.event_book.specs.state.Limits.{IsLowAddition}
-use Rattle.event_book.specs.state.Rounds.{addition_of, IsAdditionOf, AreAdditionsOf, sums_of_additions}
-use Rattle.event_book.proofs.Made.{one_made, low_addition, empty_round}
+use Rattle.totals.specs.declared.totals.Totals.{Totals}
+use Rattle.totals.specs.state.Totals.{plus}
+use Rattle.totals.specs.state.Limits.{IsLowAddition}
+use Rattle.totals.specs.state.Rounds.{addition_of, IsAdditionOf, AreAdditionsOf, sums_of_additions}
+use Rattle.totals.proofs.Made.{one_made, low_addition, empty_round}
 use Rattle.event_list.specs.declared.tick.TickEvents.{TickEvents}
 use Rattle.event_list.specs.state.Tick.{AreMadeBy, IsMomentOf, AreOfTicks, MomentsRise}
 use Rattle.node_pods.specs.state.Pods.{sent_from, after_each}

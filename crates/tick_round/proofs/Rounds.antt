@@ -4,9 +4,9 @@ use Rattle.std.proofs.Common.{refl, ap, subst, arith}
 use Rattle.std.specs.Prelude.{slice_get}
 use Rattle.std.specs.List.{All}
 use Rattle.pod_piece.specs.state.Piece.{Piece}
-use Rattle.event_book.specs.declared.totals.Totals.{Totals}
-use Rattle.event_book.specs.state.Totals.{plus}
-use Rattle.event_book.specs.state.Rounds.{AreAdditionsOf, sums_of_additions}
+use Rattle.totals.specs.declared.totals.Totals.{Totals}
+use Rattle.totals.specs.state.Totals.{plus}
+use Rattle.totals.specs.state.Rounds.{AreAdditionsOf, sums_of_additions}
 use Rattle.piece_deques.specs.state.Rule.{AreNumbered}
 use Rattle.node_pods.specs.state.Pods.{sent_from}
 use Rattle.node_pods.proofs.Sent.{sent_at}

@@ -12,12 +12,11 @@ use Rattle.observations.specs.rule.Observations.{all_shown}
 use Rattle.pod_piece.specs.state.Piece.{Piece, updated, all_updated, pods_in}
 use Rattle.pod_piece.specs.state.Made.{round_length}
 use Rattle.eviction.specs.rule.Replay.{pod_ticks}
-use Rattle.event_book.specs.declared.totals.Entry.{Entry}
-use Rattle.event_book.specs.declared.totals.Totals.{Totals}
-use Rattle.event_book.specs.state.Totals.{sums_of, plus}
-use Rattle.event_book.specs.state.Rounds.{IsAdditionOf, sums_of_additions}
-use Rattle.event_book.specs.state.Shares.{one_update}
-use Rattle.event_book.proofs.Made.{entry_added}
+use Rattle.totals.specs.declared.totals.Entry.{Entry}
+use Rattle.totals.specs.declared.totals.Totals.{Totals}
+use Rattle.totals.specs.state.Totals.{sums_of, plus, one_update}
+use Rattle.totals.specs.state.Rounds.{IsAdditionOf, sums_of_additions}
+use Rattle.totals.proofs.Made.{entry_added}
 use Rattle.node_pods.specs.state.Pods.{MayBeHanded, sent_from}
 use Rattle.node_pods.proofs.Sent.{sent_at, sent_count}
 use Rattle.node_pods.proofs.Candidates.{same_piece}

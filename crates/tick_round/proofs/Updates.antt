@@ -11,11 +11,11 @@ use Rattle.histories.proofs.Places.{length-more}
 use Rattle.histories.proofs.Lists.{place_split, given_at, same_at, set_length, set_here, set_others}
 use Rattle.observations.specs.rule.Limits.{most_pods}
 use Rattle.pod_piece.specs.state.Piece.{Piece, all_updated}
-use Rattle.event_book.specs.declared.totals.Totals.{Totals}
-use Rattle.event_book.specs.state.Totals.{plus}
-use Rattle.event_book.specs.state.Shares.{greatest_total, AreWithin}
-use Rattle.event_book.specs.state.Limits.{most_round_events, IsLowAddition}
-use Rattle.event_book.specs.state.Rounds.{IsAdditionOf, sums_of_additions}
+use Rattle.totals.specs.declared.totals.Totals.{Totals}
+use Rattle.totals.specs.state.Totals.{plus}
+use Rattle.event_book.specs.state.Shares.{AreWithin}
+use Rattle.totals.specs.state.Limits.{greatest_total, most_round_events, IsLowAddition}
+use Rattle.totals.specs.state.Rounds.{IsAdditionOf, sums_of_additions}
 use Rattle.node_pods.proofs.Candidates.{same_piece}
 use Rattle.tick_round.specs.state.Update.{AreUpTo, MayUpdate, AreAdded, UpdatesAt}
 

@@ -3,15 +3,16 @@
 ghost use Rattle.std.specs.Prelude.{◌≡◌, ◌-◌, ◌<◌, length, map, slice_get, Some};
 ghost use Rattle.std.specs.Prelude.{IfOk, OnOk};
 ghost use Rattle.pod_piece.specs.state.Piece.{Piece, all_updated};
-ghost use Rattle.event_book.specs.state.Limits.{most_round_events};
-ghost use Rattle.event_book.specs.state.Shares.{greatest_total};
+ghost use Rattle.totals.specs.state.Limits.{most_round_events, greatest_total};
 ghost use Rattle.tick_round.specs.state.Update.{AreUpTo, MayUpdate, IsAdded, UpdatesAt, AreAdded};
 
-use event_book::{Totals, WholeBook};
+use event_book::WholeBook;
+
 use pod_piece::PodPiece;
 use pod_pool::{Gate, update_waiting};
 use std::alloc::AllocError;
 use std::sync::ledger::Ledger;
+use totals::Totals;
 
 /// A pod takes the ticks that wait for it into its status, in their order, and is entered in the book.
 fn update_one<U: Ledger, E: Ledger, O: Ledger, G: Gate>(

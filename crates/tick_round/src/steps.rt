@@ -2,7 +2,7 @@
 
 ghost use Rattle.std.specs.Prelude.{◌≡◌, ◌<◌, ◌≤◌, All, length, map, IfOk};
 ghost use Rattle.pod_piece.specs.state.Piece.{updated};
-ghost use Rattle.event_book.specs.rule.Limits.{most_workers};
+ghost use Rattle.worker_count.specs.rule.Limit.{most_workers};
 ghost use Rattle.tick_round.specs.state.Played.{AreFinished};
 ghost use Rattle.tick_round.specs.state.Update.{MayUpdate, AreEntered};
 

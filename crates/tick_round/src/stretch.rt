@@ -9,8 +9,7 @@ ghost use Rattle.pod_piece.specs.state.Piece.{all_updated};
 ghost use Rattle.node_pods.specs.state.Pods.{AreNext, AreNumbered, sent_from, staying, awaited, joined};
 ghost use Rattle.tick_round.specs.state.Node.{State, IsNextBy};
 ghost use Rattle.tick_round.specs.state.Stretch.{IsOpen, MayGoOn, GoesOnWith, Takes, IsPassed, CanClose, MayClose};
-ghost use Rattle.tick_round.specs.state.Stretch.{CanEnd};
-ghost use Rattle.tick_round.specs.state.Stretch.{MayEnd};
+ghost use Rattle.tick_round.specs.state.Stretch.{CanEnd, MayEnd};
 
 use crate::evict::{carry_out, eviction_for};
 use crate::running::Running;

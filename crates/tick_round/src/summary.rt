@@ -6,11 +6,11 @@ ghost use Rattle.observations.specs.declared.tick.TickObs.{TickObs};
 ghost use Rattle.node_signals.specs.state.Node.{IsStateOf};
 ghost use Rattle.tick_round.specs.rule.Summary.{IsConditionAfter, AreConditionsAfter};
 
-use event_book::Totals;
 use event_list::{Event, Names};
 use eviction::Eviction;
 use node_signals::{NodeCondition, NodeSignals};
 use pod_piece::PodPiece;
+use totals::Totals;
 
 /// A condition of a node. (Kubernetes, "Node-pressure Eviction", "Node conditions".)
 #[derive(Clone, Copy, Debug, PartialEq, Eq)]

@@ -2,7 +2,7 @@
 
 ghost use Rattle.std.specs.Prelude.{◌≡◌, ◌⊎◌, ◌<◌, ◌≤◌, map, IfOk};
 ghost use Rattle.pod_piece.specs.state.Piece.{all_updated};
-ghost use Rattle.event_book.specs.rule.Limits.{most_workers};
+ghost use Rattle.worker_count.specs.rule.Limit.{most_workers};
 ghost use Rattle.piece_deques.specs.state.Rule.{AreNumbered};
 ghost use Rattle.tick_round.specs.state.Update.{MayUpdate, AreAdded};
 ghost use Rattle.tick_round.specs.state.Workers.{worth_their_start};

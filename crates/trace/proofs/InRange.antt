@@ -25,8 +25,7 @@ use Rattle.manifest.specs.rule.Names.{is_label}
 use Rattle.manifest.specs.rule.Probe.{Probe, Probes}
 use Rattle.manifest.specs.state.Probe.{IsInRange, HasNumbersInRange}
 use Rattle.json_fields.specs.rule.Numbers.{max_int32}
-use Rattle.manifest_fields.specs.rule.ProbeFields.{not_from_0, in_range, number_from, number_of, probe_in}
-use Rattle.manifest_fields.specs.rule.ProbeFields.{probe_of}
+use Rattle.manifest_fields.specs.rule.ProbeFields.{not_from_0, in_range, number_from, number_of, probe_in, probe_of}
 use Rattle.manifest_fields.specs.rule.ProbeFields.{some_probes, unprobed, probes_of}
 use Rattle.manifest_fields.specs.rule.ResourceFields.{resources_of}
 use Rattle.node_config.specs.declared.node.Format.{Format}

@@ -44,11 +44,9 @@ use Rattle.node_config.specs.declared.node.Version.{Version}
 use Rattle.trace.specs.rule.TraceSoFar.{TraceSoFar, version_in, heeds, of_node, with_pod, without, with_tick}
 use Rattle.trace.specs.rule.Tick.{moment_of, observed_in, tick_at}
 use Rattle.trace.specs.rule.Trace.{json_of, kind_from, with_node, is_late, pod_line_at, gone_line_at, in_order}
-use Rattle.trace.specs.rule.Trace.{line_at}
-use Rattle.trace.specs.rule.Trace.{at_line, trace_in, finished, read_on, nothing, trace_of}
+use Rattle.trace.specs.rule.Trace.{line_at, at_line, trace_in, finished, read_on, nothing, trace_of}
 use Rattle.trace.specs.state.Laws.{Leaves, AreSaid, IsFaultAt, NoneCounts, IsFirstFault, IsWhole, FirstFault}
-use Rattle.trace.specs.state.Laws.{WholeTrace}
-use Rattle.trace.specs.state.Laws.{OneFault}
+use Rattle.trace.specs.state.Laws.{WholeTrace, OneFault}
 
 drop_here : (lines : List (List ℕ)) (n : ℕ) (line : List ℕ) → slice_get lines n ≡ Some line
     → drop n lines ≡ line ∷ drop (suc n) lines

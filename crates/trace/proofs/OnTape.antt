@@ -42,8 +42,7 @@ use Rattle.trace.specs.declared.placing.PlacedListing.{PlacedListing}
 use Rattle.trace.specs.declared.placing.PlacedResult.{PlacedResult}
 use Rattle.trace.specs.rule.Observed.{containers_from, pod_observed, pods_from, lacks_code}
 use Rattle.trace.specs.rule.Placing.{number_in, pod_numbered, placed_listing, placed_result, entry_of_pod}
-use Rattle.trace.specs.rule.Placing.{placed_entry}
-use Rattle.trace.specs.rule.Placing.{placed_of, repeats, sampled_or}
+use Rattle.trace.specs.rule.Placing.{placed_entry, placed_of, repeats, sampled_or}
 use Rattle.trace.specs.state.Placing.{speaks}
 use Rattle.trace.specs.state.Noted.{ListingsNoted, ResultsNoted}
 use Rattle.trace.specs.state.Slots.{slots_from, has_entry}

@@ -6,11 +6,10 @@ use Rattle.std.specs.List.{prefix_len}
 use Rattle.std.specs.Prelude.{MatchBool}
 use Rattle.std.proofs.lemmas.Bool.{cases_Bool}
 use Rattle.serde_json.specs.Data.{Data}
-use Rattle.json_fields.specs.rule.Reading.{◌>>=◌}
+use Rattle.json_fields.specs.rule.Reading.{◌>>=◌, some_or}
 use Rattle.std.proofs.lemmas.Slice.Eq.{bytes_eq-Decides}
 use Rattle.std.specs.Prelude.{codes}
 use Rattle.json_fields.specs.rule.Fields.{text_at}
-use Rattle.json_fields.specs.rule.Reading.{some_or}
 use Rattle.json_lines.specs.rule.Lines.{is_blank, json_in, lines_of, longest_line}
 use Rattle.json_lines.specs.state.Lines.{LineData, said_by, said_or_not, line_data}
 use Rattle.json_lines.specs.state.Ticks.{is_tick_kind, is_tick, moment_at}
@@ -30,8 +29,7 @@ use Rattle.trace.specs.declared.trace_so_far.LineKind.TheVariants as line_kinds
 use Rattle.trace.specs.state.Taken.{tick_of, tick_after, value_at, any_line_at, lines_at}
 use Rattle.trace.specs.rule.Tick.{tick_in, tick_at}
 use Rattle.trace.specs.rule.Trace.{json_of, kind_from, kind_of_line, turn_of, in_order, kind_and_value, line_at}
-use Rattle.trace.specs.rule.Trace.{at_line}
-use Rattle.trace.specs.rule.Trace.{finished, read_on, nothing, trace_of}
+use Rattle.trace.specs.rule.Trace.{at_line, finished, read_on, nothing, trace_of}
 
 -- the rest of a text, by what each line says by itself
 abbrev pub read_data : ℕ → TraceSoFar → List LineData → Result Trace LineFault

@@ -23,8 +23,7 @@ use Rattle.roster.specs.rule.Roll.{key_of_pod}
 use Rattle.trace.specs.rule.Pod.{has_key, pod_from, named_in}
 use Rattle.trace.specs.rule.Tick.{moment_of, observed_in, tick_in, tick_at}
 use Rattle.trace.specs.rule.Trace.{json_of, kind_from, kind_of_line, is_late, pod_in, pod_line_at, gone_line_at}
-use Rattle.trace.specs.rule.Trace.{in_order}
-use Rattle.trace.specs.rule.Trace.{kind_and_value, line_at}
+use Rattle.trace.specs.rule.Trace.{in_order, kind_and_value, line_at}
 use Rattle.trace.specs.rule.Written.{tick_line_in}
 
 -- the steps of a line, each with those after it

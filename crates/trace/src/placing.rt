@@ -6,10 +6,8 @@ ghost use Rattle.json_fields.specs.state.Reading.{GivesExactly};
 ghost use Rattle.trace.specs.state.GivesUnlessMemory.{GivesUnlessMemory};
 ghost use Rattle.trace.specs.rule.Placing.{number_in, container_number, placed_listing, placed_result, pod_numbered};
 ghost use Rattle.trace.specs.rule.Placing.{entry_of_pod, has_twice, are_of_one_container, is_of_probe};
-ghost use Rattle.trace.specs.state.Placing.{entries_of_pods};
-ghost use Rattle.trace.specs.rule.Placing.{are_of_one_probe, repeats, sampled_or, without_sample};
-ghost use Rattle.trace.specs.state.Placing.{speaks, some_speaks};
-ghost use Rattle.trace.specs.rule.Placing.{sampling_of};
+ghost use Rattle.trace.specs.state.Placing.{entries_of_pods, speaks, some_speaks};
+ghost use Rattle.trace.specs.rule.Placing.{are_of_one_probe, repeats, sampled_or, without_sample, sampling_of};
 ghost use Rattle.std.specs.List.{list_any};
 
 use crate::fault::FaultKind;

@@ -11,7 +11,8 @@ use Rattle.commands.specs.declared.job.Job.{Job}
 use Rattle.commands.specs.declared.job.Job.TheVariants.{Run, Check, Play}
 use Rattle.commands.specs.declared.fault.UsageFault.{UsageFault}
 use Rattle.commands.specs.declared.fault.UsageFault.TheVariants.{Refused, OutOfMemory}
-use Rattle.commands.specs.state.Program.{most_workers, program}
+use Rattle.commands.specs.state.Program.{program}
+use Rattle.worker_count.specs.rule.Limit.{most_workers}
 
 -- the text is the number in decimal digits
 pub record IsNumber (text : List ℕ) (n : ℕ) : Type 0 where

@@ -5,16 +5,13 @@ use Rattle.clap.specs.Words.{App, Rule, app_of, new_app, new_rule, with_rule, wi
 use Rattle.clap.specs.declared.builder.command.Command.{Command}
 use Rattle.clap.specs.declared.builder.command.Command.TheViews.{out-Command}
 use Rattle.clap.specs.declared.builder.value_parser.ValueParser.TheVariants.{Unsigned}
+use Rattle.worker_count.specs.rule.Limit.{most_workers}
 
 abbrev pub trace_rule : Rule
 trace_rule = record (new_rule (codes "TRACE")) { required = true }
 
 abbrev pub steps_rule : Rule
 steps_rule = record (new_rule (codes "STEPS")) { required = true }
-
--- the most workers that may be asked for
-abbrev pub most_workers : ℕ
-most_workers = 64
 
 -- a number from 1 to the most workers, and else 4
 abbrev pub workers_rule : Rule

@@ -5,7 +5,7 @@ use Rattle.std.specs.Prelude.{◌≡◌, ◌↔◌, ℕ, ℤ, ◌<◌, ◌≤◌
 use Rattle.histories.specs.rule.Histories.{IsFirst, IsFirstMoment, moment_at}
 use Rattle.manifest.specs.declared.policy.Policy.{Policy}
 use Rattle.manifest.specs.declared.pod.ContainerSpec.{ContainerSpec}
-use Rattle.manifest.specs.rule.Policy.{WantsRestart}
+use Rattle.restarts.specs.rule.Policy.{WantsRestart}
 use Rattle.state_diff.specs.rule.Instances.{Tick, Ends, IsNewest, IsExit, IsExitCode, IsRun}
 use Rattle.restarts.specs.rule.Exits.{Exit}
 use Rattle.restarts.specs.rule.Delays.{IsDelay, IsRestartDue}

@@ -4,8 +4,8 @@ use Rattle.std.specs.List.{filter, filter_map, sum_by}
 use Rattle.observations.specs.declared.tick.TickObs.{TickObs}
 use Rattle.observations.specs.rule.Observations.{all_shown}
 use Rattle.pod_state.specs.declared.events.PodEvent.{PodEvent}
-use Rattle.event_book.specs.declared.totals.Totals.{Totals}
-use Rattle.event_book.specs.rule.Totals.{is_order}
+use Rattle.totals.specs.declared.totals.Totals.{Totals}
+use Rattle.totals.specs.rule.Totals.{is_order}
 use Rattle.event_list.specs.declared.event.Event.{Event}
 use Rattle.event_list.specs.declared.event.EventKind.{EventKind}
 use Rattle.event_list.specs.declared.event.EventKind.TheVariants.{Pod, Node, Evicted}

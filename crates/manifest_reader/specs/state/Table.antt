@@ -22,8 +22,7 @@ use Rattle.manifest_fields.specs.rule.ResourceFields.{quantity_at}
 use Rattle.json_fields.specs.rule.Numbers.{max_int32}
 use Rattle.manifest_reader.specs.rule.Manifest.{field_of}
 use Rattle.manifest_reader.specs.state.Found.{fault_of, fails_if, is_so, must_be, may_be, is_object, is_array}
-use Rattle.manifest_reader.specs.state.Found.{is_text}
-use Rattle.manifest_reader.specs.state.Found.{is_policy, is_priority, is_grace_period, is_empty}
+use Rattle.manifest_reader.specs.state.Found.{is_text, is_policy, is_priority, is_grace_period, is_empty}
 use Rattle.manifest_reader.specs.state.Found.{has_request_above_limit}
 use Rattle.manifest_reader.specs.state.Found.{number_fault, own_policy_fault, has_double, name_in, in_metadata}
 use Rattle.manifest_reader.specs.state.Found.{in_spec}

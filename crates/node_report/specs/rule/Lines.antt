@@ -16,7 +16,7 @@ use Rattle.phase.specs.declared.phase.Phase.{Phase}
 use Rattle.containers.specs.declared.status.ContainerStatus.{ContainerStatus}
 use Rattle.pod_piece.specs.declared.order.EvictOrder.{EvictOrder}
 use Rattle.eviction.specs.declared.eviction.Eviction.{Eviction}
-use Rattle.event_book.specs.declared.totals.Totals.{Totals}
+use Rattle.totals.specs.declared.totals.Totals.{Totals}
 use Rattle.event_list.specs.declared.event.Event.{Event}
 use Rattle.event_list.specs.rule.Text.{joined, phase_word, truth, words_among, event_line}
 use Rattle.tick_round.specs.declared.summary.ConditionStatus.{ConditionStatus}

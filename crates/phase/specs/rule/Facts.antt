@@ -5,7 +5,7 @@ use Rattle.std.specs.Prelude.{◌≢◌, ℤ, pos}
 use Rattle.manifest.specs.declared.policy.Policy.{Policy}
 use Rattle.manifest.specs.declared.pod.Role.{Role}
 use Rattle.manifest.specs.declared.pod.Role.TheVariants.{App}
-use Rattle.manifest.specs.rule.Policy.{WantsRestart}
+use Rattle.restarts.specs.rule.Policy.{WantsRestart}
 
 -- what the rules ask of a container
 pub record Facts (C : Type 0) : Type 1 where

@@ -3,10 +3,10 @@ use Rattle.std.specs.Prelude.{◌≡◌, ℕ, ◌+◌, ◌*◌, ◌<◌, ◌≤�
 use Rattle.round_steps.specs.declared.step.Step.{Step}
 use Rattle.observations.specs.rule.Limits.{most_pods}
 use Rattle.pod_piece.specs.state.Piece.{Piece, updated}
-use Rattle.event_book.specs.declared.totals.Entry.{Entry}
-use Rattle.event_book.specs.state.Totals.{IsEntryOf, plus}
-use Rattle.event_book.specs.state.Shares.{one_update, AreWithin}
-use Rattle.event_book.specs.state.Limits.{IsLow, most_events}
+use Rattle.totals.specs.declared.totals.Entry.{Entry}
+use Rattle.totals.specs.state.Totals.{IsEntryOf, plus, one_update}
+use Rattle.event_book.specs.state.Shares.{AreWithin}
+use Rattle.totals.specs.state.Limits.{IsLow, most_events}
 use Rattle.round_core.specs.declared.hand.Hand.{Hand}
 use Rattle.round_core.specs.declared.hand.Hand.TheVariants.{Empty, Taken, Updated}
 use Rattle.round_core.specs.state.Pool.{PoolState, worker_at, entry_at, run}

@@ -3,10 +3,10 @@ use Rattle.std.specs.Prelude.{◌≡◌, ℕ, ◌≤◌, List, length, map, repl
 use Rattle.round_steps.specs.declared.step.Step.{Step}
 use Rattle.observations.specs.rule.Limits.{most_pods}
 use Rattle.pod_piece.specs.state.Piece.{Piece, updated}
-use Rattle.event_book.specs.state.Limits.{AreLow}
-use Rattle.event_book.specs.declared.totals.Entry.{Entry}
-use Rattle.event_book.specs.declared.totals.Totals.{Totals}
-use Rattle.event_book.specs.state.Totals.{sums_of, AreEntriesOf}
+use Rattle.totals.specs.state.Limits.{AreLow}
+use Rattle.totals.specs.declared.totals.Entry.{Entry}
+use Rattle.totals.specs.declared.totals.Totals.{Totals}
+use Rattle.totals.specs.state.Totals.{sums_of, AreEntriesOf}
 use Rattle.round_core.specs.state.Pool.{PoolState, idle, no_entry, deal, after_drain, finished_lists}
 use Rattle.round_core.specs.state.Places.{sum_of_shares}
 use Rattle.played_round.specs.state.Table.{TableState}

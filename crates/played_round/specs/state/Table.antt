@@ -1,9 +1,9 @@
 -- The pieces of a round, and what their updates add to the totals.
 use Rattle.std.specs.Prelude.{◌≡◌, ℕ, ◌<◌, List, length, slice_get, slice_set, Some}
 use Rattle.pod_piece.specs.state.Piece.{Piece, updated}
-use Rattle.event_book.specs.state.Limits.{IsLow}
-use Rattle.event_book.specs.declared.totals.Entry.{Entry}
-use Rattle.event_book.specs.state.Totals.{IsEntryOf}
+use Rattle.totals.specs.state.Limits.{IsLow}
+use Rattle.totals.specs.declared.totals.Entry.{Entry}
+use Rattle.totals.specs.state.Totals.{IsEntryOf}
 
 -- the pieces by their numbers, and what the update of each adds
 pub record TableState : Type 0 where

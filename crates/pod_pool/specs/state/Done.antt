@@ -2,9 +2,9 @@
 use Rattle.std.specs.Prelude.{◌≡◌, ℕ, ◌*◌, ◌<◌, ◌≤◌, List, length, map, slice_get, Some, All, option_map, unwrap_or}
 use Rattle.std.specs.List.{sum_by}
 use Rattle.pod_piece.specs.state.Piece.{Piece, all_updated}
-use Rattle.event_book.specs.declared.totals.Totals.{Totals}
-use Rattle.event_book.specs.state.Rounds.{IsAdditionOf}
-use Rattle.event_book.specs.state.Limits.{most_updates, most_round_events}
+use Rattle.totals.specs.declared.totals.Totals.{Totals}
+use Rattle.totals.specs.state.Rounds.{IsAdditionOf}
+use Rattle.totals.specs.state.Limits.{most_updates, most_round_events}
 
 -- it is the piece of the list under its number, with all ticks that waited taken into its status
 abbrev pub IsDone : List Piece → Piece → Type 0

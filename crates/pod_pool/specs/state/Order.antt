@@ -1,9 +1,9 @@
 -- What is added to totals and shares by pieces.
 use Rattle.std.specs.Prelude.{◌≡◌, List, map}
 use Rattle.pod_piece.specs.state.Piece.{Piece, all_updated}
-use Rattle.event_book.specs.declared.totals.Totals.{Totals}
-use Rattle.event_book.specs.state.Totals.{plus}
-use Rattle.event_book.specs.state.Rounds.{AreAdditionsOf, sums_of_additions}
+use Rattle.totals.specs.declared.totals.Totals.{Totals}
+use Rattle.totals.specs.state.Totals.{plus}
+use Rattle.totals.specs.state.Rounds.{AreAdditionsOf, sums_of_additions}
 use Rattle.event_book.specs.state.Shares.{ShareState, most_parts, share_with}
 use Rattle.pod_pool.specs.state.Done.{AreSumsOf}
 

@@ -2,7 +2,7 @@
 use Rattle.std.specs.Prelude.{◌≡◌, ℕ, List, length}
 use Rattle.pod_piece.specs.state.Piece.{Piece}
 use Rattle.event_book.specs.state.Shares.{ShareState, most_parts}
-use Rattle.event_book.specs.state.Limits.{AreLow}
+use Rattle.totals.specs.state.Limits.{AreLow}
 use Rattle.test_pods.specs.state.Pods.{ArePending}
 
 -- this many pieces, numbered from 0 on, that are to be updated

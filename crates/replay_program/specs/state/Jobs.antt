@@ -2,7 +2,7 @@
 use Rattle.std.specs.Prelude.{◌<◌, ◌≤◌}
 use Rattle.commands.specs.declared.job.Job.{Job}
 use Rattle.commands.specs.declared.job.Job.TheVariants.{Run, Check, Play}
-use Rattle.commands.specs.state.Program.{most_workers}
+use Rattle.worker_count.specs.rule.Limit.{most_workers}
 
 -- where the job is for workers, there are as many as can share a tick
 abbrev pub HasFewWorkers : Job → Type 0

@@ -1,14 +1,13 @@
 -- Where the pieces of a round stand, and what is true of a round in each state.
 use Rattle.std.specs.Prelude.{◌≡◌, ℕ, zero, suc, ◌+◌, ◌==◌, if◌then◌else◌, List, [], ◌∷◌, ◌++◌, sum_by, All}
-use Rattle.event_book.specs.declared.totals.Entry.{Entry}
-use Rattle.event_book.specs.declared.totals.Totals.{Totals}
+use Rattle.totals.specs.declared.totals.Entry.{Entry}
+use Rattle.totals.specs.declared.totals.Totals.{Totals}
 use Rattle.round_core.specs.declared.hand.Hand.{Hand}
 use Rattle.round_core.specs.declared.hand.Hand.TheVariants.{Empty, Taken, Updated}
 use Rattle.round_steps.specs.declared.step.Step.{Step}
 use Rattle.round_steps.specs.declared.step.Step.TheVariants.{Pop, Steal, Update, Enter}
 use Rattle.round_core.specs.state.Pool.{WorkerState, PoolState, worker_at, step, drain_steps, after_steps, deques}
-use Rattle.round_core.specs.state.Pool.{hands}
-use Rattle.round_core.specs.state.Pool.{finished_lists}
+use Rattle.round_core.specs.state.Pool.{hands, finished_lists}
 
 -- 1 at this piece and 0 at each other
 abbrev pub one_at : ℕ → ℕ → ℕ

@@ -1,10 +1,9 @@
 -- A round of workers that steal from each other, step by step.
 use Rattle.std.specs.Prelude.{ℕ, zero, suc, ◌+◌, ◌%◌, ◌==◌, nat_lt, Bool, true, false, not, ◌&&◌, if◌then◌else◌}
 use Rattle.std.specs.Prelude.{List, [], ◌∷◌, ◌++◌, length, map, slice_index_or, slice_set, replicate}
-use Rattle.event_book.specs.declared.totals.Entry.{Entry}
-use Rattle.event_book.specs.declared.totals.Totals.{Totals}
-use Rattle.event_book.specs.state.Shares.{one_update}
-use Rattle.event_book.specs.state.Totals.{plus, nothing}
+use Rattle.totals.specs.declared.totals.Entry.{Entry}
+use Rattle.totals.specs.declared.totals.Totals.{Totals}
+use Rattle.totals.specs.state.Totals.{one_update, plus, nothing}
 use Rattle.round_steps.specs.declared.step.Step.{Step}
 use Rattle.round_steps.specs.declared.step.Step.TheVariants.{Pop, Steal, Update, Enter}
 use Rattle.round_core.specs.declared.hand.Hand.{Hand}

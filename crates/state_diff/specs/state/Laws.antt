@@ -5,10 +5,8 @@ use Rattle.state_diff.specs.declared.seen.Seen.{Seen}
 use Rattle.state_diff.specs.declared.seen.CriState.{CriState}
 use Rattle.state_diff.specs.declared.seen.CriState.TheVariants.{Running, Exited}
 use Rattle.state_diff.specs.rule.Instances.{Tick, Listed, ListedAs, IsNewest, IsState, Ends, IsExit, IsExitCode}
-use Rattle.state_diff.specs.rule.Instances.{IsRun}
-use Rattle.state_diff.specs.state.Instances.{tick}
-use Rattle.state_diff.specs.rule.Instances.{IsStart}
-use Rattle.state_diff.specs.state.Instances.{IsAcceptable, IsAcceptableHistory}
+use Rattle.state_diff.specs.rule.Instances.{IsRun, IsStart}
+use Rattle.state_diff.specs.state.Instances.{tick, IsAcceptable, IsAcceptableHistory}
 use Rattle.state_diff.specs.rule.Acceptable.{is_acceptable}
 
 -- whatever the listings are, there is a newest attempt or none is listed, and an instance has a start

@@ -15,7 +15,7 @@ use Rattle.pod_piece.specs.state.Piece.{Piece}
 use Rattle.eviction.specs.declared.eviction.Eviction.{Eviction}
 use Rattle.eviction.specs.state.Pausing.{Kept, IsPausing}
 use Rattle.eviction.specs.rule.Replay.{pod_ticks, own_eviction, IsReplay}
-use Rattle.event_book.specs.declared.totals.Totals.{Totals}
+use Rattle.totals.specs.declared.totals.Totals.{Totals}
 use Rattle.node_pods.specs.state.Pods.{Pods, MayBeHanded, Fits as PodsFit, after_each}
 use Rattle.event_list.specs.declared.event.Event.{Event}
 use Rattle.event_list.specs.rule.Events.{AreEvents}

@@ -4,8 +4,8 @@ use Rattle.manifest.specs.declared.pod.PodSpec.{PodSpec}
 use Rattle.manifest.specs.rule.Containers.{most_containers}
 use Rattle.observations.specs.declared.tick.TickObs.{TickObs}
 use Rattle.pod_piece.specs.state.Piece.{pods_in}
-use Rattle.event_book.specs.declared.totals.Totals.{Totals}
-use Rattle.event_book.specs.state.Limits.{most_events}
+use Rattle.totals.specs.declared.totals.Totals.{Totals}
+use Rattle.totals.specs.state.Limits.{most_events}
 use Rattle.tick_round.specs.state.Node.{State, HasTaken}
 
 -- no pod has more containers than a pod may have

@@ -13,7 +13,7 @@ use Rattle.pod_piece.specs.state.Piece.{Piece, all_updated}
 use Rattle.eviction.specs.declared.eviction.Eviction.{Eviction}
 use Rattle.eviction.specs.state.Pausing.{kept, still}
 use Rattle.eviction.specs.rule.Replay.{pauses, unless_paused}
-use Rattle.event_book.specs.declared.totals.Totals.{Totals}
+use Rattle.totals.specs.declared.totals.Totals.{Totals}
 use Rattle.event_list.specs.declared.tick.TickEvents.{TickEvents}
 use Rattle.node_pods.specs.state.Pods.{Pods, pods_of, AreNumbered, handed_each, sent_from, staying, awaited, joined}
 use Rattle.tick_round.specs.declared.stretch.Begun.{Begun}

@@ -2,11 +2,11 @@
 use Rattle.std.specs.Prelude.{◌≡◌, ℕ, ◌<◌, ◌≤◌, List, length, slice_get, slice_set, Some}
 use Rattle.observations.specs.rule.Limits.{most_pods}
 use Rattle.pod_piece.specs.state.Piece.{Piece, all_updated}
-use Rattle.event_book.specs.declared.totals.Entry.{Entry}
-use Rattle.event_book.specs.declared.totals.Totals.{Totals}
-use Rattle.event_book.specs.state.Totals.{AreEntriesOf, sums_of, plus}
-use Rattle.event_book.specs.state.Rounds.{IsAdditionOf, AreAdditionsOf, sums_of_additions}
-use Rattle.event_book.specs.state.Limits.{IsLowAddition, AreLow}
+use Rattle.totals.specs.declared.totals.Entry.{Entry}
+use Rattle.totals.specs.declared.totals.Totals.{Totals}
+use Rattle.totals.specs.state.Totals.{AreEntriesOf, sums_of, plus}
+use Rattle.totals.specs.state.Rounds.{IsAdditionOf, AreAdditionsOf, sums_of_additions}
+use Rattle.totals.specs.state.Limits.{IsLowAddition, AreLow}
 
 -- none of the totals passes this
 pub record AreUpTo (most : ℕ) (totals : Totals) : Type 0 where

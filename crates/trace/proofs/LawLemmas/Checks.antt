@@ -38,12 +38,10 @@ use Rattle.trace.specs.rule.Tick.{moment_of, observed_in, tick_at}
 use Rattle.trace.specs.rule.Trace.{json_of, kind_from, with_node, is_late, pod_line_at, gone_line_at, in_order}
 use Rattle.trace.specs.rule.Trace.{line_at}
 use Rattle.trace.specs.state.Laws.{IsJson, IsOfKind, TakesPods, MayStand, Stands, HasPod, HasMoment, HasWritten}
-use Rattle.trace.specs.state.Laws.{HasPlaces}
-use Rattle.trace.specs.state.Laws.{IsApart, IsForwards, Fails, too_long, not_json, unknown_kind, misplaced}
+use Rattle.trace.specs.state.Laws.{HasPlaces, IsApart, IsForwards, Fails, too_long, not_json, unknown_kind, misplaced}
 use Rattle.trace.specs.state.Laws.{wrong_node}
 use Rattle.trace.specs.state.Laws.{many_pods, wrong_pod, duplicate_pod, nobody_gone, many_ticks, wrong_moment}
-use Rattle.trace.specs.state.Laws.{wrong_field}
-use Rattle.trace.specs.state.Laws.{stranger, doubled, backwards, no_code, FirstCheck}
+use Rattle.trace.specs.state.Laws.{wrong_field, stranger, doubled, backwards, no_code, FirstCheck}
 
 pub then_err : {A B E : Type 0} (r : Result A E) (f : A → Result B E) (fault : E) → r ≡ Err fault
     → (r >>= f) ≡ Err fault

@@ -34,8 +34,7 @@ use Rattle.trace.specs.rule.Trace.{json_of}
 use Rattle.trace.specs.state.Laws.{IsFirstFault, Fails, too_long, not_json, unknown_kind, misplaced, wrong_node}
 use Rattle.trace.specs.state.Laws.{many_pods}
 use Rattle.trace.specs.state.Laws.{wrong_pod, duplicate_pod, nobody_gone, many_ticks, wrong_moment, wrong_field}
-use Rattle.trace.specs.state.Laws.{stranger}
-use Rattle.trace.specs.state.Laws.{doubled, backwards, no_code, KindsOfChecks, IsNotMemory, NeverMemory}
+use Rattle.trace.specs.state.Laws.{stranger, doubled, backwards, no_code, KindsOfChecks, IsNotMemory, NeverMemory}
 use Rattle.trace.proofs.LawLemmas.{first_fault}
 use Rattle.trace.proofs.LawLemmas.Checks.{line_fails}
 use Rattle.json_fields.proofs.Only.{Only, only_ok, only_err, only_bind, only_if, only_refused, only_some, only_each}

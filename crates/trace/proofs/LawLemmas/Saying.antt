@@ -36,8 +36,7 @@ use Rattle.trace.specs.rule.Tick.{moment_of, observed_in, tick_at}
 use Rattle.trace.specs.rule.Trace.{json_of, kind_from, with_node, is_late, pod_line_at, gone_line_at, in_order}
 use Rattle.trace.specs.rule.Trace.{line_at}
 use Rattle.trace.specs.state.Laws.{IsJson, IsOfKind, Stands, HasPod, HasMoment, HasWritten, HasPlaces}
-use Rattle.trace.specs.state.Laws.{IsApart, IsForwards}
-use Rattle.trace.specs.state.Laws.{Says, says_node, says_pod, says_gone, says_tick, AllChecks}
+use Rattle.trace.specs.state.Laws.{IsApart, IsForwards, Says, says_node, says_pod, says_gone, says_tick, AllChecks}
 use Rattle.trace.proofs.LawLemmas.Checks.{PodStands, node_in_order, of_kind, of_gone, of_places, of_pod_said}
 use Rattle.trace.proofs.LawLemmas.Checks.{passed, takes_pods}
 

@@ -18,9 +18,8 @@ use Rattle.trace.specs.declared.placing.PlacedEntry.{PlacedEntry}
 use Rattle.trace.specs.declared.placing.PlacedListing.{PlacedListing}
 use Rattle.trace.specs.declared.placing.PlacedResult.{PlacedResult}
 use Rattle.trace.specs.rule.Observed.{some_code_missing}
-use Rattle.trace.specs.rule.Placing.{placed_entry, placed_listing, placed_result}
+use Rattle.trace.specs.rule.Placing.{placed_entry, placed_listing, placed_result, has_twice, are_of_one_pod, repeats}
 use Rattle.trace.specs.state.Placing.{speaks}
-use Rattle.trace.specs.rule.Placing.{has_twice, are_of_one_pod, repeats}
 use Rattle.trace.specs.state.Slots.{slots_from}
 
 abbrev pub of_item : {A : Type 0} → Result A TickLineFault → Result A FaultKind

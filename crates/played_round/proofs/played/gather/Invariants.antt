@@ -1,5 +1,5 @@
 use Rattle.std.proofs.Common.{◌≡◌, ◌+◌, ◌++◌, length, map}
-use Rattle.event_book.specs.state.Totals.{plus}
+use Rattle.totals.specs.state.Totals.{plus}
 use Rattle.round_core.specs.state.Places.{sum_of_shares}
 use Rattle.played_round.proofs.played.gather.Given as goal
 

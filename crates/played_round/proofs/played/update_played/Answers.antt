@@ -1,7 +1,7 @@
 use Rattle.std.proofs.Common.{List, sym, subst, ap, ◌∙◌, arith}
 use Rattle.pod_piece.specs.state.Piece.{Piece}
-use Rattle.event_book.specs.declared.totals.Totals.{Totals}
-use Rattle.event_book.specs.state.Totals.{plus, AreEntriesOf}
+use Rattle.totals.specs.declared.totals.Totals.{Totals}
+use Rattle.totals.specs.state.Totals.{plus, AreEntriesOf}
 use Rattle.event_book.specs.state.Shares.{ShareState}
 use Rattle.round_core.specs.state.Places.{sum_of_shares}
 use Rattle.played_round.proofs.played.update_played.Goals as goal

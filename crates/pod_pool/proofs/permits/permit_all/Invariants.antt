@@ -1,6 +1,6 @@
 use Rattle.std.proofs.Common.{◌≡◌, ◌+◌, ◌≤◌, ℕ, All, map, vec_len, vec_capacity}
 use Rattle.crossbeam_deque.specs.Handles.{worker_deque, stealer_deque}
-use Rattle.event_book.specs.rule.Limits.{most_workers}
+use Rattle.worker_count.specs.rule.Limit.{most_workers}
 use Rattle.pod_pool.specs.state.Permits.{owner_deque}
 use Rattle.pod_pool.specs.state.Slots.{IsHost, IsDealtSlot}
 use Rattle.pod_pool.proofs.permits.permit_all.Given as goal

@@ -2,8 +2,8 @@ use Rattle.std.proofs.Common.{◌≤◌, Option, List, length, refl, ap, ◌∙�
 use Rattle.std.specs.Option.{option_to_list}
 use Rattle.observations.specs.rule.Limits.{most_pods}
 use Rattle.pod_piece.specs.state.Piece.{Piece}
-use Rattle.event_book.specs.state.Totals.{plus}
-use Rattle.event_book.specs.state.Rounds.{AreAdditionsOf}
+use Rattle.totals.specs.state.Totals.{plus}
+use Rattle.totals.specs.state.Rounds.{AreAdditionsOf}
 use Rattle.piece_deques.proofs.Lists.{front, last, grown, ones}
 use Rattle.pod_pool.specs.state.Done.{IsDone, weigh}
 use Rattle.pod_pool.proofs.Numbers.{weigh_more}

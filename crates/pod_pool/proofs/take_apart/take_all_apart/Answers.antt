@@ -9,8 +9,7 @@ use Rattle.pod_pool.specs.state.Contexts.{context_deque, context_tag, IsLaid}
 use Rattle.pod_pool.specs.state.WorkerResults.{kept}
 use Rattle.pod_pool.proofs.FilledDeques.{row_pushed}
 use Rattle.pod_pool.specs.state.FinishedWorkers.{finished_deque, finished_parts, finished_kept, finished_taken}
-use Rattle.pod_pool.specs.state.FinishedWorkers.{IsAway}
-use Rattle.pod_pool.specs.state.FinishedWorkers.{IsRow}
+use Rattle.pod_pool.specs.state.FinishedWorkers.{IsAway, IsRow}
 use Rattle.pod_pool.proofs.take_apart.take_all_apart.Goals as goal
 
 pub loop-context-init : goal.loop-context-init

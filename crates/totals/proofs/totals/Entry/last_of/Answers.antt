@@ -1,5 +1,5 @@
-use Rattle.event_book.proofs.Low.{low}
-use Rattle.event_book.proofs.totals.Entry.last_of.Goals as goal
+use Rattle.totals.proofs.Low.{low}
+use Rattle.totals.proofs.totals.Entry.last_of.Goals as goal
 
 pub returns-clause-low : goal.returns-clause-low
 returns-clause-low c =

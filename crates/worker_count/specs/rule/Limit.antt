@@ -1,6 +1,6 @@
--- How many workers a node has at most.
+-- How many workers a replay may have.
 use Rattle.std.specs.Prelude.{ℕ}
 
--- this many workers can share a book
+-- this many at most
 abbrev pub most_workers : ℕ
 most_workers = 64

@@ -1,6 +1,6 @@
 -- Totals by their fields.
 use Rattle.std.proofs.Common.{◌≡◌}
-use Rattle.event_book.specs.declared.totals.Totals.{Totals}
+use Rattle.totals.specs.declared.totals.Totals.{Totals}
 
 pub totals_same : (a b : Totals) → a.updates ≡ b.updates → a.events ≡ b.events → a.orders ≡ b.orders → a ≡ b
 totals_same a b updates events orders =

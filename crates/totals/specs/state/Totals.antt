@@ -4,9 +4,9 @@ use Rattle.std.specs.List.{filter, sum_by}
 use Rattle.pod_state.specs.declared.events.PodEvent.{PodEvent}
 use Rattle.pod_piece.specs.state.Piece.{Piece}
 use Rattle.pod_piece.specs.state.Status.{AreLastEvents}
-use Rattle.event_book.specs.declared.totals.Totals.{Totals}
-use Rattle.event_book.specs.declared.totals.Entry.{Entry}
-use Rattle.event_book.specs.rule.Totals.{orders, is_order}
+use Rattle.totals.specs.declared.totals.Totals.{Totals}
+use Rattle.totals.specs.declared.totals.Entry.{Entry}
+use Rattle.totals.specs.rule.Totals.{orders, is_order}
 
 -- what a tick of a pod with these events adds to the totals, beside one update
 abbrev pub entry_of : List PodEvent → Entry
@@ -36,3 +36,7 @@ plus a b = record { updates = a.updates + b.updates; events = a.events + b.event
 
 abbrev pub nothing : Totals
 nothing = record { updates = 0; events = 0; orders = 0 }
+
+-- one update with this entry
+abbrev pub one_update : Entry → Totals
+one_update entry = record { updates = 1; events = entry.events; orders = entry.orders }

@@ -20,20 +20,18 @@ use Rattle.pod_state.proofs.PodEventLemmas.{one_list_of_pod_events}
 use Rattle.pod_piece.specs.declared.made.MadeTick.{MadeTick}
 use Rattle.pod_piece.specs.state.Piece.{Piece, before_last, last_of, ticks, evicted_at, evicted_before}
 use Rattle.pod_piece.specs.state.Made.{MadeEvent, made_at, made_of, AreMadeOver, round_length, round_of}
-use Rattle.pod_piece.specs.state.Made.{AreRoundEvents}
-use Rattle.pod_piece.specs.state.Made.{AreEarlierEvents}
+use Rattle.pod_piece.specs.state.Made.{AreRoundEvents, AreEarlierEvents}
 use Rattle.pod_piece.specs.state.Status.{AreEventsAfter, AreLastEvents}
 use Rattle.pod_piece.proofs.LastTicks.{split_last}
 use Rattle.pod_piece.proofs.Rounds.{made_round, none_made}
-use Rattle.event_book.specs.declared.totals.Totals.{Totals}
-use Rattle.event_book.specs.state.Limits.{most_events, most_updates, IsLowAddition}
-use Rattle.event_book.specs.declared.totals.Entry.{Entry}
-use Rattle.event_book.specs.rule.Totals.{is_order}
-use Rattle.event_book.specs.state.Totals.{entry_of, IsEntryOf}
-use Rattle.event_book.specs.state.Shares.{one_update}
-use Rattle.event_book.specs.state.Rounds.{is_made_order, entry_of_made, addition_of, IsAdditionOf}
-use Rattle.event_book.proofs.Low.{few_events, low}
-use Rattle.event_book.proofs.Numbers.{totals_same}
+use Rattle.totals.specs.declared.totals.Totals.{Totals}
+use Rattle.totals.specs.state.Limits.{most_events, most_updates, IsLowAddition}
+use Rattle.totals.specs.declared.totals.Entry.{Entry}
+use Rattle.totals.specs.rule.Totals.{is_order}
+use Rattle.totals.specs.state.Totals.{entry_of, IsEntryOf, one_update}
+use Rattle.totals.specs.state.Rounds.{is_made_order, entry_of_made, addition_of, IsAdditionOf}
+use Rattle.totals.proofs.Low.{few_events, low}
+use Rattle.totals.proofs.Numbers.{totals_same}
 
 -- there is one list
 pub one_made : (pod : PodSpec) (delay : ℕ) (evicted : Option ℕ) (before h : List PodTick) (made others : List MadeEvent)

@@ -1,8 +1,8 @@
 use Rattle.std.proofs.Common.{◌≤◌, length, ap, arith}
 use Rattle.manifest.specs.rule.Containers.{most_containers}
-use Rattle.event_book.specs.declared.totals.Entry.{Entry}
-use Rattle.event_book.proofs.Made.{few_earlier, few_in_round, round_addition, low_addition}
-use Rattle.event_book.proofs.totals.Totals.of_round.Goals as goal
+use Rattle.totals.specs.declared.totals.Entry.{Entry}
+use Rattle.totals.proofs.Made.{few_earlier, few_in_round, round_addition, low_addition}
+use Rattle.totals.proofs.totals.Totals.of_round.Goals as goal
 
 pub entry_of_ticks-earlier-requires : goal.entry_of_ticks-earlier-requires
 entry_of_ticks-earlier-requires c =

@@ -1,7 +1,7 @@
 -- How much an update of a pod adds to the totals at most, and what leaves room for a tick of all pods.
 use Rattle.std.specs.Prelude.{ℕ, ◌*◌, ◌≤◌, ◌^◌}
-use Rattle.event_book.specs.declared.totals.Entry.{Entry}
-use Rattle.event_book.specs.declared.totals.Totals.{Totals}
+use Rattle.totals.specs.declared.totals.Entry.{Entry}
+use Rattle.totals.specs.declared.totals.Totals.{Totals}
 
 -- this many events come of one update: at most eight of each of sixteen containers, and one of the pod
 abbrev pub most_events : ℕ
@@ -31,3 +31,7 @@ pub record AreLow (totals : Totals) : Type 0 where
   pub updates : totals.updates ≤ 2 ^ 62
   pub events : totals.events ≤ 2 ^ 62
   pub orders : totals.orders ≤ 2 ^ 62
+
+-- no total passes this
+abbrev pub greatest_total : ℕ
+greatest_total = 2 ^ 63

@@ -1,9 +1,9 @@
 use Rattle.std.proofs.Common.{◌+◌, ◌++◌, ◌∷◌, [], take, sym, ap, ◌∙◌, arith}
 use Rattle.std.proofs.lemmas.List.{take_more}
 use Rattle.pod_piece.specs.declared.made.MadeTick.{MadeTick}
-use Rattle.event_book.specs.state.Totals.{entry_of}
-use Rattle.event_book.proofs.Made.{entry_more, entry_low, made_of-part}
-use Rattle.event_book.proofs.totals.entry_of_ticks.Goals as goal
+use Rattle.totals.specs.state.Totals.{entry_of}
+use Rattle.totals.proofs.Made.{entry_more, entry_low, made_of-part}
+use Rattle.totals.proofs.totals.entry_of_ticks.Goals as goal
 
 pub overflow_add-events : goal.overflow_add-events
 overflow_add-events c =

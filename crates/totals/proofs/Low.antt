@@ -14,10 +14,10 @@ use Rattle.pod_state.specs.rule.Events.{places_in, events_at, events_from, AreEv
 use Rattle.pod_state.proofs.PodEventLemmas.{one_list_of_pod_events}
 use Rattle.pod_piece.specs.state.Piece.{Piece, before_last, last_of, ticks, evicted_at, evicted_before}
 use Rattle.pod_piece.specs.state.Status.{AreLastEvents}
-use Rattle.event_book.specs.declared.totals.Entry.{Entry}
-use Rattle.event_book.specs.rule.Totals.{is_order}
-use Rattle.event_book.specs.state.Totals.{entry_of, IsEntryOf}
-use Rattle.event_book.specs.state.Limits.{IsLow, most_events}
+use Rattle.totals.specs.declared.totals.Entry.{Entry}
+use Rattle.totals.specs.rule.Totals.{is_order}
+use Rattle.totals.specs.state.Totals.{entry_of, IsEntryOf}
+use Rattle.totals.specs.state.Limits.{IsLow, most_events}
 
 few_at : (container : Option ℕ) (places : List (Option PodEventKind))
     → length (events_at container places) ≤ length places

@@ -3,9 +3,9 @@ use Rattle.std.specs.Prelude.{◌≡◌, ℕ, Bool, List, length, slice_get, Som
 use Rattle.std.specs.List.{filter, sum_by}
 use Rattle.pod_piece.specs.state.Piece.{Piece}
 use Rattle.pod_piece.specs.state.Made.{MadeEvent, round_length, AreRoundEvents}
-use Rattle.event_book.specs.declared.totals.Entry.{Entry}
-use Rattle.event_book.specs.declared.totals.Totals.{Totals}
-use Rattle.event_book.specs.rule.Totals.{is_order}
+use Rattle.totals.specs.declared.totals.Entry.{Entry}
+use Rattle.totals.specs.declared.totals.Totals.{Totals}
+use Rattle.totals.specs.rule.Totals.{is_order}
 
 abbrev pub is_made_order : MadeEvent → Bool
 is_made_order made = is_order made.event

@@ -3,11 +3,10 @@
 ghost use Rattle.std.specs.Prelude.{◌≡◌, ◌≤◌, length};
 ghost use Rattle.std.specs.List.{filter};
 ghost use Rattle.pod_piece.specs.state.Made.{made_of};
-ghost use Rattle.event_book.specs.rule.Totals.{is_order};
-ghost use Rattle.event_book.specs.state.Totals.{entry_of, IsEntryOf};
-ghost use Rattle.event_book.specs.state.Shares.{one_update, greatest_total};
-ghost use Rattle.event_book.specs.state.Rounds.{entry_of_made, IsAdditionOf};
-ghost use Rattle.event_book.specs.state.Limits.{IsLow, IsLowAddition};
+ghost use Rattle.totals.specs.rule.Totals.{is_order};
+ghost use Rattle.totals.specs.state.Totals.{entry_of, IsEntryOf, one_update};
+ghost use Rattle.totals.specs.state.Limits.{greatest_total, IsLow, IsLowAddition};
+ghost use Rattle.totals.specs.state.Rounds.{entry_of_made, IsAdditionOf};
 
 use containers::PodEventKind;
 use pod_piece::{MadeTick, PodPiece};
