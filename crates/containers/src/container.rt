@@ -79,6 +79,14 @@ impl Container {
         self.differ.last_at()
     }
 
+    /// What its listings so far say of its newest instance.
+    pub fn differ(&self) -> Differ
+        ensures { (spec : ContainerSpec) (max_restart_delay : ℕ) (h : List ContainerTick)
+            → IsStateOf spec max_restart_delay h self.now → IsDifferOf (listings h) result }
+    {
+        self.differ
+    }
+
     /// The container as the rules on phases see it.
     pub fn view(&self) -> ContainerView
         ensures { (spec : ContainerSpec) (max_restart_delay : ℕ) (h : List ContainerTick)

@@ -9,6 +9,7 @@ ghost use Rattle.containers.specs.declared.pod_event_kind.PodEventKind.TheVarian
 ghost use Rattle.containers.specs.declared.pod_event_kind.PodEventKind.TheVariants.{Backoff, Restart};
 
 use crate::pod_event_kind::PodEventKind;
+use histories::is_before;
 use probes::Verdicts;
 use state_diff::{Changes, KILLED, Seen};
 
@@ -127,15 +128,5 @@ pub fn falls_due(due: Option<u64>, last_at: Option<u64>, at: u64) -> bool
     match due {
         None => false,
         Some(due) => due <= at && is_before(last_at, due),
-    }
-}
-
-/// Whether the last tick, if there was one, was before the moment.
-fn is_before(last_at: Option<u64>, moment: u64) -> bool
-    ensures { IsTrue result ↔ IfSome last_at (λ last. last < moment) }
-{
-    match last_at {
-        None => true,
-        Some(last) => last < moment,
     }
 }

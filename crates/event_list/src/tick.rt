@@ -11,7 +11,7 @@ ghost use Rattle.event_list.specs.state.Tick.{events_of, events_by_pod, events_o
 use crate::event::{Event, EventKind};
 use eviction::Eviction;
 use node_signals::NodeEvent;
-use pod_piece::{MadeTick, PodPiece};
+use pod_piece::{MadeTick, PodPiece, piece_at};
 use pod_state::PodEvent;
 use std::alloc::{AllocError, Global};
 
@@ -77,14 +77,6 @@ fn add_events_of_pod(
     add_earlier_events(events, number, piece.earlier_events())?;
     add_events_at(events, at, number, piece.events())?;
     Ok(())
-}
-
-/// The piece of the pod with the number.
-fn piece_at(pieces: &[PodPiece], number: usize) -> &PodPiece
-    requires { number < length pieces.now }
-    ensures { slice_get pieces.now number ≡ Some result.now }
-{
-    &pieces[number]
 }
 
 /// Adds the events of the rounds of these pods, by number.

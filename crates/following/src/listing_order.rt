@@ -94,16 +94,6 @@ fn is_shown(tick: &TickObs, pod: usize) -> bool
     }
 }
 
-/// The differ after a tick that lists this.
-fn differ_after(differ: Differ, at: u64, seen: Option<Seen>) -> Differ
-    requires { Follows at seen differ }
-    ensures { Takes at seen differ result }
-{
-    let mut next = differ;
-    next.step(at, seen);
-    next
-}
-
 /// The differs of the pod with the number follow the tick.
 fn step_pod(differs: &mut Vec<Differ>, tick: &TickObs, pod: usize)
     requires { Follow tick.now pod differs.old.items }
@@ -111,7 +101,7 @@ fn step_pod(differs: &mut Vec<Differ>, tick: &TickObs, pod: usize)
 {
     for container in 0..differs.len() {
         let seen = seen_of(tick, pod, container);
-        differs[container] = differ_after(differs[container], tick.at, seen);
+        differs[container] = differs[container].after(tick.at, seen);
     }
 }
 

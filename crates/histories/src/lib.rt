@@ -5,3 +5,7 @@
 //! place whatever comes later. The definitions stand in `specs/`, and what one more record does to
 //! them in `proofs/`.
 #![tactic(auto)]
+
+mod before;
+
+pub use before::is_before;

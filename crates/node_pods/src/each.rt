@@ -13,8 +13,9 @@ ghost use Rattle.node_pods.specs.state.Steps.{AreHandedBelow};
 ghost use Rattle.node_pods.specs.state.Ranked.{IsRanked, AreHeldBelow};
 ghost use Rattle.ranking.specs.state.Index.{IsIndexOf};
 
+use histories::is_before;
 use observations::PodObs;
-use pod_piece::{EvictOrder, PodPiece};
+use pod_piece::{EvictOrder, PodPiece, piece_at};
 use quantity::END_OF_TIME;
 use ranking::RankIndex;
 use std::alloc::{AllocError, Global};
@@ -25,24 +26,6 @@ fn shown_at(shown: &[Option<PodObs>], number: usize) -> Option<&PodObs>
     ensures { slice_get shown.now number ≡ Some (option_map (λ o. o.now) result) }
 {
     shown[number].as_ref()
-}
-
-/// The piece of the pod with the number.
-fn piece_at(pieces: &[PodPiece], number: usize) -> &PodPiece
-    requires { number < length pieces.now }
-    ensures { slice_get pieces.now number ≡ Some result.now }
-{
-    &pieces[number]
-}
-
-/// Whether the last moment, if there is one, is before this one.
-fn is_before(last: Option<u64>, at: u64) -> bool
-    ensures { IsTrue result ↔ IfSome last (λ moment. moment < at) }
-{
-    match last {
-        Some(moment) => moment < at,
-        None => true,
-    }
 }
 
 /// Whether the observation is of this moment, and may be handed to the pod.

@@ -14,14 +14,7 @@ use Rattle.state_diff.specs.rule.Instances.{Tick}
 use Rattle.containers.specs.rule.Ticks.{listings}
 use Rattle.pod_state.specs.rule.Pods.{PodTick, pod_tick, ticks_of, unseen}
 use Rattle.pod_state.proofs.TickLemmas.{ticks_more}
-use Rattle.pod_piece.specs.state.Listings.{listed_in, AreListed}
-
--- what holds below a place, and at it
-pub all_next : (P : ℕ → Type 0) (i : ℕ) → ((n : ℕ) → n < i → P n) → P i → (n : ℕ) → n < i + 1 → P n
-all_next P i before here n lt = elim (cases_lt n i) [
-  | inl below ↦ before n below
-  | inr above ↦ subst P (let e : i ≡ n = omega (arith, lt, above) in e) here
-]
+use Rattle.pod_state.specs.state.Listings.{listed_in, AreListed}
 
 -- the differ at a place
 pub differ_at : (pod : PodSpec) (h : List PodTick) (differs : List Differ) (n : ℕ) (differ : Differ)

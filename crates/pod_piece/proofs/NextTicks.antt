@@ -1,7 +1,7 @@
 -- What may come next may be taken.
 use Rattle.std.proofs.Common.{◌≡◌, ◌∙◌, inl, inr, ℕ, ◌-◌, ◌<◌, List}
-use Rattle.std.proofs.Common.{length, get_or, Option, None, ap, sym, subst, arith}
-use Rattle.std.specs.Prelude.{IfSome}
+use Rattle.std.proofs.Common.{length, get_or, Bool, true, false, Option, None, refl, ap, sym, subst, arith}
+use Rattle.std.specs.Prelude.{IfSome, IsTrue, ◌↔◌}
 use Rattle.std.specs.Prelude.{slice_get, unwrap_or}
 use Rattle.std.proofs.lemmas.Bool.{cases_lt}
 use Rattle.std.proofs.lemmas.Option.{slice_get_past}
@@ -15,11 +15,15 @@ use Rattle.state_diff.specs.declared.differ.Differ.{Differ}
 use Rattle.state_diff.specs.state.Instances.{IsAcceptable}
 use Rattle.containers.specs.rule.Ticks.{listings}
 use Rattle.pod_state.specs.declared.state.PodState.{PodState}
-use Rattle.pod_state.specs.rule.Pods.{PodEntry, PodTick, pod_tick, ticks_of, unseen}
+use Rattle.pod_state.specs.rule.Pods.{PodEntry, PodTick, pod_tick, ticks_of, unseen, IsPhase}
 use Rattle.pod_state.specs.state.States.{IsStateOf, MayFollow}
 use Rattle.state_diff.proofs.Steps.{is_before}
 use Rattle.pod_state.proofs.StateLemmas.{may_follow}
-use Rattle.pod_piece.specs.state.Listings.{listed_in, IsNextTick, AreListed, AllFollow}
+use Rattle.pod_state.specs.state.Listings.{listed_in, AreListed}
+use Rattle.pod_state.proofs.EndLemmas.{ended_is, lives}
+use Rattle.phase.specs.declared.phase.Phase.{Phase}
+use Rattle.phase.specs.rule.RawPhase.{IsTerminal}
+use Rattle.pod_piece.specs.state.Listings.{IsNextTick, AllFollow, IsOver}
 
 -- a container's last tick is the pod's
 ends_too : (h : List PodTick) (n at : ℕ) → EndsBefore h at → EndsBefore (listings (ticks_of h n)) at
@@ -61,3 +65,10 @@ all_follow pod h differs observed are next = λ n d lt.
       later = is_before (listings (ticks_of h n)) (get_or differs n d) observed.at is
           (ends_too h n observed.at next.later);
     }
+
+-- a pod has ended where its phase says so
+pub is_over : (pod : PodSpec) (evicted : Option ℕ) (h : List PodTick) (phase : Phase) (over : Bool)
+    → IsPhase pod evicted h phase → (IsTrue over ↔ IsTerminal phase) → IsOver pod evicted h over
+is_over pod evicted h phase true is says = (ended_is pod evicted h phase is).0 (says.0 refl)
+is_over pod evicted h phase false is says = lives pod evicted h phase is
+    (λ term. let w : IsTrue false = says.1 term in absurd (cc))

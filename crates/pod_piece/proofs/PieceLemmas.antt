@@ -6,8 +6,8 @@ use Rattle.std.specs.Prelude.{◌↔◌, IsTrue, IsSome, is_some, IfSome, MatchO
 use Rattle.std.specs.Prelude.{if◌then◌else◌}
 use Rattle.std.proofs.lemmas.Bool.{lt-ltb, ltb-true, cases_lt}
 use Rattle.std.proofs.lemmas.List.{map-append, length-map, drop_all}
-use Rattle.histories.specs.rule.Histories.{recorded, last_moment}
-use Rattle.histories.proofs.Places.{length-more}
+use Rattle.histories.specs.rule.Histories.{recorded, last_moment, up_to}
+use Rattle.histories.proofs.Places.{length-more, up_to-new}
 use Rattle.histories.proofs.Lists.{given_at}
 use Rattle.manifest.specs.declared.pod.PodSpec.{PodSpec}
 use Rattle.observations.specs.rule.Pods.{PodObs}
@@ -26,7 +26,8 @@ use Rattle.pod_piece.specs.declared.piece.EvictionRecord.{EvictionRecord}
 use Rattle.pod_piece.specs.declared.made.MadeTick.{MadeTick}
 use Rattle.pod_piece.specs.declared.piece.Parts.{Parts}
 use Rattle.pod_piece.specs.declared.status.PodStatus.{PodStatus}
-use Rattle.pod_piece.specs.state.Listings.{IsNextTick, AreListed}
+use Rattle.pod_state.specs.state.Listings.{AreListed}
+use Rattle.pod_piece.specs.state.Listings.{IsNextTick, AreListedOnceEnded}
 use Rattle.pod_piece.specs.rule.Piece.{place_of}
 use Rattle.pod_piece.specs.state.Piece.{Piece, piece, before_last, last_of, ticks, evicted_at, Lives}
 use Rattle.pod_piece.specs.state.Piece.{with_number, at_rest, begun_with}
@@ -133,7 +134,7 @@ kept_new number pod max_restart_delay differs state status listed is was shown =
   within = omega arith;
   begun = omega arith;
   spread = none_spread;
-  listed = listed;
+  listed = record { as_many = listed.as_many; ended = λ over. listed };
   next = λ place tick above at. absurd (cc);
   after = record { ended = tt; now = λ e may. is e; before = λ none e may. was e };
   shown = shown;
@@ -178,7 +179,7 @@ kept_handed p tick differs state status old new events next fresh unchanged kept
       within = omega (arith, kept.within, length-more p.handed tick);
       begun = omega (arith, here, ap length same);
       spread = spread_more p.handed tick kept.spread next.later next.bounded;
-      listed = subst (λ (h : List PodTick). AreListed p.pod h differs) same kept.listed;
+      listed = subst (λ (h : List PodTick). AreListedOnceEnded p.pod (evicted_at p) h differs) same kept.listed;
       next = wait_more p tick kept.next next;
       after = subst
           (λ (h : List PodTick). IsStateAfter p.pod p.max_restart_delay (evicted_at p) h state) same kept.after;
@@ -257,7 +258,7 @@ pub kept_updated : (p : Piece) (x : PodTick) (listed differs : List Differ) (old
     (before after : PodStatus) (rows nows : List MadeTick) (olds news : List PodEvent) → 0 < p.waiting
     → slice_get p.handed (length p.handed - p.waiting) ≡ Some x
     → IsKept p listed old before rows olds
-    → AreListed p.pod (ticks p ++ x ∷ []) differs
+    → AreListedOnceEnded p.pod (evicted_at p) (ticks p ++ x ∷ []) differs
     → ((e : Option ℕ) → (e ≡ Some (length (ticks p)) → ⊥) → IsStateOf p.pod p.max_restart_delay e (ticks p) old
     → IsStateOf p.pod p.max_restart_delay e (ticks p ++ x ∷ []) new)
     → ((e : Option ℕ) → IsStateOf p.pod p.max_restart_delay e (ticks p) old
@@ -283,7 +284,7 @@ kept_updated p x listed differs old new before after rows nows olds news pending
       within = omega (arith, kept.within);
       begun = omega (arith, kept.begun, ap length whole, length-more h x);
       spread = kept.spread;
-      listed = subst (λ (k : List PodTick). AreListed p.pod k differs) (sym whole) lists;
+      listed = subst (λ (k : List PodTick). AreListedOnceEnded p.pod (evicted_at p) k differs) (sym whole) lists;
       next = wait_less p kept.next;
       after = subst (λ (k : List PodTick). IsStateAfter p.pod p.max_restart_delay (evicted_at p) k new)
           (sym whole) state;
@@ -435,9 +436,9 @@ evicted_state p x differs old new status earlier events free lives last kept evi
     evict from.lifecycle from.progress from.now
 
 -- one that its last tick evicts
-pub kept_evicted : (p : Piece) (x : PodTick) (order : EvictOrder) (differs : List Differ) (old new : PodState)
+pub kept_evicted : (p : Piece) (x : PodTick) (order : EvictOrder) (were differs : List Differ) (old new : PodState)
     (before after : PodStatus) (earlier : List MadeTick) (events : List PodEvent) → p.waiting ≡ 0 → Lives p
-    → last_of p.handed ≡ Some x → IsKept p differs old before earlier events
+    → last_of p.handed ≡ Some x → IsKept p were old before earlier events
     → (IsLifecycleOf p.pod None (before_last p.handed) (before_of old)
     → IsProgressOf p.pod (Some (length (before_last p.handed))) (before_last p.handed) (before_of old)
     → IsStateOf p.pod p.max_restart_delay None (before_last p.handed ++ x ∷ []) old
@@ -451,11 +452,15 @@ pub kept_evicted : (p : Piece) (x : PodTick) (order : EvictOrder) (differs : Lis
     (Some (length (before_last p.handed)))
     → IsStatusAfter p.number p.pod (Some (record { place = length (before_last p.handed); order = order }))
     (before_last p.handed ++ x ∷ []) after)
+    → (IsStateOf p.pod p.max_restart_delay (Some (length (before_last p.handed))) (before_last p.handed ++ x ∷ []) new
+    → IsEnd p.pod (Some (length (before_last p.handed))) (before_last p.handed ++ x ∷ [])
+    (Some (length (before_last p.handed)))
+    → AreListed p.pod (up_to (before_last p.handed ++ x ∷ []) (length (before_last p.handed))) differs)
     → IsKept (with_eviction p order) differs new after earlier events
-kept_evicted p x order differs old new before after earlier events free lives last kept evict shown =
+kept_evicted p x order were differs old new before after earlier events free lives last kept evict shown lists =
     let h = before_last p.handed in
     let k = h ++ x ∷ [] in
-    let from = evictable p x differs old before earlier events free lives last kept in
+    let from = evictable p x were old before earlier events free lives last kept in
     let is_place : length p.handed - 1 ≡ length h =
     omega (arith, ap length (split_last p.handed x last), length-more h x) in
     let both = evict from.lifecycle from.progress from.now in
@@ -472,6 +477,8 @@ kept_evicted p x order differs old new before after earlier events free lives la
       now = λ e may. subst (λ (o : Option ℕ). IsStateOf p.pod p.max_restart_delay o k new) (sym may) both.0;
       before = λ never. absurd (let w : Some (length h) ≡ None = never in cc);
     } in
+    let listed_k : AreListed p.pod k differs =
+    subst (λ (t : List PodTick). AreListed p.pod t differs) (up_to-new h x) (lists both.0 both.1) in
     let Made : Option ℕ → List PodTick → Type 0 = λ o t. AreMadeOver p.pod p.max_restart_delay o (take p.begun t)
     (before_last (drop p.begun t)) (made_of earlier) in
     let earlier_k : Made None k = subst (λ (o : Option ℕ). Made o k) from.no_place
@@ -480,7 +487,11 @@ kept_evicted p x order differs old new before after earlier events free lives la
       within = kept.within;
       begun = kept.begun;
       spread = kept.spread;
-      listed = kept.listed;
+      listed = record {
+        as_many = listed_k.as_many;
+        ended = λ over. subst (λ (t : List PodTick). AreListed p.pod t differs)
+            (sym from.same) listed_k;
+      };
       next = kept.next;
       after = subst (λ (t : List PodTick). IsStateAfter p.pod p.max_restart_delay (Some (length p.handed - 1)) t new)
           (sym from.same)

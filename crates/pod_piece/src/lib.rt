@@ -26,6 +26,6 @@ mod usage;
 
 pub use made::MadeTick;
 pub use order::EvictOrder;
-pub use piece::{PodPiece, Refused};
+pub use piece::{PodPiece, Refused, piece_at};
 pub use pod_state::{ContainerStatus, PodEvent, PodEventKind};
 pub use status::{EffectiveRequests, NewestUsage, PodStatus, Reason};

@@ -1,6 +1,6 @@
 //! A pod with its history.
 
-ghost use Rattle.std.specs.Prelude.{◌≡◌, ◌↔◌, ◌<◌, ◌≤◌, ℕ, [], length, map, take, Option, Some, None};
+ghost use Rattle.std.specs.Prelude.{◌≡◌, ◌↔◌, ◌<◌, ◌≤◌, ℕ, [], length, map, take, slice_get, Option, Some, None};
 ghost use Rattle.std.specs.Prelude.{IsTrue, IfOk, IfErr, OnOk, OnErr};
 ghost use Rattle.quantity.specs.rule.Duration.{end_of_time};
 ghost use Rattle.histories.specs.rule.Histories.{last_moment};
@@ -12,7 +12,7 @@ ghost use Rattle.pod_piece.specs.state.Piece.{with_number, at_rest};
 ghost use Rattle.pod_piece.specs.state.Made.{round_length, AreEarlierEvents};
 ghost use Rattle.pod_piece.specs.state.Status.{IsStatusOf, AreLastEvents};
 
-use crate::listings::{are_acceptable, first_differs, follow};
+use crate::listings::{first_differs, follow_on, may_come};
 use crate::made::{MadeTick, begin_round, make_room, move_on};
 use crate::order::EvictOrder;
 use crate::status::{EffectiveRequests, PodStatus};
@@ -202,7 +202,7 @@ impl PodPiece {
     {
         let parts = &*self.parts;
         observed.container_count() == parts.pod.containers.as_slice().len()
-            && are_acceptable(&parts.differs, observed)
+            && may_come(&parts.state, &parts.differs, observed)
     }
 
     /// Hands it what a tick shows of the pod, behind what was handed to it before; it waits until an update takes it.
@@ -247,7 +247,7 @@ impl PodPiece {
         let observed = parts.history.at(place);
         let had_ended = parts.state.lifecycle().has_ended();
         let events = parts.state.take(parts.alloc, parts.pod.policy, observed)?;
-        follow(&mut parts.differs, observed);
+        follow_on(&mut parts.differs, &parts.state, had_ended, observed);
         parts.status.usage = newer_while(!had_ended, parts.status.usage, observed.sampling());
         let is_evicted = parts.eviction.is_some();
         parts.state.show(is_evicted, &mut parts.status.containers);
@@ -278,6 +278,7 @@ impl PodPiece {
     {
         let parts = &mut *self.parts;
         parts.state.evict(order.at);
+        parts.state.list(&mut parts.differs);
         parts.state.show(true, &mut parts.status.containers);
         let lifecycle = parts.state.lifecycle();
         parts.status.phase = lifecycle.phase;
@@ -318,4 +319,12 @@ impl PodPiece {
     {
         &self.parts.events
     }
+}
+
+/// The piece of the pod with the number.
+pub fn piece_at(pieces: &[PodPiece], number: usize) -> &PodPiece
+    requires { number < length pieces.now }
+    ensures { slice_get pieces.now number ≡ Some result.now }
+{
+    &pieces[number]
 }

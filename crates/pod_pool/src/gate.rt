@@ -7,7 +7,7 @@ use piece_deques::number_of;
 use pod_piece::PodPiece;
 use std::alloc::AllocError;
 
-/// Called before and after each update, with the pod's place among those that are present, which is its number in
+/// Called before and after each update, with the pod's place among those for which a tick waits, which is its number in
 /// versions 1 and 2.
 pub trait Gate: Sync {
     ghost use Rattle.std.specs.Prelude.{ℕ, ⊤};
@@ -18,8 +18,8 @@ pub trait Gate: Sync {
 
     ghost left: { Self → ℕ → Type 0 } = { λ _ _. ⊤ };
 
-    /// Whether an update may wait in it until others have begun. Where it may, each of the workers runs, however few
-    /// pods there are for each.
+    /// Whether an update may wait in it until others have begun. Where it may, each of the workers runs, as long as
+    /// there is a pod for each, however few updates there are.
     fn waits(&self) -> bool {
         true
     }

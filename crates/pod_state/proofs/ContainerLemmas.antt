@@ -1,6 +1,7 @@
 -- The containers of a pod, as its ticks leave them.
-use Rattle.std.proofs.Common.{◌≡◌, ℕ, ◌<◌, Bool, List, [], ◌∷◌, ◌++◌, length, get_or, Option, Some}
-use Rattle.std.proofs.Common.{None, refl, subst, sym, ◌∙◌}
+use Rattle.std.proofs.Common.{◌≡◌, inl, inr, ℕ, ◌+◌, ◌<◌, Bool, List, [], ◌∷◌, ◌++◌, length, get_or, Option, Some}
+use Rattle.std.proofs.Common.{None, refl, subst, sym, ◌∙◌, arith}
+use Rattle.std.proofs.lemmas.Bool.{cases_lt}
 use Rattle.std.specs.Prelude.{◌↔◌, ◌≢◌, IsSomeAnd, IsTrue, slice_get, unwrap_or}
 use Rattle.histories.specs.rule.Histories.{recorded}
 use Rattle.histories.proofs.Items.{any_default}
@@ -11,7 +12,9 @@ use Rattle.manifest.specs.declared.pod.Role.TheVariants.{Init}
 use Rattle.observations.specs.rule.Pods.{PodObs}
 use Rattle.phase.specs.declared.view.ContainerView.{ContainerView}
 use Rattle.containers.specs.declared.container.Container.{Container}
-use Rattle.containers.specs.rule.Ticks.{ContainerTick}
+use Rattle.containers.specs.rule.Ticks.{ContainerTick, listings}
+use Rattle.state_diff.specs.declared.seen.Seen.{Seen}
+use Rattle.state_diff.specs.state.Instances.{IsAcceptable}
 use Rattle.containers.specs.state.Container.{IsStateOf}
 use Rattle.containers.specs.declared.events.ContainerEvents.{ContainerEvents}
 use Rattle.containers.specs.rule.Events.{AreEvents}
@@ -164,6 +167,36 @@ pub item_at_any : (containers : List Container) (n : ℕ) (container : Container
     → container ≡ get_or containers n container
     → (P : Container → Type 0) (e : Container) → P (get_or containers n e) → P container
 item_at_any containers n container lt is P e of = subst P (any_default containers n e container lt ∙ sym is) of
+
+-- what holds of a container after all its ticks, whatever its specification is
+pub of_container : (pod : PodSpec) (max_restart_delay n : ℕ) (h : List PodTick) (container : Container)
+    (Q : List ContainerTick → Type 0)
+    → ((spec : ContainerSpec) (k : List ContainerTick) → IsStateOf spec max_restart_delay k container → Q k)
+    → IsContainerOf pod max_restart_delay h n container → Q (ticks_of h n)
+of_container pod max_restart_delay n h container Q says is = there (slice_get pod.containers n) is
+  where
+    there : (o : Option ContainerSpec)
+        → IsSomeAnd o (λ spec. IsStateOf spec max_restart_delay (ticks_of h n) container) → Q (ticks_of h n)
+    there None st = absurd st
+    there (Some spec) st = says spec (ticks_of h n) st
+
+-- whether a listing may come next, of a container in its place
+pub acceptable_is : (pod : PodSpec) (max_restart_delay : ℕ) (h : List PodTick) (n : ℕ) (containers : List Container)
+    (container : Container) (may : Bool) (seen : Option Seen) → n < length containers
+    → container ≡ get_or containers n container → AreContainersOf pod max_restart_delay h containers
+    → ((spec : ContainerSpec) (k : List ContainerTick) → IsStateOf spec max_restart_delay k container
+    → (IsTrue may ↔ IsAcceptable (listings k) seen)) → (IsTrue may ↔ IsAcceptable (listings (ticks_of h n)) seen)
+acceptable_is pod max_restart_delay h n containers container may seen lt is are says =
+    of_container pod max_restart_delay n h container (λ k. IsTrue may ↔ IsAcceptable (listings k) seen) says
+    (item_at pod max_restart_delay h n containers container container lt is
+    (are.each n container (omega (arith, lt, are.as_many))))
+
+-- what holds below a place, and at it
+pub all_next : (P : ℕ → Type 0) (i : ℕ) → ((n : ℕ) → n < i → P n) → P i → (n : ℕ) → n < i + 1 → P n
+all_next P i before here n lt = elim (cases_lt n i) [
+  | inl below ↦ before n below
+  | inr above ↦ subst P (let e : i ≡ n = omega (arith, lt, above) in e) here
+]
 
 -- one that serves is one of the pod's
 pub serving_within : (pod : PodSpec) (n : ℕ) → Serves pod n → n < length pod.containers

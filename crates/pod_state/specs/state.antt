@@ -1,5 +1,6 @@
 pub mod Pods
 pub mod Containers
 pub mod Lifecycles
+pub mod Listings
 pub mod States
 pub mod Laws

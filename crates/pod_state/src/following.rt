@@ -11,6 +11,7 @@ ghost use Rattle.containers.specs.rule.Probed.{IsContainerReady};
 ghost use Rattle.containers.specs.state.Container.{Accepts, IsBefore, IsStateOf};
 ghost use Rattle.pod_state.specs.rule.Pods.{PodTick, pod_tick, unseen, AllReady};
 ghost use Rattle.pod_state.specs.state.Pods.{AreViewsOf};
+ghost use Rattle.pod_state.specs.state.Listings.{listed_in, AreAcceptable, AreListed};
 ghost use Rattle.pod_state.specs.state.Containers.{IsContainerOf, AreContainersOf, AreShown};
 ghost use Rattle.pod_state.specs.rule.Events.{IsMadeOf, AreMade};
 ghost use Rattle.pod_state.specs.state.States.{AllAccept, AllBefore};
@@ -19,6 +20,7 @@ use containers::{Container, ContainerEvents, ContainerStatus};
 use manifest::{ContainerSpec, MaxRestartDelay, Policy};
 use observations::{ContainerObs, PodObs};
 use phase::ContainerView;
+use state_diff::{Differ, Seen};
 use std::alloc::{AllocError, Global};
 
 /// The containers of a pod that no tick has shown yet.
@@ -136,6 +138,38 @@ pub(crate) fn show(containers: &[Container], is_evicted: bool, statuses: &mut Ve
     for (number, container) in containers.iter().enumerate() {
         statuses[number] = container.status(is_evicted);
     }
+}
+
+/// Writes the differ of each container in its place.
+pub(crate) fn list(containers: &[Container], differs: &mut Vec<Differ>)
+    requires { length differs.old.items ≡ length containers.now }
+    ensures { (pod : PodSpec) (max_restart_delay : ℕ) (h : List PodTick)
+        → AreContainersOf pod max_restart_delay h containers.now → AreListed pod h differs.new.items }
+{
+    for (number, container) in containers.iter().enumerate() {
+        differs[number] = container.differ();
+    }
+}
+
+/// What is listed of the container with the number.
+pub fn listed_in(observed: &PodObs, number: usize) -> Option<Seen>
+    ensures { result ≡ listed_in observed.now.containers number }
+{
+    shown_of(observed, number).seen
+}
+
+/// Whether each listing may come next.
+pub(crate) fn are_acceptable(containers: &[Container], observed: &PodObs) -> bool
+    ensures { (pod : PodSpec) (max_restart_delay : ℕ) (h : List PodTick)
+        → AreContainersOf pod max_restart_delay h containers.now
+        → (IsTrue result ↔ AreAcceptable pod h observed.now.containers) }
+{
+    for (number, container) in containers.iter().enumerate() {
+        if !container.accepts(listed_in(observed, number)) {
+            return false;
+        }
+    }
+    true
 }
 
 /// Whether the container is ready, or an init container.

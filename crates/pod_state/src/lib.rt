@@ -10,5 +10,6 @@ mod state;
 
 pub use containers::{ContainerStatus, PodEventKind};
 pub use events::PodEvent;
+pub use following::listed_in;
 pub use lifecycle::Lifecycle;
 pub use state::PodState;

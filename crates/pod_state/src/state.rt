@@ -6,22 +6,26 @@ ghost use Rattle.quantity.specs.rule.Duration.{end_of_time};
 ghost use Rattle.histories.specs.rule.Histories.{recorded};
 ghost use Rattle.manifest.specs.declared.pod.PodSpec.{PodSpec};
 ghost use Rattle.phase.specs.rule.RawPhase.{IsTerminal};
-ghost use Rattle.pod_state.specs.rule.Pods.{PodEntry, PodTick, pod_tick, IsEnd, EndsEvicted};
+ghost use Rattle.pod_state.specs.rule.Pods.{PodEntry, PodTick, pod_tick, IsEnd, counted, EndsEvicted};
 ghost use Rattle.pod_state.specs.state.Pods.{AreViewsOf};
 ghost use Rattle.pod_state.specs.rule.Containers.{AreStatusesOf};
 ghost use Rattle.pod_state.specs.state.Containers.{AreContainersOf};
 ghost use Rattle.pod_state.specs.rule.Events.{AreMade};
 ghost use Rattle.pod_state.specs.rule.Lifecycles.{IsLifecycleOf};
 ghost use Rattle.pod_state.specs.state.Lifecycles.{IsProgressOf};
+ghost use Rattle.pod_state.specs.state.Listings.{AreAcceptable, AreListed};
 ghost use Rattle.pod_state.specs.state.States.{before_of, HasContainers, IsStateOf, LeadsTo, MakesEvents, MayFollow};
 
 use crate::events::{PodEvent, events_of, phase_event};
-use crate::following::{all_ready, first_containers, next_containers, show, step, views_of};
+use crate::following::{
+    all_ready, are_acceptable, first_containers, list, next_containers, show, step, views_of,
+};
 use crate::lifecycle::Lifecycle;
 use containers::{Container, ContainerEvents, ContainerStatus};
 use manifest::{MaxRestartDelay, PodSpec, Policy};
 use observations::PodObs;
 use phase::ContainerView;
+use state_diff::Differ;
 use std::alloc::{AllocError, Global};
 
 /// A pod as its ticks so far leave it: its containers, its phase and its conditions. It keeps none
@@ -175,5 +179,26 @@ impl PodState {
             → AreStatusesOf pod evicted h statuses.new.items }
     {
         show(&self.containers, is_evicted, statuses);
+    }
+
+    /// Writes the differ of each container, by number, in its place: what the listings that count say of it.
+    pub fn list(&self, differs: &mut Vec<Differ>)
+        requires { HasContainers (length differs.old.items) self.now }
+        ensures { (pod : PodSpec) (max_restart_delay : ℕ) (evicted end : Option ℕ) (h : List PodTick)
+            → IsEnd pod evicted h end
+            → IsStateOf pod max_restart_delay evicted h self.now
+            → AreListed pod (counted h end) differs.new.items }
+    {
+        list(&self.containers, differs);
+    }
+
+    /// Whether each listing of the observation may come next, of a pod that has not ended.
+    pub fn accepts(&self, observed: &PodObs) -> bool
+        requires { IsTerminal self.now.lifecycle.phase → ⊥ }
+        ensures { (pod : PodSpec) (max_restart_delay : ℕ) (evicted : Option ℕ) (h : List PodTick)
+            → IsStateOf pod max_restart_delay evicted h self.now
+            → (IsTrue result ↔ AreAcceptable pod h observed.now.containers) }
+    {
+        are_acceptable(&self.containers, observed)
     }
 }

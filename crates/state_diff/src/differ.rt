@@ -254,6 +254,17 @@ impl Differ {
         self.last_at = Some(at);
         changes
     }
+
+    /// The differ as a tick leaves it that it may follow, as `step` says.
+    pub fn after(self, at: u64, seen: Option<Seen>) -> Differ
+        requires accepted { Accepts self seen }
+        requires later { IsBefore self at }
+        ensures { (h : List Tick) → IsStateOf h self → IsStateOf (h ++ tick at seen ∷ []) result }
+    {
+        let mut next = self;
+        next.step(at, seen);
+        next
+    }
 }
 
 impl Changes {

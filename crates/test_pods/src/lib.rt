@@ -1,12 +1,13 @@
 //! Pods to which tests hand what a tick shows of them.
 #![tactic(auto)]
 
-ghost use Rattle.std.specs.Prelude.{◌≡◌, ◌<◌, ◌↔◌, Err, IfSome, IsTrue, OnErr, OnOk};
+ghost use Rattle.std.specs.Prelude.{◌≡◌, ◌<◌, ◌↔◌, Err, IsTrue, OnErr, OnOk};
 ghost use Rattle.pod_state.specs.rule.Pods.{pod_tick};
 ghost use Rattle.pod_piece.specs.state.Piece.{with_tick};
 ghost use Rattle.test_pods.specs.state.Pods.{MayBeHanded};
 ghost use Rattle.test_pods.specs.declared.Unhanded.TheVariants.{NotNext};
 
+use histories::is_before;
 use observations::PodObs;
 use pod_piece::PodPiece;
 use quantity::END_OF_TIME;
@@ -21,16 +22,6 @@ pub enum Unhanded {
     OutOfMemory,
 }
 
-/// Whether a moment comes after the last one, if there is one.
-fn is_later(last: Option<u64>, at: u64) -> bool
-    ensures { IsTrue result ↔ IfSome last (λ moment. moment < at) }
-{
-    match last {
-        Some(last) => last < at,
-        None => true,
-    }
-}
-
 /// Whether the observation may come next.
 fn may_take(piece: &PodPiece, observed: &PodObs) -> bool
     ensures { IsTrue result ↔ MayBeHanded piece.now (pod_tick observed.now) }
@@ -39,7 +30,7 @@ fn may_take(piece: &PodPiece, observed: &PodObs) -> bool
         return false;
     }
     observed.at() < END_OF_TIME
-        && is_later(piece.last_at(), observed.at())
+        && is_before(piece.last_at(), observed.at())
         && piece.accepts(observed)
 }
 

@@ -7,7 +7,6 @@ ghost use Rattle.totals.specs.state.Limits.{most_round_events, greatest_total};
 ghost use Rattle.tick_round.specs.state.Update.{AreUpTo, MayUpdate, IsAdded, UpdatesAt, AreAdded};
 
 use event_book::WholeBook;
-
 use pod_piece::PodPiece;
 use pod_pool::{Gate, update_waiting};
 use std::alloc::AllocError;

@@ -28,6 +28,7 @@ use crate::workers::update_by_workers;
 use event_book::WholeBook;
 use event_list::Event;
 use eviction::Evictions;
+use histories::is_before;
 use manifest::PodSpec;
 use node_config::{NodeConfig, Version};
 use node_pods::NodePods;
@@ -130,7 +131,7 @@ impl<U: Ledger, E: Ledger, O: Ledger> Running<U, E, O> {
         ensures { IsTrue result ↔ Fits self.now tick.now }
     {
         self.evictions.len() < MOST_TICKS
-            && is_later(self.last, tick.at)
+            && is_before(self.last, tick.at)
             && tick.at < END_OF_TIME
             && is_whole(self.config.version, tick)
             && self.pods.fits(tick)
@@ -375,15 +376,5 @@ fn is_whole(version: Version, tick: &TickObs) -> bool
     match version {
         Version::One | Version::Two => shows_all(tick.pods.as_slice()),
         Version::Three => true,
-    }
-}
-
-/// Whether the moment is later than the last one, if there is one.
-fn is_later(last: Option<u64>, at: u64) -> bool
-    ensures { IsTrue result ↔ IfSome last (λ moment. moment < at) }
-{
-    match last {
-        Some(last) => last < at,
-        None => true,
     }
 }

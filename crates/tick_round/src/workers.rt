@@ -63,7 +63,8 @@ pub fn update_by_workers<U: Ledger + Send, E: Ledger + Send, O: Ledger + Send, R
     ensures pieces { IfOk result (λ r. r.0.items ≡ map all_updated pieces.items) }
     ensures book { IfOk result (λ r. AreAdded r.0.items book r.1) }
 {
-    let workers = workers_to_run(workers, updates, gate);
+    // One pod is updated by one thread, however many of its ticks wait.
+    let workers = workers_to_run(workers.min(pieces.len().max(1)), updates, gate);
     if workers == 1 {
         return update_alone(pieces, book, gate);
     }

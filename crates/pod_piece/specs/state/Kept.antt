@@ -13,7 +13,7 @@ use Rattle.pod_piece.specs.declared.made.MadeTick.{MadeTick}
 use Rattle.pod_piece.specs.declared.piece.Parts.{Parts}
 use Rattle.pod_piece.specs.declared.status.PodStatus.{PodStatus}
 use Rattle.pod_piece.specs.state.Piece.{Piece, piece, before_last, ticks, evicted_at}
-use Rattle.pod_piece.specs.state.Listings.{IsNextTick, AreListed}
+use Rattle.pod_piece.specs.state.Listings.{IsNextTick, AreListedOnceEnded}
 use Rattle.pod_piece.specs.state.Status.{IsStatusOf, AreLastEvents}
 use Rattle.pod_piece.specs.state.Made.{AreEarlierEvents}
 
@@ -54,7 +54,7 @@ pub record IsKept (p : Piece) (differs : List Differ) (state : PodState) (status
   pub within : p.waiting ≤ length p.handed
   pub begun : p.begun ≤ length (ticks p)
   pub spread : AreSpread p.handed
-  pub listed : AreListed p.pod (ticks p) differs
+  pub listed : AreListedOnceEnded p.pod (evicted_at p) (ticks p) differs
   pub next : MayWait p
   pub after : IsStateAfter p.pod p.max_restart_delay (evicted_at p) (ticks p) state
   pub shown : IsStatusOf p status

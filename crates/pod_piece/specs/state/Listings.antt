@@ -1,24 +1,14 @@
--- Which listings of a pod's containers may come after these ticks, whether it has ended or not.
-use Rattle.std.specs.Prelude.{◌≡◌, ℕ, ◌<◌, List, length, Option, slice_get, slice_index_or, unwrap_or}
+-- What may come next of a pod, and what follows its listings.
+use Rattle.std.specs.Prelude.{◌≡◌, ℕ, ◌<◌, List, length, Bool, true, false, Option, None, slice_index_or}
 use Rattle.quantity.specs.rule.Duration.{end_of_time}
 use Rattle.histories.specs.state.Histories.{EndsBefore}
 use Rattle.manifest.specs.declared.pod.PodSpec.{PodSpec}
 use Rattle.observations.specs.declared.container.ContainerObs.{ContainerObs}
 use Rattle.state_diff.specs.declared.seen.Seen.{Seen}
 use Rattle.state_diff.specs.declared.differ.Differ.{Differ}
-use Rattle.state_diff.specs.state.Instances.{IsAcceptable}
-use Rattle.state_diff.specs.state.Differ.{Accepts, IsBefore, IsStateOf}
-use Rattle.containers.specs.rule.Ticks.{listings}
-use Rattle.pod_state.specs.rule.Pods.{PodTick, ticks_of, unseen}
-
--- what is listed of the container with the number
-abbrev pub listed_in : List ContainerObs → ℕ → Option Seen
-listed_in shown number = (unwrap_or (slice_get shown number) unseen).seen
-
--- each container's listing may come after its earlier ones
-abbrev pub AreAcceptable : PodSpec → List PodTick → List ContainerObs → Type 0
-AreAcceptable pod h shown =
-    (number : ℕ) → number < length pod.containers → IsAcceptable (listings (ticks_of h number)) (listed_in shown number)
+use Rattle.state_diff.specs.state.Differ.{Accepts, IsBefore}
+use Rattle.pod_state.specs.rule.Pods.{PodTick, IsEnd, HasEnded}
+use Rattle.pod_state.specs.state.Listings.{listed_in, AreAcceptable, AreListed}
 
 -- the observation shows each container, and may come next
 pub record MayComeNext (pod : PodSpec) (h : List PodTick) (shown : List ContainerObs) : Type 0 where
@@ -31,11 +21,16 @@ pub record IsNextTick (pod : PodSpec) (h : List PodTick) (tick : PodTick) : Type
   pub later : EndsBefore h tick.moment
   pub bounded : tick.moment < end_of_time
 
--- one differ for each container, as these ticks leave it
-pub record AreListed (pod : PodSpec) (h : List PodTick) (differs : List Differ) : Type 0 where
+-- whether some of these ticks has ended the pod
+abbrev pub IsOver : PodSpec → Option ℕ → List PodTick → Bool → Type 0
+IsOver pod evicted h true = HasEnded pod evicted h
+IsOver pod evicted h false = IsEnd pod evicted h None
+
+-- one differ for each container, and once the pod has ended they are as these ticks leave them
+pub record AreListedOnceEnded (pod : PodSpec) (evicted : Option ℕ) (h : List PodTick)
+    (differs : List Differ) : Type 0 where
   pub as_many : length differs ≡ length pod.containers
-  pub each : (number : ℕ) (d : Differ) → number < length differs
-      → IsStateOf (listings (ticks_of h number)) (slice_index_or differs number d)
+  pub ended : HasEnded pod evicted h → AreListed pod h differs
 
 -- the listing may come next, at the moment
 pub record Follows (differ : Differ) (at : ℕ) (seen : Option Seen) : Type 0 where

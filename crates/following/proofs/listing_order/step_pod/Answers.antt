@@ -10,8 +10,8 @@ loop-container-preserved c =
     omega (arith, c.len-container-end.ensures, c.args.differs.now.ok)
     in
     let lt : n < length old = omega (arith, long, c.loop-container-test.true) in
-    taken_more c.args.tick.now c.args.pod n old c.loop-container.differs.items c.index.result.now c.differ_after.result
-    c.seen_of-seen.result lt c.index.ensures c.seen_of-seen.ensures c.differ_after.ensures c.loop-container.invariant
+    taken_more c.args.tick.now c.args.pod n old c.loop-container.differs.items c.index.result.now c.after.result
+    c.seen_of-seen.result lt c.index.ensures c.seen_of-seen.ensures c.after.ensures c.loop-container.invariant
 
 pub returns : goal.returns
 returns c =

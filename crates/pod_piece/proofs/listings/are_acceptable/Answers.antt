@@ -3,8 +3,9 @@ use Rattle.state_diff.specs.declared.seen.Seen.{Seen}
 use Rattle.containers.specs.rule.Ticks.{listings}
 use Rattle.state_diff.specs.state.Instances.{IsAcceptable}
 use Rattle.pod_state.specs.rule.Pods.{ticks_of}
-use Rattle.pod_piece.specs.state.Listings.{listed_in}
-use Rattle.pod_piece.proofs.ListingLemmas.{all_next, differ_at}
+use Rattle.pod_state.specs.state.Listings.{listed_in}
+use Rattle.pod_state.proofs.ContainerLemmas.{all_next}
+use Rattle.pod_piece.proofs.ListingLemmas.{differ_at}
 use Rattle.pod_piece.proofs.listings.are_acceptable.Goals as goal
 
 pub loop-number-preserved : goal.loop-number-preserved

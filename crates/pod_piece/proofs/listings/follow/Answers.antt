@@ -6,7 +6,7 @@ use Rattle.state_diff.specs.declared.differ.Differ.{Differ}
 use Rattle.state_diff.specs.declared.seen.Seen.{Seen}
 use Rattle.state_diff.specs.state.Differ.{IsStateOf}
 use Rattle.state_diff.specs.rule.Instances.{Tick}
-use Rattle.pod_piece.specs.state.Listings.{listed_in}
+use Rattle.pod_state.specs.state.Listings.{listed_in}
 use Rattle.pod_piece.proofs.ListingLemmas.{listed_more}
 use Rattle.pod_piece.proofs.listings.follow.Goals as goal
 

@@ -24,6 +24,19 @@ evict-requires c =
     (after.now (place_of i.eviction) (may_self (place_of i.eviction) (length p.handed)))
     (lives_free p from.free from.lives)
 
+pub list-requires : goal.list-requires
+list-requires c =
+    let i = c.deref_mut-parts.result.now in
+    let from = may_evict i _ c.args.self.now c.args.order.at c.deref_mut-parts.ensures.value c.self.view_is
+    c.self.invariant c.requires.free c.requires.lives c.requires.last in
+    let p = piece_of i in
+    let h = before_last p.handed in
+    let now = evicted_state p (recorded c.args.order.at from.last.0) i.differs.items i.state c.evict.new.self i.status
+    i.earlier.items i.events.items from.free from.lives from.last.1 from.held
+    (λ was before is. c.evict.ensures.state i.pod i.max_restart_delay h from.last.0 was before is) in
+    from.held.listed.as_many ∙ has_containers i.pod i.max_restart_delay (Some (length h))
+    (h ++ recorded c.args.order.at from.last.0 ∷ []) c.evict.new.self now
+
 pub show-requires : goal.show-requires
 show-requires c =
     let i = c.deref_mut-parts.result.now in
@@ -54,8 +67,8 @@ invariant_of-self c =
       containers = c.show.new.statuses;
       order = Some c.args.order;
     } in
-    let kept = kept_evicted p x c.args.order i.differs.items i.state c.evict.new.self i.status status i.earlier.items
-    i.events.items from.free from.lives from.last.1 from.held
+    let kept = kept_evicted p x c.args.order i.differs.items c.list.new.differs.items i.state c.evict.new.self i.status
+    status i.earlier.items i.events.items from.free from.lives from.last.1 from.held
     (λ was before is. (
       c.evict.ensures.state i.pod i.max_restart_delay h from.last.0 was before is,
       c.evict.ensures.ends i.pod
@@ -72,8 +85,9 @@ invariant_of-self c =
       usage = usage_evicted i.pod h x i.status.usage shown.usage none end;
       priority = shown.priority;
       order = refl;
-    }) in
+    })
+    (λ st end. c.list.ensures i.pod i.max_restart_delay (Some (length h)) (Some (length h)) k end st) in
     subst (λ (n : ℕ). IsKept
     (piece i.number i.pod i.max_restart_delay i.history i.waiting i.begun
     (Some (record { place = n; order = c.args.order })))
-    i.differs.items c.evict.new.self status i.earlier.items i.events.items) place kept
+    c.list.new.differs.items c.evict.new.self status i.earlier.items i.events.items) place kept

@@ -16,7 +16,7 @@ use Rattle.pod_piece.specs.state.Kept.{AreKept, piece_of}
 use Rattle.pod_piece.specs.state.Made.{made_of, made_at}
 use Rattle.pod_piece.specs.rule.Piece.{place_of}
 use Rattle.pod_piece.specs.state.Piece.{piece, ticks}
-use Rattle.pod_piece.proofs.NextTicks.{may_take, all_follow}
+use Rattle.pod_piece.proofs.NextTicks.{may_take, all_follow, is_over}
 use Rattle.pod_piece.proofs.PieceLemmas.{may_self, has_containers, kept_updated, by_eviction, end_is, moved_on}
 use Rattle.pod_piece.proofs.PieceLemmas.{flag_says, at_next}
 use Rattle.pod_piece.proofs.UsageLemmas.{usage_more}
@@ -47,13 +47,32 @@ take-requires-clause-bounded c =
     (ap (λ n. n - i.waiting) c.len.ensures) c.at-observed.ensures in
     from.next.bounded
 
-pub follow-requires : goal.follow-requires
-follow-requires c =
+pub follow_on-requires-clause-count : goal.follow_on-requires-clause-count
+follow_on-requires-clause-count c =
     let i = c.deref_mut-parts.result.now in
-    let from = at_next i _ c.args.self.now (c.len.result - i.waiting) c.at-observed.result.now
+    let observed = c.at-observed.result.now in
+    let from = at_next i _ c.args.self.now (c.len.result - i.waiting) observed
     c.deref_mut-parts.ensures.value c.self.view_is c.self.invariant c.requires
     (ap (λ n. n - i.waiting) c.len.ensures) c.at-observed.ensures in
-    all_follow i.pod (ticks (piece_of i)) i.differs.items c.at-observed.result.now from.held.listed from.next
+    let h = ticks (piece_of i) in
+    let after =
+    c.in_ok-events.ensures.ok i.pod i.max_restart_delay (place_of i.eviction) h refl from.not_now from.now in
+    from.held.listed.as_many ∙ has_containers i.pod i.max_restart_delay (place_of i.eviction)
+    (h ++ pod_tick observed ∷ []) c.take.new.self after
+
+pub follow_on-requires-clause-follow : goal.follow_on-requires-clause-follow
+follow_on-requires-clause-follow c = λ had.
+    let i = c.deref_mut-parts.result.now in
+    let observed = c.at-observed.result.now in
+    let from = at_next i _ c.args.self.now (c.len.result - i.waiting) observed
+    c.deref_mut-parts.ensures.value c.self.view_is c.self.invariant c.requires
+    (ap (λ n. n - i.waiting) c.len.ensures) c.at-observed.ensures in
+    let h = ticks (piece_of i) in
+    let e = place_of i.eviction in
+    let was : IsLifecycleOf i.pod e h c.lifecycle.result = subst (λ (l : Lifecycle). IsLifecycleOf i.pod e h l)
+    (sym c.lifecycle.ensures) from.now.progress.so_far in
+    all_follow i.pod h i.differs.items observed
+    (from.held.listed.ended ((c.has_ended-had_ended.ensures.ended i.pod e h was).0 had)) from.next
 
 pub show-requires : goal.show-requires
 show-requires c =
@@ -79,6 +98,8 @@ invariant_of-self-2 c =
     let h = ticks (piece_of i) in
     let k = h ++ pod_tick observed ∷ [] in
     let e = place_of i.eviction in
+    let was : IsLifecycleOf i.pod e h c.lifecycle.result = subst (λ (l : Lifecycle). IsLifecycleOf i.pod e h l)
+    (sym c.lifecycle.ensures) from.now.progress.so_far in
     let earlier = moved_on i place c.move_on.new.earlier.items from.held from.long
     (λ t last at. c.move_on.ensures.moved t last at
     ∙ ap (λ (rows : List MadeTick). made_of rows ++ made_at last.at c.replace-before.result.items)
@@ -87,10 +108,13 @@ invariant_of-self-2 c =
     (λ v. v.items) c.replace-before.ensures.value))
     (λ f. c.move_on.ensures.same f ∙ c.make_room.ensures.same) in
     kept_updated (piece i.number i.pod i.max_restart_delay i.history i.waiting i.begun i.eviction) (pod_tick observed)
-    i.differs.items c.follow.new.differs.items
+    i.differs.items c.follow_on.new.differs.items
     i.state c.take.new.self i.status _ i.earlier.items c.move_on.new.earlier.items i.events.items
     c.replace-before.new.dest.items from.pending from.is from.held
-    (c.follow.ensures i.pod h from.held.listed)
+    (c.follow_on.ensures i.pod i.max_restart_delay e h
+    (is_over i.pod e h c.lifecycle.result.phase c.has_ended-had_ended.result was.phase
+    c.has_ended-had_ended.ensures.terminal) from.held.listed
+    (c.in_ok-events.ensures.ok i.pod i.max_restart_delay e h refl from.not_now from.now))
     (λ e not is. c.in_ok-events.ensures.ok i.pod i.max_restart_delay e h refl not is)
     (λ e is. subst (λ (l : Lifecycle). IsProgressOf i.pod e h l) (sym c.in_ok-events.ensures.before) is.progress)
     (λ e not is. subst (λ (es : List PodEvent). AreEventsOf i.pod i.max_restart_delay e h (pod_tick observed) es)
@@ -99,8 +123,6 @@ invariant_of-self-2 c =
     (λ shown before after.
     let st = after.now e (may_self e (length k)) in
     let phase = st.progress.so_far.phase in
-    let was : IsLifecycleOf i.pod e h c.lifecycle.result = subst (λ (l : Lifecycle). IsLifecycleOf i.pod e h l)
-    (sym c.lifecycle.ensures) from.now.progress.so_far in
     record {
       number_is = shown.number_is;
       lifecycle = subst (λ (l : Lifecycle). IsLifecycleOf i.pod e k l) (sym c.lifecycle-lifecycle.ensures)
