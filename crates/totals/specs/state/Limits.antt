@@ -1,5 +1,6 @@
 -- How much an update of a pod adds to the totals at most, and what leaves room for a tick of all pods.
 use Rattle.std.specs.Prelude.{ℕ, ◌*◌, ◌≤◌, ◌^◌}
+use Rattle.quantity.specs.rule.Duration.{end_of_time}
 use Rattle.totals.specs.declared.totals.Entry.{Entry}
 use Rattle.totals.specs.declared.totals.Totals.{Totals}
 
@@ -14,7 +15,7 @@ pub record IsLow (entry : Entry) : Type 0 where
 
 -- this many updates one round of a piece has, which are at different seconds
 abbrev pub most_updates : ℕ
-most_updates = 2 ^ 40
+most_updates = end_of_time
 
 -- and this many events
 abbrev pub most_round_events : ℕ
