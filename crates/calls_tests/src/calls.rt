@@ -1,7 +1,7 @@
 //! The calls that read a trace and write an answer.
 
 ghost use Rattle.std.specs.Prelude.{◌^◌, ◌<◌};
-ghost use Rattle.replay_stream.specs.MemSource.{source_failures};
+ghost use Rattle.replay_stream.specs.state.MemSource.{source_failures};
 
 use kubelet_replay::{
     MemSink, MemSource, NoGate, RunFault, Sink, Source, check, replay, replay_play,

@@ -1,8 +1,8 @@
 //! The pods of a trace, each with what the first tick shows of it.
 
 ghost use Rattle.std.specs.Prelude.{◌≡◌, ◌<◌, ◌≤◌, length, IfOk, OnOk};
-ghost use Rattle.observations.specs.Limits.{most_pods};
-ghost use Rattle.test_pods.specs.Pods.{ArePending};
+ghost use Rattle.observations.specs.rule.Limits.{most_pods};
+ghost use Rattle.test_pods.specs.state.Pods.{ArePending};
 
 use crate::scenario::Scenario;
 use kubelet_replay::Gate;

@@ -1,7 +1,7 @@
 //! Replays of texts.
 
 ghost use Rattle.std.specs.Prelude.{◌<◌, ◌≤◌};
-ghost use Rattle.event_book.specs.Limits.{most_workers};
+ghost use Rattle.event_book.specs.rule.Limits.{most_workers};
 
 use crate::scenario::Scenario;
 use kubelet_replay::{Format, Gate, MemSink, MemSource, replay, replay_in, replay_play_in};

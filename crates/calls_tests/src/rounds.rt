@@ -1,8 +1,8 @@
 //! The calls that update pods under a gate.
 
 ghost use Rattle.std.specs.Prelude.{◌≡◌};
-ghost use Rattle.event_book.specs.Totals.{nothing};
-ghost use Rattle.event_book.specs.Shares.{most_parts, share_with};
+ghost use Rattle.event_book.specs.state.Totals.{nothing};
+ghost use Rattle.event_book.specs.state.Shares.{most_parts, share_with};
 
 use crate::book_tests::fill;
 use crate::pods::first_pieces;

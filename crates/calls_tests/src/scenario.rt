@@ -1,7 +1,7 @@
 //! What the calls that update pods under a gate are made with.
 
 ghost use Rattle.std.specs.Prelude.{◌<◌, ◌≤◌};
-ghost use Rattle.event_book.specs.Limits.{most_workers};
+ghost use Rattle.event_book.specs.rule.Limits.{most_workers};
 
 use kubelet_replay::Gate;
 use std::alloc::Global;

@@ -8,10 +8,10 @@ use Rattle.clap.specs.declared.error.Error.{Error}
 use Rattle.clap.specs.declared.parser.matches.ArgMatches.{ArgMatches}
 use Rattle.clap.proofs.OnLiterals.{clap_on_literals}
 use Rattle.commands.specs.declared.job.Job.{Job}
-use Rattle.commands.specs.Jobs.{IsAskedBy, IsFaultIn, IsJobAs, IsJobOf, IsRefusal, Refutes, Refuses}
+use Rattle.commands.specs.state.Jobs.{IsAskedBy, IsFaultIn, IsJobAs, IsJobOf, IsRefusal, Refutes, Refuses}
 use Rattle.commands.specs.declared.fault.UsageFault.{UsageFault}
 use Rattle.commands.specs.declared.fault.UsageFault.TheVariants.{Refused, OutOfMemory}
-use Rattle.commands.specs.Program.{program}
+use Rattle.commands.specs.state.Program.{program}
 
 pub simple_and_free : is_simple_and_free program ≡ true
 unfolding clap_on_literals

@@ -8,7 +8,7 @@ use Rattle.clap.specs.declared.builder.arg.Arg.{Arg}
 use Rattle.clap.specs.declared.builder.command.Command.{Command}
 use Rattle.clap.specs.declared.builder.command.Command.TheViews.{out-Command}
 use Rattle.clap.specs.Simple.{app_of_fields}
-use Rattle.commands.specs.Program.{IsCommand, needing_one, with_version}
+use Rattle.commands.specs.state.Program.{IsCommand, needing_one, with_version}
 
 pub with_arg : (old new : Command) (a : Arg) (app : App) (rule : Rule) → IsCommand app old → rule_of a ≡ rule
     → a.global ≡ false

@@ -8,8 +8,8 @@ use Rattle.clap.specs.declared.parser.matches.Found.{Found}
 use Rattle.clap.proofs.WalkLemmas.{first_value-rows, one_text-rows}
 use Rattle.commands.specs.declared.job.Job.{Job}
 use Rattle.commands.specs.declared.job.Job.TheVariants.{Run, Check, Play}
-use Rattle.commands.specs.Program.{most_workers}
-use Rattle.commands.specs.Jobs.{Has, HasWorkers, IsJobFor}
+use Rattle.commands.specs.state.Program.{most_workers}
+use Rattle.commands.specs.state.Jobs.{Has, HasWorkers, IsJobFor}
 
 pub has_text : (f : Found) (id text : List ℕ) → Some text ≡ first_value f id → Has (rows_of f) id text
 has_text f id text is = sym (is ∙ first_value-rows f id)

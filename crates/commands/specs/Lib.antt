@@ -1,2 +1,1 @@
-pub mod Program
-pub mod Jobs
+pub mod state

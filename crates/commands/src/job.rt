@@ -3,9 +3,9 @@
 ghost use Rattle.std.specs.Prelude.{◌≡◌, ◌≤◌, ◌↔◌, ℕ, IsTrue, IfOk, IfErr, MatchOption, map, option_map};
 ghost use Rattle.clap.specs.Words.{found_of, rows_of, subcommand_rows_of};
 ghost use Rattle.commands.specs.declared.job.Job.{Job};
-ghost use Rattle.commands.specs.Program.{most_workers};
-ghost use Rattle.commands.specs.Jobs.{HasWorkers, format_asked, format_of, IsJobFor, IsJobOf, IsAskedBy};
-ghost use Rattle.commands.specs.Jobs.{IsRefusal, IsJobAs, Refutes, Refuses};
+ghost use Rattle.commands.specs.state.Program.{most_workers};
+ghost use Rattle.commands.specs.state.Jobs.{HasWorkers, format_asked, format_of, IsJobFor, IsJobOf, IsAskedBy};
+ghost use Rattle.commands.specs.state.Jobs.{IsRefusal, IsJobAs, Refutes, Refuses};
 
 use crate::fault::UsageFault;
 use crate::program::{MOST_WORKERS, program};

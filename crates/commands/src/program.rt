@@ -2,8 +2,8 @@
 
 ghost use Rattle.std.specs.Prelude.{◌≡◌, IfOk, false};
 ghost use Rattle.clap.specs.Words.{rule_of};
-ghost use Rattle.commands.specs.Program.{trace_rule, steps_rule, workers_rule, extended_rule, of_trace};
-ghost use Rattle.commands.specs.Program.{run, check, play, program, IsCommand};
+ghost use Rattle.commands.specs.state.Program.{trace_rule, steps_rule, workers_rule, extended_rule, of_trace};
+ghost use Rattle.commands.specs.state.Program.{run, check, play, program, IsCommand};
 
 use clap::{Arg, ArgAction, Command};
 use std::alloc::{AllocError, Global};

@@ -4,27 +4,29 @@ use Rattle.std.proofs.Common.{subst, sym, append-nil, append_assoc, arith}
 use Rattle.std.specs.Prelude.{◌↔◌, IsSomeAnd, IsTrue}
 use Rattle.std.proofs.lemmas.Bool.{cases_eq}
 use Rattle.std.proofs.lemmas.List.{take-append-drop}
-use Rattle.histories.specs.Histories.{HoldsAt, ComesTrue, Lasts}
+use Rattle.histories.specs.rule.Histories.{HoldsAt, ComesTrue}
+use Rattle.histories.specs.state.Histories.{Lasts}
 use Rattle.histories.proofs.First.{IsFirst-new, IsFirstMoment-unique}
 use Rattle.histories.proofs.Growth.{grows_so, so_last}
 use Rattle.histories.proofs.Lasting.{ComesTrue-now}
 use Rattle.histories.proofs.Picked.{so_picked_back, so_picked_front}
-use Rattle.manifest.specs.Probe.{Probe}
+use Rattle.manifest.specs.rule.Probe.{Probe}
 use Rattle.manifest.specs.declared.pod.ContainerSpec.{ContainerSpec}
 use Rattle.state_diff.specs.declared.differ.Differ.{Differ}
-use Rattle.state_diff.specs.Instances.{IsOf}
-use Rattle.state_diff.specs.Differ.{IsStateOf as IsDifferOf, Accepts as DifferAccepts}
+use Rattle.state_diff.specs.rule.Instances.{IsOf}
+use Rattle.state_diff.specs.state.Differ.{IsStateOf as IsDifferOf, Accepts as DifferAccepts}
 use Rattle.state_diff.proofs.Listings.{one_listed}
 use Rattle.probes.specs.declared.probe_set.Cause.{Cause}
 use Rattle.probes.specs.declared.probe_set.Verdicts.{Verdicts}
-use Rattle.probes.specs.Ticks.{Tick as ProbeTick, HasPassed as PassesBy}
-use Rattle.probes.specs.Container.{AreInRange, IsPassTick, IsKillOrdered as IsOrderedBy}
-use Rattle.probes.specs.ProbeSet.{AreVerdicts}
+use Rattle.probes.specs.rule.Ticks.{Tick as ProbeTick, HasPassed as PassesBy}
+use Rattle.probes.specs.rule.Container.{IsPassTick, IsKillOrdered as IsOrderedBy}
+use Rattle.probes.specs.state.Container.{AreInRange}
+use Rattle.probes.specs.state.ProbeSet.{AreVerdicts}
 use Rattle.probes.proofs.Counted.{passed_lasts}
 use Rattle.probes.proofs.Kills.{kill_lasts}
-use Rattle.containers.specs.Ticks.{ContainerTick, listings, BelongsTo, results_of, AreTicksOf, StartsAt, SaysOf}
-use Rattle.containers.specs.Probed.{HasPassed, IsKillOrdered}
-use Rattle.containers.specs.Step.{IsTaken, AreVerdictsOf}
+use Rattle.containers.specs.rule.Ticks.{ContainerTick, listings, BelongsTo, results_of, AreTicksOf, StartsAt, SaysOf}
+use Rattle.containers.specs.rule.Probed.{HasPassed, IsKillOrdered}
+use Rattle.containers.specs.state.Step.{IsTaken, AreVerdictsOf}
 use Rattle.containers.proofs.ProbedLemmas.{said}
 use Rattle.containers.proofs.TickLemmas.{start_kept, start_cases}
 use Rattle.containers.proofs.FollowLemmas.{belongs_listed, start_belongs}

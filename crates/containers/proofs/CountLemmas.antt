@@ -3,21 +3,21 @@ use Rattle.std.proofs.Common.{◌≡◌, ◌⊎◌, inl, inr, ℕ, ℤ, ◌-◌,
 use Rattle.std.proofs.Common.{None, refl, subst, sym}
 use Rattle.std.specs.Prelude.{IsSome, IsSomeAnd, if◌then◌else◌, unwrap_or}
 use Rattle.std.specs.Option.{option_and}
-use Rattle.histories.specs.Histories.{IsFirstMoment}
+use Rattle.histories.specs.rule.Histories.{IsFirstMoment}
 use Rattle.state_diff.specs.declared.seen.CriState.TheVariants.{Running}
 use Rattle.state_diff.specs.declared.differ.Differ.{Differ}
 use Rattle.state_diff.specs.declared.differ.Changes.{Changes}
-use Rattle.state_diff.specs.Instances.{Tick, ListedAs, IsNewest, IsExit}
-use Rattle.state_diff.specs.Differ.{IsOfNewest, IsNewestRun, IsStateOf as IsDifferOf, Accepts as DifferAccepts}
-use Rattle.state_diff.specs.Differ.{AreChanges}
+use Rattle.state_diff.specs.rule.Instances.{Tick, ListedAs, IsNewest, IsExit}
+use Rattle.state_diff.specs.state.Differ.{IsOfNewest, IsNewestRun, IsStateOf as IsDifferOf, Accepts as DifferAccepts}
+use Rattle.state_diff.specs.state.Differ.{AreChanges}
 use Rattle.state_diff.proofs.Growth.{grows_ends}
 use Rattle.restarts.specs.declared.backoff.Backoff.{Backoff}
-use Rattle.restarts.specs.Exits.{Exit}
-use Rattle.restarts.specs.Delays.{IsDelay}
-use Rattle.restarts.specs.Backoff.{IsStateOf as IsBackoffOf}
-use Rattle.containers.specs.Ticks.{ContainerTick, listings}
-use Rattle.containers.specs.Exits.{AreExits}
-use Rattle.containers.specs.Step.{exits_at, AreCounted}
+use Rattle.restarts.specs.rule.Exits.{Exit}
+use Rattle.restarts.specs.rule.Delays.{IsDelay}
+use Rattle.restarts.specs.state.Backoff.{IsStateOf as IsBackoffOf}
+use Rattle.containers.specs.rule.Ticks.{ContainerTick, listings}
+use Rattle.containers.specs.rule.Exits.{AreExits}
+use Rattle.containers.specs.state.Step.{exits_at, AreCounted}
 use Rattle.containers.proofs.TickLemmas.{listing, onto, from, from_at}
 use Rattle.containers.proofs.ExitLemmas.{gone_more, died_more, exit_cases, dies_newest}
 

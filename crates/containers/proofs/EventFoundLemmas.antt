@@ -3,19 +3,20 @@ use Rattle.std.proofs.Common.{◌≡◌, ◌∙◌, inl, inr, ℕ, suc, ℤ, ◌
 use Rattle.std.proofs.Common.{length, map, Option, Some, None, refl, subst, sym, ap, arith}
 use Rattle.std.specs.Prelude.{IsSomeAnd}
 use Rattle.std.proofs.lemmas.Bool.{cases_eq}
-use Rattle.histories.specs.Histories.{moment_at, last_moment, HoldsAt, IsFirst, ComesTrue}
-use Rattle.histories.specs.TheOne.{IsTheOne}
+use Rattle.histories.specs.rule.Histories.{moment_at, last_moment, HoldsAt, IsFirst, ComesTrue}
+use Rattle.histories.specs.rule.TheOne.{IsTheOne}
 use Rattle.histories.proofs.Decide.{OrNot, negated, both, less_or_not, at_most_or_not, given_or_not}
 use Rattle.histories.proofs.Found.{some_below, first_place, first_or_not, so_or_not, comes_or_not}
 use Rattle.histories.proofs.Places.{moment_given-below}
 use Rattle.histories.proofs.Picked.{picked_one, so_picked_back}
 use Rattle.histories.proofs.TheOne.{IsTheOne-exists}
-use Rattle.manifest.specs.Probe.{Probe}
-use Rattle.manifest.specs.Policy.{WantsRestart}
+use Rattle.manifest.specs.rule.Probe.{Probe}
+use Rattle.manifest.specs.rule.Policy.{WantsRestart}
 use Rattle.manifest.specs.declared.policy.Policy.{Policy}
 use Rattle.manifest.specs.declared.pod.ContainerSpec.{ContainerSpec}
 use Rattle.state_diff.specs.declared.seen.CriState.TheVariants.{Running}
-use Rattle.state_diff.specs.Instances.{Tick, seen_at, IsOf, Listed, IsNewest, IsStart, IsExit, IsCodeAt, killed_code}
+use Rattle.state_diff.specs.rule.Instances.{Tick, seen_at, IsOf, Listed, IsNewest, IsStart, IsExit, IsCodeAt}
+use Rattle.state_diff.specs.rule.Instances.{killed_code}
 use Rattle.state_diff.proofs.Listings.{of_weaker, one_listed}
 use Rattle.state_diff.proofs.Found.{listed_or_not, start_or_not, exit_or_not, exit_or_none, ended_listed}
 use Rattle.state_diff.proofs.Found.{newest_or_none}
@@ -24,24 +25,25 @@ use Rattle.state_diff.proofs.Unique.{IsNewest-unique, IsCodeAt-unique, IsExitCod
 use Rattle.phase.proofs.DecideLemmas.{wants_or_not}
 use Rattle.probes.specs.declared.probe_set.Cause.{Cause}
 use Rattle.probes.specs.declared.probe_set.Cause.TheVariants.{Startup, Liveness}
-use Rattle.probes.specs.Ticks.{Tick as ProbeTick, HasPassed as PassesBy}
-use Rattle.probes.specs.Container.{AreInRange, IsKillOrdered as IsOrderedBy}
+use Rattle.probes.specs.rule.Ticks.{Tick as ProbeTick, HasPassed as PassesBy}
+use Rattle.probes.specs.rule.Container.{IsKillOrdered as IsOrderedBy}
+use Rattle.probes.specs.state.Container.{AreInRange}
 use Rattle.probes.proofs.Counted.{passed_lasts}
 use Rattle.probes.proofs.Kills.{kill_lasts}
 use Rattle.probes.proofs.Decided.{has_passed_or_not, kill_or_not}
-use Rattle.restarts.specs.Exits.{Exit}
-use Rattle.restarts.specs.Delays.{IsDelay, IsRestartDue}
+use Rattle.restarts.specs.rule.Exits.{Exit}
+use Rattle.restarts.specs.rule.Delays.{IsDelay, IsRestartDue}
 use Rattle.restarts.proofs.LawLemmas.{one_delay}
 use Rattle.containers.specs.declared.pod_event_kind.PodEventKind.{PodEventKind}
 use Rattle.containers.specs.declared.pod_event_kind.PodEventKind.TheVariants.{Died, Started, StartupPassed, Kill, Ready}
 use Rattle.containers.specs.declared.pod_event_kind.PodEventKind.TheVariants.{Unready}
 use Rattle.containers.specs.declared.pod_event_kind.PodEventKind.TheVariants.{Backoff, Restart}
-use Rattle.containers.specs.Ticks.{ContainerTick, listings, BelongsTo, results_of, AreTicksOf, SaysOf}
-use Rattle.containers.specs.Probed.{HasPassed, IsKillOrdered, IsContainerReady}
-use Rattle.containers.specs.Exits.{AreExits, IsToRestart, IsDelayed, FallsDue}
-use Rattle.containers.specs.Events.{IsGone, HasStarted, HasDied, Passes, IsKilled, WasReady, ChangesReadiness}
-use Rattle.containers.specs.Events.{IsBackedOff, IsRestarted}
-use Rattle.containers.specs.Laws.{SomeListOfEvents}
+use Rattle.containers.specs.rule.Ticks.{ContainerTick, listings, BelongsTo, results_of, AreTicksOf, SaysOf}
+use Rattle.containers.specs.rule.Probed.{HasPassed, IsKillOrdered, IsContainerReady}
+use Rattle.containers.specs.rule.Exits.{AreExits, IsToRestart, IsDelayed, FallsDue}
+use Rattle.containers.specs.rule.Events.{IsGone, HasStarted, HasDied, Passes, IsKilled, WasReady, ChangesReadiness}
+use Rattle.containers.specs.rule.Events.{IsBackedOff, IsRestarted}
+use Rattle.containers.specs.state.Laws.{SomeListOfEvents}
 use Rattle.containers.proofs.TickLemmas.{seen_now, start_cases}
 use Rattle.containers.proofs.FollowLemmas.{belongs_listed, none_before_start}
 use Rattle.containers.proofs.ComesLemmas.{said_before, said_now}

@@ -4,8 +4,9 @@ use Rattle.std.proofs.Common.{Option, Some, None, refl, subst, sym, ◌∙◌, a
 use Rattle.std.specs.Prelude.{◌↔◌, IsSomeAnd, IfSome, IsTrue}
 use Rattle.std.proofs.lemmas.Bool.{cases_lt, cases_order}
 use Rattle.std.proofs.lemmas.List.{take_all}
-use Rattle.histories.specs.Histories.{moment_at, last_moment, IsRising, IsFirst, IsFirstMoment}
-use Rattle.histories.specs.TheOne.{IsTheOne}
+use Rattle.histories.specs.rule.Histories.{moment_at, last_moment, IsFirst, IsFirstMoment}
+use Rattle.histories.specs.state.Histories.{IsRising}
+use Rattle.histories.specs.rule.TheOne.{IsTheOne}
 use Rattle.histories.proofs.Growth.{grows_so}
 use Rattle.histories.proofs.Moments.{all_before, moment_within}
 use Rattle.histories.proofs.Places.{moment_at-old, moment_at-new, moment_at-below, moment_at-project}
@@ -14,21 +15,21 @@ use Rattle.manifest.specs.declared.policy.Policy.{Policy}
 use Rattle.manifest.specs.declared.pod.ContainerSpec.{ContainerSpec}
 use Rattle.state_diff.specs.declared.differ.Differ.{Differ}
 use Rattle.state_diff.specs.declared.differ.Changes.{Changes}
-use Rattle.state_diff.specs.Instances.{Tick, seen_at, IsOf, Listed, IsExit, Ends, killed_code}
-use Rattle.state_diff.specs.Differ.{IsStateOf as IsDifferOf, AreChanges}
+use Rattle.state_diff.specs.rule.Instances.{Tick, seen_at, IsOf, Listed, IsExit, Ends, killed_code}
+use Rattle.state_diff.specs.state.Differ.{IsStateOf as IsDifferOf, AreChanges}
 use Rattle.state_diff.proofs.Places.{kept}
 use Rattle.state_diff.proofs.Unique.{of_coded}
 use Rattle.restarts.specs.declared.backoff.Backoff.{Backoff as RestartBackoff}
-use Rattle.restarts.specs.Exits.{Exit}
-use Rattle.restarts.specs.Delays.{IsDelay, IsRestartDue}
+use Rattle.restarts.specs.rule.Exits.{Exit}
+use Rattle.restarts.specs.rule.Delays.{IsDelay, IsRestartDue}
 use Rattle.restarts.proofs.LawLemmas.{one_delay}
 use Rattle.containers.specs.declared.pod_event_kind.PodEventKind.{PodEventKind}
 use Rattle.containers.specs.declared.pod_event_kind.PodEventKind.TheVariants.{Died, Ready, Unready, Backoff, Restart}
-use Rattle.containers.specs.Ticks.{ContainerTick, listings}
-use Rattle.containers.specs.Probed.{IsContainerReady}
-use Rattle.containers.specs.Exits.{IsToRestart}
-use Rattle.containers.specs.Events.{IsGone, HasDied, WasReady, ChangesReadiness, IsBackedOff, IsRestarted}
-use Rattle.containers.specs.Step.{AreCounted}
+use Rattle.containers.specs.rule.Ticks.{ContainerTick, listings}
+use Rattle.containers.specs.rule.Probed.{IsContainerReady}
+use Rattle.containers.specs.rule.Exits.{IsToRestart}
+use Rattle.containers.specs.rule.Events.{IsGone, HasDied, WasReady, ChangesReadiness, IsBackedOff, IsRestarted}
+use Rattle.containers.specs.state.Step.{AreCounted}
 use Rattle.containers.proofs.TickLemmas.{listing, onto_at, from_at}
 use Rattle.containers.proofs.ExitLemmas.{IsGoneNow, leaving}
 use Rattle.containers.proofs.RestartLemmas.{exits_one}

@@ -4,25 +4,26 @@ use Rattle.std.proofs.Common.{Option, Some, None, refl, subst, sym, ap, ◌∙�
 use Rattle.std.specs.Prelude.{◌↔◌, Contains, IsSome, IsSomeAnd, IsTrue, if◌then◌else◌, unwrap_or}
 use Rattle.std.specs.Option.{option_or, option_and}
 use Rattle.std.proofs.lemmas.Bool.{cases_order}
-use Rattle.histories.specs.Histories.{recorded, IsFirstMoment}
+use Rattle.histories.specs.rule.Histories.{recorded, IsFirstMoment}
 use Rattle.histories.proofs.First.{IsFirst-new, IsFirst-split, none_more}
 use Rattle.histories.proofs.Places.{length-more, moment_at-new}
 use Rattle.state_diff.specs.declared.seen.Seen.{Seen}
 use Rattle.state_diff.specs.declared.seen.CriState.TheVariants.{Running, Exited}
 use Rattle.state_diff.specs.declared.differ.Differ.{Differ}
-use Rattle.state_diff.specs.Instances.{Tick, tick, seen_at, IsOf, IsOfAs, Listed, ListedAs, Ends, IsNewest, IsExit}
-use Rattle.state_diff.specs.Instances.{IsRun}
-use Rattle.state_diff.specs.Differ.{IsOfNewest, IsNewestRun, IsStateOf as IsDifferOf, Accepts as DifferAccepts}
+use Rattle.state_diff.specs.rule.Instances.{Tick, seen_at, IsOf, IsOfAs, Listed, ListedAs, Ends, IsNewest, IsExit}
+use Rattle.state_diff.specs.state.Instances.{tick}
+use Rattle.state_diff.specs.rule.Instances.{IsRun}
+use Rattle.state_diff.specs.state.Differ.{IsOfNewest, IsNewestRun, IsStateOf as IsDifferOf, Accepts as DifferAccepts}
 use Rattle.state_diff.proofs.Places.{added}
 use Rattle.state_diff.proofs.Growth.{grows_seen, grows_ends, IsExit-old}
 use Rattle.state_diff.proofs.Listings.{of_weaker, start_unlisted, one_listed}
 use Rattle.state_diff.proofs.Events.{coded, now, first_now, live_listed}
 use Rattle.state_diff.proofs.Found.{ended_listed}
 use Rattle.state_diff.proofs.Unique.{IsNewest-unique, of_coded}
-use Rattle.restarts.specs.Exits.{Exit}
-use Rattle.restarts.specs.Delays.{IsDelay}
-use Rattle.containers.specs.Exits.{IsExitOf, AreExitsOf, IsRisingList, AreExits}
-use Rattle.containers.specs.Step.{exits_at}
+use Rattle.restarts.specs.rule.Exits.{Exit}
+use Rattle.restarts.specs.rule.Delays.{IsDelay}
+use Rattle.containers.specs.rule.Exits.{IsExitOf, AreExitsOf, IsRisingList, AreExits}
+use Rattle.containers.specs.state.Step.{exits_at}
 use Rattle.containers.proofs.ListLemmas.{contains_old, contains_new, contains_cases, rising_end}
 use Rattle.containers.proofs.TickLemmas.{moment_kept, moment_new, newest_listed, not_started}
 

@@ -4,14 +4,14 @@ use Rattle.std.specs.Prelude.{IsTrue, Contains}
 use Rattle.manifest.specs.declared.pod.ContainerSpec.{ContainerSpec}
 use Rattle.manifest.specs.declared.pod.Role.{Role}
 use Rattle.state_diff.specs.declared.differ.Differ.{Differ}
-use Rattle.state_diff.specs.Instances.{IsExit}
-use Rattle.state_diff.specs.Differ.{IsStateOf as IsDifferOf}
+use Rattle.state_diff.specs.rule.Instances.{IsExit}
+use Rattle.state_diff.specs.state.Differ.{IsStateOf as IsDifferOf}
 use Rattle.probes.specs.declared.probe_set.ProbeSet.{ProbeSet}
-use Rattle.probes.specs.ProbeSet.{Follows}
+use Rattle.probes.specs.state.ProbeSet.{Follows}
 use Rattle.restarts.specs.declared.backoff.Backoff.{Backoff}
-use Rattle.restarts.specs.Backoff.{IsStateOf as IsBackoffOf}
-use Rattle.containers.specs.Exits.{AreExits}
-use Rattle.containers.specs.Container.{IsStateOf}
+use Rattle.restarts.specs.state.Backoff.{IsStateOf as IsBackoffOf}
+use Rattle.containers.specs.rule.Exits.{AreExits}
+use Rattle.containers.specs.state.Container.{IsStateOf}
 
 none_yet : (a t : ℕ) → IsExit [] a t → ⊥
 none_yet a t e = elim (e.holds) [ inl q ↦ q | inr w ↦ let lt : t < 0 = w.0 in omega arith ]

@@ -3,7 +3,7 @@ use Rattle.std.proofs.Common.{◌≡◌, inl, inr, ℕ, zero, suc, ◌-◌, ◌<
 use Rattle.std.proofs.Common.{take, drop, Option, Some, None, refl, subst, sym, ◌∙◌, arith}
 use Rattle.std.specs.Prelude.{◌↔◌, IsSome, IsSomeAnd, IfSome, IsTrue, is_some}
 use Rattle.std.proofs.lemmas.List.{take-append-drop}
-use Rattle.histories.specs.Histories.{HoldsAt}
+use Rattle.histories.specs.rule.Histories.{HoldsAt}
 use Rattle.histories.proofs.First.{IsFirst-new, IsFirstMoment-unique}
 use Rattle.histories.proofs.Picked.{picked_none, so_picked_in, so_picked_out}
 use Rattle.histories.proofs.Lists.{some_given}
@@ -12,19 +12,19 @@ use Rattle.state_diff.specs.declared.seen.Seen.{Seen}
 use Rattle.state_diff.specs.declared.seen.CriState.TheVariants.{Running}
 use Rattle.state_diff.specs.declared.differ.Differ.{Differ}
 use Rattle.state_diff.specs.declared.differ.Changes.{Changes}
-use Rattle.state_diff.specs.Instances.{seen_at, IsOf, IsOfAs, Listed, ListedAs, IsNewest, IsState, IsStart}
-use Rattle.state_diff.specs.Differ.{IsStateOf as IsDifferOf, Accepts as DifferAccepts, AreChanges, IsNewestSeen}
+use Rattle.state_diff.specs.rule.Instances.{seen_at, IsOf, IsOfAs, Listed, ListedAs, IsNewest, IsState, IsStart}
+use Rattle.state_diff.specs.state.Differ.{IsStateOf as IsDifferOf, Accepts as DifferAccepts, AreChanges, IsNewestSeen}
 use Rattle.state_diff.proofs.Growth.{grows_seen}
 use Rattle.state_diff.proofs.Listings.{of_weaker, one_listed}
 use Rattle.state_diff.proofs.Unique.{IsNewest-unique}
 use Rattle.probes.specs.declared.probe_set.ProbeSet.{ProbeSet}
 use Rattle.probes.specs.declared.probe_set.Verdicts.{Verdicts}
-use Rattle.probes.specs.Ticks.{Tick as ProbeTick}
-use Rattle.probes.specs.ProbeSet.{Follows, HasBegun, IsStateOf as IsProbeSetOf, AreVerdicts}
+use Rattle.probes.specs.rule.Ticks.{Tick as ProbeTick}
+use Rattle.probes.specs.state.ProbeSet.{Follows, HasBegun, IsStateOf as IsProbeSetOf, AreVerdicts}
 use Rattle.containers.specs.declared.container.Container.{Container}
-use Rattle.containers.specs.Ticks.{ContainerTick, listings, BelongsTo, results_of, AreTicksOf, StartsAt}
-use Rattle.containers.specs.Container.{IsFollowing}
-use Rattle.containers.specs.Step.{ticks_at, IsTaken, AreVerdictsOf}
+use Rattle.containers.specs.rule.Ticks.{ContainerTick, listings, BelongsTo, results_of, AreTicksOf, StartsAt}
+use Rattle.containers.specs.state.Container.{IsFollowing}
+use Rattle.containers.specs.state.Step.{ticks_at, IsTaken, AreVerdictsOf}
 use Rattle.containers.proofs.ProbedLemmas.{runs_at, start_of}
 use Rattle.containers.proofs.ViewLemmas.{seen_runs}
 use Rattle.containers.proofs.TickLemmas.{listing, long, onto, onto_at, last_place, seen_now, newest_listed}

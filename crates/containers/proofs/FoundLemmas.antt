@@ -4,31 +4,32 @@ use Rattle.std.proofs.Common.{◌≡◌, inl, inr, ℕ, zero, suc, ◌-◌, ◌<
 use Rattle.std.proofs.Common.{None, refl, subst, arith}
 use Rattle.std.specs.Prelude.{◌↔◌, Contains, IsTrue}
 use Rattle.std.proofs.lemmas.Bool.{cases_lt}
-use Rattle.histories.specs.Histories.{recorded, HoldsAt, IsFirstMoment}
+use Rattle.histories.specs.rule.Histories.{recorded, HoldsAt, IsFirstMoment}
 use Rattle.histories.proofs.Decide.{OrNot, negated, both, test_of, true_or_not}
 use Rattle.histories.proofs.Found.{so_or_not, once_or_never, picked_of}
 use Rattle.manifest.specs.declared.pod.ContainerSpec.{ContainerSpec}
 use Rattle.manifest.specs.declared.pod.Role.TheVariants.{Init}
 use Rattle.state_diff.specs.declared.seen.CriState.TheVariants.{Running}
-use Rattle.state_diff.specs.Instances.{Tick, ListedAs, IsNewest}
+use Rattle.state_diff.specs.rule.Instances.{Tick, ListedAs, IsNewest}
 use Rattle.state_diff.proofs.Found.{listed_or_not, start_moment, exit_moment, run_of, exit_or_none, ended_listed}
 use Rattle.state_diff.proofs.Found.{newest_or_none}
 use Rattle.state_diff.proofs.Found.{above_attempts, running_state_or_not, newest_seen, set_up_or_not}
 use Rattle.state_diff.proofs.Unique.{IsNewest-unique}
 use Rattle.phase.proofs.DecideLemmas.{role_or_not}
 use Rattle.phase.specs.declared.view.ContainerView.{ContainerView}
-use Rattle.phase.specs.Facts.{exit_code}
-use Rattle.phase.specs.Views.{state_shown, restarts_of}
-use Rattle.probes.specs.Ticks.{Tick as ProbeTick}
+use Rattle.phase.specs.state.Facts.{exit_code}
+use Rattle.phase.specs.state.Views.{state_shown, restarts_of}
+use Rattle.probes.specs.rule.Ticks.{Tick as ProbeTick}
 use Rattle.probes.proofs.Decided.{started_or_not as started_by_or_not, ready_or_not as ready_by_or_not}
-use Rattle.restarts.specs.Exits.{Exit}
+use Rattle.restarts.specs.rule.Exits.{Exit}
 use Rattle.restarts.proofs.LawLemmas.{one_delay}
 use Rattle.containers.specs.declared.status.ContainerStatus.{ContainerStatus}
-use Rattle.containers.specs.Ticks.{ContainerTick, listings, BelongsTo, results_of, SaysOf}
-use Rattle.containers.specs.Probed.{Serves, IsStarted, IsContainerReady, WasStarted}
-use Rattle.containers.specs.Exits.{IsExitOf, AreExitsOf, IsRisingList}
-use Rattle.containers.specs.Shown.{IsShown, IsViewOf}
-use Rattle.containers.specs.Laws.{SomeListOfExits, SomeDelay, SomeListOfResults, SomeStatus}
+use Rattle.containers.specs.rule.Ticks.{ContainerTick, listings, BelongsTo, results_of, SaysOf}
+use Rattle.containers.specs.rule.Probed.{Serves, IsStarted, IsContainerReady, WasStarted}
+use Rattle.containers.specs.rule.Exits.{IsExitOf, AreExitsOf, IsRisingList}
+use Rattle.containers.specs.rule.Shown.{IsShown}
+use Rattle.containers.specs.state.Shown.{IsViewOf}
+use Rattle.containers.specs.state.Laws.{SomeListOfExits, SomeDelay, SomeListOfResults, SomeStatus}
 use Rattle.containers.proofs.ExitLemmas.{HasExit}
 use Rattle.containers.proofs.ListLemmas.{contains_nothing, contains_here, contains_there, contains_old, contains_new}
 use Rattle.containers.proofs.ListLemmas.{contains_cases, rising_end}

@@ -3,24 +3,26 @@ use Rattle.std.proofs.Common.{◌≡◌, inl, inr, ℕ, suc, ◌≤◌, List, �
 use Rattle.std.proofs.Common.{subst, sym, arith}
 use Rattle.std.proofs.lemmas.Bool.{cases_lt}
 use Rattle.std.proofs.lemmas.List.{take-append-drop, take-take}
-use Rattle.histories.specs.Histories.{HoldsAt, ComesTrue}
+use Rattle.histories.specs.rule.Histories.{HoldsAt, ComesTrue}
 use Rattle.histories.proofs.First.{IsFirst-unique, IsFirstMoment-unique}
 use Rattle.histories.proofs.Picked.{picked_one, so_picked_front}
 use Rattle.histories.proofs.TheOne.{IsTheOne-unique}
 use Rattle.manifest.specs.declared.pod.ContainerSpec.{ContainerSpec}
 use Rattle.probes.specs.declared.probe_set.Cause.{Cause}
 use Rattle.probes.specs.declared.probe_set.Cause.TheVariants.{Startup, Liveness}
-use Rattle.probes.specs.Ticks.{Tick as ProbeTick}
-use Rattle.probes.specs.Container.{AreInRange, IsKillOrdered as IsOrderedBy}
+use Rattle.probes.specs.rule.Ticks.{Tick as ProbeTick}
+use Rattle.probes.specs.rule.Container.{IsKillOrdered as IsOrderedBy}
+use Rattle.probes.specs.state.Container.{AreInRange}
 use Rattle.probes.proofs.Kills.{kill_lasts, one_cause}
 use Rattle.containers.specs.declared.pod_event_kind.PodEventKind.{PodEventKind}
 use Rattle.containers.specs.declared.pod_event_kind.PodEventKind.TheVariants.{Kill}
 use Rattle.containers.specs.declared.events.ContainerEvents.{ContainerEvents}
-use Rattle.containers.specs.Ticks.{ContainerTick, BelongsTo, results_of}
-use Rattle.containers.specs.Probed.{IsKillOrdered}
-use Rattle.containers.specs.Exits.{IsToRestart}
-use Rattle.containers.specs.Events.{IsKilled}
-use Rattle.containers.specs.Laws.{OneListOfExits, OneListOfResults, RestartsTheNewest, KilledOnce, OneListOfEvents}
+use Rattle.containers.specs.rule.Ticks.{ContainerTick, BelongsTo, results_of}
+use Rattle.containers.specs.rule.Probed.{IsKillOrdered}
+use Rattle.containers.specs.rule.Exits.{IsToRestart}
+use Rattle.containers.specs.rule.Events.{IsKilled}
+use Rattle.containers.specs.state.Laws.{OneListOfExits, OneListOfResults, RestartsTheNewest, KilledOnce}
+use Rattle.containers.specs.state.Laws.{OneListOfEvents}
 use Rattle.containers.proofs.ComesLemmas.{start_later}
 use Rattle.containers.proofs.RestartLemmas.{exits_one}
 

@@ -3,7 +3,7 @@ use Rattle.std.proofs.Common.{◌≡◌, ◌⊎◌, inl, inr, ℕ, zero, suc, �
 use Rattle.std.proofs.Common.{arith}
 use Rattle.std.specs.Prelude.{◌↔◌, Contains, slice_get}
 use Rattle.std.proofs.lemmas.Bool.{cases_order}
-use Rattle.containers.specs.Exits.{IsRisingList}
+use Rattle.containers.specs.rule.Exits.{IsRisingList}
 
 pub contains_nothing : (b : ℕ) → Contains [] b → ⊥
 contains_nothing b (k, lt, e) = omega arith

@@ -1,22 +1,22 @@
 -- What its probes make of a container that serves.
 use Rattle.std.proofs.Common.{◌≡◌, inl, inr, ℕ, Bool, List, Option, Some, None, subst}
 use Rattle.std.specs.Prelude.{◌↔◌, IsTrue, map}
-use Rattle.histories.specs.Histories.{HoldsAt, IsFirstMoment}
+use Rattle.histories.specs.rule.Histories.{HoldsAt, IsFirstMoment}
 use Rattle.histories.proofs.First.{IsFirstMoment-unique}
 use Rattle.histories.proofs.Picked.{picked_one}
 use Rattle.manifest.specs.declared.pod.ContainerSpec.{ContainerSpec}
 use Rattle.state_diff.specs.declared.seen.CriState.TheVariants.{Created, Running, Exited}
 use Rattle.state_diff.specs.declared.instance.Instance.{Instance}
 use Rattle.state_diff.specs.declared.differ.Differ.{Differ}
-use Rattle.state_diff.specs.Instances.{Tick, ListedAs, IsNewest, IsState}
-use Rattle.state_diff.specs.Differ.{IsNewestOf, IsStateOf as IsDifferOf}
+use Rattle.state_diff.specs.rule.Instances.{Tick, ListedAs, IsNewest, IsState}
+use Rattle.state_diff.specs.state.Differ.{IsNewestOf, IsStateOf as IsDifferOf}
 use Rattle.state_diff.proofs.Unique.{IsNewest-unique}
-use Rattle.probes.specs.Ticks.{Tick as ProbeTick}
-use Rattle.probes.specs.ProbeSet.{IsStateOf as IsProbeSetOf}
+use Rattle.probes.specs.rule.Ticks.{Tick as ProbeTick}
+use Rattle.probes.specs.state.ProbeSet.{IsStateOf as IsProbeSetOf}
 use Rattle.containers.specs.declared.container.Container.{Container}
-use Rattle.containers.specs.Ticks.{ContainerTick, listings, BelongsTo, results_of, AreTicksOf, StartsAt, SaysOf}
-use Rattle.containers.specs.Probed.{Serves}
-use Rattle.containers.specs.Container.{IsFollowing, IsStateOf}
+use Rattle.containers.specs.rule.Ticks.{ContainerTick, listings, BelongsTo, results_of, AreTicksOf, StartsAt, SaysOf}
+use Rattle.containers.specs.rule.Probed.{Serves}
+use Rattle.containers.specs.state.Container.{IsFollowing, IsStateOf}
 
 -- an instance that is running was listed so
 pub runs_at : (h : List Tick) (a : ℕ) → IsState h a Running → (t : ℕ) × ListedAs h a Running t

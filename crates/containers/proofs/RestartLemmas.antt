@@ -2,23 +2,23 @@
 use Rattle.std.proofs.Common.{◌≡◌, ℕ, ℤ, ◌<◌, ◌≤◌, Bool, List, [], ◌∷◌, Option, Some, None, refl, subst, sym, ap, ◌∙◌}
 use Rattle.std.proofs.Common.{arith}
 use Rattle.std.specs.Prelude.{◌↔◌, IsSome, IsSomeAnd, IfSome, IsTrue}
-use Rattle.histories.specs.Histories.{IsFirstMoment, last_moment}
+use Rattle.histories.specs.rule.Histories.{IsFirstMoment, last_moment}
 use Rattle.histories.proofs.First.{IsFirstMoment-unique}
 use Rattle.histories.proofs.Lists.{some_given}
-use Rattle.manifest.specs.Policy.{WantsRestart}
+use Rattle.manifest.specs.rule.Policy.{WantsRestart}
 use Rattle.manifest.specs.declared.policy.Policy.{Policy}
 use Rattle.manifest.specs.declared.pod.Role.{Role}
 use Rattle.manifest.specs.declared.pod.ContainerSpec.{ContainerSpec}
 use Rattle.state_diff.specs.declared.seen.Seen.{Seen}
 use Rattle.state_diff.specs.declared.seen.CriState.TheVariants.{Running}
-use Rattle.state_diff.specs.Instances.{Tick, Ends, ListedAs, IsNewest, IsExitCode}
-use Rattle.state_diff.specs.Differ.{IsNewestSeen, IsOfNewest}
+use Rattle.state_diff.specs.rule.Instances.{Tick, Ends, ListedAs, IsNewest, IsExitCode}
+use Rattle.state_diff.specs.state.Differ.{IsNewestSeen, IsOfNewest}
 use Rattle.state_diff.proofs.Unique.{IsNewest-unique}
-use Rattle.restarts.specs.Exits.{Exit}
-use Rattle.restarts.specs.Delays.{IsRestartDue}
+use Rattle.restarts.specs.rule.Exits.{Exit}
+use Rattle.restarts.specs.rule.Delays.{IsRestartDue}
 use Rattle.restarts.proofs.LawLemmas.{one_delay}
-use Rattle.containers.specs.Ticks.{ContainerTick, listings}
-use Rattle.containers.specs.Exits.{IsExitOf, AreExitsOf, AreExits, IsToRestart}
+use Rattle.containers.specs.rule.Ticks.{ContainerTick, listings}
+use Rattle.containers.specs.rule.Exits.{IsExitOf, AreExitsOf, AreExits, IsToRestart}
 use Rattle.containers.proofs.ListLemmas.{rising_one}
 use Rattle.containers.proofs.ViewLemmas.{coded}
 

@@ -2,8 +2,9 @@
 use Rattle.std.proofs.Common.{◌≡◌, ◌⊎◌, inl, inr, ℕ, ◌-◌, ◌<◌, Bool, true, false, List, [], ◌∷◌, ◌++◌, length, Option}
 use Rattle.std.proofs.Common.{Some, refl, subst, sym, ap, ◌∙◌, arith}
 use Rattle.std.specs.Prelude.{◌↔◌, ◌||◌, IsSomeAnd, IfSome, IsTrue}
-use Rattle.histories.specs.Histories.{Recorded, moment_at, last_moment, EndsBefore, HoldsAt}
-use Rattle.histories.specs.TheOne.{IsTheOne}
+use Rattle.histories.specs.rule.Histories.{Recorded, moment_at, last_moment, HoldsAt}
+use Rattle.histories.specs.state.Histories.{EndsBefore}
+use Rattle.histories.specs.rule.TheOne.{IsTheOne}
 use Rattle.histories.proofs.Growth.{grows_so}
 use Rattle.histories.proofs.Moments.{IsRising-more}
 use Rattle.histories.proofs.Places.{moment_at-project}
@@ -11,20 +12,20 @@ use Rattle.observations.specs.declared.container.ContainerObs.{ContainerObs}
 use Rattle.manifest.specs.declared.pod.ContainerSpec.{ContainerSpec}
 use Rattle.state_diff.specs.declared.differ.Differ.{Differ}
 use Rattle.state_diff.specs.declared.differ.Changes.{Changes}
-use Rattle.state_diff.specs.Instances.{IsOf}
-use Rattle.state_diff.specs.Differ.{IsStateOf as IsDifferOf, Accepts as DifferAccepts, AreChanges}
+use Rattle.state_diff.specs.rule.Instances.{IsOf}
+use Rattle.state_diff.specs.state.Differ.{IsStateOf as IsDifferOf, Accepts as DifferAccepts, AreChanges}
 use Rattle.probes.specs.declared.probe_set.Cause.{Cause}
 use Rattle.probes.specs.declared.probe_set.ProbeSet.{ProbeSet}
 use Rattle.probes.specs.declared.probe_set.Verdicts.{Verdicts}
-use Rattle.probes.specs.ProbeSet.{Follows, IsStateOf as IsProbeSetOf}
+use Rattle.probes.specs.state.ProbeSet.{Follows, IsStateOf as IsProbeSetOf}
 use Rattle.containers.specs.declared.container.Container.{Container}
 use Rattle.containers.specs.declared.pod_event_kind.PodEventKind.{PodEventKind}
 use Rattle.containers.specs.declared.pod_event_kind.PodEventKind.TheVariants.{Started, StartupPassed, Kill}
-use Rattle.containers.specs.Ticks.{ContainerTick, listings}
-use Rattle.containers.specs.Probed.{IsStarted, WasStarted}
-use Rattle.containers.specs.Events.{HasStarted, Passes, IsKilled}
-use Rattle.containers.specs.Container.{IsBefore, IsFollowing, IsStateOf}
-use Rattle.containers.specs.Step.{AreVerdictsOf, AreCounted}
+use Rattle.containers.specs.rule.Ticks.{ContainerTick, listings}
+use Rattle.containers.specs.rule.Probed.{IsStarted, WasStarted}
+use Rattle.containers.specs.rule.Events.{HasStarted, Passes, IsKilled}
+use Rattle.containers.specs.state.Container.{IsBefore, IsFollowing, IsStateOf}
+use Rattle.containers.specs.state.Step.{AreVerdictsOf, AreCounted}
 use Rattle.containers.proofs.TickLemmas.{long}
 use Rattle.containers.proofs.ComesLemmas.{passes_by, kill_by}
 

@@ -2,26 +2,28 @@
 use Rattle.std.proofs.Common.{◌≡◌, ◌⊎◌, inl, inr, ℕ, ◌-◌, ◌<◌, ◌≤◌, List, [], ◌∷◌, ◌++◌, length, Option, Some, None}
 use Rattle.std.proofs.Common.{subst, sym, ◌∙◌, arith}
 use Rattle.std.specs.Prelude.{◌↔◌, IsSomeAnd}
-use Rattle.histories.specs.Histories.{moment_at, IsFirst, IsFirstMoment}
+use Rattle.histories.specs.rule.Histories.{moment_at, IsFirst, IsFirstMoment}
 use Rattle.histories.proofs.First.{Grows, IsFirst-old, IsFirst-new, IsFirst-split, IsFirst-unique}
 use Rattle.histories.proofs.Moments.{moment_within}
 use Rattle.histories.proofs.Places.{length-more, project-append, length-project, moment_at-old, moment_at-new}
 use Rattle.observations.specs.declared.container.ContainerObs.{ContainerObs}
-use Rattle.state_diff.specs.States.{rank}
+use Rattle.state_diff.specs.rule.States.{rank}
 use Rattle.state_diff.specs.declared.seen.Seen.{Seen}
 use Rattle.state_diff.specs.declared.seen.CriState.{CriState}
 use Rattle.state_diff.specs.declared.seen.CriState.TheVariants.{Running, Exited}
 use Rattle.state_diff.specs.declared.instance.Instance.{Instance}
 use Rattle.state_diff.specs.declared.differ.Differ.{Differ}
-use Rattle.state_diff.specs.Instances.{Tick, tick, seen_at, IsOf, IsOfAs, Listed, ListedAs, IsNewest, IsState, IsExit}
-use Rattle.state_diff.specs.Instances.{Ends}
-use Rattle.state_diff.specs.Differ.{IsNewestOf, IsListedBy, Follows, IsStateOf as IsDifferOf, Accepts as DifferAccepts}
+use Rattle.state_diff.specs.rule.Instances.{Tick, seen_at, IsOf, IsOfAs, Listed, ListedAs, IsNewest, IsState, IsExit}
+use Rattle.state_diff.specs.state.Instances.{tick}
+use Rattle.state_diff.specs.rule.Instances.{Ends}
+use Rattle.state_diff.specs.state.Differ.{IsNewestOf, IsListedBy, Follows, IsStateOf as IsDifferOf}
+use Rattle.state_diff.specs.state.Differ.{Accepts as DifferAccepts}
 use Rattle.state_diff.proofs.Places.{added}
 use Rattle.state_diff.proofs.Growth.{grows_seen, grows_ends, IsEffective-new}
 use Rattle.state_diff.proofs.Listings.{of_weaker, exited_of}
 use Rattle.state_diff.proofs.Found.{ended_listed}
 use Rattle.state_diff.proofs.Events.{now}
-use Rattle.containers.specs.Ticks.{ContainerTick, listings, StartsAt}
+use Rattle.containers.specs.rule.Ticks.{ContainerTick, listings, StartsAt}
 
 -- a tick as its listing
 abbrev pub listing : ContainerTick → Tick

@@ -4,8 +4,8 @@ use Rattle.std.specs.Prelude.{◌↔◌, IsSomeAnd, IsTrue, option_and_then}
 use Rattle.state_diff.specs.declared.seen.Seen.{Seen}
 use Rattle.state_diff.specs.declared.seen.CriState.{CriState}
 use Rattle.state_diff.specs.declared.seen.CriState.TheVariants.{Created, Running as IsRunning, Exited, Unknown}
-use Rattle.state_diff.specs.Instances.{Tick, IsNewest, IsState, IsExitCode}
-use Rattle.state_diff.specs.Differ.{IsNewestSeen}
+use Rattle.state_diff.specs.rule.Instances.{Tick, IsNewest, IsState, IsExitCode}
+use Rattle.state_diff.specs.state.Differ.{IsNewestSeen}
 use Rattle.state_diff.proofs.Listings.{exited_code}
 use Rattle.state_diff.proofs.Places.{state_known}
 use Rattle.state_diff.proofs.Unique.{IsNewest-unique, IsState-unique, IsExitCode-unique}
@@ -14,12 +14,13 @@ use Rattle.manifest.specs.declared.pod.Role.{Role}
 use Rattle.manifest.specs.declared.pod.Role.TheVariants.{Init}
 use Rattle.phase.specs.declared.container.ContainerState.{ContainerState}
 use Rattle.phase.specs.declared.view.ContainerView.{ContainerView}
-use Rattle.phase.specs.Facts.{exit_code}
-use Rattle.phase.specs.Views.{shown_as, state_shown, restarts_of}
+use Rattle.phase.specs.state.Facts.{exit_code}
+use Rattle.phase.specs.state.Views.{shown_as, state_shown, restarts_of}
 use Rattle.containers.specs.declared.status.ContainerStatus.{ContainerStatus}
-use Rattle.containers.specs.Ticks.{ContainerTick, listings}
-use Rattle.containers.specs.Probed.{Serves, IsStarted, IsContainerReady}
-use Rattle.containers.specs.Shown.{IsContainerState, IsRestarts, HasExitedWith, IsShown, IsViewOf}
+use Rattle.containers.specs.rule.Ticks.{ContainerTick, listings}
+use Rattle.containers.specs.rule.Probed.{Serves, IsStarted, IsContainerReady}
+use Rattle.containers.specs.rule.Shown.{IsContainerState, IsRestarts, HasExitedWith, IsShown}
+use Rattle.containers.specs.state.Shown.{IsViewOf}
 
 -- the state that a view shows
 pub state_is : (h : List Tick) (o : Option Seen) → IsNewestSeen h o → IsContainerState h (state_shown o)

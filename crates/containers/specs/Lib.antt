@@ -1,8 +1,2 @@
-pub mod Ticks
-pub mod Probed
-pub mod Exits
-pub mod Events
-pub mod Shown
-pub mod Container
-pub mod Step
-pub mod Laws
+pub mod rule
+pub mod state

@@ -2,12 +2,12 @@
 
 ghost use Rattle.std.specs.Prelude.{◌≡◌, ◌⊎◌, ◌↔◌, ◌<◌, ◌-◌, ◌++◌, ℕ, List, Option, Some, None, IsTrue, IsSome};
 ghost use Rattle.std.specs.Prelude.{IsSomeAnd, unwrap_or, if◌then◌else◌};
-ghost use Rattle.quantity.specs.Duration.{end_of_time};
-ghost use Rattle.manifest.specs.Policy.{WantsRestart};
-ghost use Rattle.restarts.specs.Exits.{Exit};
-ghost use Rattle.restarts.specs.Delays.{IsDelay};
-ghost use Rattle.restarts.specs.Backoff.{IsStateOf};
-ghost use Rattle.containers.specs.Step.{exits_at};
+ghost use Rattle.quantity.specs.rule.Duration.{end_of_time};
+ghost use Rattle.manifest.specs.rule.Policy.{WantsRestart};
+ghost use Rattle.restarts.specs.rule.Exits.{Exit};
+ghost use Rattle.restarts.specs.rule.Delays.{IsDelay};
+ghost use Rattle.restarts.specs.state.Backoff.{IsStateOf};
+ghost use Rattle.containers.specs.state.Step.{exits_at};
 
 use manifest::{Policy, Role};
 use restarts::{Backoff, wants_restart};

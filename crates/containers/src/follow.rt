@@ -2,10 +2,10 @@
 
 ghost use Rattle.std.specs.Prelude.{◌≡◌, ◌↔◌, ℕ, List, [], ◌∷◌, ◌++◌, length, None, IsTrue, IsSome, IsSomeAnd, IfSome};
 ghost use Rattle.state_diff.specs.declared.seen.CriState.TheVariants.{Running};
-ghost use Rattle.manifest.specs.Probe.{Probes};
-ghost use Rattle.probes.specs.Ticks.{Tick, tick};
-ghost use Rattle.probes.specs.ProbeSet.{Follows, HasBegun, IsStateOf, AreVerdicts};
-ghost use Rattle.containers.specs.Step.{ticks_at};
+ghost use Rattle.manifest.specs.rule.Probe.{Probes};
+ghost use Rattle.probes.specs.rule.Ticks.{Tick, tick};
+ghost use Rattle.probes.specs.state.ProbeSet.{Follows, HasBegun, IsStateOf, AreVerdicts};
+ghost use Rattle.containers.specs.state.Step.{ticks_at};
 
 use manifest::Outcome;
 use probes::{ProbeSet, Verdicts};

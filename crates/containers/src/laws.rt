@@ -1,7 +1,7 @@
 //! What the definitions of a container imply, for every list of ticks. The functions do nothing; their
 //! contracts are the laws.
 
-ghost use Rattle.containers.specs.Laws as laws;
+ghost use Rattle.containers.specs.state.Laws as laws;
 
 /// A container has a list of exits, whatever its listings are.
 pub fn some_list_of_exits()

@@ -1,7 +1,7 @@
 //! The events of a tick, by the places that they have in it.
 
 ghost use Rattle.std.specs.Prelude.{◌≡◌, ◌⊎◌, ◌↔◌, ◌<◌, ◌≤◌, ℕ, ℤ, Option, Some, IsTrue, IsSomeAnd, IfSome};
-ghost use Rattle.state_diff.specs.Instances.{IsOf, killed_code};
+ghost use Rattle.state_diff.specs.rule.Instances.{IsOf, killed_code};
 ghost use Rattle.probes.specs.declared.probe_set.Cause.{Cause};
 ghost use Rattle.containers.specs.declared.pod_event_kind.PodEventKind.{PodEventKind};
 ghost use Rattle.containers.specs.declared.pod_event_kind.PodEventKind.TheVariants.{Died, Started, StartupPassed, Kill};

@@ -4,19 +4,20 @@ use Rattle.std.proofs.Common.{◌∙◌, sym, length-append, arith}
 use Rattle.std.specs.Prelude.{MatchOption}
 use Rattle.std.proofs.lemmas.List.Sums.{length-filter, count_by-le-length}
 use Rattle.manifest.specs.declared.pod.PodSpec.{PodSpec}
-use Rattle.manifest.specs.Containers.{most_containers}
+use Rattle.manifest.specs.rule.Containers.{most_containers}
 use Rattle.phase.specs.declared.phase.Phase.{Phase}
 use Rattle.containers.specs.declared.pod_event_kind.PodEventKind.{PodEventKind}
 use Rattle.containers.specs.declared.events.ContainerEvents.{ContainerEvents}
 use Rattle.pod_state.specs.declared.events.PodEvent.{PodEvent}
-use Rattle.pod_state.specs.Pods.{PodTick}
-use Rattle.pod_state.specs.Events.{places_in, events_at, events_from, AreEventsOfLivePod, AreEventsOf}
+use Rattle.pod_state.specs.rule.Pods.{PodTick}
+use Rattle.pod_state.specs.rule.Events.{places_in, events_at, events_from, AreEventsOfLivePod, AreEventsOf}
 use Rattle.pod_state.proofs.PodEventLemmas.{one_list_of_pod_events}
-use Rattle.pod_piece.specs.Piece.{Piece, before_last, last_of, ticks, evicted_at, evicted_before}
-use Rattle.pod_piece.specs.Status.{AreLastEvents}
+use Rattle.pod_piece.specs.state.Piece.{Piece, before_last, last_of, ticks, evicted_at, evicted_before}
+use Rattle.pod_piece.specs.state.Status.{AreLastEvents}
 use Rattle.event_book.specs.declared.totals.Entry.{Entry}
-use Rattle.event_book.specs.Totals.{is_order, entry_of, IsEntryOf}
-use Rattle.event_book.specs.Limits.{IsLow, most_events}
+use Rattle.event_book.specs.rule.Totals.{is_order}
+use Rattle.event_book.specs.state.Totals.{entry_of, IsEntryOf}
+use Rattle.event_book.specs.state.Limits.{IsLow, most_events}
 
 few_at : (container : Option ℕ) (places : List (Option PodEventKind))
     → length (events_at container places) ≤ length places

@@ -13,23 +13,25 @@ use Rattle.std.proofs.lemmas.List.Sums.{length-filter, count_by-le-length}
 use Rattle.histories.proofs.Places.{length-more}
 use Rattle.histories.proofs.Lists.{given_at}
 use Rattle.manifest.specs.declared.pod.PodSpec.{PodSpec}
-use Rattle.manifest.specs.Containers.{most_containers}
+use Rattle.manifest.specs.rule.Containers.{most_containers}
 use Rattle.pod_state.specs.declared.events.PodEvent.{PodEvent}
-use Rattle.pod_state.specs.Pods.{PodTick}
+use Rattle.pod_state.specs.rule.Pods.{PodTick}
 use Rattle.pod_state.proofs.PodEventLemmas.{one_list_of_pod_events}
 use Rattle.pod_piece.specs.declared.made.MadeTick.{MadeTick}
-use Rattle.pod_piece.specs.Piece.{Piece, before_last, last_of, ticks, evicted_at, evicted_before}
-use Rattle.pod_piece.specs.Made.{MadeEvent, made_at, made_of, AreMadeOver, round_length, round_of, AreRoundEvents}
-use Rattle.pod_piece.specs.Made.{AreEarlierEvents}
-use Rattle.pod_piece.specs.Status.{AreEventsAfter, AreLastEvents}
+use Rattle.pod_piece.specs.state.Piece.{Piece, before_last, last_of, ticks, evicted_at, evicted_before}
+use Rattle.pod_piece.specs.state.Made.{MadeEvent, made_at, made_of, AreMadeOver, round_length, round_of}
+use Rattle.pod_piece.specs.state.Made.{AreRoundEvents}
+use Rattle.pod_piece.specs.state.Made.{AreEarlierEvents}
+use Rattle.pod_piece.specs.state.Status.{AreEventsAfter, AreLastEvents}
 use Rattle.pod_piece.proofs.LastTicks.{split_last}
 use Rattle.pod_piece.proofs.Rounds.{made_round, none_made}
 use Rattle.event_book.specs.declared.totals.Totals.{Totals}
-use Rattle.event_book.specs.Limits.{most_events, most_updates, IsLowAddition}
+use Rattle.event_book.specs.state.Limits.{most_events, most_updates, IsLowAddition}
 use Rattle.event_book.specs.declared.totals.Entry.{Entry}
-use Rattle.event_book.specs.Totals.{is_order, entry_of, IsEntryOf}
-use Rattle.event_book.specs.Shares.{one_update}
-use Rattle.event_book.specs.Rounds.{is_made_order, entry_of_made, addition_of, IsAdditionOf}
+use Rattle.event_book.specs.rule.Totals.{is_order}
+use Rattle.event_book.specs.state.Totals.{entry_of, IsEntryOf}
+use Rattle.event_book.specs.state.Shares.{one_update}
+use Rattle.event_book.specs.state.Rounds.{is_made_order, entry_of_made, addition_of, IsAdditionOf}
 use Rattle.event_book.proofs.Low.{few_events, low}
 use Rattle.event_book.proofs.Numbers.{totals_same}
 

@@ -1,4 +1,2 @@
-pub mod Totals
-pub mod Shares
-pub mod Limits
-pub mod Rounds
+pub mod rule
+pub mod state

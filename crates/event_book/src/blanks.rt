@@ -1,7 +1,7 @@
 //! The ledgers of a book that is still to be opened.
 
 ghost use Rattle.std.specs.Prelude.{◌≡◌};
-ghost use Rattle.event_book.specs.Shares.{most_parts};
+ghost use Rattle.event_book.specs.state.Shares.{most_parts};
 
 use std::sync::ledger::Blank;
 

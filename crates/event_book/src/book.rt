@@ -1,8 +1,8 @@
 //! The book that counts what happens.
 
 ghost use Rattle.std.specs.Prelude.{◌≡◌, ◌<◌, ◌^◌, OnOk, OnErr};
-ghost use Rattle.event_book.specs.Totals.{plus, nothing};
-ghost use Rattle.event_book.specs.Shares.{most_parts, share_with, one_update, AreWithin, ArePast};
+ghost use Rattle.event_book.specs.state.Totals.{plus, nothing};
+ghost use Rattle.event_book.specs.state.Shares.{most_parts, share_with, one_update, AreWithin, ArePast};
 
 use crate::blanks::Blanks;
 use crate::shares::Shares;
@@ -30,7 +30,7 @@ pub struct EventBook<U: Ledger, E: Ledger, O: Ledger> {
 impl<U: Ledger, E: Ledger, O: Ledger> Model for EventBook<U, E, O> {
     ghost use Rattle.std.specs.Prelude.{◌≡◌};
     ghost use Rattle.event_book.specs.declared.totals.Totals.{Totals};
-    ghost use Rattle.event_book.specs.Shares.{AreWithin};
+    ghost use Rattle.event_book.specs.state.Shares.{AreWithin};
 
     ghost Value = { Totals };
 

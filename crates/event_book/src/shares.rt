@@ -1,8 +1,8 @@
 //! A part of each of a book's totals.
 
 ghost use Rattle.std.specs.Prelude.{◌≡◌, ◌<◌, ◌+◌};
-ghost use Rattle.event_book.specs.Totals.{plus, nothing};
-ghost use Rattle.event_book.specs.Shares.{share_with};
+ghost use Rattle.event_book.specs.state.Totals.{plus, nothing};
+ghost use Rattle.event_book.specs.state.Shares.{share_with};
 
 use std::marker::Model;
 use std::sync::ledger::{Ledger, Share};
@@ -18,7 +18,7 @@ pub struct Shares<U: Ledger, E: Ledger, O: Ledger> {
 
 impl<U: Ledger, E: Ledger, O: Ledger> Model for Shares<U, E, O> {
     ghost use Rattle.std.specs.Prelude.{◌≡◌};
-    ghost use Rattle.event_book.specs.Shares.{ShareState, share_with};
+    ghost use Rattle.event_book.specs.state.Shares.{ShareState, share_with};
 
     ghost Value = { ShareState };
 

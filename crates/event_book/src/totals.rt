@@ -2,11 +2,12 @@
 
 ghost use Rattle.std.specs.Prelude.{◌≡◌, ◌≤◌, length};
 ghost use Rattle.std.specs.List.{filter};
-ghost use Rattle.pod_piece.specs.Made.{made_of};
-ghost use Rattle.event_book.specs.Totals.{entry_of, is_order, IsEntryOf};
-ghost use Rattle.event_book.specs.Shares.{one_update, greatest_total};
-ghost use Rattle.event_book.specs.Rounds.{entry_of_made, IsAdditionOf};
-ghost use Rattle.event_book.specs.Limits.{IsLow, IsLowAddition};
+ghost use Rattle.pod_piece.specs.state.Made.{made_of};
+ghost use Rattle.event_book.specs.rule.Totals.{is_order};
+ghost use Rattle.event_book.specs.state.Totals.{entry_of, IsEntryOf};
+ghost use Rattle.event_book.specs.state.Shares.{one_update, greatest_total};
+ghost use Rattle.event_book.specs.state.Rounds.{entry_of_made, IsAdditionOf};
+ghost use Rattle.event_book.specs.state.Limits.{IsLow, IsLowAddition};
 
 use containers::PodEventKind;
 use pod_piece::{MadeTick, PodPiece};

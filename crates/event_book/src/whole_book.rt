@@ -1,8 +1,8 @@
 //! A book beside its whole share.
 
 ghost use Rattle.std.specs.Prelude.{◌≡◌};
-ghost use Rattle.event_book.specs.Totals.{plus, nothing};
-ghost use Rattle.event_book.specs.Shares.{most_parts, share_with, one_update, AreWithin};
+ghost use Rattle.event_book.specs.state.Totals.{plus, nothing};
+ghost use Rattle.event_book.specs.state.Shares.{most_parts, share_with, one_update, AreWithin};
 
 use crate::blanks::Blanks;
 use crate::book::EventBook;
@@ -22,7 +22,7 @@ pub struct WholeBook<U: Ledger, E: Ledger, O: Ledger> {
 impl<U: Ledger, E: Ledger, O: Ledger> Model for WholeBook<U, E, O> {
     ghost use Rattle.std.specs.Prelude.{◌≡◌};
     ghost use Rattle.event_book.specs.declared.totals.Totals.{Totals};
-    ghost use Rattle.event_book.specs.Shares.{most_parts, share_with};
+    ghost use Rattle.event_book.specs.state.Shares.{most_parts, share_with};
 
     ghost Value = { Totals };
 

@@ -4,22 +4,22 @@ use Rattle.std.proofs.Common.{append-nil, append_assoc, Some, None, refl, sym, a
 use Rattle.std.specs.Prelude.{slice_get}
 use Rattle.std.proofs.lemmas.Grind.{flat_map-append}
 use Rattle.std.proofs.lemmas.List.{map-append}
-use Rattle.histories.specs.Histories.{recorded, last_moment, moment_at}
+use Rattle.histories.specs.rule.Histories.{recorded, last_moment, moment_at}
 use Rattle.histories.proofs.Places.{length-more}
 use Rattle.histories.proofs.Lists.{place_split}
 use Rattle.pod_state.specs.declared.events.PodEvent.{PodEvent}
 use Rattle.pod_piece.specs.declared.made.MadeTick.{MadeTick}
-use Rattle.pod_state.specs.Pods.{PodTick}
-use Rattle.pod_piece.specs.Piece.{Piece, ticks}
-use Rattle.pod_piece.specs.Made.{MadeEvent, made_at, made_of, round_length, AreRoundEvents, AreEarlierEvents}
-use Rattle.pod_piece.specs.Status.{AreLastEvents}
+use Rattle.pod_state.specs.rule.Pods.{PodTick}
+use Rattle.pod_piece.specs.state.Piece.{Piece, ticks}
+use Rattle.pod_piece.specs.state.Made.{MadeEvent, made_at, made_of, round_length, AreRoundEvents, AreEarlierEvents}
+use Rattle.pod_piece.specs.state.Status.{AreLastEvents}
 use Rattle.pod_piece.proofs.LastTicks.{tick_at}
 use Rattle.event_book.proofs.Made.{made_of-more, round_events, empty_round}
 use Rattle.event_list.specs.declared.event.Event.{Event}
 use Rattle.event_list.specs.declared.event.EventKind.TheVariants.{Pod}
 use Rattle.event_list.specs.declared.tick.TickEvents.{TickEvents}
-use Rattle.event_list.specs.Events.{event, of_node}
-use Rattle.event_list.specs.Tick.{events_of, events_by_pod, events_of_node}
+use Rattle.event_list.specs.rule.Events.{event, of_node}
+use Rattle.event_list.specs.state.Tick.{events_of, events_by_pod, events_of_node}
 
 -- the events of a pod at a moment
 pub of_moment : (n at : ℕ) (events : List PodEvent)

@@ -5,7 +5,7 @@ use Rattle.std.specs.Str.{IsUtf8}
 use Rattle.std.specs.String.Boundary.{IsSplitPoint}
 use Rattle.std.proofs.lemmas.Grind.{common_steps}
 use Rattle.std.proofs.lemmas.Str.{IsUtf8-string_bytes, IsCharBoundary-from_take}
-use Rattle.event_list.specs.Text.{Extends}
+use Rattle.event_list.specs.state.Text.{Extends}
 
 -- whole characters may be cut behind whole characters
 behind : (old new : List ℕ) → IsUtf8 old → IsUtf8 new → Extends old new → IsSplitPoint new (length old)

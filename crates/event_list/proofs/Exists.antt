@@ -9,20 +9,20 @@ use Rattle.histories.proofs.Places.{length-more}
 use Rattle.histories.proofs.Lists.{given_at}
 use Rattle.manifest.specs.declared.pod.PodSpec.{PodSpec}
 use Rattle.node_config.specs.declared.node.NodeConfig.{NodeConfig}
-use Rattle.observations.specs.Pods.{PodObs}
+use Rattle.observations.specs.rule.Pods.{PodObs}
 use Rattle.observations.specs.declared.tick.TickObs.{TickObs}
-use Rattle.observations.specs.Observations.{shown_of}
+use Rattle.observations.specs.rule.Observations.{shown_of}
 use Rattle.node_signals.proofs.Exists.{some_list_of_node_events}
 use Rattle.pod_state.specs.declared.events.PodEvent.{PodEvent}
-use Rattle.pod_state.specs.Pods.{pod_tick}
-use Rattle.pod_state.specs.Events.{AreEventsOf}
+use Rattle.pod_state.specs.rule.Pods.{pod_tick}
+use Rattle.pod_state.specs.rule.Events.{AreEventsOf}
 use Rattle.pod_state.proofs.EventFoundLemmas.{some_list_of_events as some_of_pod}
-use Rattle.pod_piece.specs.Piece.{place_of}
+use Rattle.pod_piece.specs.rule.Piece.{place_of}
 use Rattle.eviction.specs.declared.eviction.Eviction.{Eviction}
-use Rattle.eviction.specs.Replay.{pod_ticks, own_eviction}
+use Rattle.eviction.specs.rule.Replay.{pod_ticks, own_eviction}
 use Rattle.event_list.specs.declared.event.Event.{Event}
-use Rattle.event_list.specs.Events.{ArePodEvents, of_pods, of_node, of_eviction, AreTickEvents, AreEvents}
-use Rattle.event_list.specs.Laws.{ShowsKnownPods, HaveProbesInRange, HasProbesInRange, SomeListOfEvents}
+use Rattle.event_list.specs.rule.Events.{ArePodEvents, of_pods, of_node, of_eviction, AreTickEvents, AreEvents}
+use Rattle.event_list.specs.state.Laws.{ShowsKnownPods, HaveProbesInRange, HasProbesInRange, SomeListOfEvents}
 use Rattle.event_list.proofs.More.{no_events, events_more}
 
 -- what holds of all items holds of the one at a place

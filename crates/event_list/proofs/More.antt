@@ -13,19 +13,20 @@ use Rattle.histories.proofs.Places.{length-more}
 use Rattle.histories.proofs.Lists.{place_split, take_old}
 use Rattle.manifest.specs.declared.pod.PodSpec.{PodSpec}
 use Rattle.node_config.specs.declared.node.NodeConfig.{NodeConfig}
-use Rattle.observations.specs.Pods.{PodObs}
+use Rattle.observations.specs.rule.Pods.{PodObs}
 use Rattle.observations.specs.declared.tick.TickObs.{TickObs}
-use Rattle.observations.specs.Observations.{all_shown}
+use Rattle.observations.specs.rule.Observations.{all_shown}
 use Rattle.node_signals.specs.declared.event.NodeEvent.{NodeEvent}
 use Rattle.pod_state.specs.declared.events.PodEvent.{PodEvent}
 use Rattle.eviction.specs.declared.eviction.Eviction.{Eviction}
 use Rattle.event_book.specs.declared.totals.Totals.{Totals}
 use Rattle.event_book.specs.declared.totals.Entry.{Entry}
-use Rattle.event_book.specs.Totals.{is_order, entry_of, sums_of, plus}
+use Rattle.event_book.specs.rule.Totals.{is_order}
+use Rattle.event_book.specs.state.Totals.{entry_of, sums_of, plus}
 use Rattle.event_list.specs.declared.event.Event.{Event}
 use Rattle.event_list.specs.declared.event.EventKind.TheVariants.{Pod}
-use Rattle.event_list.specs.Events.{event, of_pods, of_node, of_eviction, AreTickEvents, AreEvents}
-use Rattle.event_list.specs.Totals.{pod_events, totals_of}
+use Rattle.event_list.specs.rule.Events.{event, of_pods, of_node, of_eviction, AreTickEvents, AreEvents}
+use Rattle.event_list.specs.rule.Totals.{pod_events, totals_of}
 
 -- no ticks
 pub no_events : (config : NodeConfig) (pods : List PodSpec) → AreEvents config pods [] [] []

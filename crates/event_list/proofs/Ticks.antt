@@ -16,15 +16,15 @@ use Rattle.node_signals.specs.declared.event.NodeEvent.{NodeEvent}
 use Rattle.manifest.specs.declared.pod.PodSpec.{PodSpec}
 use Rattle.containers.specs.declared.pod_event_kind.PodEventKind.TheVariants as kinds
 use Rattle.pod_state.specs.declared.events.PodEvent.{PodEvent}
-use Rattle.pod_state.specs.Pods.{PodTick}
-use Rattle.pod_piece.specs.Piece.{Piece, ticks, evicted_at}
-use Rattle.pod_piece.specs.Made.{MadeEvent, made_at, AreMadeOver, round_of}
+use Rattle.pod_state.specs.rule.Pods.{PodTick}
+use Rattle.pod_piece.specs.state.Piece.{Piece, ticks, evicted_at}
+use Rattle.pod_piece.specs.state.Made.{MadeEvent, made_at, AreMadeOver, round_of}
 use Rattle.event_list.specs.declared.event.Event.{Event}
 use Rattle.event_list.specs.declared.event.EventKind.TheVariants.{Pod, Node}
 use Rattle.event_list.specs.declared.tick.TickEvents.{TickEvents}
-use Rattle.event_list.specs.Events.{event, of_pods, of_node}
-use Rattle.event_list.specs.Tick.{AreMadeBy, events_at, of_ticks, AreOfTicks, MomentsRise, IsMomentOf}
-use Rattle.event_list.specs.Tick.{events_of, events_by_pod, events_of_node, is_at, IsInOrder, AddsEvents}
+use Rattle.event_list.specs.rule.Events.{event, of_pods, of_node}
+use Rattle.event_list.specs.state.Tick.{AreMadeBy, events_at, of_ticks, AreOfTicks, MomentsRise, IsMomentOf}
+use Rattle.event_list.specs.state.Tick.{events_of, events_by_pod, events_of_node, is_at, IsInOrder, AddsEvents}
 use Rattle.event_list.proofs.Merged.{IsOneOf, rise_rest, rise_above, filter_in, filter_out, none_has, all_have, merged}
 use Rattle.event_list.proofs.Merged.{stable_at}
 

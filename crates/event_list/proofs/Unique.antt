@@ -7,20 +7,20 @@ use Rattle.std.proofs.lemmas.Option.{slice_get_within}
 use Rattle.histories.proofs.Lists.{same_places, given_at}
 use Rattle.manifest.specs.declared.pod.PodSpec.{PodSpec}
 use Rattle.node_config.specs.declared.node.NodeConfig.{NodeConfig}
-use Rattle.observations.specs.Pods.{PodObs}
+use Rattle.observations.specs.rule.Pods.{PodObs}
 use Rattle.observations.specs.declared.tick.TickObs.{TickObs}
-use Rattle.observations.specs.Observations.{shown_of}
+use Rattle.observations.specs.rule.Observations.{shown_of}
 use Rattle.node_signals.specs.declared.event.NodeEvent.{NodeEvent}
 use Rattle.node_signals.proofs.LawLemmas.{one_list_of_node_events}
 use Rattle.pod_state.specs.declared.events.PodEvent.{PodEvent}
-use Rattle.pod_state.specs.Pods.{pod_tick}
+use Rattle.pod_state.specs.rule.Pods.{pod_tick}
 use Rattle.pod_state.proofs.PodEventLemmas.{one_list_of_pod_events}
-use Rattle.pod_piece.specs.Piece.{place_of}
+use Rattle.pod_piece.specs.rule.Piece.{place_of}
 use Rattle.eviction.specs.declared.eviction.Eviction.{Eviction}
-use Rattle.eviction.specs.Replay.{pod_ticks, own_eviction}
+use Rattle.eviction.specs.rule.Replay.{pod_ticks, own_eviction}
 use Rattle.event_list.specs.declared.event.Event.{Event}
-use Rattle.event_list.specs.Events.{ArePodEvents, of_pods, of_node, of_eviction, AreTickEvents}
-use Rattle.event_list.specs.Laws.{OneListOfEvents}
+use Rattle.event_list.specs.rule.Events.{ArePodEvents, of_pods, of_node, of_eviction, AreTickEvents}
+use Rattle.event_list.specs.state.Laws.{OneListOfEvents}
 
 -- of the pods
 pods_one : (config : NodeConfig) (pods : List PodSpec) (before : List TickObs) (tick : TickObs)

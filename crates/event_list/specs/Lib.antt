@@ -1,6 +1,2 @@
-pub mod Events
-pub mod Tick
-pub mod Totals
-pub mod Text
-pub mod Names
-pub mod Laws
+pub mod rule
+pub mod state

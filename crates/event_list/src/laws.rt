@@ -1,6 +1,6 @@
 //! What the definition of a node's events implies. The functions do nothing; their contracts are the laws.
 
-ghost use Rattle.event_list.specs.Laws as laws;
+ghost use Rattle.event_list.specs.state.Laws as laws;
 
 /// Ticks with their evictions have a list of events, where they show none but the pods that there are, and the
 /// numbers of the probes of each container are in their ranges.

@@ -1,8 +1,9 @@
 //! The names of a node's pods.
 
 ghost use Rattle.std.specs.Prelude.{◌≡◌, ◌++◌, IfOk, OnOk, IfSome, IfNone, None, Some, string_bytes};
-ghost use Rattle.event_list.specs.Names.{pod_in};
-ghost use Rattle.event_list.specs.Text.{key_of, Extends};
+ghost use Rattle.event_list.specs.state.Names.{pod_in};
+ghost use Rattle.event_list.specs.rule.Text.{key_of};
+ghost use Rattle.event_list.specs.state.Text.{Extends};
 
 use crate::phrases::add;
 use manifest::PodSpec;

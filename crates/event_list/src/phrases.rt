@@ -2,7 +2,7 @@
 
 ghost use Rattle.std.specs.Prelude.{◌≡◌, ◌++◌, OnOk, OnErr, string_bytes, take};
 ghost use Rattle.std.specs.String.Boundary.{IsSplitPoint};
-ghost use Rattle.event_list.specs.Text.{Extends};
+ghost use Rattle.event_list.specs.state.Text.{Extends};
 
 use itoa::{Buffer, Integer};
 use std::alloc::AllocError;

@@ -1,12 +1,13 @@
 //! The line of an event.
 
 ghost use Rattle.std.specs.Prelude.{◌≡◌, ◌++◌, IfOk, OnOk, OnErr, string_bytes, Option, codes};
-ghost use Rattle.event_list.specs.Text.{container_of, kind_words, pod_event_words, node_event_words};
-ghost use Rattle.event_list.specs.Text.{event_words, event_line, Extends};
+ghost use Rattle.event_list.specs.rule.Text.{container_of, kind_words, pod_event_words, node_event_words};
+ghost use Rattle.event_list.specs.rule.Text.{event_words, event_line};
+ghost use Rattle.event_list.specs.state.Text.{Extends};
 ghost use Rattle.event_list.specs.declared.event.EventKind.TheVariants.{Evicted};
 ghost use Rattle.node_signals.specs.declared.event.NodeEvent.TheVariants.{Reclaim};
-ghost use Rattle.pod_piece.specs.Piece.{pods_in};
-ghost use Rattle.event_list.specs.Names.{pod_in, words_of};
+ghost use Rattle.pod_piece.specs.state.Piece.{pods_in};
+ghost use Rattle.event_list.specs.state.Names.{pod_in, words_of};
 
 use crate::event::{Event, EventKind};
 use crate::names::Names;
@@ -35,7 +36,7 @@ fn container_text(names: Names<'_>, number: usize, container: Option<usize>) -> 
 }
 
 /// Appends a space, and what happened to a container or to a pod.
-#[tactic(auto, unfolding(crate::specs::Text::kind_words))]
+#[tactic(auto, unfolding(crate::specs::rule::Text::kind_words))]
 fn add_kind(text: &mut String, kind: PodEventKind) -> Result<(), AllocError>
     ensures ok { OnOk result (string_bytes text.new ≡ string_bytes text.old ++ (codes " " ++ kind_words kind)) }
     ensures more { Extends (string_bytes text.old) (string_bytes text.new) }
@@ -65,7 +66,7 @@ fn add_kind(text: &mut String, kind: PodEventKind) -> Result<(), AllocError>
     }
 }
 
-#[tactic(auto, unfolding(crate::specs::Text::pod_event_words))]
+#[tactic(auto, unfolding(crate::specs::rule::Text::pod_event_words))]
 fn add_pod_event(
     text: &mut String,
     names: Names<'_>,
@@ -82,7 +83,7 @@ fn add_pod_event(
     add_kind(text, event.kind)
 }
 
-#[tactic(auto, unfolding(crate::specs::Text::node_event_words))]
+#[tactic(auto, unfolding(crate::specs::rule::Text::node_event_words))]
 fn add_reclaim(text: &mut String, key: ThresholdKey) -> Result<(), AllocError>
     ensures ok { OnOk result (string_bytes text.new ≡ string_bytes text.old ++ node_event_words (Reclaim key)) }
     ensures more { Extends (string_bytes text.old) (string_bytes text.new) }
@@ -91,7 +92,7 @@ fn add_reclaim(text: &mut String, key: ThresholdKey) -> Result<(), AllocError>
     add_threshold(text, key.signal, key.kind)
 }
 
-#[tactic(auto, unfolding(crate::specs::Text::node_event_words))]
+#[tactic(auto, unfolding(crate::specs::rule::Text::node_event_words))]
 fn add_node_event(text: &mut String, event: NodeEvent) -> Result<(), AllocError>
     ensures ok { OnOk result (string_bytes text.new ≡ string_bytes text.old ++ node_event_words event) }
     ensures more { Extends (string_bytes text.old) (string_bytes text.new) }
@@ -113,7 +114,7 @@ fn add_node_event(text: &mut String, event: NodeEvent) -> Result<(), AllocError>
     }
 }
 
-#[tactic(auto, unfolding(crate::specs::Text::eviction_words))]
+#[tactic(auto, unfolding(crate::specs::rule::Text::eviction_words))]
 fn add_key_and_order(
     text: &mut String,
     eviction: Eviction,
@@ -141,7 +142,7 @@ pub fn add_eviction_words(
     whole_or_nothing(text, length, added)
 }
 
-#[tactic(auto, unfolding(crate::specs::Text::event_words))]
+#[tactic(auto, unfolding(crate::specs::rule::Text::event_words))]
 fn add_evicted(text: &mut String, eviction: Eviction, names: Names<'_>) -> Result<(), AllocError>
     ensures ok { OnOk result (string_bytes text.new
         ≡ string_bytes text.old ++ event_words (pods_in names.entry.pods.now) (Evicted eviction)) }
@@ -152,7 +153,7 @@ fn add_evicted(text: &mut String, eviction: Eviction, names: Names<'_>) -> Resul
 }
 
 /// Appends the words of an event.
-#[tactic(auto, unfolding(crate::specs::Text::event_words))]
+#[tactic(auto, unfolding(crate::specs::rule::Text::event_words))]
 fn add_words(text: &mut String, event: EventKind, names: Names<'_>) -> Result<(), AllocError>
     ensures ok { OnOk result (string_bytes text.new
         ≡ string_bytes text.old ++ event_words (pods_in names.entry.pods.now) event) }
@@ -165,7 +166,7 @@ fn add_words(text: &mut String, event: EventKind, names: Names<'_>) -> Result<()
     }
 }
 
-#[tactic(auto, unfolding(crate::specs::Text::event_line))]
+#[tactic(auto, unfolding(crate::specs::rule::Text::event_line))]
 fn add_line(text: &mut String, event: &Event, names: Names<'_>) -> Result<(), AllocError>
     ensures ok { OnOk result (string_bytes text.new
         ≡ string_bytes text.old ++ event_line (pods_in names.entry.pods.now) event.now) }

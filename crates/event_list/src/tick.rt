@@ -1,12 +1,12 @@
 //! The events of ticks.
 
 ghost use Rattle.std.specs.Prelude.{◌≡◌, ◌<◌, ◌≤◌, ◌++◌, List, length, map, take, drop, slice_get, Some, OnOk};
-ghost use Rattle.pod_piece.specs.Made.{MadeEvent, made_of, AreRoundEvents};
+ghost use Rattle.pod_piece.specs.state.Made.{MadeEvent, made_of, AreRoundEvents};
 ghost use Rattle.event_list.specs.declared.event.Event.{Event as AnEvent};
 ghost use Rattle.event_list.specs.declared.event.EventKind.TheVariants.{Pod};
-ghost use Rattle.event_list.specs.Events.{event, of_node, of_eviction};
-ghost use Rattle.event_list.specs.Tick.{AreMadeBy, AddsEvents, AreOfTicks, MomentsRise};
-ghost use Rattle.event_list.specs.Tick.{events_of, events_by_pod, events_of_node, IsInOrder};
+ghost use Rattle.event_list.specs.rule.Events.{event, of_node, of_eviction};
+ghost use Rattle.event_list.specs.state.Tick.{AreMadeBy, AddsEvents, AreOfTicks, MomentsRise};
+ghost use Rattle.event_list.specs.state.Tick.{events_of, events_by_pod, events_of_node, IsInOrder};
 
 use crate::event::{Event, EventKind};
 use eviction::Eviction;

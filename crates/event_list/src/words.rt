@@ -2,8 +2,9 @@
 
 ghost use Rattle.std.specs.Prelude.{◌≡◌, ◌++◌, codes, IfOk, OnOk, string_bytes};
 ghost use Rattle.std.specs.Fmt.{decimal};
-ghost use Rattle.signals.specs.Signals.{name_of, kind_name};
-ghost use Rattle.event_list.specs.Text.{phase_word, truth, cause_word, activity, eviction_words, Extends};
+ghost use Rattle.signals.specs.rule.Signals.{name_of, kind_name};
+ghost use Rattle.event_list.specs.rule.Text.{phase_word, truth, cause_word, activity, eviction_words};
+ghost use Rattle.event_list.specs.state.Text.{Extends};
 
 use crate::phrases::{add, add_with_number};
 use phase::Phase;
@@ -74,7 +75,7 @@ pub(crate) fn add_order(text: &mut String, order: EvictOrder) -> Result<(), Allo
 }
 
 /// An eviction of the pod with this key: `KEY SIGNAL KIND GRACE`, with the grace period in seconds.
-#[tactic(auto, unfolding(crate::specs::Text::eviction_words))]
+#[tactic(auto, unfolding(crate::specs::rule::Text::eviction_words))]
 pub fn eviction_words(alloc: Global, key: &str, order: EvictOrder) -> Result<String, AllocError>
     ensures { IfOk result (λ s. string_bytes s ≡ eviction_words key.now order) }
 {

@@ -3,7 +3,7 @@ use Rattle.std.proofs.Common.{◌≡◌, ℕ, zero, suc, ◌<◌, ◌≤◌, Lis
 use Rattle.std.specs.Prelude.{◌&&◌, option_and_then, slice_get}
 use Rattle.std.specs.List.{list_all}
 use Rattle.observations.specs.declared.container.ContainerObs.{ContainerObs}
-use Rattle.eviction.specs.Replay.{has_ended}
+use Rattle.eviction.specs.rule.Replay.{has_ended}
 
 -- one container decides, and those behind it
 pub over_step : (containers : List ContainerObs) (n : ℕ) → n < length containers

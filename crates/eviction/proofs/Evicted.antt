@@ -10,21 +10,22 @@ use Rattle.histories.proofs.Places.{length-more}
 use Rattle.histories.proofs.Lists.{given_at, some_given}
 use Rattle.manifest.specs.declared.pod.PodSpec.{PodSpec}
 use Rattle.observations.specs.declared.tick.TickObs.{TickObs}
-use Rattle.observations.specs.Observations.{shown_of, own_ticks}
+use Rattle.observations.specs.rule.Observations.{shown_of, own_ticks}
 use Rattle.node_config.specs.declared.node.NodeConfig.{NodeConfig}
 use Rattle.node_signals.specs.declared.key.ThresholdKey.{ThresholdKey}
-use Rattle.node_signals.specs.Thresholds.{Asks, IsServed}
-use Rattle.pod_state.specs.Pods.{PodTick, pod_tick, IsEnd, HasEnded}
+use Rattle.node_signals.specs.rule.Thresholds.{Asks, IsServed}
+use Rattle.pod_state.specs.rule.Pods.{PodTick, pod_tick, IsEnd, HasEnded}
 use Rattle.pod_state.proofs.EndLemmas.{ended_is}
 use Rattle.pod_state.proofs.FoundLemmas.{some_end}
 use Rattle.pod_piece.specs.declared.order.EvictOrder.{EvictOrder}
 use Rattle.pod_piece.specs.declared.status.PodStatus.{PodStatus}
-use Rattle.pod_piece.specs.Piece.{place_of}
-use Rattle.ranking.specs.Order.{IsVictim}
+use Rattle.pod_piece.specs.rule.Piece.{place_of}
+use Rattle.ranking.specs.rule.Order.{IsVictim}
 use Rattle.eviction.specs.declared.eviction.Eviction.{Eviction}
-use Rattle.eviction.specs.Replay.{pod_ticks, EvictedAt, evicted_at, own_eviction, IsCandidate, order_of, IsOfVictim}
-use Rattle.eviction.specs.Replay.{IsEvictionFor, is_paused, unless_paused, IsEvictionOfTick, IsReplay}
-use Rattle.eviction.specs.Laws.{EvictedOnce, EvictedPodLived, ServedAlone}
+use Rattle.eviction.specs.rule.Replay.{pod_ticks, EvictedAt, evicted_at, own_eviction, IsCandidate, order_of}
+use Rattle.eviction.specs.rule.Replay.{IsOfVictim}
+use Rattle.eviction.specs.rule.Replay.{IsEvictionFor, is_paused, unless_paused, IsEvictionOfTick, IsReplay}
+use Rattle.eviction.specs.state.Laws.{EvictedOnce, EvictedPodLived, ServedAlone}
 use Rattle.eviction.proofs.Own.{pod_ticks-more, of_pod, evicted_unless, own_eviction-longer}
 
 -- the threshold for which a tick evicts a pod, and the pod's status

@@ -9,29 +9,29 @@ use Rattle.histories.proofs.Found.{first_place}
 use Rattle.histories.proofs.Lists.{within_and}
 use Rattle.manifest.specs.declared.pod.PodSpec.{PodSpec}
 use Rattle.observations.specs.declared.tick.TickObs.{TickObs}
-use Rattle.observations.specs.Observations.{shown_of}
+use Rattle.observations.specs.rule.Observations.{shown_of}
 use Rattle.node_config.specs.declared.node.NodeConfig.{NodeConfig}
-use Rattle.node_config.specs.EvictionConfig.{EvictionConfig}
+use Rattle.node_config.specs.rule.EvictionConfig.{EvictionConfig}
 use Rattle.node_signals.specs.declared.key.ThresholdKey.{ThresholdKey}
-use Rattle.node_signals.specs.Keys.{serving_order}
-use Rattle.node_signals.specs.Thresholds.{Asks, AsksAt, IsServed}
+use Rattle.node_signals.specs.rule.Keys.{serving_order}
+use Rattle.node_signals.specs.rule.Thresholds.{Asks, AsksAt, IsServed}
 use Rattle.node_signals.proofs.Decide.{due_or_not, reclaimed_or_not}
-use Rattle.phase.specs.RawPhase.{IsTerminal}
+use Rattle.phase.specs.rule.RawPhase.{IsTerminal}
 use Rattle.phase.proofs.DecideLemmas.{terminal_cases}
-use Rattle.pod_state.specs.Pods.{PodTick}
+use Rattle.pod_state.specs.rule.Pods.{PodTick}
 use Rattle.pod_state.proofs.EndLemmas.{IsPhase-unique}
 use Rattle.pod_piece.specs.declared.piece.EvictionRecord.{EvictionRecord}
 use Rattle.pod_piece.specs.declared.status.PodStatus.{PodStatus}
-use Rattle.pod_piece.specs.Piece.{place_of}
-use Rattle.pod_piece.specs.Status.{IsStatusAfter}
+use Rattle.pod_piece.specs.rule.Piece.{place_of}
+use Rattle.pod_piece.specs.rule.Status.{IsStatusAfter}
 use Rattle.pod_piece.proofs.UsageLemmas.{one_usage}
-use Rattle.ranking.specs.Order.{IsVictim}
+use Rattle.ranking.specs.rule.Order.{IsVictim}
 use Rattle.ranking.proofs.LawLemmas.{RankAlike}
 use Rattle.ranking.proofs.Victims.{AreCandidates, victim_among}
 use Rattle.eviction.specs.declared.eviction.Eviction.{Eviction}
-use Rattle.eviction.specs.Replay.{pod_ticks, own_eviction, IsCandidate, order_of, IsEvictionFor, is_paused}
-use Rattle.eviction.specs.Replay.{unless_paused, IsEvictionOfTick, IsReplay}
-use Rattle.eviction.specs.Laws.{SomeReplay}
+use Rattle.eviction.specs.rule.Replay.{pod_ticks, own_eviction, IsCandidate, order_of, IsEvictionFor, is_paused}
+use Rattle.eviction.specs.rule.Replay.{unless_paused, IsEvictionOfTick, IsReplay}
+use Rattle.eviction.specs.state.Laws.{SomeReplay}
 use Rattle.eviction.proofs.More.{no_replay, replay_more}
 use Rattle.eviction.proofs.Statuses.{some_status}
 

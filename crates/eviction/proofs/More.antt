@@ -9,7 +9,7 @@ use Rattle.manifest.specs.declared.pod.PodSpec.{PodSpec}
 use Rattle.observations.specs.declared.tick.TickObs.{TickObs}
 use Rattle.node_config.specs.declared.node.NodeConfig.{NodeConfig}
 use Rattle.eviction.specs.declared.eviction.Eviction.{Eviction}
-use Rattle.eviction.specs.Replay.{IsEvictionOfTick, IsReplay}
+use Rattle.eviction.specs.rule.Replay.{IsEvictionOfTick, IsReplay}
 
 pub no_replay : (config : NodeConfig) (pods : List PodSpec) → IsReplay config pods [] []
 no_replay config pods = record { as_many = refl; each = λ t tick eviction at is. absurd (cc) }

@@ -4,15 +4,15 @@ use Rattle.std.proofs.Common.{true, false, cond, Option, Some, None, refl, sym, 
 use Rattle.std.specs.Prelude.{◌==◌, slice_get, option_map}
 use Rattle.std.proofs.lemmas.List.{take-append-le, take_all, map_push}
 use Rattle.std.proofs.lemmas.Bool.Decides.{eqb_tells}
-use Rattle.observations.specs.Pods.{PodObs}
+use Rattle.observations.specs.rule.Pods.{PodObs}
 use Rattle.observations.specs.declared.tick.TickObs.{TickObs}
-use Rattle.observations.specs.Observations.{shown_of}
+use Rattle.observations.specs.rule.Observations.{shown_of}
 use Rattle.observations.proofs.OwnTicks.{own_more, own_rests}
-use Rattle.pod_state.specs.Pods.{pod_tick}
+use Rattle.pod_state.specs.rule.Pods.{pod_tick}
 use Rattle.pod_piece.specs.declared.order.EvictOrder.{EvictOrder}
 use Rattle.pod_piece.specs.declared.piece.EvictionRecord.{EvictionRecord}
 use Rattle.eviction.specs.declared.eviction.Eviction.{Eviction}
-use Rattle.eviction.specs.Replay.{pod_ticks, EvictedAt, later, evicted_at, own_eviction}
+use Rattle.eviction.specs.rule.Replay.{pod_ticks, EvictedAt, later, evicted_at, own_eviction}
 
 -- a tick that shows the pod is one more of its own; any other is not
 pub pod_ticks-more : (ticks : List TickObs) (tick : TickObs) (n : ℕ) (shown : PodObs) → shown_of tick n ≡ Some shown

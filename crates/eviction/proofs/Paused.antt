@@ -13,8 +13,8 @@ use Rattle.observations.specs.declared.tick.TickObs.{TickObs}
 use Rattle.node_config.specs.declared.node.NodeConfig.{NodeConfig}
 use Rattle.node_signals.specs.declared.key.ThresholdKey.{ThresholdKey}
 use Rattle.eviction.specs.declared.eviction.Eviction.{Eviction}
-use Rattle.eviction.specs.Replay.{IsEvictionFor, is_over_in, pauses, is_paused, pause_in, unless_paused}
-use Rattle.eviction.specs.Laws.{PausedBetween}
+use Rattle.eviction.specs.rule.Replay.{IsEvictionFor, is_over_in, pauses, is_paused, pause_in, unless_paused}
+use Rattle.eviction.specs.state.Laws.{PausedBetween}
 use Rattle.eviction.proofs.Evicted.{taken, moment_of}
 
 -- an item that passes a test

@@ -8,8 +8,8 @@ use Rattle.std.proofs.lemmas.Bool.{ltb-false, le-ltb}
 use Rattle.observations.specs.declared.tick.TickObs.{TickObs}
 use Rattle.node_config.specs.declared.node.NodeConfig.{NodeConfig}
 use Rattle.eviction.specs.declared.eviction.Eviction.{Eviction}
-use Rattle.eviction.specs.Replay.{is_over_in, is_paused, pauses, pause_in, ends_early}
-use Rattle.eviction.specs.Pausing.{IsPausing, still}
+use Rattle.eviction.specs.rule.Replay.{is_over_in, is_paused, pauses, pause_in, ends_early}
+use Rattle.eviction.specs.state.Pausing.{IsPausing, still}
 
 or_false : (b : Bool) → b || false ≡ b
 or_false true = refl

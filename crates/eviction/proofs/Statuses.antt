@@ -4,23 +4,24 @@ use Rattle.std.proofs.Common.{arith, append_assoc, append-nil}
 use Rattle.std.specs.Prelude.{◌^◌, option_map}
 use Rattle.std.specs.Global.{Vec}
 use denote.RawPtr.{null_ptr}
-use Rattle.histories.specs.Histories.{HoldsAt}
+use Rattle.histories.specs.rule.Histories.{HoldsAt}
 use Rattle.histories.proofs.Decide.{test_of}
 use Rattle.histories.proofs.Found.{first_or_none}
 use Rattle.manifest.specs.declared.pod.PodSpec.{PodSpec}
 use Rattle.qos.proofs.ClassLemmas.{some_class}
 use Rattle.containers.specs.declared.status.ContainerStatus.{ContainerStatus}
-use Rattle.pod_state.specs.Pods.{PodTick, EndsPod}
-use Rattle.pod_state.specs.Containers.{AreStatusesOf}
+use Rattle.pod_state.specs.rule.Pods.{PodTick, EndsPod}
+use Rattle.pod_state.specs.rule.Containers.{AreStatusesOf}
 use Rattle.pod_state.proofs.FoundLemmas.{some_end}
 use Rattle.pod_state.proofs.FoundLemmas as found
 use Rattle.pod_piece.specs.declared.piece.EvictionRecord.{EvictionRecord}
 use Rattle.pod_piece.specs.declared.status.NewestUsage.{NewestUsage}
-use Rattle.pod_piece.specs.Piece.{place_of}
-use Rattle.pod_piece.specs.Status.{requests_of}
-use Rattle.pod_piece.specs.Usage.{IsUsageOf, nothing}
+use Rattle.pod_piece.specs.rule.Piece.{place_of}
+use Rattle.pod_piece.specs.rule.Status.{requests_of}
+use Rattle.pod_piece.specs.rule.Usage.{IsUsageOf}
+use Rattle.pod_piece.specs.state.Usage.{nothing}
 use Rattle.pod_piece.proofs.UsageLemmas.{no_usage, usage_more}
-use Rattle.eviction.specs.Laws.{SomeStatus}
+use Rattle.eviction.specs.state.Laws.{SomeStatus}
 
 -- a vector of these items
 some_vector : {X : Type 0} (xs : List X) → length xs < 2 ^ 63 → (v : Vec X) × (v.items ≡ xs)

@@ -9,15 +9,16 @@ use Rattle.manifest.specs.declared.pod.PodSpec.{PodSpec}
 use Rattle.observations.specs.declared.tick.TickObs.{TickObs}
 use Rattle.node_config.specs.declared.node.NodeConfig.{NodeConfig}
 use Rattle.node_signals.specs.declared.key.ThresholdKey.{ThresholdKey}
-use Rattle.node_signals.specs.Keys.{serving_order}
-use Rattle.node_signals.specs.Thresholds.{AsksAt, IsServed}
+use Rattle.node_signals.specs.rule.Keys.{serving_order}
+use Rattle.node_signals.specs.rule.Thresholds.{AsksAt, IsServed}
 use Rattle.pod_piece.specs.declared.order.EvictOrder.{EvictOrder}
 use Rattle.pod_piece.specs.declared.status.PodStatus.{PodStatus}
 use Rattle.ranking.proofs.LawLemmas.{victim_unique}
 use Rattle.eviction.specs.declared.eviction.Eviction.{Eviction}
-use Rattle.eviction.specs.Replay.{IsCandidate, order_of, Evicts, IsOfVictim, IsEvictionFor, is_paused, unless_paused}
-use Rattle.eviction.specs.Replay.{IsEvictionOfTick}
-use Rattle.eviction.specs.Laws.{OneReplay}
+use Rattle.eviction.specs.rule.Replay.{IsCandidate, order_of, Evicts, IsOfVictim, IsEvictionFor, is_paused}
+use Rattle.eviction.specs.rule.Replay.{unless_paused}
+use Rattle.eviction.specs.rule.Replay.{IsEvictionOfTick}
+use Rattle.eviction.specs.state.Laws.{OneReplay}
 
 -- two lists of which each place is determined by the places before it are one
 same_lists : {A : Type 0} (xs ys : List A) → length xs ≡ length ys

@@ -1,3 +1,2 @@
-pub mod Replay
-pub mod Laws
-pub mod Pausing
+pub mod rule
+pub mod state

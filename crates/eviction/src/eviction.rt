@@ -1,7 +1,7 @@
 //! One eviction.
 
 ghost use Rattle.std.specs.Prelude.{◌≡◌};
-ghost use Rattle.eviction.specs.Replay.{order_of};
+ghost use Rattle.eviction.specs.rule.Replay.{order_of};
 
 use manifest::PodSpec;
 use node_config::NodeConfig;

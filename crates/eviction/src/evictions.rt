@@ -2,8 +2,8 @@
 
 ghost use Rattle.std.specs.Prelude.{◌≡◌, ◌++◌, ◌∷◌, [], length, None, OnOk, OnErr};
 ghost use Rattle.std.specs.Option.{option_or};
-ghost use Rattle.eviction.specs.Pausing.{kept, still};
-ghost use Rattle.eviction.specs.Replay.{pause_in, pauses, unless_paused};
+ghost use Rattle.eviction.specs.state.Pausing.{kept, still};
+ghost use Rattle.eviction.specs.rule.Replay.{pause_in, pauses, unless_paused};
 
 use crate::eviction::Eviction;
 use crate::over::is_over_in;
@@ -22,7 +22,7 @@ pub struct Evictions {
 }
 
 impl Model for Evictions {
-    ghost use Rattle.eviction.specs.Pausing.{Kept, kept};
+    ghost use Rattle.eviction.specs.state.Pausing.{Kept, kept};
 
     ghost Value = { Kept };
 

@@ -1,7 +1,7 @@
 //! What is true of the evictions of every node. The functions do nothing; their contracts are the
 //! laws.
 
-ghost use Rattle.eviction.specs.Laws as laws;
+ghost use Rattle.eviction.specs.state.Laws as laws;
 
 /// A pod has a status, whenever it is evicted and whatever its ticks are. (A status shows the
 /// containers in a vector, so that there are fewer than 2^63 of them.)

@@ -2,8 +2,8 @@
 
 ghost use Rattle.std.specs.Prelude.{◌≡◌, option_map};
 ghost use Rattle.std.specs.List.{list_all};
-ghost use Rattle.observations.specs.Observations.{listed_in};
-ghost use Rattle.eviction.specs.Replay.{has_ended, is_over, is_over_in};
+ghost use Rattle.observations.specs.rule.Observations.{listed_in};
+ghost use Rattle.eviction.specs.rule.Replay.{has_ended, is_over, is_over_in};
 
 use observations::{PodObs, TickObs};
 use state_diff::Seen;

@@ -9,19 +9,20 @@ use Rattle.histories.proofs.Items.{any_default}
 use Rattle.histories.proofs.Lists.{some_item}
 use Rattle.state_diff.specs.declared.seen.Seen.{Seen}
 use Rattle.state_diff.specs.declared.differ.Differ.{Differ}
-use Rattle.state_diff.specs.Acceptable.{is_acceptable}
-use Rattle.state_diff.specs.Differ.{IsStateOf, Accepts}
-use Rattle.state_diff.specs.Instances.{Tick}
+use Rattle.state_diff.specs.rule.Acceptable.{is_acceptable}
+use Rattle.state_diff.specs.state.Differ.{IsStateOf, Accepts}
+use Rattle.state_diff.specs.rule.Instances.{Tick}
 use Rattle.state_diff.proofs.Acceptable.{is_acceptable_is}
 use Rattle.state_diff.proofs.Steps.{is_before}
 use Rattle.observations.specs.declared.container.ContainerObs.{ContainerObs}
-use Rattle.observations.specs.Pods.{PodObs}
+use Rattle.observations.specs.rule.Pods.{PodObs}
 use Rattle.observations.specs.declared.tick.TickObs.{TickObs}
-use Rattle.observations.specs.Observations.{shown_of, seen_of, history}
+use Rattle.observations.specs.rule.Observations.{shown_of, history}
+use Rattle.observations.specs.state.Observations.{seen_of}
 use Rattle.observations.proofs.OwnTicks.{seen_shown, seen_nowhere}
-use Rattle.following.specs.Backwards.{some_container_backwards, some_pod_backwards, is_backwards}
-use Rattle.following.specs.Followed.{counts_of, AreFollowed, ComesNext}
-use Rattle.following.specs.Steps.{PodsAreAccepted, PodsFollow}
+use Rattle.following.specs.rule.Backwards.{some_container_backwards, some_pod_backwards, is_backwards}
+use Rattle.following.specs.state.Followed.{counts_of, AreFollowed, ComesNext}
+use Rattle.following.specs.state.Steps.{PodsAreAccepted, PodsFollow}
 use Rattle.following.proofs.Forwards.{seen_in_pod, pods_forwards}
 
 -- what is shown of a pod stands at its number

@@ -6,18 +6,20 @@ use Rattle.std.specs.Global.{Global}
 use Rattle.std.specs.Option.{option_flatten}
 use Rattle.std.proofs.lemmas.List.{map_push, length-append, length-map}
 use Rattle.std.proofs.lemmas.Option.{slice_get_past}
-use Rattle.histories.specs.Histories.{recorded, last_moment, EndsBefore}
+use Rattle.histories.specs.rule.Histories.{recorded, last_moment}
+use Rattle.histories.specs.state.Histories.{EndsBefore}
 use Rattle.histories.proofs.Items.{pushed_each}
 use Rattle.histories.proofs.Moments.{last_moment-more}
 use Rattle.state_diff.specs.declared.differ.Differ.{Differ}
-use Rattle.state_diff.specs.Differ.{IsStateOf}
-use Rattle.state_diff.specs.Instances.{Tick}
-use Rattle.observations.specs.Pods.{PodObs}
+use Rattle.state_diff.specs.state.Differ.{IsStateOf}
+use Rattle.state_diff.specs.rule.Instances.{Tick}
+use Rattle.observations.specs.rule.Pods.{PodObs}
 use Rattle.observations.specs.declared.tick.TickObs.{TickObs}
-use Rattle.observations.specs.Observations.{shown_of, listed_in, seen_of, own_ticks, history}
+use Rattle.observations.specs.rule.Observations.{shown_of, listed_in, own_ticks, history}
+use Rattle.observations.specs.state.Observations.{seen_of}
 use Rattle.observations.proofs.OwnTicks.{own_rests, history_more, history_rests}
-use Rattle.following.specs.Followed.{AreOfPods, counts_of, AreFollowed, ComesNext}
-use Rattle.following.specs.Steps.{AreNew, PodHasTaken, PodsHaveTaken}
+use Rattle.following.specs.state.Followed.{AreOfPods, counts_of, AreFollowed, ComesNext}
+use Rattle.following.specs.state.Steps.{AreNew, PodHasTaken, PodsHaveTaken}
 
 pub none_followed : AreFollowed [] [] []
 none_followed = record {

@@ -6,12 +6,12 @@ use Rattle.std.specs.Prelude.{slice_get, option_and_then}
 use Rattle.std.specs.Option.{option_flatten}
 use Rattle.std.proofs.lemmas.Bool.{or_parts}
 use Rattle.state_diff.specs.declared.seen.Seen.{Seen}
-use Rattle.state_diff.specs.Acceptable.{is_acceptable}
+use Rattle.state_diff.specs.rule.Acceptable.{is_acceptable}
 use Rattle.observations.specs.declared.container.ContainerObs.{ContainerObs}
-use Rattle.observations.specs.Pods.{PodObs}
+use Rattle.observations.specs.rule.Pods.{PodObs}
 use Rattle.observations.specs.declared.tick.TickObs.{TickObs}
-use Rattle.observations.specs.Observations.{listed_in, history}
-use Rattle.following.specs.Backwards.{some_container_backwards, some_pod_backwards}
+use Rattle.observations.specs.rule.Observations.{listed_in, history}
+use Rattle.following.specs.rule.Backwards.{some_container_backwards, some_pod_backwards}
 
 first_holds : (a rest : Bool) → (not a || rest) ≡ false → (a ≡ true) × (rest ≡ false)
 first_holds true rest e = (refl, e)

@@ -8,11 +8,12 @@ use Rattle.std.proofs.lemmas.List.{length-set}
 use Rattle.histories.proofs.Items.{any_default, set_each, set_rest}
 use Rattle.state_diff.specs.declared.seen.Seen.{Seen}
 use Rattle.state_diff.specs.declared.differ.Differ.{Differ}
-use Rattle.state_diff.specs.Differ.{Accepts}
+use Rattle.state_diff.specs.state.Differ.{Accepts}
 use Rattle.observations.specs.declared.tick.TickObs.{TickObs}
-use Rattle.observations.specs.Observations.{shown_of, seen_of}
-use Rattle.following.specs.Steps.{AreAccepted, PodsAreAccepted, Follows, Takes, Follow, HaveTaken, PodHasTaken}
-use Rattle.following.specs.Steps.{PodsFollow}
+use Rattle.observations.specs.rule.Observations.{shown_of}
+use Rattle.observations.specs.state.Observations.{seen_of}
+use Rattle.following.specs.state.Steps.{AreAccepted, PodsAreAccepted, Follows, Takes, Follow, HaveTaken, PodHasTaken}
+use Rattle.following.specs.state.Steps.{PodsFollow}
 
 -- what the differ at a place accepts, by the list
 pub accepts_at : (tick : TickObs) (pod n : ℕ) (differs : List Differ) (from d : Differ) (seen : Option Seen)

@@ -1,3 +1,2 @@
-pub mod Backwards
-pub mod Followed
-pub mod Steps
+pub mod rule
+pub mod state

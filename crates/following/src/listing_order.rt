@@ -2,10 +2,10 @@
 
 ghost use Rattle.std.specs.Prelude.{◌↔◌, ◌<◌, [], length, IsTrue, IfOk, IsSome, Some};
 ghost use Rattle.std.specs.Prelude.{Vec};
-ghost use Rattle.observations.specs.Observations.{shown_of};
-ghost use Rattle.following.specs.Followed.{HasFollowed, HasNewPod, MayFollow, HasNewTick, Tells};
-ghost use Rattle.following.specs.Steps.{AreNew, AreAccepted, PodsAreAccepted, Follow, HaveTaken, PodHasTaken};
-ghost use Rattle.following.specs.Steps.{PodsFollow, PodsHaveTaken, Takes, Follows};
+ghost use Rattle.observations.specs.rule.Observations.{shown_of};
+ghost use Rattle.following.specs.state.Followed.{HasFollowed, HasNewPod, MayFollow, HasNewTick, Tells};
+ghost use Rattle.following.specs.state.Steps.{AreNew, AreAccepted, PodsAreAccepted, Follow, HaveTaken, PodHasTaken};
+ghost use Rattle.following.specs.state.Steps.{PodsFollow, PodsHaveTaken, Takes, Follows};
 
 use observations::{TickObs, seen_of};
 use state_diff::{Differ, Seen};

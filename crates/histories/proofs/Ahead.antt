@@ -1,7 +1,7 @@
 -- What records ahead of a history change: each place is later by their number.
 use Rattle.std.proofs.Common.{◌≡◌, ℕ, zero, suc, ◌+◌, List, [], ◌∷◌, ◌++◌, length, Option, refl, sym, ap, subst, arith}
 use Rattle.std.specs.Prelude.{◌↔◌, IsSomeAnd}
-use Rattle.histories.specs.Histories.{Recorded, entry_at, moment_at}
+use Rattle.histories.specs.rule.Histories.{Recorded, entry_at, moment_at}
 
 pub entry_at-ahead : {A : Type 0} (earlier h : List (Recorded A)) (t u : ℕ) → u ≡ length earlier + t
     → entry_at (earlier ++ h) u ≡ entry_at h t

@@ -2,9 +2,9 @@
 use Rattle.std.proofs.Common.{◌≡◌, ◌⊎◌, inl, inr, ℕ, zero, suc, ◌<◌, ◌≤◌, List, [], ◌∷◌, ◌++◌, length, get_or, Option}
 use Rattle.std.proofs.Common.{Some, None, refl, arith}
 use Rattle.std.proofs.lemmas.Bool.{cases_lt, cases_eq}
-use Rattle.histories.specs.Histories.{Recorded, up_to, HoldsAt, IsFirst, IsFirstPlace, IsFirstMoment, ComesTrue}
-use Rattle.histories.specs.Histories.{IsSteady, IsTransition}
-use Rattle.histories.specs.Picked.{ArePicked}
+use Rattle.histories.specs.rule.Histories.{Recorded, up_to, HoldsAt, IsFirst, IsFirstPlace, IsFirstMoment, ComesTrue}
+use Rattle.histories.specs.rule.Histories.{IsSteady, IsTransition}
+use Rattle.histories.specs.rule.Picked.{ArePicked}
 use Rattle.histories.proofs.Decide.{OrNot, negated, implied, less_or_not, at_most_or_not}
 use Rattle.histories.proofs.First.{none_next, IsFirst-unique}
 use Rattle.histories.proofs.Items.{pushed_each}

@@ -2,7 +2,7 @@
 use Rattle.std.proofs.Common.{◌≡◌, ◌⊎◌, inl, inr, ℕ, ◌+◌, ◌-◌, ◌<◌, subst, arith}
 use Rattle.std.specs.Prelude.{◌↔◌}
 use Rattle.std.proofs.lemmas.Bool.{cases_order}
-use Rattle.histories.specs.Histories.{IsLast}
+use Rattle.histories.specs.rule.Histories.{IsLast}
 use Rattle.histories.proofs.First.{Grows}
 
 -- there is one last place

@@ -2,7 +2,8 @@
 use Rattle.std.proofs.Common.{◌≡◌, inl, inr, ℕ, suc, ◌<◌, List, [], ◌∷◌, ◌++◌, length, take, drop, subst, sym, arith}
 use Rattle.std.specs.Prelude.{◌↔◌}
 use Rattle.std.proofs.lemmas.List.{append-nil, append_assoc, take-append-drop}
-use Rattle.histories.specs.Histories.{Recorded, HoldsAt, ComesTrue, Lasts}
+use Rattle.histories.specs.rule.Histories.{Recorded, HoldsAt, ComesTrue}
+use Rattle.histories.specs.state.Histories.{Lasts}
 use Rattle.histories.proofs.First.{IsFirst-old, IsFirst-new, IsFirst-split, IsFirst-unique}
 use Rattle.histories.proofs.Growth.{grows_so, so_last}
 

@@ -4,7 +4,8 @@ use Rattle.std.proofs.Common.{Option, Some, None, refl, sym, subst, arith}
 use Rattle.std.specs.Prelude.{IfSome}
 use Rattle.std.proofs.lemmas.Bool.{cases_lt}
 use Rattle.std.proofs.lemmas.List.{length-take-le}
-use Rattle.histories.specs.Histories.{Recorded, moment_at, IsRising, last_moment, EndsBefore}
+use Rattle.histories.specs.rule.Histories.{Recorded, moment_at, last_moment}
+use Rattle.histories.specs.state.Histories.{IsRising, EndsBefore}
 use Rattle.histories.proofs.Places.{length-more, moment_at-new, moment_at-below}
 
 -- the last moment is that of the new record

@@ -3,8 +3,8 @@ use Rattle.std.proofs.Common.{◌≡◌, inl, inr, ℕ, suc, ◌<◌, List, [], 
 use Rattle.std.proofs.Common.{subst, ◌∙◌, arith}
 use Rattle.std.specs.Prelude.{◌↔◌, map}
 use Rattle.std.proofs.lemmas.List.{take-append-le, map-append}
-use Rattle.histories.specs.Histories.{Recorded, up_to, HoldsAt}
-use Rattle.histories.specs.Picked.{ArePicked}
+use Rattle.histories.specs.rule.Histories.{Recorded, up_to, HoldsAt}
+use Rattle.histories.specs.rule.Picked.{ArePicked}
 use Rattle.histories.proofs.Growth.{grows_so}
 use Rattle.histories.proofs.Lists.{map_more}
 

@@ -1,7 +1,7 @@
 -- The one value of which something holds.
 use Rattle.std.proofs.Common.{◌≡◌, inl, inr, Option, Some, None, refl, sym, ap, subst}
 use Rattle.std.proofs.lemmas.Option.{same_Some}
-use Rattle.histories.specs.TheOne.{IsTheOne}
+use Rattle.histories.specs.rule.TheOne.{IsTheOne}
 use Rattle.histories.proofs.Decide.{OrNot}
 
 module _ {A : Type 0} (P : A → Type 0) where

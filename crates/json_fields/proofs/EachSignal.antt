@@ -2,16 +2,16 @@
 use Rattle.std.proofs.Common.{◌≡◌, Option, Result, Ok, subst}
 use Rattle.std.specs.Prelude.{not}
 use Rattle.serde_json.specs.Data.{Data}
-use Rattle.json_fields.specs.Reading.{refused_if}
+use Rattle.json_fields.specs.rule.Reading.{refused_if}
 use Rattle.json_fields.proofs.Steps.{bind_ok}
 use Rattle.json_fields.proofs.Only.{same_value}
 use Rattle.signals.specs.declared.by_signal.BySignal.{BySignal}
 use Rattle.signals.specs.declared.signal.Signal.{Signal}
 use Rattle.signals.specs.declared.signal.Signal.TheVariants.{MemoryAvailable, NodefsAvailable, ImagefsAvailable}
 use Rattle.signals.specs.declared.signal.Signal.TheVariants.{NodefsInodesFree, ImagefsInodesFree, PidAvailable}
-use Rattle.signals.specs.BySignal.{of}
+use Rattle.signals.specs.rule.BySignal.{of}
 use Rattle.json_fields.specs.declared.scope.Scope.{Scope}
-use Rattle.json_fields.specs.SignalMaps.{is_signal_map, in_map, read_each, read_map}
+use Rattle.json_fields.specs.rule.SignalMaps.{is_signal_map, in_map, read_each, read_map}
 
 -- what was read for each signal was read for this one
 pub each_read : {A E : Type 0} (read : Signal → Result A E) (all : BySignal A) → read_each read ≡ Ok all

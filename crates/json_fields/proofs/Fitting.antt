@@ -7,9 +7,9 @@ use Rattle.json.specs.Token.{Token}
 use Rattle.json.specs.Json as json
 use Rattle.json.specs.Json.{Json}
 use Rattle.json.specs.Tree.{json_tokens, items_tokens, members_tokens, depth, items_depth, members_depth}
-use Rattle.json_fields.specs.Borrowed.{whole, is_plain, items_are_plain, members_are_plain}
+use Rattle.json_fields.specs.state.Borrowed.{whole, is_plain, items_are_plain, members_are_plain}
 use Rattle.serde_json.specs.Read.{max_depth}
-use Rattle.json_fields.specs.Tape.{one_less, one_more, room_if, room_after, fits, fits_from}
+use Rattle.json_fields.specs.state.Tape.{one_less, one_more, room_if, room_after, fits, fits_from}
 
 opened_from : (b : Bool) (room : ℕ) (ts : List Token)
     → fits_from (if b then None else Some (room - 1)) (λ n. fits n ts) ≡ true → fits (room - 1) ts ≡ true

@@ -3,7 +3,7 @@ use Rattle.std.proofs.Common.{◌≡◌, List, [], ◌∷◌, map, Option, Some,
 use Rattle.serde_json.specs.Data.{Data, Items}
 use Rattle.serde_json.specs.View.{view, items_of, items_view}
 use Rattle.serde_json.specs.declared.value.Value.{Value}
-use Rattle.json_fields.specs.Fields.{items_list}
+use Rattle.json_fields.specs.rule.Fields.{items_list}
 
 pub items_list-items_of : (ds : List Data) → items_list (items_of ds) ≡ ds
 items_list-items_of [] = refl

@@ -19,10 +19,10 @@ use Rattle.json.proofs.Unique.Spelling.{value-json_tokens_back}
 use Rattle.serde_json.specs.Data.{Data, Members, no_members, put}
 use Rattle.serde_json.specs.Find.{get_member}
 use Rattle.serde_json.proofs.Views.{get_member-put, get_member-put_other}
-use Rattle.json_fields.specs.Borrowed.{data_of, members_data}
-use Rattle.json_fields.specs.Fields.{present, field_at}
-use Rattle.json_fields.specs.Tape.{data_at, last_in, members_from, field_behind, HasMembers}
-use Rattle.json_fields.specs.Tape.{AreAllPassed, IsNextMember, IsRead}
+use Rattle.json_fields.specs.state.Borrowed.{data_of, members_data}
+use Rattle.json_fields.specs.rule.Fields.{present, field_at}
+use Rattle.json_fields.specs.state.Tape.{data_at, last_in, members_from, field_behind, HasMembers}
+use Rattle.json_fields.specs.state.Tape.{AreAllPassed, IsNextMember, IsRead}
 use Rattle.json_fields.proofs.OnTape.{data_here, depth-tokens}
 
 put_where : (same : Bool) (name k : List ℕ) (d : Data) (ms : Members) → bytes_eq k name ≡ same

@@ -21,9 +21,9 @@ use Rattle.json.proofs.Trees.{members_before, members_before-no_members, view-Ob
 use Rattle.json.proofs.Unique.Spelling.{value-json_tokens_back}
 use Rattle.serde_json.specs.Data.{Data}
 use Rattle.serde_json.specs.Find.{get, as_null, as_str, as_array, as_object}
-use Rattle.json_fields.specs.Borrowed.{data_of, items_data}
-use Rattle.json_fields.specs.Fields.{items_list}
-use Rattle.json_fields.specs.Tape.{data_at, data_from, items_in, listed, HasItems}
+use Rattle.json_fields.specs.state.Borrowed.{data_of, items_data}
+use Rattle.json_fields.specs.rule.Fields.{items_list}
+use Rattle.json_fields.specs.state.Tape.{data_at, data_from, items_in, listed, HasItems}
 use Rattle.json_fields.proofs.Plain.{get_data}
 
 -- nothing nests deeper than it has tokens

@@ -1,7 +1,7 @@
 -- A property of the fault that a step of reading answers, if it answers one.
 use Rattle.std.proofs.Common.{◌≡◌, Bool, true, false, List, [], ◌∷◌, Option, Some, None, Result, Ok, Err, refl, subst}
 use Rattle.std.specs.Prelude.{if◌then◌else◌}
-use Rattle.json_fields.specs.Reading.{◌>>=◌, refused_if, some_or, each}
+use Rattle.json_fields.specs.rule.Reading.{◌>>=◌, refused_if, some_or, each}
 
 pub no_fault : {A E : Type 0} (x : A) (fault : E) → ◌≡◌ {A = Result A E} (Ok x) (Err fault) → ⊥
 no_fault x fault e = absurd (cc)

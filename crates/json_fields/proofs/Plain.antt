@@ -16,9 +16,9 @@ use Rattle.serde_json.specs.Data.{Members, no_members, put}
 use Rattle.serde_json.specs.Find.{get, get_member}
 use Rattle.serde_json.specs.Read.{is_integer, number_of, number_from, of_json, of_items, of_members}
 use Rattle.serde_json.proofs.Views.{get_member-put, get_member-put_other}
-use Rattle.json_fields.specs.Fields.{items_list}
-use Rattle.json_fields.specs.Borrowed.{whole, whole_from, number_data, data_of, items_data, members_data}
-use Rattle.json_fields.specs.Borrowed.{is_plain, items_are_plain, members_are_plain}
+use Rattle.json_fields.specs.rule.Fields.{items_list}
+use Rattle.json_fields.specs.state.Borrowed.{whole, whole_from, number_data, data_of, items_data, members_data}
+use Rattle.json_fields.specs.state.Borrowed.{is_plain, items_are_plain, members_are_plain}
 
 left : (a b : Bool) → a && b ≡ true → a ≡ true
 left true b e = refl

@@ -5,7 +5,7 @@ use Rattle.std.specs.Ordering.{match_ordering}
 use Rattle.serde_json.specs.Data.{Data, null, Members, no_members, member, put}
 use Rattle.serde_json.specs.Find.{get_member}
 use Rattle.json_fields.specs.declared.scope.Scope.{Scope}
-use Rattle.json_fields.specs.SignalMaps.{has_stranger}
+use Rattle.json_fields.specs.rule.SignalMaps.{has_stranger}
 
 strangers_at : (o : Ordering) (scope : Scope) (k l : List ℕ) (d : Data) (ms : Members) → slice_cmp nat_cmp k l ≡ o
     → (get_member k ms ≡ None → has_stranger scope (put k null ms) ≡ has_stranger scope ms)

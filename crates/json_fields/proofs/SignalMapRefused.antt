@@ -8,7 +8,7 @@ use Rattle.signals.specs.declared.signal.Signal.{Signal}
 use Rattle.signals.specs.declared.signal.Signal.TheVariants.{MemoryAvailable, NodefsAvailable, ImagefsAvailable}
 use Rattle.signals.specs.declared.signal.Signal.TheVariants.{NodefsInodesFree, ImagefsInodesFree, PidAvailable}
 use Rattle.json_fields.specs.declared.scope.Scope.{Scope}
-use Rattle.json_fields.specs.SignalMaps.{is_signal_map, in_map, read_each, read_map}
+use Rattle.json_fields.specs.rule.SignalMaps.{is_signal_map, in_map, read_each, read_map}
 
 -- a property of the fault of each signal is one of the fault of all
 pub each_only : {A E : Type 0} (P : E → Type 0) (read : Signal → Result A E)

@@ -9,10 +9,10 @@ use Rattle.std.proofs.lemmas.Slice.Eq.{bytes_eq-Decides}
 use Rattle.std.proofs.lemmas.Bool.{or_right}
 use Rattle.serde_json.specs.Data.{Data, null, boolean, number, string, array, object, Members, no_members, member}
 use Rattle.serde_json.specs.Find.{as_null, get_member}
-use Rattle.json_fields.specs.Fields.{present, field_at}
+use Rattle.json_fields.specs.rule.Fields.{present, field_at}
 use Rattle.signals.specs.declared.signal.Signal.{Signal}
 use Rattle.json_fields.specs.declared.scope.Scope.{Scope}
-use Rattle.json_fields.specs.SignalMaps.{may_name, has_stranger, read_map}
+use Rattle.json_fields.specs.rule.SignalMaps.{may_name, has_stranger, read_map}
 
 -- a value that is there isn't null
 not_null : (d value : Data) → present (Some d) ≡ Some value → is_some (as_null d) ≡ false

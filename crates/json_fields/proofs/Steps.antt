@@ -1,7 +1,7 @@
 -- What is known once steps of reading have all gone well.
 use Rattle.std.proofs.Common.{◌≡◌, ◌⊎◌, inl, inr, Bool, true, false, Option, Some, None, Result, Ok, Err, refl, ap}
 use Rattle.std.specs.Prelude.{⊤}
-use Rattle.json_fields.specs.Reading.{◌>>=◌, refused_if, some_or}
+use Rattle.json_fields.specs.rule.Reading.{◌>>=◌, refused_if, some_or}
 
 -- the first step has gone well, and the rest after it
 pub bind_ok : {A B E : Type 0} (r : Result A E) (f : A → Result B E) (y : B) → (r >>= f) ≡ Ok y → (x : A) × (r ≡ Ok x)

@@ -10,8 +10,8 @@ use Rattle.std.proofs.lemmas.Map.Text.{is_eq-slice_cmp}
 use Rattle.std.proofs.lemmas.Slice.Eq.{bytes_eq-Decides}
 use Rattle.json.specs.Json as json
 use Rattle.serde_json.specs.Data.{Data, Members, no_members, member, put}
-use Rattle.json_fields.specs.Borrowed.{data_of, members_data, has_name, has_last_stranger}
-use Rattle.json_fields.specs.Strangers.{is_stranger, has_stranger}
+use Rattle.json_fields.specs.state.Borrowed.{data_of, members_data, has_name, has_last_stranger}
+use Rattle.json_fields.specs.rule.Strangers.{is_stranger, has_stranger}
 
 abbrev cmp : List ℕ → List ℕ → Ordering
 cmp = slice_cmp nat_cmp

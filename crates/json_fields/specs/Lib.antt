@@ -1,8 +1,2 @@
-pub mod Borrowed
-pub mod Fields
-pub mod Numbers
-pub mod Reading
-pub mod Strangers
-pub mod Tape
-pub mod Quantities
-pub mod SignalMaps
+pub mod rule
+pub mod state

@@ -2,9 +2,9 @@
 
 ghost use Rattle.std.specs.Prelude.{◌≡◌, ◌&&◌, not};
 ghost use Rattle.json.specs.Value.{value_view, items_view, members_view};
-ghost use Rattle.json_fields.specs.Borrowed.{data_of, is_plain, items_are_plain, members_are_plain, whole};
-ghost use Rattle.json_fields.specs.Borrowed.{has_name, has_last_stranger};
-ghost use Rattle.json_fields.specs.Strangers.{is_stranger};
+ghost use Rattle.json_fields.specs.state.Borrowed.{data_of, is_plain, items_are_plain, members_are_plain, whole};
+ghost use Rattle.json_fields.specs.state.Borrowed.{has_name, has_last_stranger};
+ghost use Rattle.json_fields.specs.rule.Strangers.{is_stranger};
 
 use crate::value::{HasData, Json, MemberNames};
 use fast_float::Numeral;
@@ -13,7 +13,7 @@ use std::alloc::Allocator;
 
 impl<'a, A: Allocator> HasData for Value<'a, A> {
     ghost use Rattle.json.specs.Value.{value_view};
-    ghost use Rattle.json_fields.specs.Borrowed.{data_of};
+    ghost use Rattle.json_fields.specs.state.Borrowed.{data_of};
 
     ghost data = { λ v. data_of (value_view v) };
 }

@@ -1,7 +1,7 @@
 //! The fields of an object, where null counts as absent.
 
 ghost use Rattle.std.specs.Prelude.{◌≡◌, option_map};
-ghost use Rattle.json_fields.specs.Fields.{field_at, text_at};
+ghost use Rattle.json_fields.specs.rule.Fields.{field_at, text_at};
 
 use crate::value::Json;
 

@@ -2,7 +2,7 @@
 
 ghost use Rattle.std.specs.Prelude.{◌≡◌};
 ghost use Rattle.serde_json.specs.View.{view, members_view};
-ghost use Rattle.json_fields.specs.Strangers.{is_stranger, has_stranger};
+ghost use Rattle.json_fields.specs.rule.Strangers.{is_stranger, has_stranger};
 
 use crate::value::{HasData, Json, MemberNames};
 use serde_json::{Map, Value};

@@ -1,7 +1,7 @@
 //! Reading a quantity or a limit.
 
 ghost use Rattle.std.specs.Prelude.{◌≡◌};
-ghost use Rattle.json_fields.specs.Quantities.{quantity_in, limit_in, units_in};
+ghost use Rattle.json_fields.specs.rule.Quantities.{quantity_in, limit_in, units_in};
 
 use crate::fault::FieldFault;
 use crate::signal_map::ReadSignal;
@@ -49,7 +49,7 @@ pub struct QuantityMap<E> {
 }
 
 impl<E: Copy> ReadSignal for QuantityMap<E> {
-    ghost use Rattle.json_fields.specs.Quantities.{quantity_or};
+    ghost use Rattle.json_fields.specs.rule.Quantities.{quantity_or};
 
     type Read = Option<Quantity>;
 

@@ -1,7 +1,7 @@
 //! The signals that a map may name.
 
 ghost use Rattle.std.specs.Prelude.{◌≡◌};
-ghost use Rattle.json_fields.specs.SignalMaps.{includes};
+ghost use Rattle.json_fields.specs.rule.SignalMaps.{includes};
 
 use crate::value::MemberNames;
 use signals::Signal;
@@ -25,7 +25,7 @@ fn includes(scope: Scope, signal: Signal) -> bool
 }
 
 impl MemberNames for Scope {
-    ghost use Rattle.json_fields.specs.SignalMaps.{may_name};
+    ghost use Rattle.json_fields.specs.rule.SignalMaps.{may_name};
 
     ghost includes = { may_name };
 

@@ -1,7 +1,7 @@
 //! Reading a map from signals.
 
 ghost use Rattle.std.specs.Prelude.{◌≡◌, option_map};
-ghost use Rattle.json_fields.specs.SignalMaps.{is_signal_map, in_map, read_in, read_map};
+ghost use Rattle.json_fields.specs.rule.SignalMaps.{is_signal_map, in_map, read_in, read_map};
 
 use crate::fields::field;
 use crate::scope::Scope;
@@ -54,7 +54,7 @@ fn read_signal<R: ReadSignal, V: Json>(
     reader.read(signal, in_map(found, signal))
 }
 
-#[tactic(auto, unfolding(crate::specs::SignalMaps::read_each))]
+#[tactic(auto, unfolding(crate::specs::rule::SignalMaps::read_each))]
 fn read_in<R: ReadSignal, V: Json>(
     reader: &R,
     found: Option<&V>,
@@ -75,7 +75,7 @@ fn read_in<R: ReadSignal, V: Json>(
 /// where this is no object, or where a name that no signal of the scope has stands beside a value
 /// other than null; otherwise the first one that the reader answers, in the order of the signals.
 /// (Kubernetes, "Kubelet Configuration": `evictionHard` and the like.)
-#[tactic(auto, unfolding(crate::specs::SignalMaps::read_map))]
+#[tactic(auto, unfolding(crate::specs::rule::SignalMaps::read_map))]
 pub fn read_map<R: ReadSignal, V: Json>(
     scope: Scope,
     fault: R::Fault,

@@ -10,10 +10,10 @@ ghost use Rattle.json.specs.Tree.{json_tokens, depth};
 ghost use Rattle.json.specs.Value.{value_view};
 ghost use Rattle.serde_json.specs.Find.{get, as_null, as_str, as_array, as_object};
 ghost use Rattle.serde_json.specs.Read.{max_depth};
-ghost use Rattle.json_fields.specs.Borrowed.{data_of, is_plain};
-ghost use Rattle.json_fields.specs.Fields.{field_at, text_at, items_list};
-ghost use Rattle.json_fields.specs.Tape.{data_at, items_in, field_behind, room_after, fits};
-ghost use Rattle.json_fields.specs.Tape.{AreAllPassed, IsNextMember};
+ghost use Rattle.json_fields.specs.state.Borrowed.{data_of, is_plain};
+ghost use Rattle.json_fields.specs.rule.Fields.{field_at, text_at, items_list};
+ghost use Rattle.json_fields.specs.state.Tape.{data_at, items_in, field_behind, room_after, fits};
+ghost use Rattle.json_fields.specs.state.Tape.{AreAllPassed, IsNextMember};
 
 use crate::borrowed::whole;
 use json::{Element, Items, Members, Node, Tape, Value};
@@ -24,7 +24,7 @@ use std::marker::Model;
 pub const MAX_DEPTH: usize = 127;
 
 /// How many more arrays and objects may open behind the node; none where that is too deep, or a number is not plain.
-#[tactic(auto, unfolding(crate::specs::Tape::room_after))]
+#[tactic(auto, unfolding(crate::specs::state::Tape::room_after))]
 fn room_after(room: usize, node: &Node<'_>) -> Option<usize>
     ensures { result ≡ room_after room (node_token node.now) }
 {
@@ -246,7 +246,7 @@ impl<'t, 'a> Model for TapeItems<'t, 'a> {
 
     ghost coded = { tokens_code };
 
-    ghost use Rattle.json_fields.specs.Tape.{HasItems};
+    ghost use Rattle.json_fields.specs.state.Tape.{HasItems};
 
     ghost view = { λ v. v.items };
 
@@ -281,7 +281,7 @@ impl<'t, 'a> Model for TapeMembers<'t, 'a> {
 
     ghost coded = { tokens_code };
 
-    ghost use Rattle.json_fields.specs.Tape.{HasMembers};
+    ghost use Rattle.json_fields.specs.state.Tape.{HasMembers};
 
     ghost view = { λ v. v.members };
 

@@ -26,8 +26,8 @@ pub trait HasData {
 pub trait Json: HasData + Sized {
     ghost use Rattle.std.specs.Prelude.{◌≡◌, map, is_some, option_map, option_and_then};
     ghost use Rattle.serde_json.specs.Find.{get, as_null, as_str, as_number, as_u64, as_i64, as_array, as_object};
-    ghost use Rattle.json_fields.specs.Fields.{items_list};
-    ghost use Rattle.json_fields.specs.Strangers.{has_stranger_in};
+    ghost use Rattle.json_fields.specs.rule.Fields.{items_list};
+    ghost use Rattle.json_fields.specs.state.Strangers.{has_stranger_in};
 
     /// The member of this name; the last one, where there are several.
     fn member<'v>(&'v self, name: &str) -> Option<&'v Self>

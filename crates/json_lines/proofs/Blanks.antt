@@ -5,7 +5,7 @@ use Rattle.std.proofs.lemmas.Bool.{and_parts, cases_Bool, eqb-true, or_cases}
 use Rattle.std.specs.List.{prefix_len}
 use Rattle.json.specs.Json.{Json, document, if_last, max_depth, value}
 use Rattle.json.specs.Lex.{between, class, fresh, lex, punctuate, space, tokens}
-use Rattle.json_lines.specs.Lines.{is_blank, is_blank_byte}
+use Rattle.json_lines.specs.rule.Lines.{is_blank, is_blank_byte}
 
 pub blank_first : (line : List ℕ) (lines : List (List ℕ)) → is_blank line ≡ true
     → prefix_len is_blank (line ∷ lines) ≡ 1 + prefix_len is_blank lines

@@ -9,13 +9,13 @@ use Rattle.json.specs.Token.{Token}
 use Rattle.json.specs.Tree.{json_tokens, depth}
 use Rattle.json.proofs.Printed.Trees.{value-json_tokens}
 use Rattle.json.proofs.Unique.Spelling.{tokens-document}
-use Rattle.json_fields.specs.Borrowed.{data_of}
-use Rattle.json_fields.specs.Tape.{data_at, fits}
+use Rattle.json_fields.specs.state.Borrowed.{data_of}
+use Rattle.json_fields.specs.state.Tape.{data_at, fits}
 use Rattle.json_fields.proofs.Fitting.{fits-json}
 use Rattle.json_fields.proofs.OnTape.{data_of_tokens}
-use Rattle.tick_lines.specs.Line.{tick_line_of}
-use Rattle.json_lines.specs.Lines.{Tick, said_in}
-use Rattle.json_lines.specs.Ticks.{is_tick, moment_at}
+use Rattle.tick_lines.specs.rule.Line.{tick_line_of}
+use Rattle.json_lines.specs.state.Lines.{Tick, said_in}
+use Rattle.json_lines.specs.state.Ticks.{is_tick, moment_at}
 use Rattle.json_lines.proofs.Said.{plain_said}
 
 there_is : (o : Option Json) → IsSome o → (j : Json) × (o ≡ Some j)

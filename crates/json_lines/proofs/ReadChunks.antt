@@ -3,7 +3,7 @@ use Rattle.std.proofs.Common.{◌≡◌, ◌+◌, ◌/◌, ◌%◌, ◌<◌, ℕ
 use Rattle.std.proofs.Common.{IsOk, IfOk, OnOk, Result, Ok, Err, refl, ap₂}
 use Rattle.std.specs.List.{AllZip, flat_map}
 use Rattle.std.proofs.lemmas.Grind.{div_ceil_times}
-use Rattle.json_lines.specs.Parts.{read_in}
+use Rattle.json_lines.specs.state.Parts.{read_in}
 use Rattle.json_lines.proofs.ZippedParts.{AreZipped, shared_zipped}
 
 -- what several threads have read, where the parts are as many as chunks of this size

@@ -3,12 +3,12 @@ use Rattle.std.proofs.Common.{◌≡◌, List, ℕ, true, Some, option_and_then,
 use Rattle.std.specs.Str.{IsUtf8}
 use Rattle.json.specs.Json.{Json}
 use Rattle.json_fields.proofs.Plain.{of_json_plain}
-use Rattle.json_fields.specs.Borrowed.{data_of, is_plain}
+use Rattle.json_fields.specs.state.Borrowed.{data_of, is_plain}
 use Rattle.serde_json.specs.Data.{Data}
 use Rattle.serde_json.specs.Read.{read, of_json}
-use Rattle.tick_lines.specs.Line.{tick_line_of}
-use Rattle.json_lines.specs.Lines.{Tick, line_value, said_in, said_or_not, said_by}
-use Rattle.json_lines.specs.Ticks.{is_tick, moment_at}
+use Rattle.tick_lines.specs.rule.Line.{tick_line_of}
+use Rattle.json_lines.specs.state.Lines.{Tick, line_value, said_in, said_or_not, said_by}
+use Rattle.json_lines.specs.state.Ticks.{is_tick, moment_at}
 use Rattle.json_lines.proofs.Found.{json_found}
 
 tick_said : (d : Data) → is_tick d ≡ true → said_by d ≡ Tick (moment_at d) (tick_line_of d)

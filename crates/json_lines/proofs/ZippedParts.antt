@@ -4,7 +4,7 @@ use Rattle.std.proofs.Common.{get_or, All, IsOk, IfOk, OnOk, Result, Ok, Err, sy
 use Rattle.std.specs.List.{AllZip, flat_map}
 use Rattle.std.proofs.lemmas.List.{drop_all}
 use Rattle.std.proofs.lemmas.Simd.{chunk-drop}
-use Rattle.json_lines.specs.Parts.{read_in}
+use Rattle.json_lines.specs.state.Parts.{read_in}
 
 pub zip_append : {A B : Type 0} (R : A → B → Type 0) (xs ys : List A) (us vs : List B) → AllZip R xs us → AllZip R ys vs
     → AllZip R (xs ++ ys) (us ++ vs)

@@ -1,3 +1,2 @@
-pub mod Lines
-pub mod Parts
-pub mod Ticks
+pub mod rule
+pub mod state

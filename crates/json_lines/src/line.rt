@@ -3,7 +3,8 @@
 ghost use Rattle.std.specs.Prelude.{◌≡◌, IfOk, MatchOption, OnOk, OnErr, option_map};
 ghost use Rattle.serde_json.specs.Errors.{IsMemory};
 ghost use Rattle.serde_json.specs.View.{view};
-ghost use Rattle.json_lines.specs.Lines.{json_in, said_by, said_in, line_data, data_of};
+ghost use Rattle.json_lines.specs.rule.Lines.{json_in};
+ghost use Rattle.json_lines.specs.state.Lines.{said_by, said_in, line_data, data_of};
 
 use crate::lines::is_blank;
 use crate::plain::{LineBuffers, plain_tick};
@@ -54,7 +55,7 @@ fn json(alloc: Global, line: &[u8]) -> Result<Option<Value>, AllocError>
 }
 
 /// What a JSON value says. A tick's is dropped here, by the thread that made it.
-#[tactic(auto, unfolding(crate::specs::Lines::said_by))]
+#[tactic(auto, unfolding(crate::specs::state::Lines::said_by))]
 fn said_by(alloc: Global, value: Value) -> Result<TextLine, AllocError>
     ensures { IfOk result (λ read. data_of read ≡ said_by (view value)) }
 {

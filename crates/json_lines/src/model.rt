@@ -2,7 +2,8 @@
 //! lines are compared with.
 
 ghost use Rattle.std.specs.Prelude.{◌≡◌, ◌<◌, ◌≤◌, ◌+◌, ◌++◌, length, map, IfOk};
-ghost use Rattle.json_lines.specs.Lines.{lines_of, line_data, data_of};
+ghost use Rattle.json_lines.specs.rule.Lines.{lines_of};
+ghost use Rattle.json_lines.specs.state.Lines.{line_data, data_of};
 
 use crate::line::{TextLine, other_line};
 use crate::lines::first_line;

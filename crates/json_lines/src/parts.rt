@@ -2,7 +2,7 @@
 
 ghost use Rattle.std.specs.Prelude.{◌≡◌, All, IfOk, IsOk, OnOk};
 ghost use Rattle.std.specs.List.{flat_map};
-ghost use Rattle.json_lines.specs.Parts.{read_in};
+ghost use Rattle.json_lines.specs.state.Parts.{read_in};
 
 use std::alloc::{AllocError, Global};
 

@@ -3,7 +3,7 @@
 ghost use Rattle.std.specs.Prelude.{◌≡◌, ◌≢◌, IfOk, IfSome, OnOk, OnErr, Some};
 ghost use Rattle.json.specs.Value.{value_view};
 ghost use Rattle.json.specs.declared.error.Error.TheVariants.{OutOfMemory};
-ghost use Rattle.json_lines.specs.Lines.{line_value, said_in, Tick};
+ghost use Rattle.json_lines.specs.state.Lines.{line_value, said_in, Tick};
 
 use crate::tape::LONGEST_TAPE;
 use crate::tick::{TickRecord, is_tick, tick_record};

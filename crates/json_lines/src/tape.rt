@@ -1,9 +1,10 @@
 //! Tick lines of the common shape, as the tape of their tokens.
 
 ghost use Rattle.std.specs.Prelude.{◌≡◌, false, Some, IfOk, IfSome};
-ghost use Rattle.json_fields.specs.Tape.{data_at};
-ghost use Rattle.json_lines.specs.Lines.{is_blank, line_data, said_in, SaysTickOn};
-ghost use Rattle.json_lines.specs.Ticks.{is_tick, moment_at};
+ghost use Rattle.json_fields.specs.state.Tape.{data_at};
+ghost use Rattle.json_lines.specs.rule.Lines.{is_blank};
+ghost use Rattle.json_lines.specs.state.Lines.{line_data, said_in, SaysTickOn};
+ghost use Rattle.json_lines.specs.state.Ticks.{is_tick, moment_at};
 
 use crate::plain::{LineBuffers, refused_memory};
 use crate::tick::moment_written;

@@ -1,8 +1,8 @@
 //! A tick line, read by itself.
 
 ghost use Rattle.std.specs.Prelude.{◌≡◌, IfOk, option_map};
-ghost use Rattle.tick_lines.specs.Line.{tick_line_of};
-ghost use Rattle.json_lines.specs.Ticks.{is_tick, moment_written, moment_at};
+ghost use Rattle.tick_lines.specs.rule.Line.{tick_line_of};
+ghost use Rattle.json_lines.specs.state.Ticks.{is_tick, moment_written, moment_at};
 
 use json_fields::{Json, field, text_at};
 use std::alloc::{AllocError, Global};

@@ -1,7 +1,7 @@
 //! The lines of a text that are read together.
 
 ghost use Rattle.std.specs.Prelude.{◌≡◌, ◌<◌, ◌≤◌, ◌+◌, ◌++◌, length, map, IfOk};
-ghost use Rattle.json_lines.specs.Lines.{lines_of};
+ghost use Rattle.json_lines.specs.rule.Lines.{lines_of};
 
 use crate::lines::{first_line, is_blank};
 use crate::tape::LONGEST_TAPE;

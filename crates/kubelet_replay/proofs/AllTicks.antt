@@ -6,23 +6,23 @@ use Rattle.std.specs.Option.{option_flatten}
 use Rattle.std.proofs.lemmas.List.{take_all}
 use Rattle.std.proofs.lemmas.Option.{slice_get_within}
 use Rattle.std.proofs.Math.Seq.{take-append_seam}
-use Rattle.histories.specs.Histories.{EndsBefore}
+use Rattle.histories.specs.state.Histories.{EndsBefore}
 use Rattle.histories.proofs.Lists.{given_at}
 use Rattle.histories.proofs.Places.{length-more}
 use Rattle.manifest.specs.declared.pod.PodSpec.{PodSpec}
 use Rattle.node_config.specs.declared.node.NodeConfig.{NodeConfig}
-use Rattle.observations.specs.Pods.{PodObs}
+use Rattle.observations.specs.rule.Pods.{PodObs}
 use Rattle.observations.specs.declared.tick.TickObs.{TickObs}
-use Rattle.observations.specs.Observations.{shown_of}
-use Rattle.pod_state.specs.Pods.{PodTick, pod_tick}
-use Rattle.pod_piece.specs.Listings.{IsNextTick}
-use Rattle.pod_piece.specs.Piece.{Piece}
-use Rattle.eviction.specs.Replay.{pod_ticks}
+use Rattle.observations.specs.rule.Observations.{shown_of}
+use Rattle.pod_state.specs.rule.Pods.{PodTick, pod_tick}
+use Rattle.pod_piece.specs.state.Listings.{IsNextTick}
+use Rattle.pod_piece.specs.state.Piece.{Piece}
+use Rattle.eviction.specs.rule.Replay.{pod_ticks}
 use Rattle.eviction.proofs.Own.{pod_ticks-more, pod_ticks-rest}
-use Rattle.node_pods.specs.Pods.{after_one, after_each}
+use Rattle.node_pods.specs.state.Pods.{after_one, after_each}
 use Rattle.node_pods.proofs.Steps.{with_shown_at, with_shown_length}
-use Rattle.tick_round.specs.Node.{State, HasTaken, IsAfter, MayBeHandedAll, FitAll, MayTakeAll}
-use Rattle.kubelet_replay.specs.Ticks.{AreReplayable, HaveArrived, MayArrive}
+use Rattle.tick_round.specs.state.Node.{State, HasTaken, IsAfter, MayBeHandedAll, FitAll, MayTakeAll}
+use Rattle.kubelet_replay.specs.state.Ticks.{AreReplayable, HaveArrived, MayArrive}
 use Rattle.kubelet_replay.proofs.NodeLemmas.{middle}
 
 -- the pods that have had these ticks

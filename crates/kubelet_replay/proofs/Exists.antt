@@ -4,7 +4,7 @@ use Rattle.trace.proofs.InRange.{probes_in_range}
 use Rattle.trace.proofs.Shape.{given_shape}
 use Rattle.trace.proofs.Sound.{given_acceptable}
 use Rattle.kubelet_replay.proofs.Reports.{some_report_of}
-use Rattle.kubelet_replay.specs.Laws.{SomeReportOfText}
+use Rattle.kubelet_replay.specs.state.Laws.{SomeReportOfText}
 
 pub some_report_of_text : SomeReportOfText
 some_report_of_text format text trace is =

@@ -4,22 +4,22 @@ use Rattle.std.proofs.Common.{length, take, drop, append_assoc, append-nil, Opti
 use Rattle.std.proofs.Common.{sym, subst, arith}
 use Rattle.std.specs.Prelude.{slice_get, MatchOption, IfSome}
 use Rattle.std.specs.Option.{option_flatten}
-use Rattle.histories.specs.Histories.{EndsBefore}
+use Rattle.histories.specs.state.Histories.{EndsBefore}
 use Rattle.std.proofs.lemmas.List.{length-take-le, length-drop, take_all, length-append}
 use Rattle.std.proofs.Math.Seq.{take-append_seam}
 use Rattle.histories.proofs.Lists.{rest_more, slice_get-kept}
 use Rattle.manifest.specs.declared.pod.PodSpec.{PodSpec}
 use Rattle.node_config.specs.declared.node.NodeConfig.{NodeConfig}
-use Rattle.observations.specs.Pods.{PodObs}
+use Rattle.observations.specs.rule.Pods.{PodObs}
 use Rattle.observations.specs.declared.tick.TickObs.{TickObs}
-use Rattle.observations.specs.Limits.{most_ticks, most_pods}
-use Rattle.pod_state.specs.Pods.{pod_tick}
-use Rattle.pod_piece.specs.Listings.{IsNextTick}
-use Rattle.pod_piece.specs.Piece.{Piece}
-use Rattle.eviction.specs.Replay.{pod_ticks}
-use Rattle.tick_round.specs.Node.{State, HasTaken, Fits, IsAfter, IsWhole, MayTake, HasRoom, last_of}
+use Rattle.observations.specs.rule.Limits.{most_ticks, most_pods}
+use Rattle.pod_state.specs.rule.Pods.{pod_tick}
+use Rattle.pod_piece.specs.state.Listings.{IsNextTick}
+use Rattle.pod_piece.specs.state.Piece.{Piece}
+use Rattle.eviction.specs.rule.Replay.{pod_ticks}
+use Rattle.tick_round.specs.state.Node.{State, HasTaken, Fits, IsAfter, IsWhole, MayTake, HasRoom, last_of}
 use Rattle.tick_round.proofs.Pieces.{pod_at}
-use Rattle.kubelet_replay.specs.Ticks.{AreReplayable, AreWhole, HaveArrived, MayArrive}
+use Rattle.kubelet_replay.specs.state.Ticks.{AreReplayable, AreWhole, HaveArrived, MayArrive}
 
 pub middle : {A : Type 0} (xs : List A) (x : A) (ys : List A) → slice_get (xs ++ x ∷ ys) (length xs) ≡ Some x
 middle [] x ys = refl

@@ -9,24 +9,26 @@ use Rattle.std.proofs.lemmas.Option.{slice_get_within}
 use Rattle.node_config.specs.declared.node.Version.{Version}
 use Rattle.node_config.specs.declared.node.Version.TheVariants.{One, Two, Three}
 use Rattle.std.proofs.lemmas.Bool.{cases_lt}
-use Rattle.quantity.specs.Duration.{end_of_time}
-use Rattle.histories.specs.Histories.{recorded, last_moment, moment_at, EndsBefore}
+use Rattle.quantity.specs.rule.Duration.{end_of_time}
+use Rattle.histories.specs.rule.Histories.{recorded, last_moment, moment_at}
+use Rattle.histories.specs.state.Histories.{EndsBefore}
 use Rattle.histories.proofs.Places.{length-project, moment_at-project}
-use Rattle.quantity.specs.Duration.{end_of_time}
+use Rattle.quantity.specs.rule.Duration.{end_of_time}
 use Rattle.manifest.specs.declared.pod.PodSpec.{PodSpec}
 use Rattle.state_diff.specs.declared.seen.Seen.{Seen}
-use Rattle.state_diff.specs.Instances.{Tick, IsAcceptable}
-use Rattle.observations.specs.Pods.{PodObs}
+use Rattle.state_diff.specs.rule.Instances.{Tick}
+use Rattle.state_diff.specs.state.Instances.{IsAcceptable}
+use Rattle.observations.specs.rule.Pods.{PodObs}
 use Rattle.observations.specs.declared.tick.TickObs.{TickObs}
 use Rattle.observations.specs.declared.container.ContainerObs.{ContainerObs}
-use Rattle.observations.specs.Observations.{shown_of, listed_in, own_ticks, history}
+use Rattle.observations.specs.rule.Observations.{shown_of, listed_in, own_ticks, history}
 use Rattle.observations.proofs.OwnTicks.{AreBefore, acceptable_at, history_ends_before}
-use Rattle.trace.specs.Sound.{AreAcceptable, HasShape, LeaveInThree, ShowsEach}
-use Rattle.containers.specs.Ticks.{listings}
-use Rattle.pod_state.specs.Pods.{PodEntry, PodTick, pod_tick, ticks_of, unseen}
-use Rattle.pod_piece.specs.Listings.{IsNextTick}
-use Rattle.eviction.specs.Replay.{pod_ticks}
-use Rattle.kubelet_replay.specs.Ticks.{AreReplayable, AreWhole}
+use Rattle.trace.specs.state.Sound.{AreAcceptable, HasShape, LeaveInThree, ShowsEach}
+use Rattle.containers.specs.rule.Ticks.{listings}
+use Rattle.pod_state.specs.rule.Pods.{PodEntry, PodTick, pod_tick, ticks_of, unseen}
+use Rattle.pod_piece.specs.state.Listings.{IsNextTick}
+use Rattle.eviction.specs.rule.Replay.{pod_ticks}
+use Rattle.kubelet_replay.specs.state.Ticks.{AreReplayable, AreWhole}
 
 -- what a trace keeps lets every tick be handed on
 listed : (o : Option ContainerObs)

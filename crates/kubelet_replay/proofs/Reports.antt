@@ -3,12 +3,12 @@ use Rattle.std.proofs.Common.{◌≡◌, ℕ, List, All, get_or}
 use Rattle.std.proofs.lemmas.Option.{slice_get-get_or}
 use Rattle.manifest.specs.declared.pod.PodSpec.{PodSpec}
 use Rattle.trace.specs.declared.trace_so_far.Trace.{Trace}
-use Rattle.trace.specs.Sound.{AreAcceptable, HasShape}
+use Rattle.trace.specs.state.Sound.{AreAcceptable, HasShape}
 use Rattle.trace.proofs.InRange.{HaveProbesInRange as HaveNumbersInRange}
-use Rattle.event_list.specs.Laws.{ShowsKnownPods, HaveProbesInRange}
+use Rattle.event_list.specs.state.Laws.{ShowsKnownPods, HaveProbesInRange}
 use Rattle.node_report.proofs.Exists.{some_report}
 use Rattle.node_report.proofs.Unique.{one_report}
-use Rattle.kubelet_replay.specs.Report.{IsReportOf}
+use Rattle.kubelet_replay.specs.rule.Report.{IsReportOf}
 use Rattle.kubelet_replay.proofs.Replayable.{are_replayable}
 
 -- a trace shows none but its pods

@@ -2,10 +2,10 @@
 use Rattle.std.proofs.Common.{◌≡◌, ◌∙◌, ℕ, List, Ok, sym, subst}
 use Rattle.node_config.specs.declared.node.Format.{Format}
 use Rattle.trace.specs.declared.trace_so_far.Trace.{Trace}
-use Rattle.kubelet_replay.specs.Report.{IsReportOf}
+use Rattle.kubelet_replay.specs.rule.Report.{IsReportOf}
 use Rattle.kubelet_replay.proofs.Reports.{one_report_of}
-use Rattle.kubelet_replay.specs.Run.{IsReportIn}
-use Rattle.kubelet_replay.specs.Laws.{OneReport}
+use Rattle.kubelet_replay.specs.rule.Run.{IsReportIn}
+use Rattle.kubelet_replay.specs.state.Laws.{OneReport}
 
 text_one : (format : Format) (text a b : List ℕ) → IsReportIn format text a → IsReportIn format text b → a ≡ b
 text_one format text a b x y =

@@ -1,5 +1,2 @@
-pub mod Ticks
-pub mod Report
-pub mod Fault
-pub mod Run
-pub mod Laws
+pub mod rule
+pub mod state

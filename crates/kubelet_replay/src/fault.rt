@@ -1,7 +1,7 @@
 //! Why a replay was refused.
 
 ghost use Rattle.std.specs.Prelude.{◌≡◌, Some, IfOk, string_bytes};
-ghost use Rattle.kubelet_replay.specs.Fault.{status, reason_of, line_text, with_reason, line_of_kind, line_of};
+ghost use Rattle.kubelet_replay.specs.state.Fault.{status, reason_of, line_text, with_reason, line_of_kind, line_of};
 
 use std::alloc::{AllocError, Global};
 use thiserror::Error;

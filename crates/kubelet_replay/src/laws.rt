@@ -1,6 +1,6 @@
 //! What the definition of a report implies. The functions do nothing; their contracts are the laws.
 
-ghost use Rattle.kubelet_replay.specs.Laws as laws;
+ghost use Rattle.kubelet_replay.specs.state.Laws as laws;
 
 /// There is a report of every text that is a trace.
 pub fn some_report_of_text()

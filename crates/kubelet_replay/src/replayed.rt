@@ -2,9 +2,9 @@
 
 ghost use Rattle.std.specs.Prelude.{◌-◌, ◌<◌, ◌≤◌, [], length, OnOk};
 ghost use Rattle.node_config.specs.declared.node.NodeConfig.{NodeConfig};
-ghost use Rattle.event_book.specs.Limits.{most_workers};
-ghost use Rattle.tick_round.specs.Node.{IsAfter};
-ghost use Rattle.kubelet_replay.specs.Ticks.{AreReplayable, AreWhole, HaveArrived, IsNew, MayArrive};
+ghost use Rattle.event_book.specs.rule.Limits.{most_workers};
+ghost use Rattle.tick_round.specs.state.Node.{IsAfter};
+ghost use Rattle.kubelet_replay.specs.state.Ticks.{AreReplayable, AreWhole, HaveArrived, IsNew, MayArrive};
 
 use manifest::PodSpec;
 use node_config::NodeConfig;

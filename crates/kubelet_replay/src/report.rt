@@ -4,12 +4,12 @@ ghost use Rattle.std.specs.Prelude.{◌≡◌, ◌≢◌, ◌<◌, ◌≤◌, []
 ghost use Rattle.manifest.specs.declared.pod.PodSpec.{PodSpec};
 ghost use Rattle.node_config.specs.declared.node.NodeConfig.{NodeConfig};
 ghost use Rattle.observations.specs.declared.tick.TickObs.{TickObs};
-ghost use Rattle.trace.specs.Sound.{AreAcceptable, HasShape, LeaveInThree};
-ghost use Rattle.event_book.specs.Limits.{most_workers};
-ghost use Rattle.tick_round.specs.Node.{IsAfter};
-ghost use Rattle.node_report.specs.Report.{IsReport};
-ghost use Rattle.kubelet_replay.specs.Report.{IsReportOf};
-ghost use Rattle.kubelet_replay.specs.Ticks.{AreReplayable, AreWhole};
+ghost use Rattle.trace.specs.state.Sound.{AreAcceptable, HasShape, LeaveInThree};
+ghost use Rattle.event_book.specs.rule.Limits.{most_workers};
+ghost use Rattle.tick_round.specs.state.Node.{IsAfter};
+ghost use Rattle.node_report.specs.rule.Report.{IsReport};
+ghost use Rattle.kubelet_replay.specs.rule.Report.{IsReportOf};
+ghost use Rattle.kubelet_replay.specs.state.Ticks.{AreReplayable, AreWhole};
 
 use crate::replayed::{take_by_steps, take_by_workers};
 use event_book::{Blanks, WholeBook};

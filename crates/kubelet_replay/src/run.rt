@@ -1,11 +1,12 @@
 //! The replay of a trace, from its bytes to the bytes of its report.
 
 ghost use Rattle.std.specs.Prelude.{◌≡◌, ◌+◌, ◌^◌, ◌<◌, ◌≤◌, IfOk, IfErr, OnOk, IsErrOf, string_bytes};
-ghost use Rattle.event_book.specs.Limits.{most_workers};
-ghost use Rattle.kubelet_replay.specs.Run.{failed_reads, failed_writes, HasRead, IsReportIn, IsReportOfText};
-ghost use Rattle.kubelet_replay.specs.Run.{read_fault_of, text_as, RefusesText, Refuses, IsWritten, fault_of, read_as};
-ghost use Rattle.kubelet_replay.specs.Run.{IsRefusalIn, IsRefusal, IsCheckIn, IsCheckOfText, check_line, Writes};
-ghost use Rattle.kubelet_replay.specs.Run.{TakesWithin};
+ghost use Rattle.event_book.specs.rule.Limits.{most_workers};
+ghost use Rattle.kubelet_replay.specs.rule.Run.{failed_reads, failed_writes, HasRead, IsReportIn, IsReportOfText};
+ghost use Rattle.kubelet_replay.specs.state.Run.{read_fault_of, text_as, RefusesText, Refuses, IsWritten, fault_of};
+ghost use Rattle.kubelet_replay.specs.state.Run.{read_as};
+ghost use Rattle.kubelet_replay.specs.rule.Run.{IsRefusalIn, IsRefusal, IsCheckIn, IsCheckOfText, check_line, Writes};
+ghost use Rattle.kubelet_replay.specs.rule.Run.{TakesWithin};
 ghost use Rattle.kubelet_replay.specs.declared.fault.RunFault.TheVariants.{OutOfMemory};
 
 use crate::fault::RunFault;

@@ -4,7 +4,7 @@ use Rattle.std.proofs.Common.{append-nil, refl, ap, sym, subst, arith}
 use Rattle.std.specs.Prelude.{Vec}
 use Rattle.std.specs.Global.{Global}
 use Rattle.std.proofs.lemmas.List.{length-append, get_or_append_left, get_or-append-add, append_assoc}
-use Rattle.lists.specs.Chunks.{joined, AreFull, AreChunks}
+use Rattle.lists.specs.state.Chunks.{joined, AreFull, AreChunks}
 
 -- no items
 pub none_chunks : {X : Type 0} (full : List (Vec X Global)) (last : List X) → full ≡ [] → last ≡ []

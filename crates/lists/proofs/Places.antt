@@ -7,7 +7,7 @@ use Rattle.std.proofs.lemmas.List.{map_push}
 use Rattle.std.specs.List.{position, position_or_len, list_any}
 use Rattle.std.specs.Prelude.{string_eq}
 use Rattle.indexmap.specs.IndexSet.{insert_key}
-use Rattle.lists.specs.Names.{place_of}
+use Rattle.lists.specs.rule.Names.{place_of}
 
 abbrev pub is_named : List ℕ → String Global → Bool
 is_named name k = bytes_eq name (string_bytes k)

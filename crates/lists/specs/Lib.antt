@@ -1,2 +1,2 @@
-pub mod Chunks
-pub mod Names
+pub mod rule
+pub mod state

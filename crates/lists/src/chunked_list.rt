@@ -1,7 +1,7 @@
 //! A list in chunks.
 
 ghost use Rattle.std.specs.Prelude.{◌≡◌, ◌<◌, ◌≤◌, ◌++◌, ◌∷◌, [], length, get_or, OnOk, OnErr};
-ghost use Rattle.lists.specs.Chunks.{chunk_length, joined, AreFull};
+ghost use Rattle.lists.specs.state.Chunks.{chunk_length, joined, AreFull};
 
 use std::alloc::{AllocError, Global};
 use std::marker::Model;
@@ -59,7 +59,7 @@ pub struct ChunkedList<T: Drop> {
 
 impl<T: Drop> Model for ChunkedList<T> {
     ghost use Rattle.std.specs.Prelude.{List};
-    ghost use Rattle.lists.specs.Chunks.{joined, AreChunks};
+    ghost use Rattle.lists.specs.state.Chunks.{joined, AreChunks};
 
     ghost Value = { List T };
 

@@ -1,7 +1,7 @@
 //! Names with their numbers.
 
 ghost use Rattle.std.specs.Prelude.{◌≡◌, ◌++◌, ◌∷◌, [], None, ℕ, List, map, string_bytes, OnOk, OnErr};
-ghost use Rattle.lists.specs.Names.{place_of};
+ghost use Rattle.lists.specs.rule.Names.{place_of};
 
 use indexmap::IndexSet;
 use std::alloc::{AllocError, Global};

@@ -1,7 +1,2 @@
-pub mod Names
-pub mod Probe
-pub mod Resources
-pub mod Containers
-pub mod Policy
-pub mod ProbeKinds
-pub mod RestartDelay
+pub mod rule
+pub mod state

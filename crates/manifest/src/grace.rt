@@ -1,7 +1,7 @@
 //! How long a pod has to end.
 
 ghost use Rattle.std.specs.Prelude.{◌≡◌, ◌<◌};
-ghost use Rattle.quantity.specs.Duration.{end_of_time};
+ghost use Rattle.quantity.specs.rule.Duration.{end_of_time};
 
 use std::marker::Model;
 
@@ -12,7 +12,7 @@ pub struct GracePeriod(u64);
 
 impl Model for GracePeriod {
     ghost use Rattle.std.specs.Prelude.{ℕ, ◌<◌};
-    ghost use Rattle.quantity.specs.Duration.{end_of_time};
+    ghost use Rattle.quantity.specs.rule.Duration.{end_of_time};
 
     ghost Value = { ℕ };
 

@@ -2,7 +2,8 @@
 
 ghost use Rattle.std.specs.Prelude.{◌≡◌};
 ghost use Rattle.std.specs.List.{list_all};
-ghost use Rattle.manifest.specs.Names.{is_name, is_label, is_label_byte, is_name_byte, is_alphanumeric, has_ends};
+ghost use Rattle.manifest.specs.rule.Names.{is_name, is_label, is_label_byte, is_name_byte, is_alphanumeric};
+ghost use Rattle.manifest.specs.rule.Names.{has_ends};
 
 fn is_alphanumeric(byte: u8) -> bool
     ensures { result ≡ is_alphanumeric byte }
@@ -46,7 +47,7 @@ fn has_label_bytes(text: &[u8]) -> bool
 
 /// Whether the text is the name of an object: 1 to 253 bytes from `a` to `z`, `0` to `9`, `-` and
 /// `.`, with a letter or digit at both ends.
-#[tactic(auto, unfolding(crate::specs::Names::is_name))]
+#[tactic(auto, unfolding(crate::specs::rule::Names::is_name))]
 pub fn is_name(text: &[u8]) -> bool
     ensures { result ≡ is_name text.now }
 {
@@ -55,7 +56,7 @@ pub fn is_name(text: &[u8]) -> bool
 
 /// Whether the text is the name of a namespace or a container: a name of at most 63 bytes with no
 /// point.
-#[tactic(auto, unfolding(crate::specs::Names::is_label))]
+#[tactic(auto, unfolding(crate::specs::rule::Names::is_label))]
 pub fn is_label(text: &[u8]) -> bool
     ensures { result ≡ is_label text.now }
 {

@@ -1,7 +1,7 @@
 //! Probes and their results.
 
 ghost use Rattle.std.specs.Prelude.{◌≡◌};
-ghost use Rattle.manifest.specs.ProbeKinds.{place};
+ghost use Rattle.manifest.specs.rule.ProbeKinds.{place};
 
 /// The result of one run of a probe (Kubernetes, "Pod Lifecycle", "Probe outcome").
 #[derive(Clone, Copy, Debug, PartialEq, Eq)]

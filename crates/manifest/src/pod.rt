@@ -1,7 +1,7 @@
 //! What a manifest says of a pod.
 
 ghost use Rattle.std.specs.Prelude.{◌≡◌, ◌<◌, List};
-ghost use Rattle.lists.specs.Names.{place_of};
+ghost use Rattle.lists.specs.rule.Names.{place_of};
 
 use crate::grace::GracePeriod;
 use crate::policy::Policy;
@@ -76,7 +76,7 @@ pub struct ContainerList {
 impl Model for ContainerList {
     ghost use Rattle.std.specs.Prelude.{List};
     ghost use Rattle.manifest.specs.declared.pod.ContainerSpec.{ContainerSpec};
-    ghost use Rattle.manifest.specs.Containers.{AreContainers};
+    ghost use Rattle.manifest.specs.state.Containers.{AreContainers};
 
     ghost Value = { List ContainerSpec };
 
@@ -86,7 +86,8 @@ impl Model for ContainerList {
 }
 
 impl ContainerList {
-    ghost use Rattle.manifest.specs.Containers.{AreContainers, names_of, has_only_apps};
+    ghost use Rattle.manifest.specs.rule.Containers.{names_of};
+    ghost use Rattle.manifest.specs.state.Containers.{AreContainers, has_only_apps};
 
     /// The containers, numbered by their places.
     pub fn new(items: Vec<ContainerSpec>) -> ContainerList
@@ -119,7 +120,8 @@ impl ContainerList {
     }
 }
 
-ghost use Rattle.manifest.specs.Containers.{AreContainers, names_of, has_only_apps, is_app};
+ghost use Rattle.manifest.specs.rule.Containers.{names_of};
+ghost use Rattle.manifest.specs.state.Containers.{AreContainers, has_only_apps, is_app};
 
 fn is_app(role: Role) -> bool
     ensures { result ≡ is_app role }

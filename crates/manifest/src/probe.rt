@@ -1,7 +1,8 @@
 //! Probes of a container (Kubernetes, "Configure Liveness, Readiness and Startup Probes").
 
 ghost use Rattle.std.specs.Prelude.{◌≡◌, ◌≤◌, ◌<◌, ◌^◌};
-ghost use Rattle.manifest.specs.Probe.{probe, IsInRange, HasNumbersInRange, SucceedsByOne, no_probes};
+ghost use Rattle.manifest.specs.rule.Probe.{probe, no_probes};
+ghost use Rattle.manifest.specs.state.Probe.{IsInRange, HasNumbersInRange, SucceedsByOne};
 
 use std::marker::Model;
 
@@ -16,7 +17,8 @@ pub struct Probe {
 }
 
 impl Model for Probe {
-    ghost use Rattle.manifest.specs.Probe.{Probe, probe, IsInRange};
+    ghost use Rattle.manifest.specs.rule.Probe.{Probe, probe};
+    ghost use Rattle.manifest.specs.state.Probe.{IsInRange};
 
     ghost Value = { Probe };
 
@@ -115,7 +117,8 @@ pub struct Probes {
 }
 
 impl Model for Probes {
-    ghost use Rattle.manifest.specs.Probe.{Probes, AreProbes};
+    ghost use Rattle.manifest.specs.rule.Probe.{Probes};
+    ghost use Rattle.manifest.specs.state.Probe.{AreProbes};
 
     ghost Value = { Probes };
 

@@ -1,7 +1,8 @@
 //! Resources that a container asks for (Kubernetes, "Resource Management for Pods and Containers").
 
 ghost use Rattle.std.specs.Prelude.{◌≡◌, false};
-ghost use Rattle.manifest.specs.Resources.{amount_of, nothing, no_resources, AreWithin, is_above, some_above};
+ghost use Rattle.manifest.specs.rule.Resources.{amount_of, nothing, no_resources, is_above, some_above};
+ghost use Rattle.manifest.specs.state.Resources.{AreWithin};
 
 use quantity::Quantity;
 use std::marker::Model;
@@ -81,7 +82,8 @@ pub struct Resources {
 }
 
 impl Model for Resources {
-    ghost use Rattle.manifest.specs.Resources.{Resources, AreWithin};
+    ghost use Rattle.manifest.specs.rule.Resources.{Resources};
+    ghost use Rattle.manifest.specs.state.Resources.{AreWithin};
 
     ghost Value = { Resources };
 

@@ -1,7 +1,7 @@
 //! How long a node may delay a restart.
 
 ghost use Rattle.std.specs.Prelude.{◌≡◌, ◌≤◌};
-ghost use Rattle.manifest.specs.RestartDelay.{least_max_delay, most_max_delay, max_delay_of};
+ghost use Rattle.manifest.specs.rule.RestartDelay.{least_max_delay, most_max_delay, max_delay_of};
 
 use std::marker::Model;
 
@@ -13,7 +13,7 @@ pub struct MaxRestartDelay(u64);
 
 impl Model for MaxRestartDelay {
     ghost use Rattle.std.specs.Prelude.{ℕ, ◌≤◌};
-    ghost use Rattle.manifest.specs.RestartDelay.{least_max_delay, most_max_delay};
+    ghost use Rattle.manifest.specs.rule.RestartDelay.{least_max_delay, most_max_delay};
 
     ghost Value = { ℕ };
 

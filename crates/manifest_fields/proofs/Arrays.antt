@@ -5,7 +5,7 @@ use Rattle.serde_json.specs.View.{view, items_view}
 use Rattle.serde_json.specs.declared.value.Value.{Value}
 use Rattle.json_fields.proofs.Items.{items_list-items_of}
 use Rattle.manifest_fields.specs.declared.fault.Field.{Field}
-use Rattle.manifest_fields.specs.Fields.{items_or}
+use Rattle.manifest_fields.specs.rule.Fields.{items_or}
 
 -- it is the list of its items
 pub items_or_found : (field : Field) (vs : List Value) (found : Option Items) → Some (items_view vs) ≡ found

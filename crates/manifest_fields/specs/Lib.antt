@@ -1,6 +1,2 @@
-pub mod Fault
-pub mod GivesUnlessMemory
-pub mod Fields
-pub mod Grammar
-pub mod ProbeFields
-pub mod ResourceFields
+pub mod rule
+pub mod state

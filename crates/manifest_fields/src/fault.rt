@@ -63,7 +63,7 @@ pub enum ManifestFault {
 }
 
 impl ManifestFault {
-    ghost use Rattle.manifest_fields.specs.Fault.{number_of};
+    ghost use Rattle.manifest_fields.specs.state.Fault.{number_of};
 
     /// The number by which a refusal names the fault.
     pub fn number(self) -> u8
@@ -85,7 +85,7 @@ impl ManifestFault {
 }
 
 impl From<FieldFault> for ManifestFault {
-    ghost use Rattle.manifest_fields.specs.Fault.{resource_fault};
+    ghost use Rattle.manifest_fields.specs.rule.Fault.{resource_fault};
 
     ghost from_gives = { λ fault e. e ≡ resource_fault fault };
 

@@ -2,11 +2,11 @@
 
 ghost use Rattle.std.specs.Prelude.{◌≡◌, ◌<◌, length, map, option_map, IfOk};
 ghost use Rattle.serde_json.specs.View.{view};
-ghost use Rattle.json_fields.specs.Reading.{GivesExactly};
-ghost use Rattle.manifest_fields.specs.GivesUnlessMemory.{GivesUnlessMemory};
-ghost use Rattle.manifest_fields.specs.Fields.{object_of, array_of, array_or_none, some_items, text_of};
-ghost use Rattle.manifest_fields.specs.Fields.{required_text, text_or, absent};
-ghost use Rattle.manifest_fields.specs.Grammar.{passes};
+ghost use Rattle.json_fields.specs.state.Reading.{GivesExactly};
+ghost use Rattle.manifest_fields.specs.state.GivesUnlessMemory.{GivesUnlessMemory};
+ghost use Rattle.manifest_fields.specs.rule.Fields.{object_of, array_of, array_or_none, some_items, text_of};
+ghost use Rattle.manifest_fields.specs.rule.Fields.{required_text, text_or, absent};
+ghost use Rattle.manifest_fields.specs.state.Grammar.{passes};
 
 use crate::fault::{Field, ManifestFault};
 use manifest::{Text, is_label, is_name};

@@ -2,12 +2,14 @@
 
 ghost use Rattle.std.specs.Prelude.{◌≡◌, ◌≤◌, option_map, IfOk};
 ghost use Rattle.serde_json.specs.View.{view};
-ghost use Rattle.json_fields.specs.Numbers.{max_int32};
-ghost use Rattle.json_fields.specs.Reading.{GivesExactly};
+ghost use Rattle.json_fields.specs.rule.Numbers.{max_int32};
+ghost use Rattle.json_fields.specs.state.Reading.{GivesExactly};
 ghost use Rattle.manifest.specs.declared.pod.Role.TheVariants.{Init};
-ghost use Rattle.manifest.specs.Probe.{SucceedsByOne, no_probes};
-ghost use Rattle.manifest_fields.specs.ProbeFields.{in_range, number_of, probe_in, probe_of, some_probes, unprobed};
-ghost use Rattle.manifest_fields.specs.ProbeFields.{probes_of};
+ghost use Rattle.manifest.specs.rule.Probe.{no_probes};
+ghost use Rattle.manifest.specs.state.Probe.{SucceedsByOne};
+ghost use Rattle.manifest_fields.specs.rule.ProbeFields.{in_range, number_of, probe_in, probe_of, some_probes};
+ghost use Rattle.manifest_fields.specs.rule.ProbeFields.{unprobed};
+ghost use Rattle.manifest_fields.specs.rule.ProbeFields.{probes_of};
 
 use crate::fault::{Field, ManifestFault};
 use crate::fields::{absent, object};
@@ -50,7 +52,7 @@ fn number_of(
     }
 }
 
-#[tactic(auto, unfolding(crate::specs::ProbeFields::probe_in))]
+#[tactic(auto, unfolding(crate::specs::rule::ProbeFields::probe_in))]
 fn probe_in(most_successes: u32, value: &Value) -> Result<Probe, ManifestFault>
     requires { (1 ≤ most_successes) × (most_successes ≤ max_int32) }
     ensures gives { GivesExactly (λ p. p) result (probe_in most_successes (view value.now)) }
@@ -77,7 +79,7 @@ fn probe_of(most_successes: u32, found: Option<&Value>) -> Result<Option<Probe>,
     Ok(Some(probe_in(most_successes, value)?))
 }
 
-#[tactic(auto, unfolding(crate::specs::ProbeFields::some_probes))]
+#[tactic(auto, unfolding(crate::specs::rule::ProbeFields::some_probes))]
 fn some_probes(container: &Value) -> Result<Probes, ManifestFault>
     ensures { GivesExactly (λ p. p) result (some_probes (view container.now)) }
 {
@@ -87,7 +89,7 @@ fn some_probes(container: &Value) -> Result<Probes, ManifestFault>
     Ok(Probes::new(startup, liveness, readiness))
 }
 
-#[tactic(auto, unfolding(crate::specs::ProbeFields::unprobed))]
+#[tactic(auto, unfolding(crate::specs::rule::ProbeFields::unprobed))]
 fn unprobed(container: &Value) -> Result<Probes, ManifestFault>
     ensures gives { GivesExactly (λ p. p) result (unprobed (view container.now)) }
     ensures none { IfOk result (λ p. p ≡ no_probes) }

@@ -2,10 +2,11 @@
 
 ghost use Rattle.std.specs.Prelude.{◌≡◌, false, option_map, OnOk};
 ghost use Rattle.serde_json.specs.View.{view};
-ghost use Rattle.json_fields.specs.Reading.{GivesExactly};
-ghost use Rattle.manifest.specs.Resources.{some_above};
-ghost use Rattle.manifest_fields.specs.ResourceFields.{quantity_at, amounts_in, amounts_of, within, resources_in};
-ghost use Rattle.manifest_fields.specs.ResourceFields.{resources_of};
+ghost use Rattle.json_fields.specs.state.Reading.{GivesExactly};
+ghost use Rattle.manifest.specs.rule.Resources.{some_above};
+ghost use Rattle.manifest_fields.specs.rule.ResourceFields.{quantity_at, amounts_in, amounts_of, within};
+ghost use Rattle.manifest_fields.specs.rule.ResourceFields.{resources_in};
+ghost use Rattle.manifest_fields.specs.rule.ResourceFields.{resources_of};
 
 use crate::fault::{Field, ManifestFault};
 use crate::fields::object;
@@ -23,7 +24,7 @@ fn quantity_at(found: Option<&Value>) -> Result<Option<Quantity>, ManifestFault>
     Ok(Some(quantity_in(value)?))
 }
 
-#[tactic(auto, unfolding(crate::specs::ResourceFields::amounts_in))]
+#[tactic(auto, unfolding(crate::specs::rule::ResourceFields::amounts_in))]
 fn amounts_in(value: &Value) -> Result<Amounts, ManifestFault>
     ensures { GivesExactly (λ a. a) result (amounts_in (view value.now)) }
 {
@@ -54,7 +55,7 @@ fn within(requests: &Amounts, limits: &Amounts) -> Result<(), ManifestFault>
     Ok(())
 }
 
-#[tactic(auto, unfolding(crate::specs::ResourceFields::resources_in))]
+#[tactic(auto, unfolding(crate::specs::rule::ResourceFields::resources_in))]
 fn resources_in(value: &Value) -> Result<Resources, ManifestFault>
     ensures { GivesExactly (λ r. r) result (resources_in (view value.now)) }
 {

@@ -1,7 +1,7 @@
 -- A loop that reads the items of an array, one more each time.
 use Rattle.std.proofs.Common.{◌≡◌, ℕ, ◌+◌, ◌<◌, List, [], ◌∷◌, ◌++◌, length, map, drop, get_or, Result, Ok, Err, refl}
 use Rattle.std.proofs.Common.{ap, append_assoc, add-one, drop-cons}
-use Rattle.json_fields.specs.Reading.{◌>>=◌, each}
+use Rattle.json_fields.specs.rule.Reading.{◌>>=◌, each}
 use Rattle.json_fields.proofs.Each.{with_front}
 
 put_back : {B E : Type 0} (front : List B) (y : B) (read : Result (List B) E)

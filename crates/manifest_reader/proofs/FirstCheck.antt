@@ -1,8 +1,8 @@
 -- A manifest is read with the checks of the table.
 use Rattle.serde_json.specs.Data.{Data}
-use Rattle.manifest_reader.specs.Manifest.{pod_at}
-use Rattle.manifest_reader.specs.Table.{fault_at, checks_of}
-use Rattle.manifest_reader.specs.Laws.{FirstCheck, EveryCheck}
+use Rattle.manifest_reader.specs.rule.Manifest.{pod_at}
+use Rattle.manifest_reader.specs.state.Table.{fault_at, checks_of}
+use Rattle.manifest_reader.specs.state.Laws.{FirstCheck, EveryCheck}
 use Rattle.manifest_reader.proofs.Rows.{Reads}
 use Rattle.manifest_reader.proofs.Rows as rows
 use Rattle.manifest_reader.proofs.FoundRows.{answers_are}

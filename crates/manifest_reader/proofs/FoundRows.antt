@@ -4,23 +4,24 @@ use Rattle.std.specs.Prelude.{codes, nat_lt, if◌then◌else◌}
 use Rattle.std.specs.List.{flat_map}
 use Rattle.std.proofs.lemmas.List.{map-append}
 use Rattle.serde_json.specs.Data.{Data}
-use Rattle.json_fields.specs.Fields.{field_at}
+use Rattle.json_fields.specs.rule.Fields.{field_at}
 use Rattle.manifest_fields.specs.declared.fault.Field.TheVariants as fields
 use Rattle.manifest_fields.specs.declared.fault.ManifestFault.TheVariants.{Missing, InitProbe, RequestAboveLimit}
 use Rattle.manifest_fields.specs.declared.fault.ManifestFault.TheVariants.{DuplicateContainer, TooMany}
-use Rattle.manifest.specs.Containers.{most_containers}
+use Rattle.manifest.specs.rule.Containers.{most_containers}
 use Rattle.manifest.specs.declared.pod.Place.{Place}
 use Rattle.manifest.specs.declared.pod.Place.TheVariants.{InitContainers, Containers}
-use Rattle.manifest.specs.Names.{is_name, is_label}
-use Rattle.manifest.specs.Resources.{some_above}
-use Rattle.manifest_fields.specs.ResourceFields.{quantity_at}
-use Rattle.json_fields.specs.Numbers.{max_int32}
-use Rattle.manifest_fields.specs.ProbeFields.{number_of}
-use Rattle.manifest_reader.specs.Manifest.{field_of}
-use Rattle.manifest_reader.specs.Found.{fault_of, fails_if, is_so, must_be, may_be, at, is_object, is_array, is_text}
-use Rattle.manifest_reader.specs.Found.{is_policy, is_priority, is_grace_period, items_in, is_empty, amounts_at}
-use Rattle.manifest_reader.specs.Found.{own_policy_fault, has_double, name_in, init_items, app_items}
-use Rattle.manifest_reader.specs.Table.{fault_at, is_init, probes_checks, container_checks, checks_of}
+use Rattle.manifest.specs.rule.Names.{is_name, is_label}
+use Rattle.manifest.specs.rule.Resources.{some_above}
+use Rattle.manifest_fields.specs.rule.ResourceFields.{quantity_at}
+use Rattle.json_fields.specs.rule.Numbers.{max_int32}
+use Rattle.manifest_fields.specs.rule.ProbeFields.{number_of}
+use Rattle.manifest_reader.specs.rule.Manifest.{field_of}
+use Rattle.manifest_reader.specs.state.Found.{fault_of, fails_if, is_so, must_be, may_be, at, is_object, is_array}
+use Rattle.manifest_reader.specs.state.Found.{is_text}
+use Rattle.manifest_reader.specs.state.Found.{is_policy, is_priority, is_grace_period, items_in, is_empty, amounts_at}
+use Rattle.manifest_reader.specs.state.Found.{own_policy_fault, has_double, name_in, init_items, app_items}
+use Rattle.manifest_reader.specs.state.Table.{fault_at, is_init, probes_checks, container_checks, checks_of}
 use Rattle.manifest_reader.proofs.Rows.{Row}
 
 -- requests or limits

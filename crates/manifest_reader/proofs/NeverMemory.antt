@@ -4,12 +4,12 @@ use Rattle.std.proofs.Common.{is_some}
 use Rattle.std.specs.Prelude.{pos, option_and_then, nat_lt, codes}
 use Rattle.serde_json.specs.Data.{Data, Items}
 use Rattle.serde_json.specs.Find.{as_str, as_number, as_u64, as_i64, as_array, as_object}
-use Rattle.json_fields.specs.Fields.{field_at, items_list}
-use Rattle.json_fields.specs.Quantities.{quantity_in}
-use Rattle.json_fields.specs.Reading.{◌>>=◌}
+use Rattle.json_fields.specs.rule.Fields.{field_at, items_list}
+use Rattle.json_fields.specs.rule.Quantities.{quantity_in}
+use Rattle.json_fields.specs.rule.Reading.{◌>>=◌}
 use Rattle.json_fields.specs.declared.fault.FieldFault.{FieldFault}
 use Rattle.json_fields.specs.declared.fault.FieldFault.TheVariants.{WrongKind as OtherKind, Faulty}
-use Rattle.manifest.specs.Names.{is_name, is_label}
+use Rattle.manifest.specs.rule.Names.{is_name, is_label}
 use Rattle.manifest_fields.specs.declared.fault.ManifestFault.{ManifestFault}
 use Rattle.manifest_fields.specs.declared.fault.ManifestFault.TheVariants.{Missing, WrongKind, Quantity, ProbeRange}
 use Rattle.manifest_fields.specs.declared.fault.ManifestFault.TheVariants.{InitProbe, RequestAboveLimit}
@@ -22,19 +22,21 @@ use Rattle.manifest.specs.declared.pod.Place.{Place}
 use Rattle.manifest.specs.declared.pod.Place.TheVariants.{InitContainers, Containers}
 use Rattle.manifest.specs.declared.pod.Role.{Role}
 use Rattle.manifest.specs.declared.pod.Role.TheVariants.{Init, Sidecar as IsSidecar, App}
-use Rattle.manifest_fields.specs.Fields.{object_of, tested_text, required_text, text_or, items_or, array_of}
-use Rattle.manifest_fields.specs.Fields.{array_or_none, some_items, absent}
-use Rattle.manifest.specs.Probe.{no_probes}
-use Rattle.manifest_fields.specs.ProbeFields.{not_from_0, number_from, number_of, probe_in, probe_of, some_probes}
-use Rattle.manifest_fields.specs.ProbeFields.{unprobed, probes_of}
-use Rattle.manifest.specs.Resources.{nothing, no_resources, some_above}
-use Rattle.manifest_fields.specs.ResourceFields.{quantity_read, quantity_at, amounts_in, amounts_of, resources_in}
-use Rattle.manifest_fields.specs.ResourceFields.{resources_of}
-use Rattle.manifest_reader.specs.Manifest.{policy_from, policy_of, priority_from, priority_of, grace_period_from}
-use Rattle.manifest_reader.specs.Manifest.{grace_period_of, field_of, sidecar_from, role_of, container_of}
-use Rattle.manifest_reader.specs.Manifest.{containers_of, app_items_of, containers_in, metadata_of, settings_in}
-use Rattle.manifest_reader.specs.Manifest.{spec_of, pod_at}
-use Rattle.manifest.specs.Containers.{has_twice, most_containers}
+use Rattle.manifest_fields.specs.rule.Fields.{object_of, tested_text, required_text, text_or, items_or, array_of}
+use Rattle.manifest_fields.specs.rule.Fields.{array_or_none, some_items, absent}
+use Rattle.manifest.specs.rule.Probe.{no_probes}
+use Rattle.manifest_fields.specs.rule.ProbeFields.{not_from_0, number_from, number_of, probe_in, probe_of}
+use Rattle.manifest_fields.specs.rule.ProbeFields.{some_probes}
+use Rattle.manifest_fields.specs.rule.ProbeFields.{unprobed, probes_of}
+use Rattle.manifest.specs.rule.Resources.{nothing, no_resources, some_above}
+use Rattle.manifest_fields.specs.rule.ResourceFields.{quantity_read, quantity_at, amounts_in, amounts_of}
+use Rattle.manifest_fields.specs.rule.ResourceFields.{resources_in}
+use Rattle.manifest_fields.specs.rule.ResourceFields.{resources_of}
+use Rattle.manifest_reader.specs.rule.Manifest.{policy_from, policy_of, priority_from, priority_of, grace_period_from}
+use Rattle.manifest_reader.specs.rule.Manifest.{grace_period_of, field_of, sidecar_from, role_of, container_of}
+use Rattle.manifest_reader.specs.rule.Manifest.{containers_of, app_items_of, containers_in, metadata_of, settings_in}
+use Rattle.manifest_reader.specs.rule.Manifest.{spec_of, pod_at}
+use Rattle.manifest.specs.rule.Containers.{has_twice, most_containers}
 use Rattle.json_fields.proofs.Only.{Only, only_ok, only_err, only_bind, only_if, only_refused, only_each}
 
 abbrev pub IsFound : ManifestFault → Type 0

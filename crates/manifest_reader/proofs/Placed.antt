@@ -3,7 +3,7 @@ use Rattle.std.proofs.Common.{List, [], ◌∷◌, ◌++◌, All}
 use Rattle.std.proofs.lemmas.List.Elements.{All-nil, All-push}
 use Rattle.manifest.specs.declared.pod.Place.{Place}
 use Rattle.manifest.specs.declared.pod.ContainerSpec.{ContainerSpec}
-use Rattle.manifest.specs.Containers.{IsOf, AllOf}
+use Rattle.manifest.specs.state.Containers.{IsOf, AllOf}
 
 pub all_of_none : (place : Place) → AllOf place []
 unfolding AllOf

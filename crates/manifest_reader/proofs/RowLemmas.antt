@@ -5,9 +5,9 @@ use Rattle.std.specs.Prelude.{if◌then◌else◌, option_and_then, unwrap_or, c
 use Rattle.std.specs.List.{flat_map, list_any}
 use Rattle.serde_json.specs.Data.{Data, Items}
 use Rattle.serde_json.specs.Find.{as_str, as_number, as_i64, as_u64, as_array, as_object}
-use Rattle.quantity.specs.Duration.{end_of_time}
-use Rattle.json_fields.specs.Fields.{field_at, items_list}
-use Rattle.json_fields.specs.Reading.{◌>>=◌, refused_if, each}
+use Rattle.quantity.specs.rule.Duration.{end_of_time}
+use Rattle.json_fields.specs.rule.Fields.{field_at, items_list}
+use Rattle.json_fields.specs.rule.Reading.{◌>>=◌, refused_if, each}
 use Rattle.json_fields.proofs.Steps.{bind_ok}
 use Rattle.manifest_fields.specs.declared.fault.Field.{Field}
 use Rattle.manifest_fields.specs.declared.fault.Field.TheVariants as fields
@@ -23,22 +23,24 @@ use Rattle.manifest.specs.declared.pod.ContainerSpec.{ContainerSpec}
 use Rattle.manifest.specs.declared.pod.Place.{Place}
 use Rattle.manifest.specs.declared.pod.Place.TheVariants.{InitContainers, Containers}
 use Rattle.manifest.specs.declared.resources.Amounts.{Amounts}
-use Rattle.manifest.specs.Names.{is_name, is_label}
-use Rattle.manifest.specs.Containers.{names_of, has_twice, most_containers}
-use Rattle.manifest_fields.specs.Fields.{object_of, tested_text, required_text, text_or, items_or, array_or_none}
-use Rattle.manifest_fields.specs.Fields.{some_items}
-use Rattle.manifest.specs.Resources.{some_above}
-use Rattle.manifest_fields.specs.ResourceFields.{quantity_at, amounts_in, amounts_of, resources_in, resources_of}
-use Rattle.json_fields.specs.Numbers.{max_int32, is_int32}
-use Rattle.manifest_fields.specs.ProbeFields.{number_of, probe_in, probe_of, some_probes, unprobed}
-use Rattle.manifest_fields.specs.ProbeFields.{probes_of}
-use Rattle.manifest_reader.specs.Manifest.{policy_from, policy_of, priority_from, priority_of, grace_period_from}
-use Rattle.manifest_reader.specs.Manifest.{grace_period_of, field_of, sidecar_from, role_of, container_of}
-use Rattle.manifest_reader.specs.Manifest.{containers_of, app_items_of, containers_in, metadata_of, settings_in}
-use Rattle.manifest_reader.specs.Manifest.{spec_of, pod_at}
-use Rattle.manifest_reader.specs.Found.{fault_of, fails_if, is_so, must_be, may_be, is_some_and, is_object, is_array}
-use Rattle.manifest_reader.specs.Found.{is_text, is_policy, is_priority, is_grace_period, items_from, items_in}
-use Rattle.manifest_reader.specs.Found.{is_empty, amount_read, amounts_at, own_policy_fault, name_in, has_double}
+use Rattle.manifest.specs.rule.Names.{is_name, is_label}
+use Rattle.manifest.specs.rule.Containers.{names_of, has_twice, most_containers}
+use Rattle.manifest_fields.specs.rule.Fields.{object_of, tested_text, required_text, text_or, items_or, array_or_none}
+use Rattle.manifest_fields.specs.rule.Fields.{some_items}
+use Rattle.manifest.specs.rule.Resources.{some_above}
+use Rattle.manifest_fields.specs.rule.ResourceFields.{quantity_at, amounts_in, amounts_of, resources_in, resources_of}
+use Rattle.json_fields.specs.rule.Numbers.{max_int32, is_int32}
+use Rattle.manifest_fields.specs.rule.ProbeFields.{number_of, probe_in, probe_of, some_probes, unprobed}
+use Rattle.manifest_fields.specs.rule.ProbeFields.{probes_of}
+use Rattle.manifest_reader.specs.rule.Manifest.{policy_from, policy_of, priority_from, priority_of, grace_period_from}
+use Rattle.manifest_reader.specs.rule.Manifest.{grace_period_of, field_of, sidecar_from, role_of, container_of}
+use Rattle.manifest_reader.specs.rule.Manifest.{containers_of, app_items_of, containers_in, metadata_of, settings_in}
+use Rattle.manifest_reader.specs.rule.Manifest.{spec_of, pod_at}
+use Rattle.manifest_reader.specs.state.Found.{fault_of, fails_if, is_so, must_be, may_be, is_some_and, is_object}
+use Rattle.manifest_reader.specs.state.Found.{is_array}
+use Rattle.manifest_reader.specs.state.Found.{is_text, is_policy, is_priority, is_grace_period, items_from, items_in}
+use Rattle.manifest_reader.specs.state.Found.{is_empty, amount_read, amounts_at, own_policy_fault, name_in}
+use Rattle.manifest_reader.specs.state.Found.{has_double}
 use Rattle.manifest_reader.proofs.FoundRows.{amount_rows, resource_rows, probe_rows, some_probes_rows, unprobed_rows}
 use Rattle.manifest_reader.proofs.FoundRows.{probes_rows, container_rows, containers_rows, metadata_rows, spec_rows}
 use Rattle.manifest_reader.proofs.FoundRows.{rows_of}

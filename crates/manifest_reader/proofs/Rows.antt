@@ -6,10 +6,10 @@ use Rattle.std.specs.Prelude.{◌↔◌, if◌then◌else◌}
 use Rattle.std.specs.List.{flat_map}
 use Rattle.std.specs.Option.{option_or}
 use Rattle.std.proofs.lemmas.List.Elements.{All-nil, All-cons, All-head, All-tail}
-use Rattle.json_fields.specs.Reading.{◌>>=◌, refused_if, each}
+use Rattle.json_fields.specs.rule.Reading.{◌>>=◌, refused_if, each}
 use Rattle.manifest_fields.specs.declared.fault.ManifestFault.{ManifestFault}
-use Rattle.manifest_reader.specs.Found.{fault_of, fails_if}
-use Rattle.manifest_reader.specs.Laws.{Passes, FailsFirst}
+use Rattle.manifest_reader.specs.state.Found.{fault_of, fails_if}
+use Rattle.manifest_reader.specs.state.Laws.{Passes, FailsFirst}
 
 -- what a check answers
 abbrev pub Row : Type 0

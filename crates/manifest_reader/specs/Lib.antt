@@ -1,4 +1,2 @@
-pub mod Manifest
-pub mod Found
-pub mod Table
-pub mod Laws
+pub mod rule
+pub mod state

@@ -1,6 +1,6 @@
 //! What the definition of a manifest implies, in the words of the table of its checks. The
 //! functions do nothing; their contracts are the laws.
-ghost use Rattle.manifest_reader.specs.Laws as laws;
+ghost use Rattle.manifest_reader.specs.state.Laws as laws;
 
 /// A manifest is refused exactly with the fault of the first check of the table that it fails.
 pub fn first_check()

@@ -3,14 +3,17 @@
 ghost use Rattle.std.specs.Prelude.{◌≡◌, ◌≤◌, ◌<◌, ◌+◌, ◌++◌, false, length, map, option_map, bytes_eq, IfOk, OnOk};
 ghost use Rattle.std.specs.List.{list_any};
 ghost use Rattle.serde_json.specs.View.{view};
-ghost use Rattle.json_fields.specs.Reading.{each, GivesExactly};
+ghost use Rattle.json_fields.specs.rule.Reading.{each};
+ghost use Rattle.json_fields.specs.state.Reading.{GivesExactly};
 ghost use Rattle.manifest.specs.declared.pod.Role.TheVariants.{Sidecar};
-ghost use Rattle.manifest_fields.specs.GivesUnlessMemory.{GivesUnlessMemory};
-ghost use Rattle.manifest.specs.Containers.{has_twice, most_containers, MayHave, IsOf, AllOf};
-ghost use Rattle.manifest_reader.specs.Manifest.{policy_of, priority_from, priority_of, grace_period_from};
-ghost use Rattle.manifest_reader.specs.Manifest.{grace_period_of, field_of, sidecar_from, role_of, container_of, few};
-ghost use Rattle.manifest_reader.specs.Manifest.{apart, containers_of, app_items_of, containers_in, metadata_of};
-ghost use Rattle.manifest_reader.specs.Manifest.{settings_in, pod_at};
+ghost use Rattle.manifest_fields.specs.state.GivesUnlessMemory.{GivesUnlessMemory};
+ghost use Rattle.manifest.specs.rule.Containers.{has_twice, most_containers};
+ghost use Rattle.manifest.specs.state.Containers.{MayHave, IsOf, AllOf};
+ghost use Rattle.manifest_reader.specs.rule.Manifest.{policy_of, priority_from, priority_of, grace_period_from};
+ghost use Rattle.manifest_reader.specs.rule.Manifest.{grace_period_of, field_of, sidecar_from, role_of, container_of};
+ghost use Rattle.manifest_reader.specs.rule.Manifest.{few};
+ghost use Rattle.manifest_reader.specs.rule.Manifest.{apart, containers_of, app_items_of, containers_in, metadata_of};
+ghost use Rattle.manifest_reader.specs.rule.Manifest.{settings_in, pod_at};
 
 use json_fields::field;
 use manifest::{
@@ -106,7 +109,7 @@ fn role_of(place: Place, own_policy: Option<&Value>) -> Result<Role, ManifestFau
     }
 }
 
-#[tactic(auto, unfolding(crate::specs::Manifest::container_of))]
+#[tactic(auto, unfolding(crate::specs::rule::Manifest::container_of))]
 fn container_of(alloc: Global, place: Place, value: &Value) -> Result<ContainerSpec, ManifestFault>
     ensures gives { GivesUnlessMemory (λ c. c) result (container_of place (view value.now)) }
     ensures of { IfOk result (IsOf place) }
@@ -196,7 +199,7 @@ fn joined(
     Ok(all)
 }
 
-#[tactic(auto, unfolding(crate::specs::Manifest::containers_of))]
+#[tactic(auto, unfolding(crate::specs::rule::Manifest::containers_of))]
 fn containers_of(
     alloc: Global,
     init_items: &[Value],
@@ -214,7 +217,7 @@ fn containers_of(
 }
 
 /// The items of an array of app containers, of which there is at least one.
-#[tactic(auto, unfolding(crate::specs::Manifest::app_items_of))]
+#[tactic(auto, unfolding(crate::specs::rule::Manifest::app_items_of))]
 fn app_items_of(found: Option<&Value>) -> Result<&[Value], ManifestFault>
     ensures gives { GivesExactly (λ v. map view v.now) result
         (app_items_of (option_map (λ v. view v.now) found.entry)) }
@@ -224,7 +227,7 @@ fn app_items_of(found: Option<&Value>) -> Result<&[Value], ManifestFault>
     some_items(Field::Containers, listed)
 }
 
-#[tactic(auto, unfolding(crate::specs::Manifest::containers_in))]
+#[tactic(auto, unfolding(crate::specs::rule::Manifest::containers_in))]
 fn containers_in(alloc: Global, spec: &Value) -> Result<ContainerList, ManifestFault>
     ensures { GivesUnlessMemory (λ cs. cs) result (containers_in (view spec.now)) }
 {
@@ -240,7 +243,7 @@ struct Metadata {
     namespace: Text,
 }
 
-#[tactic(auto, unfolding(crate::specs::Manifest::metadata_of))]
+#[tactic(auto, unfolding(crate::specs::rule::Manifest::metadata_of))]
 fn metadata_of(alloc: Global, found: Option<&Value>) -> Result<Metadata, ManifestFault>
     ensures { GivesUnlessMemory (λ m. m) result (metadata_of (option_map (λ v. view v.now) found.entry)) }
 {
@@ -264,7 +267,7 @@ struct Settings {
     grace_period_seconds: GracePeriod,
 }
 
-#[tactic(auto, unfolding(crate::specs::Manifest::settings_in))]
+#[tactic(auto, unfolding(crate::specs::rule::Manifest::settings_in))]
 fn settings_in(spec: &Value) -> Result<Settings, ManifestFault>
     ensures { GivesExactly (λ s. s) result (settings_in (view spec.now)) }
 {
@@ -279,7 +282,7 @@ fn settings_in(spec: &Value) -> Result<Settings, ManifestFault>
 /// (`metadata`, its `name` and `namespace`, `spec`, its `restartPolicy`, `priority`,
 /// `terminationGracePeriodSeconds`, `initContainers` and `containers`; then each container);
 /// `OutOfMemory` where there is no memory for its texts. A pod keeps each range of the format by its types.
-#[tactic(auto, unfolding(crate::specs::Manifest::pod_at, crate::specs::Manifest::spec_of))]
+#[tactic(auto, unfolding(crate::specs::rule::Manifest::pod_at, crate::specs::rule::Manifest::spec_of))]
 pub fn read_pod(alloc: Global, value: &Value) -> Result<PodSpec, ManifestFault>
     ensures { GivesUnlessMemory (λ p. p) result (pod_at (view value.now)) }
 {

@@ -1,1 +1,2 @@
-pub mod EvictionConfig
+pub mod rule
+pub mod state

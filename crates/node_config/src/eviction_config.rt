@@ -1,8 +1,9 @@
 //! A node's thresholds for eviction, over its capacity.
 
 ghost use Rattle.std.specs.Prelude.{◌≡◌, IfSome};
-ghost use Rattle.signals.specs.BySignal.{of};
-ghost use Rattle.node_config.specs.EvictionConfig.{threshold_of, HasCapacity, HaveCapacities};
+ghost use Rattle.signals.specs.rule.BySignal.{of};
+ghost use Rattle.node_config.specs.rule.EvictionConfig.{threshold_of};
+ghost use Rattle.node_config.specs.state.EvictionConfig.{HasCapacity, HaveCapacities};
 
 use quantity::Quantity;
 use signals::{BySignal, Signal, Threshold, ThresholdKind};
@@ -19,7 +20,8 @@ pub struct EvictionConfig {
 }
 
 impl Model for EvictionConfig {
-    ghost use Rattle.node_config.specs.EvictionConfig.{EvictionConfig, HaveCapacities};
+    ghost use Rattle.node_config.specs.rule.EvictionConfig.{EvictionConfig};
+    ghost use Rattle.node_config.specs.state.EvictionConfig.{HaveCapacities};
 
     ghost Value = { EvictionConfig };
 

@@ -1,8 +1,9 @@
 //! A node's configuration.
 
 ghost use Rattle.std.specs.Prelude.{◌≡◌, IfSome};
-ghost use Rattle.signals.specs.BySignal.{of};
-ghost use Rattle.node_config.specs.EvictionConfig.{threshold_of, HasCapacity};
+ghost use Rattle.signals.specs.rule.BySignal.{of};
+ghost use Rattle.node_config.specs.rule.EvictionConfig.{threshold_of};
+ghost use Rattle.node_config.specs.state.EvictionConfig.{HasCapacity};
 
 use crate::eviction_config::EvictionConfig;
 use manifest::{MaxRestartDelay, Text};

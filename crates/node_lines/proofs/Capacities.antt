@@ -2,19 +2,19 @@
 use Rattle.std.proofs.Common.{◌≡◌, ◌∙◌, ℕ, Bool, true, false, Option, Some, None, Result, Ok, Err, refl, ap, sym, subst}
 use Rattle.std.specs.Prelude.{IfOk, if◌then◌else◌}
 use Rattle.serde_json.specs.Data.{Data}
-use Rattle.json_fields.specs.Reading.{◌>>=◌}
-use Rattle.quantity.specs.Limit.{HasItsCapacity}
+use Rattle.json_fields.specs.rule.Reading.{◌>>=◌}
+use Rattle.quantity.specs.state.Limit.{HasItsCapacity}
 use Rattle.quantity.specs.declared.limit.Limit.{Limit}
 use Rattle.quantity.specs.declared.limit.Limit.TheVariants.{Percent, Quantity}
-use Rattle.json_fields.specs.Quantities.{limit_in}
+use Rattle.json_fields.specs.rule.Quantities.{limit_in}
 use Rattle.json_fields.specs.declared.fault.FieldFault.{FieldFault}
-use Rattle.json_fields.specs.SignalMaps.{in_map}
+use Rattle.json_fields.specs.rule.SignalMaps.{in_map}
 use Rattle.signals.specs.declared.by_signal.BySignal.{BySignal}
-use Rattle.signals.specs.BySignal.{of}
+use Rattle.signals.specs.rule.BySignal.{of}
 use Rattle.node_lines.specs.declared.fault.NodeFault.{NodeFault}
-use Rattle.node_lines.specs.Limits.{is_off, with_capacity, limit_at, reclaim_at}
-use Rattle.node_lines.specs.Limits.{HaveTheirCapacity, ReclaimsHaveTheirCapacity}
-use Rattle.node_lines.specs.Maps.{or_config, map_of}
+use Rattle.node_lines.specs.rule.Limits.{is_off, with_capacity, limit_at, reclaim_at}
+use Rattle.node_lines.specs.state.Limits.{HaveTheirCapacity, ReclaimsHaveTheirCapacity}
+use Rattle.node_lines.specs.rule.Maps.{or_config, map_of}
 use Rattle.node_lines.proofs.LawLemmas.{map_read}
 
 has_it : (capacity : Option ℕ) (limit kept : Limit) → with_capacity capacity limit ≡ Ok kept

@@ -3,34 +3,34 @@ use Rattle.std.proofs.Common.{◌≡◌, ◌⊎◌, inl, inr, ℕ, false, List, 
 use Rattle.std.specs.Prelude.{option_and_then, codes}
 use Rattle.serde_json.specs.Data.{Data}
 use Rattle.serde_json.specs.Find.{as_bool, as_str}
-use Rattle.json_fields.specs.Fields.{field_at, text_at}
-use Rattle.json_fields.specs.Reading.{◌>>=◌, some_or}
+use Rattle.json_fields.specs.rule.Fields.{field_at, text_at}
+use Rattle.json_fields.specs.rule.Reading.{◌>>=◌, some_or}
 use Rattle.json_fields.proofs.Only.{Only, only_ok, only_err, only_bind, only_if, only_some}
 use Rattle.json_fields.proofs.Steps.{bind_err}
-use Rattle.manifest.specs.Names.{is_name}
-use Rattle.manifest.specs.RestartDelay.{most_max_delay, max_delay_of}
-use Rattle.quantity.specs.Duration.{duration_of}
+use Rattle.manifest.specs.rule.Names.{is_name}
+use Rattle.manifest.specs.rule.RestartDelay.{most_max_delay, max_delay_of}
+use Rattle.quantity.specs.rule.Duration.{duration_of}
 use Rattle.quantity.specs.declared.fault.QuantityFault.{QuantityFault}
 use Rattle.quantity.specs.declared.limit.Limit.{Limit}
 use Rattle.quantity.specs.declared.limit.Limit.TheVariants.{Quantity}
-use Rattle.json_fields.specs.Quantities.{quantity_in, limit_in}
+use Rattle.json_fields.specs.rule.Quantities.{quantity_in, limit_in}
 use Rattle.signals.specs.declared.by_signal.BySignal.{BySignal}
 use Rattle.signals.specs.declared.signal.Signal.{Signal}
-use Rattle.signals.specs.BySignal.{of}
+use Rattle.signals.specs.rule.BySignal.{of}
 use Rattle.node_config.specs.declared.node.Version.{Version}
 use Rattle.node_config.specs.declared.node.Version.TheVariants.{One, Two, Three}
 use Rattle.node_lines.specs.declared.eviction.Written.{Written}
 use Rattle.node_lines.specs.declared.fault.NodeFault.{NodeFault}
 use Rattle.node_lines.specs.declared.fault.NodeFault.TheVariants.{Config, SoftWithoutGrace}
-use Rattle.node_lines.specs.Laws.{held, LacksGrace, MissingGraceComesLast}
-use Rattle.node_lines.specs.Limits.{has_capacity, is_off, with_capacity, limit_at, reclaim_at, default_limits}
-use Rattle.node_lines.specs.Limits.{hard_limits}
-use Rattle.node_lines.specs.Maps.{map_of, or_config, duration_from, duration_at, quantity_at}
+use Rattle.node_lines.specs.state.Laws.{held, LacksGrace, MissingGraceComesLast}
+use Rattle.node_lines.specs.rule.Limits.{has_capacity, is_off, with_capacity, limit_at, reclaim_at, default_limits}
+use Rattle.node_lines.specs.rule.Limits.{hard_limits}
+use Rattle.node_lines.specs.rule.Maps.{map_of, or_config, duration_from, duration_at, quantity_at}
 use Rattle.json_fields.specs.declared.scope.Scope.TheVariants.{Node}
 use Rattle.json_fields.proofs.SignalMapRefused.{each_only, map_only, each_err}
-use Rattle.node_lines.specs.Node.{whole_number, version_named, version_of, name_from, restart_delay_of, flag_of}
-use Rattle.node_lines.specs.Node.{few_seconds, seconds_of, pause_of, until_gone_of, settings_in, node_of}
-use Rattle.node_lines.specs.Thresholds.{soft_threshold, written_over, written_in, soft_thresholds, eviction_from}
+use Rattle.node_lines.specs.rule.Node.{whole_number, version_named, version_of, name_from, restart_delay_of, flag_of}
+use Rattle.node_lines.specs.rule.Node.{few_seconds, seconds_of, pause_of, until_gone_of, settings_in, node_of}
+use Rattle.node_lines.specs.rule.Thresholds.{soft_threshold, written_over, written_in, soft_thresholds, eviction_from}
 use Rattle.node_lines.proofs.LawLemmas.{IsWritten, limit_read, in_read, soft_limit_of, grace_of}
 
 abbrev pub IsConfig : NodeFault → Type 0

@@ -4,38 +4,40 @@ use Rattle.std.proofs.Common.{sym, subst, ◌∙◌, ap}
 use Rattle.std.specs.Prelude.{option_and_then, unwrap_or, if◌then◌else◌, codes}
 use Rattle.serde_json.specs.Data.{Data}
 use Rattle.serde_json.specs.Find.{as_str}
-use Rattle.json_fields.specs.Fields.{field_at, text_at}
-use Rattle.json_fields.specs.Reading.{◌>>=◌}
+use Rattle.json_fields.specs.rule.Fields.{field_at, text_at}
+use Rattle.json_fields.specs.rule.Reading.{◌>>=◌}
 use Rattle.json_fields.proofs.Steps.{bind_ok}
 use Rattle.json_fields.proofs.Only.{same_value}
-use Rattle.quantity.specs.Duration.{duration_of}
+use Rattle.quantity.specs.rule.Duration.{duration_of}
 use Rattle.quantity.specs.declared.fault.QuantityFault.{QuantityFault}
 use Rattle.quantity.specs.declared.limit.Limit.{Limit}
 use Rattle.quantity.specs.declared.limit.Limit.TheVariants.{Quantity}
-use Rattle.json_fields.specs.Quantities.{limit_in}
+use Rattle.json_fields.specs.rule.Quantities.{limit_in}
 use Rattle.json_fields.specs.declared.fault.FieldFault.{FieldFault}
 use Rattle.signals.specs.declared.by_signal.BySignal.{BySignal}
 use Rattle.signals.specs.declared.signal.Signal.{Signal}
 use Rattle.signals.specs.declared.signal.Signal.TheVariants.{MemoryAvailable, NodefsAvailable, ImagefsAvailable}
 use Rattle.signals.specs.declared.signal.Signal.TheVariants.{NodefsInodesFree, ImagefsInodesFree, PidAvailable}
 use Rattle.signals.specs.declared.threshold.Threshold.{Threshold}
-use Rattle.signals.specs.BySignal.{of, for_each}
+use Rattle.signals.specs.rule.BySignal.{of, for_each}
 use Rattle.node_config.specs.declared.node.NodeConfig.{NodeConfig}
-use Rattle.node_config.specs.EvictionConfig.{EvictionConfig}
+use Rattle.node_config.specs.rule.EvictionConfig.{EvictionConfig}
 use Rattle.node_lines.specs.declared.eviction.Written.{Written}
 use Rattle.node_lines.specs.declared.fault.NodeFault.{NodeFault}
 use Rattle.node_lines.specs.declared.fault.NodeFault.TheVariants.{Config}
-use Rattle.node_lines.specs.Laws.{held, reclaim_written, SwitchesOff, DefaultsWhereNoneIsWritten, HardIsAsWritten}
-use Rattle.node_lines.specs.Laws.{SoftIsAsWritten, OffSetsNoHard, OffSetsNoSoft}
-use Rattle.node_lines.specs.Limits.{has_capacity, is_off, with_capacity, limit_at, reclaim_at, default_limit}
-use Rattle.node_lines.specs.Limits.{where_possible, default_limits, hard_limits}
-use Rattle.node_lines.specs.Maps.{map_of, or_config, duration_from, duration_at, quantity_at}
+use Rattle.node_lines.specs.state.Laws.{held, reclaim_written, SwitchesOff, DefaultsWhereNoneIsWritten}
+use Rattle.node_lines.specs.state.Laws.{HardIsAsWritten}
+use Rattle.node_lines.specs.state.Laws.{SoftIsAsWritten, OffSetsNoHard, OffSetsNoSoft}
+use Rattle.node_lines.specs.rule.Limits.{has_capacity, is_off, with_capacity, limit_at, reclaim_at, default_limit}
+use Rattle.node_lines.specs.rule.Limits.{where_possible, default_limits, hard_limits}
+use Rattle.node_lines.specs.rule.Maps.{map_of, or_config, duration_from, duration_at, quantity_at}
 use Rattle.json_fields.specs.declared.scope.Scope.TheVariants.{Node}
-use Rattle.json_fields.specs.SignalMaps.{in_map}
+use Rattle.json_fields.specs.rule.SignalMaps.{in_map}
 use Rattle.json_fields.proofs.EachSignal.{each_read, map_read as read_from_map}
-use Rattle.node_lines.specs.Node.{name_from, settings_in, node_of}
-use Rattle.node_lines.specs.Thresholds.{hard_threshold, soft_threshold, written_over, written_in, hard_thresholds}
-use Rattle.node_lines.specs.Thresholds.{soft_thresholds, eviction_from}
+use Rattle.node_lines.specs.rule.Node.{name_from, settings_in, node_of}
+use Rattle.node_lines.specs.rule.Thresholds.{hard_threshold, soft_threshold, written_over, written_in}
+use Rattle.node_lines.specs.rule.Thresholds.{hard_thresholds}
+use Rattle.node_lines.specs.rule.Thresholds.{soft_thresholds, eviction_from}
 
 pub map_read : {A : Type 0} (read : Signal → Option Data → Result A NodeFault) (found : Option Data) (all : BySignal A)
     → map_of read found ≡ Ok all → (signal : Signal) → read signal (in_map found signal) ≡ Ok (of all signal)

@@ -5,26 +5,26 @@ use Rattle.std.specs.Prelude.{◌==◌, ◌||◌, option_and_then, if◌then◌e
 use Rattle.std.proofs.lemmas.Bool.{cases_Bool, or_cases, eqb-true}
 use Rattle.std.proofs.lemmas.Option.{same_Some}
 use Rattle.serde_json.specs.Data.{Data}
-use Rattle.json_fields.specs.Fields.{field_at}
-use Rattle.json_fields.specs.Reading.{◌>>=◌}
+use Rattle.json_fields.specs.rule.Fields.{field_at}
+use Rattle.json_fields.specs.rule.Reading.{◌>>=◌}
 use Rattle.quantity.specs.declared.limit.Limit.{Limit}
 use Rattle.quantity.specs.declared.limit.Limit.TheVariants.{Percent, Quantity}
-use Rattle.json_fields.specs.Quantities.{limit_in}
+use Rattle.json_fields.specs.rule.Quantities.{limit_in}
 use Rattle.json_fields.specs.declared.fault.FieldFault.{FieldFault}
 use Rattle.signals.specs.declared.signal.Signal.{Signal}
 use Rattle.signals.specs.declared.threshold.Threshold.{Threshold}
 use Rattle.signals.specs.declared.threshold.ThresholdKind.TheVariants.{Hard, Soft}
-use Rattle.signals.specs.BySignal.{of}
+use Rattle.signals.specs.rule.BySignal.{of}
 use Rattle.node_config.specs.declared.node.NodeConfig.{NodeConfig}
-use Rattle.node_config.specs.EvictionConfig.{threshold_of}
+use Rattle.node_config.specs.rule.EvictionConfig.{threshold_of}
 use Rattle.node_lines.specs.declared.fault.NodeFault.{NodeFault}
 use Rattle.node_lines.specs.declared.fault.NodeFault.TheVariants.{Config}
-use Rattle.node_lines.specs.Laws.{held, grace_written, SwitchesOff, SetsThreshold, threshold_with, IsDefault}
-use Rattle.node_lines.specs.Laws.{EveryLimitSetsItsThreshold, EveryThresholdHasItsLimit}
-use Rattle.node_lines.specs.Limits.{has_capacity, is_off, with_capacity, limit_at}
-use Rattle.node_lines.specs.Maps.{or_config}
-use Rattle.node_lines.specs.Node.{node_of}
-use Rattle.node_lines.specs.Thresholds.{hard_threshold, soft_threshold}
+use Rattle.node_lines.specs.state.Laws.{held, grace_written, SwitchesOff, SetsThreshold, threshold_with, IsDefault}
+use Rattle.node_lines.specs.state.Laws.{EveryLimitSetsItsThreshold, EveryThresholdHasItsLimit}
+use Rattle.node_lines.specs.rule.Limits.{has_capacity, is_off, with_capacity, limit_at}
+use Rattle.node_lines.specs.rule.Maps.{or_config}
+use Rattle.node_lines.specs.rule.Node.{node_of}
+use Rattle.node_lines.specs.rule.Thresholds.{hard_threshold, soft_threshold}
 use Rattle.node_lines.proofs.LawLemmas.{off_is, grace_read, node_read, hard_made, soft_made, hard_of, soft_of}
 use Rattle.node_lines.proofs.LawLemmas.{reclaim_of, soft_limit_of, grace_of, hard_limit_of, stands}
 use Rattle.node_lines.proofs.LawLemmas.{defaults, hard_as_written, soft_as_written}

@@ -2,14 +2,14 @@
 use Rattle.std.proofs.Common.{◌≡◌, ℕ, Option, Result, Ok, Err, refl}
 use Rattle.std.specs.Prelude.{codes}
 use Rattle.serde_json.specs.Data.{Data}
-use Rattle.json_fields.specs.Fields.{field_at}
+use Rattle.json_fields.specs.rule.Fields.{field_at}
 use Rattle.quantity.specs.declared.limit.Limit.{Limit}
 use Rattle.signals.specs.declared.by_signal.BySignal.{BySignal}
-use Rattle.signals.specs.BySignal.{of}
+use Rattle.signals.specs.rule.BySignal.{of}
 use Rattle.node_lines.specs.declared.fault.NodeFault.{NodeFault}
-use Rattle.node_lines.specs.Limits.{hard_limits, limit_at, reclaim_at}
-use Rattle.node_lines.specs.Maps.{map_of, duration_at}
-use Rattle.node_lines.specs.Thresholds.{written_over}
+use Rattle.node_lines.specs.rule.Limits.{hard_limits, limit_at, reclaim_at}
+use Rattle.node_lines.specs.rule.Maps.{map_of, duration_at}
+use Rattle.node_lines.specs.rule.Thresholds.{written_over}
 
 -- the maps before the reclaims
 pub record AreRead (capacity : BySignal (Option ℕ)) (d : Data) (hard soft : BySignal (Option Limit))

@@ -1,6 +1,2 @@
-pub mod GivesUnlessMemory
-pub mod Laws
-pub mod Limits
-pub mod Maps
-pub mod Node
-pub mod Thresholds
+pub mod rule
+pub mod state

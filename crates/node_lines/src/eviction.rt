@@ -3,8 +3,10 @@
 ghost use Rattle.std.specs.Prelude.{◌≡◌, ◌≤◌, Some, option_map, IfOk};
 ghost use Rattle.serde_json.specs.View.{view};
 ghost use Rattle.quantity.specs.declared.limit.Limit.TheVariants.{Percent as PercentLimit};
-ghost use Rattle.node_lines.specs.Limits.{where_possible, default_limits, hard_limits, HaveTheirCapacity};
-ghost use Rattle.node_lines.specs.Thresholds.{written_over, written_in, eviction_from, HasCapacities};
+ghost use Rattle.node_lines.specs.rule.Limits.{where_possible, default_limits, hard_limits};
+ghost use Rattle.node_lines.specs.state.Limits.{HaveTheirCapacity};
+ghost use Rattle.node_lines.specs.rule.Thresholds.{written_over, written_in, eviction_from};
+ghost use Rattle.node_lines.specs.state.Thresholds.{HasCapacities};
 
 use crate::fault::NodeFault;
 use crate::maps::{durations, limits, quantities, reclaims};
@@ -67,7 +69,7 @@ fn hard_limits(
     }
 }
 
-#[tactic(auto, unfolding(crate::specs::Thresholds::written_over))]
+#[tactic(auto, unfolding(crate::specs::rule::Thresholds::written_over))]
 fn written_over(capacity: &BySignal<Option<Quantity>>, node: &Value) -> Result<Written, NodeFault>
     ensures gives { result ≡ written_over capacity.now (view node.now) }
     ensures capacities { IfOk result HasCapacities }
@@ -85,7 +87,7 @@ fn written_over(capacity: &BySignal<Option<Quantity>>, node: &Value) -> Result<W
     })
 }
 
-#[tactic(auto, unfolding(crate::specs::Thresholds::written_in))]
+#[tactic(auto, unfolding(crate::specs::rule::Thresholds::written_in))]
 pub(crate) fn written_in(node: &Value) -> Result<Written, NodeFault>
     ensures gives { result ≡ written_in (view node.now) }
     ensures capacities { IfOk result HasCapacities }

@@ -1,7 +1,7 @@
 //! Why a node line was refused.
 
 ghost use Rattle.std.specs.Prelude.{◌≡◌};
-ghost use Rattle.node_lines.specs.Maps.{or_config};
+ghost use Rattle.node_lines.specs.rule.Maps.{or_config};
 
 use thiserror::Error;
 

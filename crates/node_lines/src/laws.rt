@@ -1,7 +1,7 @@
 //! What is true of every node line. The functions do nothing; their contracts are
 //! the laws.
 
-ghost use Rattle.node_lines.specs.Laws as laws;
+ghost use Rattle.node_lines.specs.state.Laws as laws;
 
 /// The default thresholds stand where no `evictionHard` does.
 pub fn defaults_where_none_is_written()

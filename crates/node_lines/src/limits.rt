@@ -1,7 +1,7 @@
 //! Limits and reclaims, as a map writes them of one signal.
 
 ghost use Rattle.std.specs.Prelude.{◌≡◌, option_map};
-ghost use Rattle.node_lines.specs.Limits.{is_off, with_capacity, limit_at, reclaim_at};
+ghost use Rattle.node_lines.specs.rule.Limits.{is_off, with_capacity, limit_at, reclaim_at};
 
 use crate::fault::{NodeFault, or_config};
 use json_fields::{Json, limit_in};

@@ -2,10 +2,11 @@
 
 ghost use Rattle.std.specs.Prelude.{◌≡◌, option_map, IfOk};
 ghost use Rattle.serde_json.specs.View.{view};
-ghost use Rattle.node_lines.specs.Limits.{limit_at, reclaim_at, limits_in, reclaims_in, HaveTheirCapacity};
-ghost use Rattle.node_lines.specs.Limits.{ReclaimsHaveTheirCapacity};
-ghost use Rattle.node_lines.specs.Maps.{map_of, quantity_at, duration_at};
-ghost use Rattle.signals.specs.BySignal.{of};
+ghost use Rattle.node_lines.specs.rule.Limits.{limit_at, reclaim_at, limits_in, reclaims_in};
+ghost use Rattle.node_lines.specs.state.Limits.{HaveTheirCapacity};
+ghost use Rattle.node_lines.specs.state.Limits.{ReclaimsHaveTheirCapacity};
+ghost use Rattle.node_lines.specs.rule.Maps.{map_of, quantity_at, duration_at};
+ghost use Rattle.signals.specs.rule.BySignal.{of};
 
 use crate::fault::{NodeFault, or_config};
 use crate::limits::{limit_at, reclaim_at};

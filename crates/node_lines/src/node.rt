@@ -2,10 +2,10 @@
 
 ghost use Rattle.std.specs.Prelude.{◌≡◌, option_map};
 ghost use Rattle.serde_json.specs.View.{view};
-ghost use Rattle.json_fields.specs.Reading.{GivesExactly};
-ghost use Rattle.node_lines.specs.GivesUnlessMemory.{GivesUnlessMemory};
-ghost use Rattle.node_lines.specs.Node.{version_of, name_from, restart_delay_of, flag_of, seconds_of};
-ghost use Rattle.node_lines.specs.Node.{or_default, pause_of, until_gone_of, settings_in, node_of};
+ghost use Rattle.json_fields.specs.state.Reading.{GivesExactly};
+ghost use Rattle.node_lines.specs.state.GivesUnlessMemory.{GivesUnlessMemory};
+ghost use Rattle.node_lines.specs.rule.Node.{version_of, name_from, restart_delay_of, flag_of, seconds_of};
+ghost use Rattle.node_lines.specs.rule.Node.{or_default, pause_of, until_gone_of, settings_in, node_of};
 
 use crate::eviction::{eviction_from, written_in};
 use crate::fault::NodeFault;
@@ -128,7 +128,7 @@ fn until_gone(version: Version, found: Option<&Value>) -> Result<bool, NodeFault
     }
 }
 
-#[tactic(auto, unfolding(crate::specs::Node::settings_in))]
+#[tactic(auto, unfolding(crate::specs::rule::Node::settings_in))]
 fn settings_in(node: &Value) -> Result<Settings, NodeFault>
     ensures { result ≡ settings_in (view node.now) }
 {
@@ -154,7 +154,7 @@ fn settings_in(node: &Value) -> Result<Settings, NodeFault>
 /// `SoftWithoutGrace` where none is and a soft threshold has no grace period; `OutOfMemory` where
 /// there is no memory for the name. (Kubernetes, "Node-pressure Eviction"; "Kubelet
 /// Configuration".)
-#[tactic(auto, unfolding(crate::specs::Node::node_of))]
+#[tactic(auto, unfolding(crate::specs::rule::Node::node_of))]
 pub fn node_of(alloc: Global, node: &Value) -> Result<NodeConfig, NodeFault>
     ensures { GivesUnlessMemory (λ n. n) result (node_of (view node.now)) }
 {

@@ -1,8 +1,10 @@
 //! The thresholds that a node line sets.
 
 ghost use Rattle.std.specs.Prelude.{◌≡◌, IfOk, IfSome};
-ghost use Rattle.node_lines.specs.Thresholds.{hard_threshold_of, soft_threshold_of, IsBuiltFor};
-ghost use Rattle.node_lines.specs.Thresholds.{hard_thresholds, soft_thresholds, AreBuiltOf};
+ghost use Rattle.node_lines.specs.rule.Thresholds.{hard_threshold_of, soft_threshold_of};
+ghost use Rattle.node_lines.specs.state.Thresholds.{IsBuiltFor};
+ghost use Rattle.node_lines.specs.rule.Thresholds.{hard_thresholds, soft_thresholds};
+ghost use Rattle.node_lines.specs.state.Thresholds.{AreBuiltOf};
 
 use crate::eviction::Written;
 use crate::fault::NodeFault;
@@ -53,7 +55,7 @@ pub(crate) fn hard_thresholds(written: &Written) -> BySignal<Option<Threshold>>
     }
 }
 
-#[tactic(auto, unfolding(json_fields::specs::SignalMaps::read_each))]
+#[tactic(auto, unfolding(json_fields::specs::rule::SignalMaps::read_each))]
 pub(crate) fn soft_thresholds(written: &Written) -> Result<BySignal<Option<Threshold>>, NodeFault>
     ensures gives { result ≡ soft_thresholds written.now }
     ensures built { IfOk result (AreBuiltOf written.now.soft written.now.reclaims) }

@@ -4,20 +4,20 @@ use Rattle.std.proofs.Common.{Some, None, refl, ap, sym, subst, arith}
 use Rattle.std.specs.Prelude.{IsSome, slice_get}
 use Rattle.std.proofs.lemmas.Bool.{cases_eq, cases_lt}
 use Rattle.std.proofs.lemmas.Option.{slice_get_read, slice_get_within}
-use Rattle.histories.specs.Histories.{last_moment}
+use Rattle.histories.specs.rule.Histories.{last_moment}
 use Rattle.histories.proofs.Lists.{some_given}
 use Rattle.signals.specs.declared.signal.Signal.{Signal}
-use Rattle.phase.specs.RawPhase.{IsTerminal}
+use Rattle.phase.specs.rule.RawPhase.{IsTerminal}
 use Rattle.phase.proofs.DecideLemmas.{terminal_cases}
 use Rattle.pod_piece.specs.declared.status.PodStatus.{PodStatus}
-use Rattle.pod_piece.specs.Piece.{Piece, with_eviction}
-use Rattle.pod_piece.specs.Status.{IsStatusOf}
-use Rattle.ranking.specs.Order.{IsVictim}
-use Rattle.ranking.specs.Index.{AreHeldAfter}
+use Rattle.pod_piece.specs.state.Piece.{Piece, with_eviction}
+use Rattle.pod_piece.specs.state.Status.{IsStatusOf}
+use Rattle.ranking.specs.rule.Order.{IsVictim}
+use Rattle.ranking.specs.state.Index.{AreHeldAfter}
 use Rattle.ranking.proofs.LawLemmas.{RankAlike, before_alike}
-use Rattle.node_pods.specs.Laws.{AreAlike, EvictedIsNoCandidate}
-use Rattle.node_pods.specs.Pods.{Pods, IsCandidate}
-use Rattle.node_pods.specs.Ranked.{IsHeldAt, AreHeld, AreHeldBelow, IsRanked}
+use Rattle.node_pods.specs.state.Laws.{AreAlike, EvictedIsNoCandidate}
+use Rattle.node_pods.specs.state.Pods.{Pods, IsCandidate}
+use Rattle.node_pods.specs.state.Ranked.{IsHeldAt, AreHeld, AreHeldBelow, IsRanked}
 use Rattle.node_pods.proofs.Statuses.{alike, rank_alike, evicted_ended}
 
 -- a place has one piece

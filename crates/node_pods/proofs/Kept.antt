@@ -6,22 +6,22 @@ use Rattle.std.specs.Option.{option_flatten}
 use Rattle.std.proofs.lemmas.Bool.{cases_eq, cases_lt, cases_order}
 use Rattle.std.proofs.lemmas.List.{length-map}
 use Rattle.std.proofs.lemmas.Option.{slice_get_within, slice_get_past, slice_get-map}
-use Rattle.histories.specs.Histories.{last_moment}
+use Rattle.histories.specs.rule.Histories.{last_moment}
 use Rattle.histories.proofs.Moments.{last_moment-more}
 use Rattle.histories.proofs.Places.{length-more}
 use Rattle.histories.proofs.Lists.{slice_get-old, slice_get-new, given_at}
 use Rattle.manifest.specs.declared.pod.PodSpec.{PodSpec}
-use Rattle.observations.specs.Pods.{PodObs}
+use Rattle.observations.specs.rule.Pods.{PodObs}
 use Rattle.observations.specs.declared.tick.TickObs.{TickObs}
-use Rattle.observations.specs.Observations.{shown_of}
-use Rattle.pod_state.specs.Pods.{pod_tick}
+use Rattle.observations.specs.rule.Observations.{shown_of}
+use Rattle.pod_state.specs.rule.Pods.{pod_tick}
 use Rattle.pod_piece.specs.declared.order.EvictOrder.{EvictOrder}
-use Rattle.pod_piece.specs.Piece.{Piece, new_piece, all_updated, at_rest, with_eviction}
+use Rattle.pod_piece.specs.state.Piece.{Piece, new_piece, all_updated, at_rest, with_eviction}
 use Rattle.pod_piece.proofs.Waiting.{ticks_free}
-use Rattle.node_pods.specs.Pods.{pods_of, IsNumbered, AreNumbered, IsPlaced, ArePlaced, MayBeHanded, handed_one}
-use Rattle.node_pods.specs.Pods.{sent_from, staying, after_tick, AreAfter, awaited, joined, AreEvicted}
-use Rattle.node_pods.specs.Laws.{CandidateIsShown}
-use Rattle.node_pods.specs.Steps.{AreFree, AreHandedBelow}
+use Rattle.node_pods.specs.state.Pods.{pods_of, IsNumbered, AreNumbered, IsPlaced, ArePlaced, MayBeHanded, handed_one}
+use Rattle.node_pods.specs.state.Pods.{sent_from, staying, after_tick, AreAfter, awaited, joined, AreEvicted}
+use Rattle.node_pods.specs.state.Laws.{CandidateIsShown}
+use Rattle.node_pods.specs.state.Steps.{AreFree, AreHandedBelow}
 use Rattle.node_pods.proofs.Candidates.{same_piece}
 use Rattle.node_pods.proofs.Steps.{shown_at, joined_updated}
 

@@ -4,10 +4,10 @@ use Rattle.std.proofs.Common.{Some, None, refl, ap, sym, arith}
 use Rattle.std.specs.Prelude.{slice_get, nat_lt, if◌then◌else◌}
 use Rattle.std.specs.List.{filter_map}
 use Rattle.std.proofs.lemmas.Bool.{ltb-true, lt-ltb}
-use Rattle.observations.specs.Pods.{PodObs}
-use Rattle.pod_state.specs.Pods.{pod_tick}
-use Rattle.pod_piece.specs.Piece.{Piece, with_tick, with_number}
-use Rattle.node_pods.specs.Pods.{waits, sent_from, handed_each}
+use Rattle.observations.specs.rule.Pods.{PodObs}
+use Rattle.pod_state.specs.rule.Pods.{pod_tick}
+use Rattle.pod_piece.specs.state.Piece.{Piece, with_tick, with_number}
+use Rattle.node_pods.specs.state.Pods.{waits, sent_from, handed_each}
 
 -- which of the pieces it was; its number is its place among those that go out
 pub record IsSent (k : ℕ) (pieces : List Piece) (i : ℕ) (q : Piece) : Type 0 where

@@ -2,21 +2,21 @@
 use Rattle.std.proofs.Common.{◌≡◌, ◌∙◌, inr, ℕ, suc, ◌-◌, ◌<◌, List, [], length, Option}
 use Rattle.std.proofs.Common.{Some, None, sym, subst, arith}
 use Rattle.std.proofs.lemmas.List.{take_all}
-use Rattle.histories.specs.Histories.{last_moment, up_to, HoldsAt}
+use Rattle.histories.specs.rule.Histories.{last_moment, up_to, HoldsAt}
 use Rattle.histories.proofs.Places.{moment_at-below}
 use Rattle.manifest.specs.declared.pod.PodSpec.{PodSpec}
 use Rattle.observations.specs.declared.usage.Usage.{Usage}
-use Rattle.phase.specs.RawPhase.{IsTerminal}
-use Rattle.pod_state.specs.Pods.{PodTick, EndsPod, IsPhase}
+use Rattle.phase.specs.rule.RawPhase.{IsTerminal}
+use Rattle.pod_state.specs.rule.Pods.{PodTick, EndsPod, IsPhase}
 use Rattle.pod_state.proofs.EndLemmas.{IsPhase-unique, end_terminal, ended_is}
 use Rattle.pod_piece.specs.declared.order.EvictOrder.{EvictOrder}
 use Rattle.pod_piece.specs.declared.status.PodStatus.{PodStatus}
-use Rattle.pod_piece.specs.Piece.{Piece, ticks, evicted_at, Lives, new_piece, with_eviction}
-use Rattle.pod_piece.specs.Status.{IsStatusOf}
+use Rattle.pod_piece.specs.state.Piece.{Piece, ticks, evicted_at, Lives, new_piece, with_eviction}
+use Rattle.pod_piece.specs.state.Status.{IsStatusOf}
 use Rattle.pod_piece.proofs.Waiting.{ticks_free}
 use Rattle.pod_piece.proofs.UsageLemmas.{one_usage}
 use Rattle.ranking.proofs.LawLemmas.{RankAlike}
-use Rattle.node_pods.specs.Laws.{AreAlike}
+use Rattle.node_pods.specs.state.Laws.{AreAlike}
 
 abbrev made : (memory volumes logs writable inodes pids : Option ℕ) → Usage
 made memory volumes logs writable inodes pids =

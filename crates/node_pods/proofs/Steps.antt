@@ -8,16 +8,16 @@ use Rattle.std.specs.Option.{option_to_list, option_flatten}
 use Rattle.std.proofs.lemmas.Bool.{cases_eq, cases_lt, lt-ltb}
 use Rattle.std.proofs.lemmas.Option.{slice_get_within}
 use Rattle.histories.proofs.Lists.{given_at, same_at, set_length, set_here, set_others}
-use Rattle.observations.specs.Pods.{PodObs}
+use Rattle.observations.specs.rule.Pods.{PodObs}
 use Rattle.observations.specs.declared.tick.TickObs.{TickObs}
-use Rattle.observations.specs.Observations.{shown_of}
+use Rattle.observations.specs.rule.Observations.{shown_of}
 use Rattle.pod_piece.specs.declared.order.EvictOrder.{EvictOrder}
-use Rattle.pod_piece.specs.Piece.{Piece, all_updated, with_eviction, with_number}
-use Rattle.node_pods.specs.Pods.{Pods, AreNext, Fits, with_shown, handed_one, handed_each, waits}
-use Rattle.node_pods.specs.Pods.{sent_from, staying, joined_from, after_one, after_each, closed, AreAfter}
-use Rattle.node_pods.specs.Pods.{AreEvicted}
-use Rattle.node_pods.specs.Steps.{IsShownNext, IsNextAt, AreNextBelow, MayTake, IsChangedAt, AreChangedBelow}
-use Rattle.node_pods.specs.Laws.{OneIsAfter, OneIsEvicted}
+use Rattle.pod_piece.specs.state.Piece.{Piece, all_updated, with_eviction, with_number}
+use Rattle.node_pods.specs.state.Pods.{Pods, AreNext, Fits, with_shown, handed_one, handed_each, waits}
+use Rattle.node_pods.specs.state.Pods.{sent_from, staying, joined_from, after_one, after_each, closed, AreAfter}
+use Rattle.node_pods.specs.state.Pods.{AreEvicted}
+use Rattle.node_pods.specs.state.Steps.{IsShownNext, IsNextAt, AreNextBelow, MayTake, IsChangedAt, AreChangedBelow}
+use Rattle.node_pods.specs.state.Laws.{OneIsAfter, OneIsEvicted}
 use Rattle.node_pods.proofs.Candidates.{same_piece}
 
 -- the pieces, as f makes them of what is shown

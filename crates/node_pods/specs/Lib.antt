@@ -1,4 +1,1 @@
-pub mod Pods
-pub mod Steps
-pub mod Ranked
-pub mod Laws
+pub mod state

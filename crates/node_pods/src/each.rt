@@ -2,15 +2,16 @@
 
 ghost use Rattle.std.specs.Prelude.{◌≡◌, ◌↔◌, ℕ, ◌<◌, ◌++◌, ◌∷◌, [], length, map, slice_get, Option, Some, None};
 ghost use Rattle.std.specs.Prelude.{IsTrue, IfSome, IfOk, OnOk, OnErr, option_map, option_to_list};
-ghost use Rattle.histories.specs.Histories.{last_moment, EndsBefore};
+ghost use Rattle.histories.specs.rule.Histories.{last_moment};
+ghost use Rattle.histories.specs.state.Histories.{EndsBefore};
 ghost use Rattle.pod_piece.specs.declared.status.PodStatus.{PodStatus};
-ghost use Rattle.pod_piece.specs.Piece.{Piece, at_rest, with_number};
-ghost use Rattle.node_pods.specs.Pods.{AreNext, handed_one, handed_each, sent_from, staying, joined_from};
-ghost use Rattle.node_pods.specs.Pods.{IsEvictable, AreEvicted};
-ghost use Rattle.node_pods.specs.Steps.{AreFree, IsShownNext, IsNextAt, AreNextBelow, MayTake, IsChangedAt};
-ghost use Rattle.node_pods.specs.Steps.{AreHandedBelow};
-ghost use Rattle.node_pods.specs.Ranked.{IsRanked, AreHeldBelow};
-ghost use Rattle.ranking.specs.Index.{IsIndexOf};
+ghost use Rattle.pod_piece.specs.state.Piece.{Piece, at_rest, with_number};
+ghost use Rattle.node_pods.specs.state.Pods.{AreNext, handed_one, handed_each, sent_from, staying, joined_from};
+ghost use Rattle.node_pods.specs.state.Pods.{IsEvictable, AreEvicted};
+ghost use Rattle.node_pods.specs.state.Steps.{AreFree, IsShownNext, IsNextAt, AreNextBelow, MayTake, IsChangedAt};
+ghost use Rattle.node_pods.specs.state.Steps.{AreHandedBelow};
+ghost use Rattle.node_pods.specs.state.Ranked.{IsRanked, AreHeldBelow};
+ghost use Rattle.ranking.specs.state.Index.{IsIndexOf};
 
 use observations::PodObs;
 use pod_piece::{EvictOrder, PodPiece};

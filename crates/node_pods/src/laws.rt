@@ -1,6 +1,6 @@
 //! What is true of the pods of every node. The functions do nothing; their contracts are the laws.
 
-ghost use Rattle.node_pods.specs.Laws as laws;
+ghost use Rattle.node_pods.specs.state.Laws as laws;
 
 /// All statuses of a candidate are one in what ranks it, and so there is one victim at most.
 pub fn candidates_are_alike()

@@ -1,11 +1,12 @@
 //! The pods of a node.
 
 ghost use Rattle.std.specs.Prelude.{◌≡◌, ◌↔◌, [], length, map, IsTrue, IfOk, OnOk, OnErr};
-ghost use Rattle.pod_piece.specs.Piece.{all_updated, at_rest};
-ghost use Rattle.ranking.specs.Order.{IsVictim};
-ghost use Rattle.node_pods.specs.Pods.{pods_of, with_pod, AreNumbered, ArePlaced, IsCandidate, AreNext, Fits};
-ghost use Rattle.node_pods.specs.Pods.{handed_each, sent_from, staying, awaited, joined, IsEvictable, AreEvicted};
-ghost use Rattle.node_pods.specs.Steps.{AreFree};
+ghost use Rattle.pod_piece.specs.state.Piece.{all_updated, at_rest};
+ghost use Rattle.ranking.specs.rule.Order.{IsVictim};
+ghost use Rattle.node_pods.specs.state.Pods.{pods_of, with_pod, AreNumbered, ArePlaced, IsCandidate, AreNext, Fits};
+ghost use Rattle.node_pods.specs.state.Pods.{handed_each, sent_from, staying, awaited, joined, IsEvictable};
+ghost use Rattle.node_pods.specs.state.Pods.{AreEvicted};
+ghost use Rattle.node_pods.specs.state.Steps.{AreFree};
 
 use crate::each::{all_joined, all_sent, are_next, evict_at, hand_all, rank_all, rest_all};
 use manifest::{MaxRestartDelay, PodSpec};
@@ -27,7 +28,7 @@ pub struct NodePods {
 }
 
 impl Model for NodePods {
-    ghost use Rattle.node_pods.specs.Pods.{Pods, pods_of, ArePlaced};
+    ghost use Rattle.node_pods.specs.state.Pods.{Pods, pods_of, ArePlaced};
 
     ghost Value = { Pods };
 
@@ -137,7 +138,7 @@ pub struct OpenPods {
 }
 
 impl Model for OpenPods {
-    ghost use Rattle.node_pods.specs.Pods.{Pods, pods_of, AreNumbered};
+    ghost use Rattle.node_pods.specs.state.Pods.{Pods, pods_of, AreNumbered};
 
     ghost Value = { Pods };
 
@@ -222,7 +223,7 @@ pub struct AwaitedPods {
 }
 
 impl Model for AwaitedPods {
-    ghost use Rattle.node_pods.specs.Pods.{Awaited, awaited};
+    ghost use Rattle.node_pods.specs.state.Pods.{Awaited, awaited};
 
     ghost Value = { Awaited };
 

@@ -11,19 +11,19 @@ use Rattle.node_config.specs.declared.node.NodeConfig.{NodeConfig}
 use Rattle.observations.specs.declared.tick.TickObs.{TickObs}
 use Rattle.qos.proofs.ClassLemmas.{some_class}
 use Rattle.node_signals.specs.declared.condition.NodeCondition.{NodeCondition}
-use Rattle.node_signals.specs.Conditions.{conditions}
+use Rattle.node_signals.specs.rule.Conditions.{conditions}
 use Rattle.node_signals.proofs.Exists.{some_condition}
 use Rattle.pod_state.proofs.FoundLemmas.{some_status}
 use Rattle.eviction.specs.declared.eviction.Eviction.{Eviction}
-use Rattle.eviction.specs.Replay.{pod_ticks}
+use Rattle.eviction.specs.rule.Replay.{pod_ticks}
 use Rattle.eviction.proofs.Exists.{some_replay}
-use Rattle.event_list.specs.Totals.{totals_of}
+use Rattle.event_list.specs.rule.Totals.{totals_of}
 use Rattle.event_list.proofs.Exists.{some_list_of_events}
 use Rattle.tick_round.specs.declared.summary.ConditionStatus.{ConditionStatus}
-use Rattle.tick_round.specs.Summary.{IsConditionAfter, AreConditionsAfter}
-use Rattle.node_report.specs.Laws.{SomeReport}
-use Rattle.node_report.specs.Lines.{pod_text, report_lines}
-use Rattle.node_report.specs.Report.{evicting_tick, evicting_order, ArePodLines, AreLines}
+use Rattle.tick_round.specs.rule.Summary.{IsConditionAfter, AreConditionsAfter}
+use Rattle.node_report.specs.state.Laws.{SomeReport}
+use Rattle.node_report.specs.rule.Lines.{pod_text, report_lines}
+use Rattle.node_report.specs.rule.Report.{evicting_tick, evicting_order, ArePodLines, AreLines}
 
 -- the lines of a pod
 some_pod_lines : (ticks : List TickObs) (evictions : List (Option Eviction)) (n : ℕ) (pod : PodSpec)

@@ -7,7 +7,7 @@ use Rattle.observations.specs.declared.tick.TickObs.{TickObs}
 use Rattle.eviction.specs.declared.eviction.Eviction.{Eviction}
 use Rattle.std.specs.List.{concat}
 use Rattle.std.proofs.lemmas.List.Folds.{concat-append}
-use Rattle.node_report.specs.Report.{ArePodLines, AreLines}
+use Rattle.node_report.specs.rule.Report.{ArePodLines, AreLines}
 use Rattle.histories.proofs.Items.{pushed_each}
 
 pub four_parts : (s p q r t a b c d : List ℕ) → p ≡ s ++ a → q ≡ p ++ b → r ≡ q ++ c → t ≡ r ++ d

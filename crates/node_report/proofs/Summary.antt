@@ -4,13 +4,13 @@ use Rattle.std.specs.List.{flat_map}
 use Rattle.manifest.specs.declared.pod.PodSpec.{PodSpec}
 use Rattle.node_config.specs.declared.node.NodeConfig.{NodeConfig}
 use Rattle.observations.specs.declared.tick.TickObs.{TickObs}
-use Rattle.pod_piece.specs.Piece.{Piece, pods_in}
-use Rattle.event_list.specs.Text.{event_line}
+use Rattle.pod_piece.specs.state.Piece.{Piece, pods_in}
+use Rattle.event_list.specs.rule.Text.{event_line}
 use Rattle.tick_round.specs.declared.summary.Summary.{Summary}
-use Rattle.tick_round.specs.Summary.{IsSummary}
+use Rattle.tick_round.specs.state.Summary.{IsSummary}
 use Rattle.tick_round.proofs.Candidates.{pods_are}
-use Rattle.node_report.specs.Lines.{header_line, node_condition_line, eviction_text, totals_line}
-use Rattle.node_report.specs.Report.{AreLines, IsReport}
+use Rattle.node_report.specs.rule.Lines.{header_line, node_condition_line, eviction_text, totals_line}
+use Rattle.node_report.specs.rule.Report.{AreLines, IsReport}
 use Rattle.node_report.proofs.Parts.{six_parts}
 
 pub report_is : (config : NodeConfig) (pods : List PodSpec) (ticks : List TickObs) (s : Summary)

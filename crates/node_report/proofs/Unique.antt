@@ -10,26 +10,26 @@ use Rattle.node_config.specs.declared.node.NodeConfig.{NodeConfig}
 use Rattle.observations.specs.declared.tick.TickObs.{TickObs}
 use Rattle.qos.specs.declared.class.Qos.{Qos}
 use Rattle.qos.proofs.ClassLemmas.{one_class}
-use Rattle.pressure.specs.Pressures.{Observation, IsSince}
+use Rattle.pressure.specs.rule.Pressures.{Observation, IsSince}
 use Rattle.pressure.proofs.LawLemmas.{one_since}
 use Rattle.node_signals.specs.declared.condition.NodeCondition.{NodeCondition}
-use Rattle.node_signals.specs.Conditions.{conditions}
+use Rattle.node_signals.specs.rule.Conditions.{conditions}
 use Rattle.node_signals.proofs.ConditionLemmas.{one_list}
 use Rattle.containers.specs.declared.status.ContainerStatus.{ContainerStatus}
 use Rattle.pod_state.specs.declared.lifecycle.Lifecycle.{Lifecycle}
 use Rattle.pod_state.proofs.UniqueLemmas.{status_one, container_one}
 use Rattle.eviction.specs.declared.eviction.Eviction.{Eviction}
-use Rattle.eviction.specs.Replay.{pod_ticks}
+use Rattle.eviction.specs.rule.Replay.{pod_ticks}
 use Rattle.eviction.proofs.Unique.{one_replay}
 use Rattle.event_list.specs.declared.event.Event.{Event}
-use Rattle.event_list.specs.Events.{AreEvents}
-use Rattle.event_list.specs.Totals.{totals_of}
+use Rattle.event_list.specs.rule.Events.{AreEvents}
+use Rattle.event_list.specs.rule.Totals.{totals_of}
 use Rattle.event_list.proofs.Unique.{one_list_of_events}
 use Rattle.tick_round.specs.declared.summary.ConditionStatus.{ConditionStatus}
-use Rattle.tick_round.specs.Summary.{IsConditionAfter, AreConditionsAfter}
-use Rattle.node_report.specs.Lines.{pod_text, report_lines}
-use Rattle.node_report.specs.Report.{evicting_tick, evicting_order, ArePodLines, AreLines}
-use Rattle.node_report.specs.Laws.{OneReport}
+use Rattle.tick_round.specs.rule.Summary.{IsConditionAfter, AreConditionsAfter}
+use Rattle.node_report.specs.rule.Lines.{pod_text, report_lines}
+use Rattle.node_report.specs.rule.Report.{evicting_tick, evicting_order, ArePodLines, AreLines}
+use Rattle.node_report.specs.state.Laws.{OneReport}
 
 lines_one : (ticks : List TickObs) (evictions : List (Option Eviction)) (n : ℕ) (pod : PodSpec) (a b : List ℕ)
     → ArePodLines ticks evictions n pod a → ArePodLines ticks evictions n pod b → a ≡ b

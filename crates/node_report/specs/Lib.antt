@@ -1,4 +1,2 @@
-pub mod Lines
-pub mod Report
-pub mod Laws
-pub mod Added
+pub mod rule
+pub mod state

@@ -2,9 +2,9 @@
 
 ghost use Rattle.std.specs.Prelude.{◌≡◌, ◌++◌, IfOk, OnOk, string_bytes};
 ghost use Rattle.std.specs.List.{flat_map};
-ghost use Rattle.pod_piece.specs.Piece.{pods_in};
-ghost use Rattle.event_list.specs.Text.{event_line};
-ghost use Rattle.node_report.specs.Lines.{header_line, node_condition_line, eviction_text, totals_line};
+ghost use Rattle.pod_piece.specs.state.Piece.{pods_in};
+ghost use Rattle.event_list.specs.rule.Text.{event_line};
+ghost use Rattle.node_report.specs.rule.Lines.{header_line, node_condition_line, eviction_text, totals_line};
 
 use crate::pod_text::add;
 use event_list::{Event, Names, add_event_text, add_eviction_words, add_with_number, truth_word};
@@ -13,7 +13,7 @@ use std::alloc::{AllocError, Global};
 use tick_round::{ConditionStatus, Summary};
 
 /// The first line of a report.
-#[tactic(auto, unfolding(crate::specs::Lines::header_line))]
+#[tactic(auto, unfolding(crate::specs::rule::Lines::header_line))]
 pub(crate) fn header_line(
     alloc: Global,
     name: &str,
@@ -45,7 +45,7 @@ pub(crate) fn add_events(
     Ok(())
 }
 
-#[tactic(auto, unfolding(crate::specs::Lines::node_condition_line))]
+#[tactic(auto, unfolding(crate::specs::rule::Lines::node_condition_line))]
 fn add_condition(text: &mut String, status: &ConditionStatus) -> Result<(), AllocError>
     ensures { OnOk result (string_bytes text.new ≡ string_bytes text.old ++ node_condition_line status.now) }
 {
@@ -72,7 +72,7 @@ pub(crate) fn add_conditions_of_node(
 }
 
 /// Adds the line of a tick's eviction, if there is one.
-#[tactic(auto, unfolding(crate::specs::Lines::eviction_line))]
+#[tactic(auto, unfolding(crate::specs::rule::Lines::eviction_line))]
 fn add_eviction(
     text: &mut String,
     eviction: &Option<Eviction>,
@@ -106,7 +106,7 @@ pub(crate) fn add_evictions(
 }
 
 /// The last line of a report.
-#[tactic(auto, unfolding(crate::specs::Lines::totals_line))]
+#[tactic(auto, unfolding(crate::specs::rule::Lines::totals_line))]
 pub(crate) fn totals_line(alloc: Global, summary: &Summary<'_>) -> Result<String, AllocError>
     ensures { IfOk result (λ s. string_bytes s ≡ totals_line summary.now.totals) }
 {

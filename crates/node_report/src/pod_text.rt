@@ -1,11 +1,11 @@
 //! The lines of a pod, as text.
 
 ghost use Rattle.std.specs.Prelude.{◌≡◌, [], ◌++◌, codes, length, OnOk, string_bytes};
-ghost use Rattle.event_list.specs.Text.{phase_word};
-ghost use Rattle.node_report.specs.Lines.{state_word, reason_word, qos_word, bool_text, code_text};
-ghost use Rattle.node_report.specs.Lines.{pod_words, pod_line, condition_line, container_words};
-ghost use Rattle.node_report.specs.Lines.{flag_words, container_line, conditions_text, disruption_text};
-ghost use Rattle.node_report.specs.Lines.{containers_text, pod_text};
+ghost use Rattle.event_list.specs.rule.Text.{phase_word};
+ghost use Rattle.node_report.specs.rule.Lines.{state_word, reason_word, qos_word, bool_text, code_text};
+ghost use Rattle.node_report.specs.rule.Lines.{pod_words, pod_line, condition_line, container_words};
+ghost use Rattle.node_report.specs.rule.Lines.{flag_words, container_line, conditions_text, disruption_text};
+ghost use Rattle.node_report.specs.rule.Lines.{containers_text, pod_text};
 
 use event_list::{add_with_number, phase_word, truth_word};
 use manifest::{ContainerSpec, PodSpec};
@@ -78,7 +78,7 @@ fn add_pod_words(
     add(text, phase_word(phase))
 }
 
-#[tactic(auto, unfolding(crate::specs::Lines::pod_line))]
+#[tactic(auto, unfolding(crate::specs::rule::Lines::pod_line))]
 fn add_pod_line(
     text: &mut String,
     number: usize,
@@ -103,7 +103,7 @@ pub(crate) fn add(text: &mut String, line: &str) -> Result<(), AllocError>
     text.push_str(line)
 }
 
-#[tactic(auto, unfolding(crate::specs::Lines::condition_line))]
+#[tactic(auto, unfolding(crate::specs::rule::Lines::condition_line))]
 fn add_condition(
     text: &mut String,
     number: usize,
@@ -191,7 +191,7 @@ fn add_flags(text: &mut String, status: ContainerStatus) -> Result<(), AllocErro
     add(text, "\n")
 }
 
-#[tactic(auto, unfolding(crate::specs::Lines::container_line))]
+#[tactic(auto, unfolding(crate::specs::rule::Lines::container_line))]
 fn add_container_line(
     text: &mut String,
     number: usize,

@@ -5,10 +5,10 @@ ghost use Rattle.manifest.specs.declared.pod.PodSpec.{PodSpec};
 ghost use Rattle.node_config.specs.declared.node.NodeConfig.{NodeConfig};
 ghost use Rattle.observations.specs.declared.tick.TickObs.{TickObs};
 ghost use Rattle.eviction.specs.declared.eviction.Eviction.{Eviction};
-ghost use Rattle.tick_round.specs.Node.{piece_after, ArePieces};
-ghost use Rattle.tick_round.specs.Summary.{IsSummary};
-ghost use Rattle.node_report.specs.Report.{ArePodLines, AreLines, IsReport};
-ghost use Rattle.node_report.specs.Added.{AreAdded};
+ghost use Rattle.tick_round.specs.state.Node.{piece_after, ArePieces};
+ghost use Rattle.tick_round.specs.state.Summary.{IsSummary};
+ghost use Rattle.node_report.specs.rule.Report.{ArePodLines, AreLines, IsReport};
+ghost use Rattle.node_report.specs.state.Added.{AreAdded};
 
 use crate::node_text::{
     add_conditions_of_node, add_events, add_evictions, header_line, totals_line,

@@ -4,18 +4,18 @@ use Rattle.std.proofs.Common.{Some, refl, sym, ap, subst, ◌∙◌, arith}
 use Rattle.std.specs.Prelude.{◌↔◌, IsTrue}
 use Rattle.std.proofs.lemmas.List.{take-append-le, take_all}
 use Rattle.std.proofs.lemmas.Option.{slice_get_within}
-use Rattle.histories.specs.Histories.{recorded, moment_at}
+use Rattle.histories.specs.rule.Histories.{recorded, moment_at}
 use Rattle.histories.proofs.Decide.{same_bool}
 use Rattle.histories.proofs.Places.{length-more, moment_at-old, moment_at-new}
 use Rattle.histories.proofs.Lists.{place_split, given_at}
-use Rattle.pressure.specs.Pressures.{Observation, IsMetAt, IsUnderPressure, IsSince}
+use Rattle.pressure.specs.rule.Pressures.{Observation, IsMetAt, IsUnderPressure, IsSince}
 use Rattle.pressure.specs.declared.pressure.Pressure.{Pressure}
-use Rattle.pressure.specs.State.{IsStateOf as IsPressureState}
-use Rattle.node_config.specs.EvictionConfig.{EvictionConfig}
+use Rattle.pressure.specs.state.State.{IsStateOf as IsPressureState}
+use Rattle.node_config.specs.rule.EvictionConfig.{EvictionConfig}
 use Rattle.observations.specs.declared.tick.TickObs.{TickObs}
 use Rattle.node_signals.specs.declared.condition.NodeCondition.{NodeCondition}
-use Rattle.node_signals.specs.Conditions.{IsMet, AreObservations, IsTrueAfter, IsSinceMoment}
-use Rattle.node_signals.specs.Node.{IsPressureOf}
+use Rattle.node_signals.specs.rule.Conditions.{IsMet, AreObservations, IsTrueAfter, IsSinceMoment}
+use Rattle.node_signals.specs.state.Node.{IsPressureOf}
 
 -- lists of observations that say the same of each place are one
 same_observations : (h k : List Observation) → length h ≡ length k

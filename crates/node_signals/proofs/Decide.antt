@@ -2,28 +2,28 @@
 use Rattle.std.proofs.Common.{◌≡◌, inl, inr, ℕ, ◌+◌, ◌-◌, ◌<◌, ◌≤◌, List, [], ◌∷◌, ◌++◌, length, Option, Some}
 use Rattle.std.proofs.Common.{refl, sym, subst}
 use Rattle.std.specs.Prelude.{IsTrue, IsSomeAnd, is_some, slice_get}
-use Rattle.histories.specs.Histories.{entry_at, moment_at, last_moment}
+use Rattle.histories.specs.rule.Histories.{entry_at, moment_at, last_moment}
 use Rattle.histories.proofs.Decide.{OrNot, of_test, both, either, true_or_not, less_or_not, at_most_or_not}
 use Rattle.histories.proofs.Decide.{given_or_not}
 use Rattle.histories.proofs.Found.{some_below}
 use Rattle.histories.proofs.Lists.{within_and, given, map_more}
 use Rattle.signals.specs.declared.threshold.Threshold.{Threshold}
-use Rattle.signals.specs.BySignal.{of}
-use Rattle.signals.specs.Signals.{is_of_file_system}
-use Rattle.quantity.specs.Limit.{amount_of}
-use Rattle.thresholds.specs.Samples.{Sample, sample}
-use Rattle.thresholds.specs.Thresholds.{IsThresholdActive, IsThresholdDue}
+use Rattle.signals.specs.rule.BySignal.{of}
+use Rattle.signals.specs.rule.Signals.{is_of_file_system}
+use Rattle.quantity.specs.rule.Limit.{amount_of}
+use Rattle.thresholds.specs.rule.Samples.{Sample, sample}
+use Rattle.thresholds.specs.rule.Thresholds.{IsThresholdActive, IsThresholdDue}
 use Rattle.thresholds.proofs.LawLemmas.{one_active_since}
 use Rattle.thresholds.proofs.Since.{due_by}
-use Rattle.pressure.specs.Pressures.{Observation, IsMetAt, WasMetLately, IsUnderPressure}
-use Rattle.node_config.specs.EvictionConfig.{EvictionConfig}
+use Rattle.pressure.specs.rule.Pressures.{Observation, IsMetAt, WasMetLately, IsUnderPressure}
+use Rattle.node_config.specs.rule.EvictionConfig.{EvictionConfig}
 use Rattle.observations.specs.declared.tick.TickObs.{TickObs}
 use Rattle.node_signals.specs.declared.key.ThresholdKey.{ThresholdKey}
 use Rattle.node_signals.specs.declared.condition.NodeCondition.{NodeCondition}
 use Rattle.node_signals.specs.declared.condition.NodeCondition.TheVariants.{MemoryPressure, DiskPressure, PidPressure}
-use Rattle.node_signals.specs.Keys.{serving_order, threshold_at}
-use Rattle.node_signals.specs.Thresholds.{samples, IsActiveOnNode, IsDueOnNode, IsEnough, IsReclaimed}
-use Rattle.node_signals.specs.Conditions.{condition_of, Meets, IsMet}
+use Rattle.node_signals.specs.rule.Keys.{serving_order, threshold_at}
+use Rattle.node_signals.specs.rule.Thresholds.{samples, IsActiveOnNode, IsDueOnNode, IsEnough, IsReclaimed}
+use Rattle.node_signals.specs.rule.Conditions.{condition_of, Meets, IsMet}
 
 -- a threshold is active, or it isn't
 threshold_active_or_not : (threshold : Threshold) (capacity : Option ℕ) (h : List Sample)

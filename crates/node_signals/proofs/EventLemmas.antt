@@ -5,18 +5,19 @@ use mathlib.Core.Bool.{beq, not}
 use Rattle.std.specs.Prelude.{◌↔◌, IsTrue, slice_get}
 use Rattle.std.specs.Bool.{then_some}
 use Rattle.std.proofs.lemmas.List.{take_all}
-use Rattle.histories.specs.TheOne.{IsTheOne}
+use Rattle.histories.specs.rule.TheOne.{IsTheOne}
 use Rattle.histories.proofs.Decide.{same_bool}
 use Rattle.histories.proofs.Lists.{take_more}
 use Rattle.histories.proofs.TheOne.{IsTheOne-none, IsTheOne-some, IsTheOne-unique}
 use Rattle.node_signals.specs.declared.event.NodeEvent.{NodeEvent}
-use Rattle.node_config.specs.EvictionConfig.{EvictionConfig}
+use Rattle.node_config.specs.rule.EvictionConfig.{EvictionConfig}
 use Rattle.observations.specs.declared.tick.TickObs.{TickObs}
 use Rattle.node_signals.specs.declared.key.ThresholdKey.{ThresholdKey}
-use Rattle.node_signals.specs.Keys.{serving_order}
-use Rattle.node_signals.specs.Conditions.{conditions}
-use Rattle.node_signals.specs.Events.{Changes, ChangesThreshold, ChangesCondition, Reclaims, as_list, AreGiven}
-use Rattle.node_signals.specs.Events.{AreNodeEvents, Adds}
+use Rattle.node_signals.specs.rule.Keys.{serving_order}
+use Rattle.node_signals.specs.rule.Conditions.{conditions}
+use Rattle.node_signals.specs.rule.Events.{Changes, ChangesThreshold, ChangesCondition, Reclaims, as_list, AreGiven}
+use Rattle.node_signals.specs.rule.Events.{AreNodeEvents}
+use Rattle.node_signals.specs.state.Events.{Adds}
 use Rattle.node_signals.proofs.ServedLemmas.{key_at}
 
 apart_from : (x y : Bool) → beq x y ≡ false → x ≡ y → ⊥

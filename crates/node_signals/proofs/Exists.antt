@@ -4,23 +4,23 @@ use Rattle.std.proofs.Common.{subst, append_assoc, append-nil}
 use mathlib.Core.Bool.{beq, not}
 use Rattle.std.specs.Prelude.{◌↔◌, IsTrue}
 use Rattle.std.specs.Bool.{then_some}
-use Rattle.histories.specs.TheOne.{IsTheOne}
-use Rattle.histories.specs.Histories.{recorded}
+use Rattle.histories.specs.rule.TheOne.{IsTheOne}
+use Rattle.histories.specs.rule.Histories.{recorded}
 use Rattle.histories.proofs.Decide.{both, test_of}
 use Rattle.histories.proofs.TheOne.{IsTheOne-none, IsTheOne-some}
-use Rattle.pressure.specs.Pressures.{Observation}
+use Rattle.pressure.specs.rule.Pressures.{Observation}
 use Rattle.pressure.proofs.LawLemmas.{one_since}
-use Rattle.node_config.specs.EvictionConfig.{EvictionConfig}
+use Rattle.node_config.specs.rule.EvictionConfig.{EvictionConfig}
 use Rattle.observations.specs.declared.tick.TickObs.{TickObs}
 use Rattle.node_signals.specs.declared.key.ThresholdKey.{ThresholdKey}
 use Rattle.node_signals.specs.declared.condition.NodeCondition.{NodeCondition}
 use Rattle.node_signals.specs.declared.event.NodeEvent.{NodeEvent}
 use Rattle.node_signals.specs.declared.event.NodeEvent.TheVariants.{Threshold, Pressure, Reclaim}
-use Rattle.node_signals.specs.Keys.{serving_order}
-use Rattle.node_signals.specs.Thresholds.{IsActiveOnNode}
-use Rattle.node_signals.specs.Conditions.{conditions, AreObservations, IsTrueAfter, IsSinceMoment}
-use Rattle.node_signals.specs.Events.{Changes, ChangesThreshold, ChangesCondition, Reclaims, as_list, AreGiven}
-use Rattle.node_signals.specs.Laws.{SomeCondition, SomeListOfNodeEvents}
+use Rattle.node_signals.specs.rule.Keys.{serving_order}
+use Rattle.node_signals.specs.rule.Thresholds.{IsActiveOnNode}
+use Rattle.node_signals.specs.rule.Conditions.{conditions, AreObservations, IsTrueAfter, IsSinceMoment}
+use Rattle.node_signals.specs.rule.Events.{Changes, ChangesThreshold, ChangesCondition, Reclaims, as_list, AreGiven}
+use Rattle.node_signals.specs.state.Laws.{SomeCondition, SomeListOfNodeEvents}
 use Rattle.node_signals.proofs.ConditionLemmas.{none_observed, observed_more, true_after}
 use Rattle.node_signals.proofs.Decide.{active_or_not, due_or_not, reclaimed_or_not, met_or_not, pressure_or_not}
 use Rattle.node_signals.proofs.EventLemmas.{change_given, all_events}

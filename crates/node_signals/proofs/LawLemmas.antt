@@ -2,11 +2,11 @@
 use Rattle.std.proofs.Common.{ap, sym, ◌∙◌, ◌++◌}
 use Rattle.std.specs.Prelude.{option_and_then, slice_get}
 use Rattle.histories.proofs.First.{IsFirstPlace-unique}
-use Rattle.node_signals.specs.Keys.{serving_order}
-use Rattle.node_signals.specs.Thresholds.{AsksAt}
-use Rattle.node_signals.specs.Laws.{OneServed, OneListOfNodeEvents}
-use Rattle.node_signals.specs.Conditions.{conditions}
-use Rattle.node_signals.specs.Events.{ChangesThreshold, ChangesCondition, Reclaims}
+use Rattle.node_signals.specs.rule.Keys.{serving_order}
+use Rattle.node_signals.specs.rule.Thresholds.{AsksAt}
+use Rattle.node_signals.specs.state.Laws.{OneServed, OneListOfNodeEvents}
+use Rattle.node_signals.specs.rule.Conditions.{conditions}
+use Rattle.node_signals.specs.rule.Events.{ChangesThreshold, ChangesCondition, Reclaims}
 use Rattle.node_signals.proofs.EventLemmas.{given_unique}
 
 pub one_served : OneServed

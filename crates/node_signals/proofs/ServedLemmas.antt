@@ -4,13 +4,13 @@ use Rattle.std.proofs.Common.{Some, None, refl, sym, subst, ◌∙◌, arith}
 use Rattle.std.specs.Prelude.{◌↔◌, IsTrue, IsSomeAnd, slice_get}
 use Rattle.histories.proofs.First.{none_next}
 use Rattle.histories.proofs.Lists.{within_and, given}
-use Rattle.node_config.specs.EvictionConfig.{EvictionConfig}
+use Rattle.node_config.specs.rule.EvictionConfig.{EvictionConfig}
 use Rattle.observations.specs.declared.tick.TickObs.{TickObs}
 use Rattle.node_signals.specs.declared.key.ThresholdKey.{ThresholdKey}
 use Rattle.node_signals.specs.declared.condition.NodeCondition.{NodeCondition}
-use Rattle.node_signals.specs.Conditions.{Meets, IsMet}
-use Rattle.node_signals.specs.Keys.{serving_order}
-use Rattle.node_signals.specs.Thresholds.{Asks, IsServed}
+use Rattle.node_signals.specs.rule.Conditions.{Meets, IsMet}
+use Rattle.node_signals.specs.rule.Keys.{serving_order}
+use Rattle.node_signals.specs.rule.Thresholds.{Asks, IsServed}
 
 -- P holds of the threshold at the place
 abbrev pub At : (ThresholdKey → Type 0) → ℕ → Type 0

@@ -5,16 +5,16 @@ use Rattle.std.specs.Prelude.{◌↔◌, IsTrue, IsSomeAnd, slice_get, slice_set
 use Rattle.std.proofs.lemmas.Option.{slice_get_within}
 use Rattle.histories.proofs.Lists.{set_split, set_length, map_more}
 use Rattle.signals.specs.declared.threshold.Threshold.{Threshold}
-use Rattle.signals.specs.BySignal.{of}
-use Rattle.thresholds.specs.Samples.{Sample, sample}
+use Rattle.signals.specs.rule.BySignal.{of}
+use Rattle.thresholds.specs.rule.Samples.{Sample, sample}
 use Rattle.thresholds.specs.declared.watch.Watch.{Watch}
-use Rattle.thresholds.specs.Watch.{IsStateOf as IsWatchState}
-use Rattle.node_config.specs.EvictionConfig.{EvictionConfig}
+use Rattle.thresholds.specs.state.Watch.{IsStateOf as IsWatchState}
+use Rattle.node_config.specs.rule.EvictionConfig.{EvictionConfig}
 use Rattle.observations.specs.declared.tick.TickObs.{TickObs}
 use Rattle.node_signals.specs.declared.key.ThresholdKey.{ThresholdKey}
-use Rattle.node_signals.specs.Keys.{serving_order, threshold_at}
-use Rattle.node_signals.specs.Thresholds.{samples}
-use Rattle.node_signals.specs.Node.{IsWatchOf, IsWatchAt, AreWatches}
+use Rattle.node_signals.specs.rule.Keys.{serving_order, threshold_at}
+use Rattle.node_signals.specs.rule.Thresholds.{samples}
+use Rattle.node_signals.specs.state.Node.{IsWatchOf, IsWatchAt, AreWatches}
 
 -- what a watch tells of its threshold, whatever its samples were
 abbrev pub Tells : (Threshold → Option ℕ → List Sample → Type 0) → Watch → Bool → Type 0

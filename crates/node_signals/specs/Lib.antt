@@ -1,6 +1,2 @@
-pub mod Keys
-pub mod Thresholds
-pub mod Conditions
-pub mod Events
-pub mod Node
-pub mod Laws
+pub mod rule
+pub mod state

@@ -1,7 +1,7 @@
 //! The conditions of a node under pressure.
 
 ghost use Rattle.std.specs.Prelude.{◌≡◌};
-ghost use Rattle.node_signals.specs.Conditions.{name_of, condition_of};
+ghost use Rattle.node_signals.specs.rule.Conditions.{name_of, condition_of};
 
 use signals::Signal;
 

@@ -1,14 +1,15 @@
 //! The events of a node in a tick.
 
 ghost use Rattle.std.specs.Prelude.{◌≡◌, ◌<◌, ◌++◌, ◌∷◌, [], ℕ, List, slice_get, Some, OnOk};
-ghost use Rattle.histories.specs.TheOne.{IsTheOne};
-ghost use Rattle.node_config.specs.EvictionConfig.{EvictionConfig};
+ghost use Rattle.histories.specs.rule.TheOne.{IsTheOne};
+ghost use Rattle.node_config.specs.rule.EvictionConfig.{EvictionConfig};
 ghost use Rattle.observations.specs.declared.tick.TickObs.{TickObs};
 ghost use Rattle.node_signals.specs.declared.key.ThresholdKey.{ThresholdKey};
-ghost use Rattle.node_signals.specs.Keys.{serving_order};
-ghost use Rattle.node_signals.specs.Conditions.{conditions};
-ghost use Rattle.node_signals.specs.Events.{ChangesThreshold, ChangesCondition, Reclaims, as_list, Adds};
-ghost use Rattle.node_signals.specs.Node.{AreWatches, ArePressures};
+ghost use Rattle.node_signals.specs.rule.Keys.{serving_order};
+ghost use Rattle.node_signals.specs.rule.Conditions.{conditions};
+ghost use Rattle.node_signals.specs.rule.Events.{ChangesThreshold, ChangesCondition, Reclaims, as_list};
+ghost use Rattle.node_signals.specs.state.Events.{Adds};
+ghost use Rattle.node_signals.specs.state.Node.{AreWatches, ArePressures};
 
 use crate::condition::NodeCondition;
 use crate::event::NodeEvent;

@@ -1,7 +1,7 @@
 //! The thresholds that a node may have.
 
 ghost use Rattle.std.specs.Prelude.{◌≡◌, ◌<◌, slice_get, Some};
-ghost use Rattle.node_signals.specs.Keys.{serving_order};
+ghost use Rattle.node_signals.specs.rule.Keys.{serving_order};
 
 use signals::{Signal, ThresholdKind};
 

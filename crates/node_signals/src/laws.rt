@@ -1,7 +1,7 @@
 //! What is true of every node, for every list of ticks. The functions do nothing; their contracts
 //! are the laws.
 
-ghost use Rattle.node_signals.specs.Laws as laws;
+ghost use Rattle.node_signals.specs.state.Laws as laws;
 
 /// At most one threshold is served in a tick.
 pub fn one_served()

@@ -1,12 +1,12 @@
 //! A node's thresholds and conditions, tick by tick.
 
 ghost use Rattle.std.specs.Prelude.{◌≡◌, ◌↔◌, ℕ, IsTrue, List, [], ◌∷◌, ◌++◌, OnOk, OnErr, IfOk};
-ghost use Rattle.node_config.specs.EvictionConfig.{EvictionConfig};
+ghost use Rattle.node_config.specs.rule.EvictionConfig.{EvictionConfig};
 ghost use Rattle.observations.specs.declared.tick.TickObs.{TickObs};
-ghost use Rattle.node_signals.specs.Thresholds.{IsServed};
-ghost use Rattle.node_signals.specs.Conditions.{IsTrueAfter, IsSinceMoment};
-ghost use Rattle.node_signals.specs.Events.{AreNodeEvents};
-ghost use Rattle.node_signals.specs.Node.{IsStateOf};
+ghost use Rattle.node_signals.specs.rule.Thresholds.{IsServed};
+ghost use Rattle.node_signals.specs.rule.Conditions.{IsTrueAfter, IsSinceMoment};
+ghost use Rattle.node_signals.specs.rule.Events.{AreNodeEvents};
+ghost use Rattle.node_signals.specs.state.Node.{IsStateOf};
 
 use crate::condition::NodeCondition;
 use crate::event::NodeEvent;

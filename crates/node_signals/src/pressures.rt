@@ -1,13 +1,13 @@
 //! A node's conditions over its ticks.
 
 ghost use Rattle.std.specs.Prelude.{◌≡◌, ◌↔◌, ◌<◌, ℕ, slice_get, Some, IsTrue, List, [], ◌∷◌, ◌++◌};
-ghost use Rattle.node_config.specs.EvictionConfig.{EvictionConfig};
+ghost use Rattle.node_config.specs.rule.EvictionConfig.{EvictionConfig};
 ghost use Rattle.observations.specs.declared.tick.TickObs.{TickObs};
 ghost use Rattle.node_signals.specs.declared.key.ThresholdKey.{ThresholdKey};
-ghost use Rattle.node_signals.specs.Keys.{serving_order};
+ghost use Rattle.node_signals.specs.rule.Keys.{serving_order};
 ghost use Rattle.node_signals.specs.declared.condition.NodeCondition.{NodeCondition};
-ghost use Rattle.node_signals.specs.Conditions.{Meets, IsMet};
-ghost use Rattle.node_signals.specs.Node.{AreWatches, IsPressureOf, ArePressures};
+ghost use Rattle.node_signals.specs.rule.Conditions.{Meets, IsMet};
+ghost use Rattle.node_signals.specs.state.Node.{AreWatches, IsPressureOf, ArePressures};
 
 use crate::condition::NodeCondition;
 use crate::key::{THRESHOLDS, key_at};

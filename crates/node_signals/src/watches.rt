@@ -2,15 +2,17 @@
 
 ghost use Rattle.std.specs.Prelude.{◌≡◌, ◌↔◌, ◌<◌, ◌≤◌, ℕ, slice_get, IsTrue, IfSome, IsSomeAnd, List, [], ◌∷◌, ◌++◌};
 ghost use Rattle.std.specs.Prelude.{Option, Some, None};
-ghost use Rattle.quantity.specs.Quantity.{greatest_quantity};
+ghost use Rattle.quantity.specs.rule.Quantity.{greatest_quantity};
 ghost use Rattle.signals.specs.declared.threshold.Threshold.{Threshold};
-ghost use Rattle.thresholds.specs.Samples.{Sample, sample as sample_of};
-ghost use Rattle.node_config.specs.EvictionConfig.{EvictionConfig, HasCapacity};
+ghost use Rattle.thresholds.specs.rule.Samples.{Sample, sample as sample_of};
+ghost use Rattle.node_config.specs.rule.EvictionConfig.{EvictionConfig};
+ghost use Rattle.node_config.specs.state.EvictionConfig.{HasCapacity};
 ghost use Rattle.observations.specs.declared.tick.TickObs.{TickObs};
 ghost use Rattle.node_signals.specs.declared.key.ThresholdKey.{ThresholdKey};
-ghost use Rattle.node_signals.specs.Keys.{serving_order};
-ghost use Rattle.node_signals.specs.Thresholds.{IsActiveOnNode, IsDueOnNode, IsEnough, IsReclaimed, Asks, IsServed};
-ghost use Rattle.node_signals.specs.Node.{IsWatchOf, IsWatchAt, AreWatches};
+ghost use Rattle.node_signals.specs.rule.Keys.{serving_order};
+ghost use Rattle.node_signals.specs.rule.Thresholds.{IsActiveOnNode, IsDueOnNode, IsEnough, IsReclaimed, Asks};
+ghost use Rattle.node_signals.specs.rule.Thresholds.{IsServed};
+ghost use Rattle.node_signals.specs.state.Node.{IsWatchOf, IsWatchAt, AreWatches};
 
 use crate::key::{THRESHOLDS, ThresholdKey, key_at};
 use node_config::EvictionConfig;

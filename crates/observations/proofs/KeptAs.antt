@@ -5,7 +5,7 @@ use Rattle.std.specs.Prelude.{is_some, unwrap_or}
 use Rattle.state_diff.specs.declared.seen.CriState.{CriState}
 use Rattle.state_diff.specs.declared.seen.CriState.TheVariants.{Exited}
 use Rattle.state_diff.specs.declared.seen.Seen.{Seen}
-use Rattle.state_diff.specs.States.{is_exited}
+use Rattle.state_diff.specs.rule.States.{is_exited}
 
 abbrev seen_with : (attempt : ℕ) (state : CriState) (code : Option ℤ) → is_some code ≡ is_exited state → Option Seen
 seen_with attempt state code given = Some (record { attempt = attempt; state = state; code = code; code_given = given })

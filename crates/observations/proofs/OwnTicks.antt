@@ -5,12 +5,15 @@ use Rattle.std.specs.Prelude.{slice_get, option_and_then, IfSome}
 use Rattle.std.specs.List.{cons_option}
 use Rattle.std.proofs.lemmas.List.{map_push, map-append, length-append}
 use Rattle.std.proofs.lemmas.List.Elements.{filter_map-append}
-use Rattle.histories.specs.Histories.{recorded, moment_at, last_moment, EndsBefore}
+use Rattle.histories.specs.rule.Histories.{recorded, moment_at, last_moment}
+use Rattle.histories.specs.state.Histories.{EndsBefore}
 use Rattle.state_diff.specs.declared.seen.Seen.{Seen}
-use Rattle.state_diff.specs.Instances.{Tick, seen_at, IsAcceptable, IsAcceptableHistory}
-use Rattle.observations.specs.Pods.{PodObs}
+use Rattle.state_diff.specs.rule.Instances.{Tick, seen_at}
+use Rattle.state_diff.specs.state.Instances.{IsAcceptable, IsAcceptableHistory}
+use Rattle.observations.specs.rule.Pods.{PodObs}
 use Rattle.observations.specs.declared.tick.TickObs.{TickObs}
-use Rattle.observations.specs.Observations.{shown_of, listed_in, seen_of, own_ticks, history}
+use Rattle.observations.specs.rule.Observations.{shown_of, listed_in, own_ticks, history}
+use Rattle.observations.specs.state.Observations.{seen_of}
 
 -- a tick that has an observation of the pod is its own
 pub own_more : (ticks : List TickObs) (tick : TickObs) (pod : ℕ) (shown : PodObs) → shown_of tick pod ≡ Some shown

@@ -1,5 +1,2 @@
-pub mod PackedContainer
-pub mod Observations
-pub mod Pods
-pub mod Limits
-pub mod Whole
+pub mod rule
+pub mod state

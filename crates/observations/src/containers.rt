@@ -1,8 +1,8 @@
 //! What a tick shows of a pod's containers, as it is kept in a block.
 
 ghost use Rattle.std.specs.Prelude.{◌≡◌, length, map, IfOk, slice_get};
-ghost use Rattle.observations.specs.PackedContainer.{shown_as};
-ghost use Rattle.observations.specs.Pods.{containers_in};
+ghost use Rattle.observations.specs.state.PackedContainer.{shown_as};
+ghost use Rattle.observations.specs.state.Pods.{containers_in};
 
 use crate::container::ContainerObs;
 use crate::packed_container::PackedContainer;

@@ -1,7 +1,7 @@
 //! What a tick shows of one container, as it is kept.
 
 ghost use Rattle.std.specs.Prelude.{◌≡◌};
-ghost use Rattle.observations.specs.PackedContainer.{seen_as, outcome_of, shown_as};
+ghost use Rattle.observations.specs.state.PackedContainer.{seen_as, outcome_of, shown_as};
 
 use crate::container::ContainerObs;
 use manifest::Outcome;

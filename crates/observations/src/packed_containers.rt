@@ -1,9 +1,9 @@
 //! What a tick shows of a pod's containers and of its use of the node, as it is kept.
 
 ghost use Rattle.std.specs.Prelude.{◌≡◌, length, map, IfOk, IfSome, slice_get};
-ghost use Rattle.observations.specs.PackedContainer.{shown_as};
-ghost use Rattle.observations.specs.Pods.{kept_in, sampling_in};
-ghost use Rattle.observations.specs.Whole.{memory_as, usage_as};
+ghost use Rattle.observations.specs.state.PackedContainer.{shown_as};
+ghost use Rattle.observations.specs.state.Pods.{kept_in, sampling_in};
+ghost use Rattle.observations.specs.state.Whole.{memory_as, usage_as};
 ghost use Rattle.observations.specs.declared.usage.Sampling.TheVariants.{Unsaid, Sampled};
 
 use crate::container::ContainerObs;

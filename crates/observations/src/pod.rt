@@ -1,7 +1,7 @@
 //! What a tick shows of one pod.
 
 ghost use Rattle.std.specs.Prelude.{◌≡◌, length, IfOk, slice_get};
-ghost use Rattle.observations.specs.Pods.{pod_obs};
+ghost use Rattle.observations.specs.state.Pods.{pod_obs};
 
 use crate::container::ContainerObs;
 use crate::packed_containers::PackedContainers;
@@ -19,8 +19,9 @@ pub struct PodObs {
 
 impl Model for PodObs {
     ghost use Rattle.std.specs.Prelude.{map};
-    ghost use Rattle.observations.specs.PackedContainer.{shown_as};
-    ghost use Rattle.observations.specs.Pods.{PodObs, pod_obs, kept_in, sampling_in};
+    ghost use Rattle.observations.specs.state.PackedContainer.{shown_as};
+    ghost use Rattle.observations.specs.rule.Pods.{PodObs};
+    ghost use Rattle.observations.specs.state.Pods.{pod_obs, kept_in, sampling_in};
 
     ghost Value = { PodObs };
 

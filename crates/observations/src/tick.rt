@@ -1,7 +1,7 @@
 //! What a tick shows of a node.
 
 ghost use Rattle.std.specs.Prelude.{◌≡◌};
-ghost use Rattle.observations.specs.Observations.{seen_of};
+ghost use Rattle.observations.specs.state.Observations.{seen_of};
 
 use crate::pod::PodObs;
 use lists::Sequence;

@@ -1,7 +1,7 @@
 //! A sample of a pod's use of the node in whole units, as it is kept.
 
 ghost use Rattle.std.specs.Prelude.{◌≡◌, is_none, IfSome};
-ghost use Rattle.observations.specs.Whole.{amount_as, memory_as, usage_as};
+ghost use Rattle.observations.specs.state.Whole.{amount_as, memory_as, usage_as};
 
 use crate::usage::Usage;
 use quantity::Quantity;

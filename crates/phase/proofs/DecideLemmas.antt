@@ -8,13 +8,15 @@ use Rattle.manifest.specs.declared.policy.Policy.{Policy}
 use Rattle.manifest.specs.declared.policy.Policy.TheVariants.{Always, OnFailure, Never}
 use Rattle.manifest.specs.declared.pod.Role.{Role}
 use Rattle.manifest.specs.declared.pod.Role.TheVariants.{Init, Sidecar, App}
-use Rattle.manifest.specs.Policy.{WantsRestart}
+use Rattle.manifest.specs.rule.Policy.{WantsRestart}
 use Rattle.phase.specs.declared.phase.Phase.{Phase}
 use Rattle.phase.specs.declared.phase.Phase.TheVariants.{Pending, Running, Succeeded, Failed}
 use Rattle.phase.specs.declared.view.ContainerView.{ContainerView}
-use Rattle.phase.specs.Facts.{Facts, of_view, exit_code, HasCompleted, HasFailed, HasFinished}
-use Rattle.phase.specs.RawPhase.{IsRawPhase, IsFailedInit, IsAwaited, HaveFinished, HasInitialized, AreInitialized}
-use Rattle.phase.specs.RawPhase.{IsTerminal}
+use Rattle.phase.specs.rule.Facts.{Facts, HasCompleted, HasFailed, HasFinished}
+use Rattle.phase.specs.state.Facts.{of_view, exit_code}
+use Rattle.phase.specs.rule.RawPhase.{IsRawPhase, IsFailedInit, IsAwaited, HaveFinished, HasInitialized}
+use Rattle.phase.specs.rule.RawPhase.{AreInitialized}
+use Rattle.phase.specs.rule.RawPhase.{IsTerminal}
 
 -- the codes
 zero_or_not : (code : ℤ) → OrNot (code ≡ pos 0)

@@ -9,8 +9,8 @@ use Rattle.manifest.specs.declared.policy.Policy.{Policy}
 use Rattle.manifest.specs.declared.pod.Role.{Role}
 use Rattle.manifest.specs.declared.pod.Role.TheVariants.{Init, Sidecar, App}
 use Rattle.phase.specs.declared.phase.Phase.{Phase}
-use Rattle.phase.specs.Facts.{Facts, HasCompleted, HasFailed, HasFinished}
-use Rattle.phase.specs.RawPhase.{Where, IsRawPhase, IsFailedInit, IsAwaited, HasInitialized, AreInitialized}
+use Rattle.phase.specs.rule.Facts.{Facts, HasCompleted, HasFailed, HasFinished}
+use Rattle.phase.specs.rule.RawPhase.{Where, IsRawPhase, IsFailedInit, IsAwaited, HasInitialized, AreInitialized}
 
 -- two values by the same cases are equal, where they are in each case
 pub where_same : {E : Type 0} (P H H' O O' : Type 0) → (H → H' → E) → (O → O' → E) → Where P H O → Where P H' O' → E

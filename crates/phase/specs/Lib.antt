@@ -1,5 +1,2 @@
-pub mod Facts
-pub mod RawPhase
-pub mod Conditions
-pub mod Views
-pub mod Laws
+pub mod rule
+pub mod state

@@ -2,8 +2,8 @@
 
 ghost use Rattle.std.specs.Prelude.{◌≡◌, ◌≢◌, ◌⊎◌, ◌↔◌, List, [], ◌∷◌, ◌++◌, Bool, true, false, not, Option, None};
 ghost use Rattle.std.specs.Prelude.{IsTrue};
-ghost use Rattle.histories.specs.Histories.{Recorded, recorded};
-ghost use Rattle.phase.specs.Conditions.{IsConditionOf, IsStateOf};
+ghost use Rattle.histories.specs.rule.Histories.{Recorded, recorded};
+ghost use Rattle.phase.specs.state.Conditions.{IsConditionOf, IsStateOf};
 ghost use Rattle.phase.specs.declared.conditions.Values.{Values};
 
 /// Whether a condition is true, and since when. (Kubernetes, "Pod Lifecycle", "Pod conditions".)

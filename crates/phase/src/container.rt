@@ -1,7 +1,7 @@
 //! The state of a container.
 
 ghost use Rattle.std.specs.Prelude.{◌≡◌};
-ghost use Rattle.phase.specs.Views.{shown_as, state_shown};
+ghost use Rattle.phase.specs.state.Views.{shown_as, state_shown};
 
 use crate::view::ContainerView;
 use state_diff::CriState;

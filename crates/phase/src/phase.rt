@@ -3,9 +3,10 @@
 ghost use Rattle.std.specs.Prelude.{◌≡◌, ◌↔◌, All, Any, IsTrue};
 ghost use Rattle.manifest.specs.declared.policy.Policy.TheVariants.{Never};
 ghost use Rattle.manifest.specs.declared.pod.Role.TheVariants.{App};
-ghost use Rattle.phase.specs.Facts.{of_view, HasFailed, HasCompleted, HasFinished};
-ghost use Rattle.phase.specs.RawPhase.{IsRawPhase, IsFailedInit, AllApps, AnyApp, InitHasFailed, IsStarting};
-ghost use Rattle.phase.specs.RawPhase.{HaveFinished, HaveSucceeded, HaveFailed, IsTerminal, AreInitialized};
+ghost use Rattle.phase.specs.rule.Facts.{HasFailed, HasCompleted, HasFinished};
+ghost use Rattle.phase.specs.state.Facts.{of_view};
+ghost use Rattle.phase.specs.rule.RawPhase.{IsRawPhase, IsFailedInit, AllApps, AnyApp, InitHasFailed, IsStarting};
+ghost use Rattle.phase.specs.rule.RawPhase.{HaveFinished, HaveSucceeded, HaveFailed, IsTerminal, AreInitialized};
 
 use crate::view::ContainerView;
 use manifest::Policy;

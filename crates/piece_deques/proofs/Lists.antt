@@ -12,7 +12,7 @@ use mathlib.Core.Option.{some, some-injective, some-ne-none}
 use lib.ListN.{get_elem?}
 use lib.Seq.{take-append_seam, drop-append_seam}
 use Rattle.histories.proofs.Lists.{map_more}
-use Rattle.piece_deques.specs.Rule.{all_parts}
+use Rattle.piece_deques.specs.state.Rule.{all_parts}
 
 pub ones : {X : Type 0} (xs : List X) → sum_by (λ _. 1) xs ≡ length xs
 ones [] = refl

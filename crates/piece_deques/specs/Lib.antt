@@ -1,2 +1,1 @@
-pub mod Rule
-pub mod Ends
+pub mod state

@@ -3,8 +3,8 @@
 ghost use Rattle.std.specs.Prelude.{◌≡◌, ◌<◌, ◌≤◌, ◌+◌, ◌-◌, ◌^◌, [], ◌∷◌, ◌++◌, IfOk, IfSome, IfNone};
 ghost use Rattle.crossbeam_deque.specs.Handles.{view, IsPassOf, SameWorker, stealer_deque, stealer_flavor};
 ghost use Rattle.crossbeam_deque.specs.Handles.{worker_capacity, worker_deque, worker_index, worker_view};
-ghost use Rattle.piece_deques.specs.Rule.{all_parts, tally, IsPieceDue, Took, IsEmptied, FoundEmpty, IsBounded};
-ghost use Rattle.piece_deques.specs.Ends.{IsOwner};
+ghost use Rattle.piece_deques.specs.state.Rule.{all_parts, tally, IsPieceDue, Took, IsEmptied, FoundEmpty, IsBounded};
+ghost use Rattle.piece_deques.specs.state.Ends.{IsOwner};
 
 use crate::rule::{Cut, Deal, Dealing, Few, Popped, Pushed, Stolen, Tally};
 use crossbeam_deque::{Pass, Steal, Stealer, Worker};

@@ -8,7 +8,7 @@ use std::marker::{Brand, PhantomData};
 /// Which pieces are dealt. A round of workers picks it.
 pub trait Deal {
     ghost use Rattle.std.specs.Prelude.{List};
-    ghost use Rattle.pod_piece.specs.Piece.{Piece};
+    ghost use Rattle.pod_piece.specs.state.Piece.{Piece};
 
     ghost all: { List Piece };
 }
@@ -34,7 +34,7 @@ pub struct Dealing<D> {
 
 impl<D: Deal> Protocol<PodPiece, Tally> for Dealing<D> {
     ghost use Rattle.std.specs.Prelude.{[]};
-    ghost use Rattle.piece_deques.specs.Rule.{all_parts, tally, IsDealt};
+    ghost use Rattle.piece_deques.specs.state.Rule.{all_parts, tally, IsDealt};
 
     ghost holds = { IsDealt D.all };
 
@@ -48,7 +48,7 @@ pub(crate) struct Cut;
 
 impl Split<Tally> for Cut {
     ghost use Rattle.std.specs.Prelude.{[], ◌-◌};
-    ghost use Rattle.piece_deques.specs.Rule.{tally};
+    ghost use Rattle.piece_deques.specs.state.Rule.{tally};
 
     ghost left = { λ v. tally (v.parts - 1) v.pushed v.taken };
 
@@ -57,7 +57,7 @@ impl Split<Tally> for Cut {
 
 impl Join<Tally> for Cut {
     ghost use Rattle.std.specs.Prelude.{[], ◌+◌, ◌++◌};
-    ghost use Rattle.piece_deques.specs.Rule.{tally};
+    ghost use Rattle.piece_deques.specs.state.Rule.{tally};
 
     ghost both = { λ v w. tally (v.parts + w.parts) v.pushed (v.taken ++ w.taken) };
 
@@ -69,7 +69,7 @@ pub(crate) struct Pushed;
 
 impl Outcome<PodPiece, Tally> for Pushed {
     ghost use Rattle.std.specs.Prelude.{◌≡◌, ◌++◌, map};
-    ghost use Rattle.piece_deques.specs.Rule.{number_of, tally};
+    ghost use Rattle.piece_deques.specs.state.Rule.{number_of, tally};
 
     ghost then = { λ v pieces w. w ≡ tally v.parts (v.pushed ++ map number_of pieces) v.taken };
 }
@@ -80,7 +80,7 @@ pub(crate) struct Popped<D> {
 }
 
 impl<D: Deal> Outcome<PodPiece, Tally> for Popped<D> {
-    ghost use Rattle.piece_deques.specs.Rule.{Took, IsEmptied, FoundEmpty};
+    ghost use Rattle.piece_deques.specs.state.Rule.{Took, IsEmptied, FoundEmpty};
 
     ghost then = { Took D.all };
 
@@ -93,7 +93,7 @@ pub(crate) struct Stolen<D> {
 }
 
 impl<D: Deal> Outcome<PodPiece, Tally> for Stolen<D> {
-    ghost use Rattle.piece_deques.specs.Rule.{Took, FoundEmpty};
+    ghost use Rattle.piece_deques.specs.state.Rule.{Took, FoundEmpty};
 
     ghost then = { Took D.all };
 
@@ -104,7 +104,7 @@ impl<D: Deal> Outcome<PodPiece, Tally> for Stolen<D> {
 pub(crate) struct Few;
 
 impl Lesson<PodPiece, Tally> for Few {
-    ghost use Rattle.piece_deques.specs.Rule.{IsBounded};
+    ghost use Rattle.piece_deques.specs.state.Rule.{IsBounded};
 
     ghost fact = { λ v items. IsBounded v };
 }

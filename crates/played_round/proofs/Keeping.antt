@@ -9,22 +9,23 @@ use Rattle.std.proofs.lemmas.List.{get_or_default}
 use Rattle.std.proofs.lemmas.Option.{slice_get-get_or, slice_get_within, slice_get_cases, get_or_from_slice_get}
 use Rattle.round_steps.specs.declared.step.Step.{Step}
 use Rattle.round_steps.specs.declared.step.Step.TheVariants.{Pop, Steal, Update, Enter}
-use Rattle.pod_piece.specs.Piece.{Piece, updated}
+use Rattle.pod_piece.specs.state.Piece.{Piece, updated}
 use Rattle.event_book.specs.declared.totals.Entry.{Entry}
 use Rattle.event_book.specs.declared.totals.Totals.{Totals}
-use Rattle.event_book.specs.Totals.{IsEntryOf}
-use Rattle.event_book.specs.Limits.{IsLow}
+use Rattle.event_book.specs.state.Totals.{IsEntryOf}
+use Rattle.event_book.specs.state.Limits.{IsLow}
 use Rattle.round_core.specs.declared.hand.Hand.{Hand}
 use Rattle.round_core.specs.declared.hand.Hand.TheVariants.{Empty, Taken, Updated}
-use Rattle.round_core.specs.Pool.{WorkerState, PoolState, idle, no_entry, worker_at, entry_at, entered, finishing}
-use Rattle.round_core.specs.Pool.{update, step}
-use Rattle.round_core.specs.Places.{one_at, places, times_marked, waiting, updated_by}
+use Rattle.round_core.specs.state.Pool.{WorkerState, PoolState, idle, no_entry, worker_at, entry_at, entered}
+use Rattle.round_core.specs.state.Pool.{finishing}
+use Rattle.round_core.specs.state.Pool.{update, step}
+use Rattle.round_core.specs.state.Places.{one_at, places, times_marked, waiting, updated_by}
 use Rattle.round_core.proofs.Runs.{one_at_same, one_at_other}
 use Rattle.round_core.proofs.Rounds.{marked_at_most}
-use Rattle.played_round.specs.Table.{TableState, IsWaiting, IsUpdate}
-use Rattle.played_round.specs.Round.{RoundState, round_of, with_pool}
-use Rattle.played_round.specs.Playing.{CanUpdate, IsUpdateOf, CanEnter, Stands}
-use Rattle.played_round.specs.Playing.{Agrees, Plays}
+use Rattle.played_round.specs.state.Table.{TableState, IsWaiting, IsUpdate}
+use Rattle.played_round.specs.state.Round.{RoundState, round_of, with_pool}
+use Rattle.played_round.specs.state.Playing.{CanUpdate, IsUpdateOf, CanEnter, Stands}
+use Rattle.played_round.specs.state.Playing.{Agrees, Plays}
 use Rattle.played_round.proofs.Marks.{taken_is_unmarked, updated_is_marked, updated_is_unfinished}
 use Rattle.played_round.proofs.Marks.{weight_step, marks_step, grown_step}
 

@@ -8,16 +8,17 @@ use Rattle.std.proofs.lemmas.List.Sums.{sum_by-cons, get_or-le-sum_by}
 use Rattle.round_steps.specs.declared.step.Step.{Step}
 use Rattle.round_steps.specs.declared.step.Step.TheVariants.{Pop, Steal, Update, Enter}
 use Rattle.event_book.specs.declared.totals.Entry.{Entry}
-use Rattle.event_book.specs.Limits.{IsLow, most_events}
+use Rattle.event_book.specs.state.Limits.{IsLow, most_events}
 use Rattle.round_core.specs.declared.hand.Hand.{Hand}
 use Rattle.round_core.specs.declared.hand.Hand.TheVariants.{Empty, Taken, Updated}
-use Rattle.round_core.specs.Pool.{WorkerState, PoolState, idle, worker_at, entry_at, step}
-use Rattle.round_core.specs.Places.{one_at, held, held_updated, worker_weight, pool_weight, finished_weight, places}
-use Rattle.round_core.specs.Places.{times_marked, waiting, updated_by}
+use Rattle.round_core.specs.state.Pool.{WorkerState, PoolState, idle, worker_at, entry_at, step}
+use Rattle.round_core.specs.state.Places.{one_at, held, held_updated, worker_weight, pool_weight, finished_weight}
+use Rattle.round_core.specs.state.Places.{places}
+use Rattle.round_core.specs.state.Places.{times_marked, waiting, updated_by}
 use Rattle.round_core.proofs.Accounts.{gain, step_gain, marked_of, finished_account, book_gain}
 use Rattle.round_core.proofs.Runs.{one_at_same, weight_run, marks_run}
 use Rattle.round_core.proofs.Rounds.{updates_total, events_total, orders_total}
-use Rattle.played_round.specs.Playing.{HasGrown}
+use Rattle.played_round.specs.state.Playing.{HasGrown}
 
 -- Sums over the workers in two parts
 

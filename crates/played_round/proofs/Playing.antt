@@ -4,11 +4,11 @@ use Rattle.std.proofs.Common.{subst, arith}
 use Rattle.std.proofs.lemmas.List.{take_more, take_all, length-take-le}
 use Rattle.round_steps.specs.declared.step.Step.{Step}
 use Rattle.round_steps.specs.declared.step.Step.TheVariants.{Pop, Update, Enter}
-use Rattle.round_core.specs.Pool.{WorkerState, PoolState, worker_at, run, finishing_steps, drain_steps}
+use Rattle.round_core.specs.state.Pool.{WorkerState, PoolState, worker_at, run, finishing_steps, drain_steps}
 use Rattle.round_core.proofs.Runs.{run-append}
 use Rattle.round_core.proofs.Turns.{length-run, after_drained, turn_more, drain_more}
-use Rattle.played_round.specs.Round.{RoundState}
-use Rattle.played_round.specs.Playing.{Stands, Plays}
+use Rattle.played_round.specs.state.Round.{RoundState}
+use Rattle.played_round.specs.state.Playing.{Stands, Plays}
 
 pub plays_none : (r : RoundState) → Stands r → Plays r [] r
 plays_none r stands =

@@ -7,20 +7,20 @@ use Rattle.std.proofs.lemmas.List.{length-map, length-replicate, get_or-replicat
 use Rattle.std.proofs.lemmas.List.Elements.{All-get_or}
 use Rattle.std.proofs.lemmas.Option.{slice_get-get_or, slice_get_within, get_or_from_slice_get}
 use Rattle.round_steps.specs.declared.step.Step.{Step}
-use Rattle.pod_piece.specs.Piece.{Piece, updated}
+use Rattle.pod_piece.specs.state.Piece.{Piece, updated}
 use Rattle.event_book.specs.declared.totals.Entry.{Entry}
-use Rattle.event_book.specs.Limits.{IsLow}
-use Rattle.round_core.specs.Pool.{WorkerState, PoolState, no_entry, entry_at, deal, run, drain_steps}
-use Rattle.round_core.specs.Pool.{after_steps, after_drain}
-use Rattle.round_core.specs.Places.{one_at, times_marked, sum_of_shares, with_drain}
+use Rattle.event_book.specs.state.Limits.{IsLow}
+use Rattle.round_core.specs.state.Pool.{WorkerState, PoolState, no_entry, entry_at, deal, run, drain_steps}
+use Rattle.round_core.specs.state.Pool.{after_steps, after_drain}
+use Rattle.round_core.specs.state.Places.{one_at, times_marked, sum_of_shares, with_drain}
 use Rattle.round_core.proofs.Accounts.{marked_of}
 use Rattle.round_core.proofs.Runs.{length-deal, sum_below-zero, sum_below-one, sum_below-one_at, sum_below-one_past}
 use Rattle.round_core.proofs.Runs.{sum_deal, weight_deal}
 use Rattle.round_core.proofs.Rounds.{book_is_shares, drained_is_run, drained_once, drained_totals}
 use Rattle.round_core.proofs.Alike.{alike_after_drain}
 use Rattle.round_core.proofs.Turns.{length-run, workers_run}
-use Rattle.played_round.specs.Round.{RoundState, with_pool, dealt, IsFresh, IsWhole}
-use Rattle.played_round.specs.Playing.{Stands, Follows, Plays}
+use Rattle.played_round.specs.state.Round.{RoundState, with_pool, dealt, IsFresh, IsWhole}
+use Rattle.played_round.specs.state.Playing.{Stands, Follows, Plays}
 use Rattle.played_round.proofs.Marks.{marks_finished}
 
 -- The start

@@ -1,3 +1,1 @@
-pub mod Table
-pub mod Round
-pub mod Playing
+pub mod state

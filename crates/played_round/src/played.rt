@@ -1,15 +1,16 @@
 //! The whole of a played round.
 
 ghost use Rattle.std.specs.Prelude.{◌≡◌, ◌+◌, ◌<◌, ◌≤◌, List, All, IsTrue, length, map, OnOk, IfOk, replicate};
-ghost use Rattle.observations.specs.Limits.{most_pods};
-ghost use Rattle.pod_piece.specs.Piece.{updated};
+ghost use Rattle.observations.specs.rule.Limits.{most_pods};
+ghost use Rattle.pod_piece.specs.state.Piece.{updated};
 ghost use Rattle.event_book.specs.declared.totals.Entry.{Entry};
-ghost use Rattle.event_book.specs.Totals.{plus, sums_of, AreEntriesOf};
-ghost use Rattle.event_book.specs.Shares.{most_parts};
-ghost use Rattle.event_book.specs.Limits.{most_workers, AreLow};
-ghost use Rattle.round_core.specs.Pool.{idle, after_drain, finished_lists};
-ghost use Rattle.round_core.specs.Places.{sum_of_shares};
-ghost use Rattle.played_round.specs.Round.{dealt, with_pool, IsFresh, IsWhole};
+ghost use Rattle.event_book.specs.state.Totals.{plus, sums_of, AreEntriesOf};
+ghost use Rattle.event_book.specs.state.Shares.{most_parts};
+ghost use Rattle.event_book.specs.rule.Limits.{most_workers};
+ghost use Rattle.event_book.specs.state.Limits.{AreLow};
+ghost use Rattle.round_core.specs.state.Pool.{idle, after_drain, finished_lists};
+ghost use Rattle.round_core.specs.state.Places.{sum_of_shares};
+ghost use Rattle.played_round.specs.state.Round.{dealt, with_pool, IsFresh, IsWhole};
 
 use crate::round::Round;
 use crate::table::Table;

@@ -1,10 +1,11 @@
 //! A round whose steps are taken one by one.
 
 ghost use Rattle.std.specs.Prelude.{◌≡◌, ◌<◌, ◌∷◌, [], length, OnOk};
-ghost use Rattle.round_core.specs.Pool.{give, pop, steal, update, enter, worker_at, finishing_steps, drain_steps};
+ghost use Rattle.round_core.specs.state.Pool.{give, pop, steal, update, enter, worker_at, finishing_steps};
+ghost use Rattle.round_core.specs.state.Pool.{drain_steps};
 ghost use Rattle.round_steps.specs.declared.step.Step.TheVariants.{Pop, Update, Enter};
-ghost use Rattle.played_round.specs.Round.{with_pool};
-ghost use Rattle.played_round.specs.Playing.{CanUpdate, IsUpdateOf, CanEnter, Stands, Plays};
+ghost use Rattle.played_round.specs.state.Round.{with_pool};
+ghost use Rattle.played_round.specs.state.Playing.{CanUpdate, IsUpdateOf, CanEnter, Stands, Plays};
 
 use crate::table::Table;
 use crate::worker::Worker;
@@ -24,7 +25,7 @@ pub(crate) struct Round<U: Ledger, E: Ledger, O: Ledger> {
 }
 
 impl<U: Ledger, E: Ledger, O: Ledger> Model for Round<U, E, O> {
-    ghost use Rattle.played_round.specs.Round.{RoundState};
+    ghost use Rattle.played_round.specs.state.Round.{RoundState};
 
     ghost Value = { RoundState };
 

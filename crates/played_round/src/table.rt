@@ -1,11 +1,11 @@
 //! The pieces of a round.
 
 ghost use Rattle.std.specs.Prelude.{◌≡◌, ◌<◌, length, replicate, IsTrue, OnOk, IfOk};
-ghost use Rattle.pod_piece.specs.Piece.{updated};
-ghost use Rattle.event_book.specs.Totals.{IsEntryOf};
-ghost use Rattle.event_book.specs.Limits.{IsLow};
-ghost use Rattle.round_core.specs.Pool.{no_entry, entry_at};
-ghost use Rattle.played_round.specs.Table.{IsWaiting, IsUpdate};
+ghost use Rattle.pod_piece.specs.state.Piece.{updated};
+ghost use Rattle.event_book.specs.state.Totals.{IsEntryOf};
+ghost use Rattle.event_book.specs.state.Limits.{IsLow};
+ghost use Rattle.round_core.specs.state.Pool.{no_entry, entry_at};
+ghost use Rattle.played_round.specs.state.Table.{IsWaiting, IsUpdate};
 
 use event_book::Entry;
 use pod_piece::PodPiece;
@@ -36,7 +36,7 @@ pub(crate) struct Table {
 }
 
 impl Model for Table {
-    ghost use Rattle.played_round.specs.Table.{TableState};
+    ghost use Rattle.played_round.specs.state.Table.{TableState};
 
     ghost Value = { TableState };
 

@@ -1,10 +1,11 @@
 //! A worker of a played round.
 
 ghost use Rattle.std.specs.Prelude.{◌≡◌, ◌∷◌, [], length, OnOk, MatchOption};
-ghost use Rattle.event_book.specs.Totals.{plus, nothing};
-ghost use Rattle.event_book.specs.Shares.{share_with, one_update, AreWithin};
-ghost use Rattle.round_core.specs.Pool.{idle, with_piece, with_deque, holding, popped, is_empty, with_hand, marked};
-ghost use Rattle.round_core.specs.Pool.{finished_with};
+ghost use Rattle.event_book.specs.state.Totals.{plus, nothing};
+ghost use Rattle.event_book.specs.state.Shares.{share_with, one_update, AreWithin};
+ghost use Rattle.round_core.specs.state.Pool.{idle, with_piece, with_deque, holding, popped, is_empty, with_hand};
+ghost use Rattle.round_core.specs.state.Pool.{marked};
+ghost use Rattle.round_core.specs.state.Pool.{finished_with};
 
 use event_book::{Entry, EventBook, Shares};
 use round_core::Hand;
@@ -25,7 +26,7 @@ pub(crate) struct Worker<U: Ledger, E: Ledger, O: Ledger> {
 
 impl<U: Ledger, E: Ledger, O: Ledger> Model for Worker<U, E, O> {
     ghost use Rattle.std.specs.Prelude.{◌≡◌};
-    ghost use Rattle.round_core.specs.Pool.{WorkerState};
+    ghost use Rattle.round_core.specs.state.Pool.{WorkerState};
 
     ghost Value = { WorkerState };
 

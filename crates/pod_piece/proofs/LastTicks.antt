@@ -6,12 +6,12 @@ use Rattle.std.specs.Prelude.{slice_get}
 use Rattle.std.proofs.lemmas.List.{get_or-take, length-map, length-take-le, take_all}
 use Rattle.std.proofs.lemmas.Option.{slice_get-get_or, slice_get_within}
 use Rattle.std.proofs.Math.Seq.{take-append_seam, take-suc}
-use Rattle.histories.specs.Histories.{recorded, last_moment, moment_at}
+use Rattle.histories.specs.rule.Histories.{recorded, last_moment, moment_at}
 use Rattle.histories.proofs.Places.{length-more}
 use Rattle.histories.proofs.Lists.{slice_get-new}
-use Rattle.observations.specs.Pods.{PodObs}
-use Rattle.pod_state.specs.Pods.{PodEntry, PodTick, pod_tick}
-use Rattle.pod_piece.specs.Piece.{before_last, last_of}
+use Rattle.observations.specs.rule.Pods.{PodObs}
+use Rattle.pod_state.specs.rule.Pods.{PodEntry, PodTick, pod_tick}
+use Rattle.pod_piece.specs.state.Piece.{before_last, last_of}
 
 -- the last of some ticks, and those before it
 pub front_more : (h : List PodTick) (x : PodTick) → before_last (h ++ x ∷ []) ≡ h

@@ -3,18 +3,18 @@ use Rattle.std.proofs.Common.{◌≡◌, ◌∙◌, inl, inr, ℕ, ◌+◌, ◌<
 use Rattle.std.proofs.Common.{arith}
 use Rattle.std.specs.Prelude.{slice_get, unwrap_or}
 use Rattle.std.proofs.lemmas.Bool.{cases_lt}
-use Rattle.histories.specs.Histories.{recorded}
+use Rattle.histories.specs.rule.Histories.{recorded}
 use Rattle.histories.proofs.Places.{project-append}
 use Rattle.manifest.specs.declared.pod.PodSpec.{PodSpec}
-use Rattle.observations.specs.Pods.{PodObs}
+use Rattle.observations.specs.rule.Pods.{PodObs}
 use Rattle.observations.specs.declared.container.ContainerObs.{ContainerObs}
 use Rattle.state_diff.specs.declared.differ.Differ.{Differ}
-use Rattle.state_diff.specs.Differ.{IsStateOf}
-use Rattle.state_diff.specs.Instances.{Tick}
-use Rattle.containers.specs.Ticks.{listings}
-use Rattle.pod_state.specs.Pods.{PodTick, pod_tick, ticks_of, unseen}
+use Rattle.state_diff.specs.state.Differ.{IsStateOf}
+use Rattle.state_diff.specs.rule.Instances.{Tick}
+use Rattle.containers.specs.rule.Ticks.{listings}
+use Rattle.pod_state.specs.rule.Pods.{PodTick, pod_tick, ticks_of, unseen}
 use Rattle.pod_state.proofs.TickLemmas.{ticks_more}
-use Rattle.pod_piece.specs.Listings.{listed_in, AreListed}
+use Rattle.pod_piece.specs.state.Listings.{listed_in, AreListed}
 
 -- what holds below a place, and at it
 pub all_next : (P : ℕ → Type 0) (i : ℕ) → ((n : ℕ) → n < i → P n) → P i → (n : ℕ) → n < i + 1 → P n

@@ -5,20 +5,21 @@ use Rattle.std.specs.Prelude.{IfSome}
 use Rattle.std.specs.Prelude.{slice_get, unwrap_or}
 use Rattle.std.proofs.lemmas.Bool.{cases_lt}
 use Rattle.std.proofs.lemmas.Option.{slice_get_past}
-use Rattle.histories.specs.Histories.{last_moment, moment_at, EndsBefore}
+use Rattle.histories.specs.rule.Histories.{last_moment, moment_at}
+use Rattle.histories.specs.state.Histories.{EndsBefore}
 use Rattle.histories.proofs.Places.{length-project, moment_at-project}
 use Rattle.manifest.specs.declared.pod.PodSpec.{PodSpec}
-use Rattle.observations.specs.Pods.{PodObs}
+use Rattle.observations.specs.rule.Pods.{PodObs}
 use Rattle.observations.specs.declared.container.ContainerObs.{ContainerObs}
 use Rattle.state_diff.specs.declared.differ.Differ.{Differ}
-use Rattle.state_diff.specs.Instances.{IsAcceptable}
-use Rattle.containers.specs.Ticks.{listings}
+use Rattle.state_diff.specs.state.Instances.{IsAcceptable}
+use Rattle.containers.specs.rule.Ticks.{listings}
 use Rattle.pod_state.specs.declared.state.PodState.{PodState}
-use Rattle.pod_state.specs.Pods.{PodEntry, PodTick, pod_tick, ticks_of, unseen}
-use Rattle.pod_state.specs.States.{IsStateOf, MayFollow}
+use Rattle.pod_state.specs.rule.Pods.{PodEntry, PodTick, pod_tick, ticks_of, unseen}
+use Rattle.pod_state.specs.state.States.{IsStateOf, MayFollow}
 use Rattle.state_diff.proofs.Steps.{is_before}
 use Rattle.pod_state.proofs.StateLemmas.{may_follow}
-use Rattle.pod_piece.specs.Listings.{listed_in, IsNextTick, AreListed, AllFollow}
+use Rattle.pod_piece.specs.state.Listings.{listed_in, IsNextTick, AreListed, AllFollow}
 
 -- a container's last tick is the pod's
 ends_too : (h : List PodTick) (n at : ℕ) → EndsBefore h at → EndsBefore (listings (ticks_of h n)) at

@@ -5,32 +5,35 @@ use Rattle.std.specs.Prelude.{◌↔◌, IsTrue, IsSome, is_some, IfSome, MatchO
 use Rattle.std.specs.Prelude.{if◌then◌else◌}
 use Rattle.std.proofs.lemmas.Bool.{lt-ltb, ltb-true, cases_lt}
 use Rattle.std.proofs.lemmas.List.{map-append, length-map, drop_all}
-use Rattle.histories.specs.Histories.{recorded, last_moment}
+use Rattle.histories.specs.rule.Histories.{recorded, last_moment}
 use Rattle.histories.proofs.Places.{length-more}
 use Rattle.histories.proofs.Lists.{given_at}
 use Rattle.manifest.specs.declared.pod.PodSpec.{PodSpec}
-use Rattle.observations.specs.Pods.{PodObs}
+use Rattle.observations.specs.rule.Pods.{PodObs}
 use Rattle.state_diff.specs.declared.differ.Differ.{Differ}
-use Rattle.phase.specs.RawPhase.{IsTerminal}
+use Rattle.phase.specs.rule.RawPhase.{IsTerminal}
 use Rattle.pod_state.specs.declared.events.PodEvent.{PodEvent}
 use Rattle.pod_state.specs.declared.state.PodState.{PodState}
-use Rattle.pod_state.specs.Pods.{PodEntry, PodTick, pod_tick, IsEnd, HasEnded, EndsEvicted}
-use Rattle.pod_state.specs.Events.{AreEventsOf}
-use Rattle.pod_state.specs.Lifecycles.{IsLifecycleOf, IsProgressOf}
-use Rattle.pod_state.specs.States.{before_of, HasContainers, IsStateOf}
+use Rattle.pod_state.specs.rule.Pods.{PodEntry, PodTick, pod_tick, IsEnd, HasEnded, EndsEvicted}
+use Rattle.pod_state.specs.rule.Events.{AreEventsOf}
+use Rattle.pod_state.specs.rule.Lifecycles.{IsLifecycleOf}
+use Rattle.pod_state.specs.state.Lifecycles.{IsProgressOf}
+use Rattle.pod_state.specs.state.States.{before_of, HasContainers, IsStateOf}
 use Rattle.pod_state.proofs.EndLemmas.{end_old, ended_is, IsEnd-unique}
 use Rattle.pod_piece.specs.declared.order.EvictOrder.{EvictOrder}
 use Rattle.pod_piece.specs.declared.piece.EvictionRecord.{EvictionRecord}
 use Rattle.pod_piece.specs.declared.made.MadeTick.{MadeTick}
 use Rattle.pod_piece.specs.declared.piece.Parts.{Parts}
 use Rattle.pod_piece.specs.declared.status.PodStatus.{PodStatus}
-use Rattle.pod_piece.specs.Listings.{IsNextTick, AreListed}
-use Rattle.pod_piece.specs.Piece.{Piece, piece, before_last, last_of, ticks, place_of, evicted_at, Lives}
-use Rattle.pod_piece.specs.Piece.{with_number, at_rest, begun_with}
-use Rattle.pod_piece.specs.Piece.{evicted_before, new_piece, with_tick, updated, with_eviction}
-use Rattle.pod_piece.specs.Status.{IsStatusAfter, IsStatusOf, AreEventsAfter}
-use Rattle.pod_piece.specs.Made.{MadeEvent, made_at, made_of, AreMadeOver, round_of}
-use Rattle.pod_piece.specs.Kept.{MayBe, EndsAt, IsStateAfter, IsKept, AreKept, piece_of}
+use Rattle.pod_piece.specs.state.Listings.{IsNextTick, AreListed}
+use Rattle.pod_piece.specs.rule.Piece.{place_of}
+use Rattle.pod_piece.specs.state.Piece.{Piece, piece, before_last, last_of, ticks, evicted_at, Lives}
+use Rattle.pod_piece.specs.state.Piece.{with_number, at_rest, begun_with}
+use Rattle.pod_piece.specs.state.Piece.{evicted_before, new_piece, with_tick, updated, with_eviction}
+use Rattle.pod_piece.specs.rule.Status.{IsStatusAfter}
+use Rattle.pod_piece.specs.state.Status.{IsStatusOf, AreEventsAfter}
+use Rattle.pod_piece.specs.state.Made.{MadeEvent, made_at, made_of, AreMadeOver, round_of}
+use Rattle.pod_piece.specs.state.Kept.{MayBe, EndsAt, IsStateAfter, IsKept, AreKept, piece_of}
 use Rattle.pod_piece.proofs.LastTicks.{front_more, last_more, split_last, tick_at}
 use Rattle.pod_piece.proofs.Waiting.{taken_is, taken_length, taken_next, taken_handed, ticks_free, next_is}
 use Rattle.pod_piece.proofs.Waiting.{none_spread, spread_more, wait_more, wait_less, observed_at}

@@ -8,11 +8,11 @@ use Rattle.std.proofs.lemmas.List.{length-take-le, length-drop}
 use Rattle.histories.proofs.Places.{length-more}
 use Rattle.manifest.specs.declared.pod.PodSpec.{PodSpec}
 use Rattle.pod_state.specs.declared.events.PodEvent.{PodEvent}
-use Rattle.pod_state.specs.Pods.{PodTick}
-use Rattle.pod_state.specs.Events.{AreEventsOf}
-use Rattle.pod_piece.specs.Piece.{before_last, last_of, evicted_before}
-use Rattle.pod_piece.specs.Status.{AreEventsAfter}
-use Rattle.pod_piece.specs.Made.{MadeEvent, made_at, AreMadeOver}
+use Rattle.pod_state.specs.rule.Pods.{PodTick}
+use Rattle.pod_state.specs.rule.Events.{AreEventsOf}
+use Rattle.pod_piece.specs.state.Piece.{before_last, last_of, evicted_before}
+use Rattle.pod_piece.specs.state.Status.{AreEventsAfter}
+use Rattle.pod_piece.specs.state.Made.{MadeEvent, made_at, AreMadeOver}
 use Rattle.pod_piece.proofs.LastTicks.{front_more, last_more}
 
 -- the events of the last tick, by the ticks before it

@@ -7,16 +7,17 @@ use Rattle.histories.proofs.Places.{kept, added, up_to-old, up_to-new}
 use Rattle.histories.proofs.Last.{IsLast-old, IsLast-new, IsLast-unique}
 use Rattle.histories.proofs.First.{none_more}
 use Rattle.histories.proofs.Growth.{grows_entry}
-use Rattle.histories.specs.Histories.{entry_at}
+use Rattle.histories.specs.rule.Histories.{entry_at}
 use Rattle.manifest.specs.declared.pod.PodSpec.{PodSpec}
 use Rattle.observations.specs.declared.usage.Sampling.{Sampling}
 use Rattle.observations.specs.declared.usage.Sampling.TheVariants.{Unsaid, Unsampled, Sampled}
 use Rattle.observations.specs.declared.usage.Usage.{Usage}
-use Rattle.pod_state.specs.Pods.{PodTick, IsEnd, HasEnded, counted, PodEntry}
+use Rattle.pod_state.specs.rule.Pods.{PodTick, IsEnd, HasEnded, counted, PodEntry}
 use Rattle.pod_state.proofs.EndLemmas.{IsEnd-unique, end_old, counted_all}
 use Rattle.pod_piece.specs.declared.status.NewestUsage.{NewestUsage}
-use Rattle.pod_piece.specs.Usage.{sample_said, unsampled_said, Says, IsLastSaid, IsNewestSample, IsUnsampled}
-use Rattle.pod_piece.specs.Usage.{AreNewestSamples, IsUsageOf, nothing, newer}
+use Rattle.pod_piece.specs.rule.Usage.{sample_said, unsampled_said, Says, IsLastSaid, IsNewestSample, IsUnsampled}
+use Rattle.pod_piece.specs.rule.Usage.{AreNewestSamples, IsUsageOf}
+use Rattle.pod_piece.specs.state.Usage.{nothing, newer}
 
 -- what the last tick says of it that says something, with one more
 said_more : {A : Type 0} (said : Sampling → Option A) (h : List PodTick) (x : PodTick) (v s : Option A)

@@ -5,16 +5,17 @@ use Rattle.std.specs.Prelude.{option_map, IfSome}
 use Rattle.std.specs.Prelude.{slice_get}
 use Rattle.std.proofs.lemmas.List.{length-map, length-take-le, take_all, take-append-le, take-append-drop}
 use Rattle.std.proofs.lemmas.Option.{slice_get-get_or, slice_get-map, slice_get_within}
-use Rattle.quantity.specs.Duration.{end_of_time}
-use Rattle.histories.specs.Histories.{last_moment, EndsBefore, moment_at}
+use Rattle.quantity.specs.rule.Duration.{end_of_time}
+use Rattle.histories.specs.rule.Histories.{last_moment, moment_at}
+use Rattle.histories.specs.state.Histories.{EndsBefore}
 use Rattle.histories.proofs.Moments.{last_moment-more}
 use Rattle.histories.proofs.Places.{length-more}
 use Rattle.histories.proofs.Lists.{take_more, take_old, place_split, slice_get-kept}
-use Rattle.observations.specs.Pods.{PodObs}
-use Rattle.pod_state.specs.Pods.{PodTick, pod_tick}
-use Rattle.pod_piece.specs.Listings.{IsNextTick}
-use Rattle.pod_piece.specs.Piece.{Piece, taken, ticks, with_tick, updated}
-use Rattle.pod_piece.specs.Kept.{AreSpread, MayWait}
+use Rattle.observations.specs.rule.Pods.{PodObs}
+use Rattle.pod_state.specs.rule.Pods.{PodTick, pod_tick}
+use Rattle.pod_piece.specs.state.Listings.{IsNextTick}
+use Rattle.pod_piece.specs.state.Piece.{Piece, taken, ticks, with_tick, updated}
+use Rattle.pod_piece.specs.state.Kept.{AreSpread, MayWait}
 
 pub taken_is : (w : ℕ) (h : List PodTick) → taken w h ≡ take (length h - w) h
 taken_is zero h = sym (take_all (length h - 0) h (omega arith))

@@ -1,12 +1,12 @@
 //! Which listings of a pod's containers may come next, over all that it was handed.
 
 ghost use Rattle.std.specs.Prelude.{◌≡◌, ◌↔◌, ◌<◌, ℕ, List, ◌∷◌, ◌++◌, [], length, IfOk, IsTrue};
-ghost use Rattle.histories.specs.Histories.{recorded};
+ghost use Rattle.histories.specs.rule.Histories.{recorded};
 ghost use Rattle.manifest.specs.declared.pod.PodSpec.{PodSpec};
-ghost use Rattle.state_diff.specs.Differ.{IsStateOf as IsDifferOf};
-ghost use Rattle.state_diff.specs.Instances.{Tick};
-ghost use Rattle.pod_state.specs.Pods.{PodTick, pod_tick};
-ghost use Rattle.pod_piece.specs.Listings.{listed_in, AreListed, AreAcceptable, Follows, AllFollow};
+ghost use Rattle.state_diff.specs.state.Differ.{IsStateOf as IsDifferOf};
+ghost use Rattle.state_diff.specs.rule.Instances.{Tick};
+ghost use Rattle.pod_state.specs.rule.Pods.{PodTick, pod_tick};
+ghost use Rattle.pod_piece.specs.state.Listings.{listed_in, AreListed, AreAcceptable, Follows, AllFollow};
 
 use observations::PodObs;
 use state_diff::{Differ, Seen};

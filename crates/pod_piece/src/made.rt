@@ -2,9 +2,9 @@
 
 ghost use Rattle.std.specs.Prelude.{◌≡◌, ◌<◌, ◌≤◌, ◌-◌, ◌++◌, [], false, length, slice_get, Some, vec_len, vec_capacity};
 ghost use Rattle.std.specs.Prelude.{IsTrue, OnOk};
-ghost use Rattle.observations.specs.Pods.{PodObs as APodObs};
-ghost use Rattle.pod_piece.specs.Piece.{begun_with};
-ghost use Rattle.pod_piece.specs.Made.{made_at, made_of};
+ghost use Rattle.observations.specs.rule.Pods.{PodObs as APodObs};
+ghost use Rattle.pod_piece.specs.state.Piece.{begun_with};
+ghost use Rattle.pod_piece.specs.state.Made.{made_at, made_of};
 
 use lists::ChunkedList;
 use observations::PodObs;

@@ -2,15 +2,15 @@
 
 ghost use Rattle.std.specs.Prelude.{◌≡◌, ◌↔◌, ◌<◌, ◌≤◌, ℕ, [], length, map, take, Option, Some, None};
 ghost use Rattle.std.specs.Prelude.{IsTrue, IfOk, IfErr, OnOk, OnErr};
-ghost use Rattle.quantity.specs.Duration.{end_of_time};
-ghost use Rattle.histories.specs.Histories.{last_moment};
-ghost use Rattle.pod_state.specs.Pods.{pod_tick};
-ghost use Rattle.pod_state.specs.States.{IsStateOf};
-ghost use Rattle.pod_piece.specs.Listings.{MayComeNext, IsNextTick};
-ghost use Rattle.pod_piece.specs.Piece.{Piece, ticks, Lives, new_piece, with_tick, updated, with_eviction};
-ghost use Rattle.pod_piece.specs.Piece.{with_number, at_rest};
-ghost use Rattle.pod_piece.specs.Made.{round_length, AreEarlierEvents};
-ghost use Rattle.pod_piece.specs.Status.{IsStatusOf, AreLastEvents};
+ghost use Rattle.quantity.specs.rule.Duration.{end_of_time};
+ghost use Rattle.histories.specs.rule.Histories.{last_moment};
+ghost use Rattle.pod_state.specs.rule.Pods.{pod_tick};
+ghost use Rattle.pod_state.specs.state.States.{IsStateOf};
+ghost use Rattle.pod_piece.specs.state.Listings.{MayComeNext, IsNextTick};
+ghost use Rattle.pod_piece.specs.state.Piece.{Piece, ticks, Lives, new_piece, with_tick, updated, with_eviction};
+ghost use Rattle.pod_piece.specs.state.Piece.{with_number, at_rest};
+ghost use Rattle.pod_piece.specs.state.Made.{round_length, AreEarlierEvents};
+ghost use Rattle.pod_piece.specs.state.Status.{IsStatusOf, AreLastEvents};
 
 use crate::listings::{are_acceptable, first_differs, follow};
 use crate::made::{MadeTick, begin_round, make_room, move_on};
@@ -62,11 +62,11 @@ pub struct PodPiece {
 }
 
 impl Model for PodPiece {
-    ghost use Rattle.pod_piece.specs.Piece.{Piece};
+    ghost use Rattle.pod_piece.specs.state.Piece.{Piece};
 
     ghost Value = { Piece };
 
-    ghost use Rattle.pod_piece.specs.Kept.{piece_of, AreKept};
+    ghost use Rattle.pod_piece.specs.state.Kept.{piece_of, AreKept};
 
     ghost view = { λ p. piece_of p.parts.value };
 

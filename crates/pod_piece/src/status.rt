@@ -2,9 +2,9 @@
 
 ghost use Rattle.std.specs.Prelude.{◌≡◌, ◌↔◌, Option, IsTrue, option_map};
 ghost use Rattle.manifest.specs.declared.pod.PodSpec.{PodSpec};
-ghost use Rattle.phase.specs.RawPhase.{IsTerminal};
+ghost use Rattle.phase.specs.rule.RawPhase.{IsTerminal};
 ghost use Rattle.pod_piece.specs.declared.status.Reason.TheVariants.{Evicted};
-ghost use Rattle.pod_piece.specs.Status.{requests_of};
+ghost use Rattle.pod_piece.specs.rule.Status.{requests_of};
 
 use crate::order::EvictOrder;
 use containers::ContainerStatus;

@@ -2,7 +2,7 @@
 
 ghost use Rattle.std.specs.Prelude.{◌≡◌, if◌then◌else◌};
 ghost use Rattle.std.specs.Option.{option_or};
-ghost use Rattle.pod_piece.specs.Usage.{no_samples, nothing, newer};
+ghost use Rattle.pod_piece.specs.state.Usage.{no_samples, nothing, newer};
 
 use crate::status::NewestUsage;
 use observations::{Sampling, Usage};

@@ -7,19 +7,19 @@ use Rattle.std.specs.List.Sorted.{IsPermutation}
 use Rattle.std.proofs.lemmas.List.{length-append}
 use Rattle.std.proofs.lemmas.Option.{slice_get-get_or, slice_get_within}
 use Rattle.histories.proofs.Lists.{place_split}
-use Rattle.observations.specs.Limits.{most_pods}
-use Rattle.pod_piece.specs.Piece.{Piece, all_updated}
+use Rattle.observations.specs.rule.Limits.{most_pods}
+use Rattle.pod_piece.specs.state.Piece.{Piece, all_updated}
 use Rattle.event_book.specs.declared.totals.Totals.{Totals}
-use Rattle.event_book.specs.Totals.{plus, nothing}
-use Rattle.event_book.specs.Rounds.{IsAdditionOf, AreAdditionsOf, sums_of_additions}
-use Rattle.event_book.specs.Shares.{ShareState, share_with, greatest_total}
-use Rattle.event_book.specs.Limits.{most_round_events}
+use Rattle.event_book.specs.state.Totals.{plus, nothing}
+use Rattle.event_book.specs.state.Rounds.{IsAdditionOf, AreAdditionsOf, sums_of_additions}
+use Rattle.event_book.specs.state.Shares.{ShareState, share_with, greatest_total}
+use Rattle.event_book.specs.state.Limits.{most_round_events}
 use Rattle.event_book.proofs.Numbers.{totals_same}
 use Rattle.piece_deques.proofs.Lists.{sum_map}
-use Rattle.piece_deques.specs.Rule.{AreNumbered}
-use Rattle.pod_pool.specs.Done.{HaveAdditions, AreSumsOf}
+use Rattle.piece_deques.specs.state.Rule.{AreNumbered}
+use Rattle.pod_pool.specs.state.Done.{HaveAdditions, AreSumsOf}
 use Rattle.pod_pool.proofs.Sums.{sums_permuted}
-use Rattle.pod_pool.specs.Order.{AreAdded}
+use Rattle.pod_pool.specs.state.Order.{AreAdded}
 
 pub no_additions : (pieces : List Piece) → pieces ≡ [] → AreAdditionsOf pieces []
 no_additions pieces none =

@@ -10,13 +10,13 @@ use Rattle.std.proofs.lemmas.List.{map-set, get_or-map, length-map, length-set, 
 use Rattle.std.proofs.lemmas.List.{reverse-append, reverse-reverse}
 use Rattle.std.proofs.lemmas.List.Sums.{sum_by-cons}
 use Rattle.crossbeam_deque.specs.declared.handles.Worker.{Worker}
-use Rattle.pod_piece.specs.Piece.{Piece}
+use Rattle.pod_piece.specs.state.Piece.{Piece}
 use Rattle.piece_deques.specs.declared.rule.Tally.{Tally}
-use Rattle.piece_deques.specs.Rule.{number_of}
-use Rattle.piece_deques.specs.Ends.{pushed_weight}
+use Rattle.piece_deques.specs.state.Rule.{number_of}
+use Rattle.piece_deques.specs.state.Ends.{pushed_weight}
 use Rattle.piece_deques.proofs.Lists.{ones, map_map}
-use Rattle.pod_pool.specs.Permits.{FilledDeque, owner_deque}
-use Rattle.pod_pool.specs.Dealing.{give, deal, pushed_of, dealt_to, DealtByRemainder}
+use Rattle.pod_pool.specs.state.Permits.{FilledDeque, owner_deque}
+use Rattle.pod_pool.specs.state.Dealing.{give, deal, pushed_of, dealt_to, DealtByRemainder}
 
 -- an item whose list has the number more, in the place of the one that the number names
 pub given_one : {X : Type 0} (f : X → List ℕ) (xs : List X) (n at : ℕ) (old new : X)

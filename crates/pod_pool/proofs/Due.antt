@@ -2,8 +2,8 @@
 use Rattle.std.proofs.Common.{◌≡◌, ◌<◌, List, All, Some, get_or, sym, subst}
 use Rattle.std.specs.Prelude.{slice_get}
 use Rattle.std.proofs.lemmas.Option.{slice_get-get_or}
-use Rattle.pod_piece.specs.Piece.{Piece}
-use Rattle.piece_deques.specs.Rule.{IsPieceDue, AreNumbered}
+use Rattle.pod_piece.specs.state.Piece.{Piece}
+use Rattle.piece_deques.specs.state.Rule.{IsPieceDue, AreNumbered}
 
 pub all_due : (all : List Piece) → AreNumbered all → All (λ (p : Piece). 0 < p.waiting) all
     → All (IsPieceDue all) all

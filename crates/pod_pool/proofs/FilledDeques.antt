@@ -12,13 +12,13 @@ use Rattle.crossbeam_deque.specs.declared.handles.Worker.{Worker}
 use Rattle.crossbeam_deque.proofs.Lists.{at_last, at_longer}
 use Rattle.histories.proofs.Lists.{map_more}
 use Rattle.piece_deques.specs.declared.rule.Tally.{Tally}
-use Rattle.piece_deques.specs.Ends.{pushed_weight}
+use Rattle.piece_deques.specs.state.Ends.{pushed_weight}
 use Rattle.piece_deques.proofs.Lists.{drop_map_more, last, map_same, ones, sum_map, sum_same}
 use Rattle.piece_deques.proofs.Lists.{take_map_more}
 use Rattle.pod_pool.specs.declared.handle.StealHandle.{StealHandle}
 use Rattle.pod_pool.specs.declared.slot.DealtSlot.{DealtSlot}
-use Rattle.pod_pool.specs.Permits.{FilledDeque, owner_deque, permit_deque, pushed_count, pushed_to}
-use Rattle.pod_pool.specs.Slots.{IsDealtSlot}
+use Rattle.pod_pool.specs.state.Permits.{FilledDeque, owner_deque, permit_deque, pushed_count, pushed_to}
+use Rattle.pod_pool.specs.state.Slots.{IsDealtSlot}
 
 module _ {T P : Type 0} where
   pub same_deques : (xs ys : List (Worker T Global Tally P)) → map owner_deque xs ≡ map owner_deque ys

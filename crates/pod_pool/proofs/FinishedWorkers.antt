@@ -9,10 +9,10 @@ use Rattle.crossbeam_deque.specs.Handles.{worker_view}
 use Rattle.crossbeam_deque.proofs.Lists.{at_last, at_longer, at_map}
 use Rattle.piece_deques.proofs.Lists.{ones, place_within}
 use Rattle.pod_pool.specs.declared.handle.StealHandle.{StealHandle}
-use Rattle.pod_pool.specs.WorkerResults.{HasRoomForOne}
-use Rattle.pod_pool.specs.Permits.{FilledDeque, permit_deque, pushed_count, pushed_sum}
+use Rattle.pod_pool.specs.state.WorkerResults.{HasRoomForOne}
+use Rattle.pod_pool.specs.state.Permits.{FilledDeque, permit_deque, pushed_count, pushed_sum}
 use Rattle.pod_pool.specs.declared.finished_worker.FinishedWorker.{FinishedWorker}
-use Rattle.pod_pool.specs.FinishedWorkers.{StandAt, finished_deque, finished_pushed, finished_taken}
+use Rattle.pod_pool.specs.state.FinishedWorkers.{StandAt, finished_deque, finished_pushed, finished_taken}
 
 pub filled_ones : (filled : List FilledDeque) → pushed_count filled ≡ pushed_sum (λ _. 1) filled
 filled_ones [] = refl

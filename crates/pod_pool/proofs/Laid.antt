@@ -2,13 +2,13 @@
 use Rattle.std.proofs.Common.{◌≡◌, ℕ, List, All, map, length, sym, ap, ◌∙◌, subst}
 use Rattle.std.proofs.lemmas.List.{length-map}
 use Rattle.std.proofs.lemmas.List.Elements.{All-map}
-use Rattle.pod_piece.specs.Piece.{Piece}
+use Rattle.pod_piece.specs.state.Piece.{Piece}
 use Rattle.piece_deques.proofs.Lists.{all_unmap, map_map}
 use Rattle.pod_pool.specs.declared.context.WorkerContext.{WorkerContext}
-use Rattle.pod_pool.specs.Done.{weigh}
-use Rattle.pod_pool.specs.Dealing.{dealt_to}
-use Rattle.pod_pool.specs.Permits.{FilledDeque, pushed_sum}
-use Rattle.pod_pool.specs.Contexts.{Tag, context_deque, context_tag, filled_in, IsLaid, AreLaid}
+use Rattle.pod_pool.specs.state.Done.{weigh}
+use Rattle.pod_pool.specs.state.Dealing.{dealt_to}
+use Rattle.pod_pool.specs.state.Permits.{FilledDeque, pushed_sum}
+use Rattle.pod_pool.specs.state.Contexts.{Tag, context_deque, context_tag, filled_in, IsLaid, AreLaid}
 
 module _ {D U E O : Type 0} {g : _} where
   filled_are : (contexts : List (WorkerContext D U E O g))

@@ -14,16 +14,16 @@ use Rattle.atomic_blocks.specs.Lent.{RowsId}
 use Rattle.crossbeam_deque.specs.Handles.{view, worker_flavor, worker_view, stealer_deque}
 use Rattle.crossbeam_deque.specs.declared.handles.Worker.{Worker}
 use Rattle.crossbeam_deque.proofs.Lists.{set_else}
-use Rattle.pod_piece.specs.Piece.{Piece}
+use Rattle.pod_piece.specs.state.Piece.{Piece}
 use Rattle.piece_deques.specs.declared.rule.Tally.{Tally}
-use Rattle.piece_deques.specs.Rule.{FoundEmpty, Took}
-use Rattle.piece_deques.specs.Ends.{IsOwner}
+use Rattle.piece_deques.specs.state.Rule.{FoundEmpty, Took}
+use Rattle.piece_deques.specs.state.Ends.{IsOwner}
 use Rattle.piece_deques.proofs.Lists.{map_set, ones, sum_set}
 use Rattle.pod_pool.specs.declared.handle.StealHandle.{StealHandle}
-use Rattle.pod_pool.specs.Done.{weigh}
-use Rattle.pod_pool.specs.Permits.{FilledDeque, filled_deque, permit_deque, owner_deque, taken_by, pushed_to}
-use Rattle.pod_pool.specs.Permits.{IsUnused, FoundAllEmpty}
-use Rattle.pod_pool.specs.Contexts.{tag, tag_of}
+use Rattle.pod_pool.specs.state.Done.{weigh}
+use Rattle.pod_pool.specs.state.Permits.{FilledDeque, filled_deque, permit_deque, owner_deque, taken_by, pushed_to}
+use Rattle.pod_pool.specs.state.Permits.{IsUnused, FoundAllEmpty}
+use Rattle.pod_pool.specs.state.Contexts.{tag, tag_of}
 
 pub filled_same : (a b : RowsId × Global) (xs ys : List ℕ) → a ≡ b → xs ≡ ys → filled_deque a xs ≡ filled_deque b ys
 filled_same a b xs ys deque pushed = λ k. filled_deque (deque k) (pushed k)

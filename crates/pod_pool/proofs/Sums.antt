@@ -5,15 +5,15 @@ use Rattle.std.specs.List.{sum_by}
 use Rattle.std.specs.List.Sorted.{IsPermutation}
 use Rattle.std.proofs.lemmas.List.Sums.{sum_by-cons, sum_by-append}
 use Rattle.std.proofs.lemmas.List.Sorted.{All-permutation, IsPermutation-sym, sum_by-IsPermutation}
-use Rattle.pod_piece.specs.Piece.{Piece}
+use Rattle.pod_piece.specs.state.Piece.{Piece}
 use Rattle.event_book.specs.declared.totals.Totals.{Totals}
-use Rattle.event_book.specs.Totals.{plus, nothing}
-use Rattle.event_book.specs.Rounds.{IsAdditionOf}
-use Rattle.event_book.specs.Limits.{IsLowAddition}
+use Rattle.event_book.specs.state.Totals.{plus, nothing}
+use Rattle.event_book.specs.state.Rounds.{IsAdditionOf}
+use Rattle.event_book.specs.state.Limits.{IsLowAddition}
 use Rattle.event_book.proofs.Made.{one_addition}
 use Rattle.event_book.proofs.Numbers.{totals_same}
 use Rattle.piece_deques.proofs.Lists.{all_left, all_right, ones}
-use Rattle.pod_pool.specs.Done.{HaveAdditions, AreSumsOf}
+use Rattle.pod_pool.specs.state.Done.{HaveAdditions, AreSumsOf}
 
 -- Sums
 

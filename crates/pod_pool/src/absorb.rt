@@ -2,8 +2,9 @@
 
 ghost use Rattle.std.specs.Prelude.{◌≡◌, ◌+◌, ◌*◌, ℕ, All, length, map, vec_len};
 ghost use Rattle.std.specs.List.{sum_by};
-ghost use Rattle.pod_pool.specs.Permits.{taken_by};
-ghost use Rattle.pod_pool.specs.FinishedWorkers.{finished_deque, finished_parts, finished_taken, IsRow, StandAt};
+ghost use Rattle.pod_pool.specs.state.Permits.{taken_by};
+ghost use Rattle.pod_pool.specs.state.FinishedWorkers.{finished_deque, finished_parts, finished_taken, IsRow};
+ghost use Rattle.pod_pool.specs.state.FinishedWorkers.{StandAt};
 
 use crate::finished_worker::FinishedWorker;
 use crate::handle::StealHandle;

@@ -3,10 +3,10 @@
 ghost use Rattle.std.specs.Prelude.{◌≡◌, ◌≤◌, ◌⊎◌, ℕ, [], All, IfOk, IfErr, IsErr, Ok, map, vec_len, vec_capacity};
 ghost use Rattle.std.specs.List.{sum_by};
 ghost use Rattle.crossbeam_deque.specs.Handles.{worker_deque, stealer_deque};
-ghost use Rattle.observations.specs.Limits.{most_pods};
-ghost use Rattle.piece_deques.specs.Ends.{IsOwner, IsOpen, pushed_weight};
-ghost use Rattle.pod_pool.specs.Permits.{IsInOrder};
-ghost use Rattle.pod_pool.specs.Slots.{IsSlot, AreBuffers};
+ghost use Rattle.observations.specs.rule.Limits.{most_pods};
+ghost use Rattle.piece_deques.specs.state.Ends.{IsOwner, IsOpen, pushed_weight};
+ghost use Rattle.pod_pool.specs.state.Permits.{IsInOrder};
+ghost use Rattle.pod_pool.specs.state.Slots.{IsSlot, AreBuffers};
 
 use crate::context::WorkerContext;
 use crate::slot::{DealtSlot, RoundBuffers, WorkerSlot};

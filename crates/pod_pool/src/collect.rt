@@ -2,9 +2,9 @@
 
 ghost use Rattle.std.specs.Prelude.{◌≡◌, ◌<◌, ◌≤◌, ◌+◌, ℕ, None, All, IfOk, IfErr, length, vec_len, vec_capacity};
 ghost use Rattle.std.specs.List.{sum_by};
-ghost use Rattle.pod_pool.specs.Done.{weigh, IsLeftOf};
-ghost use Rattle.pod_pool.specs.WorkerResults.{kept};
-ghost use Rattle.pod_pool.specs.FinishedWorkers.{finished_kept, finished_pushed, finished_taken, IsAway};
+ghost use Rattle.pod_pool.specs.state.Done.{weigh, IsLeftOf};
+ghost use Rattle.pod_pool.specs.state.WorkerResults.{kept};
+ghost use Rattle.pod_pool.specs.state.FinishedWorkers.{finished_kept, finished_pushed, finished_taken, IsAway};
 
 use crate::finished_worker::FinishedWorker;
 use crate::gate::Gate;

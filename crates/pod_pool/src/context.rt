@@ -3,9 +3,9 @@
 ghost use Rattle.std.specs.Prelude.{◌≡◌, ◌≤◌, ◌+◌, ℕ, length, vec_capacity};
 ghost use Rattle.std.specs.List.{sum_by};
 ghost use Rattle.crossbeam_deque.specs.Handles.{worker_view};
-ghost use Rattle.piece_deques.specs.Ends.{IsOwner};
-ghost use Rattle.pod_pool.specs.WorkerResults.{kept};
-ghost use Rattle.pod_pool.specs.Permits.{owner_deque, pushed_to, taken_by, IsUnused};
+ghost use Rattle.piece_deques.specs.state.Ends.{IsOwner};
+ghost use Rattle.pod_pool.specs.state.WorkerResults.{kept};
+ghost use Rattle.pod_pool.specs.state.Permits.{owner_deque, pushed_to, taken_by, IsUnused};
 
 use crate::handle::StealHandle;
 use crate::worker_result::WorkerResult;

@@ -3,11 +3,11 @@
 ghost use Rattle.std.specs.Prelude.{◌≡◌, ◌<◌, ◌≤◌, ◌+◌, ◌%◌, ℕ, All, map, vec_len};
 ghost use Rattle.std.specs.List.{sum_by};
 ghost use Rattle.crossbeam_deque.specs.Handles.{worker_deque};
-ghost use Rattle.observations.specs.Limits.{most_pods};
-ghost use Rattle.piece_deques.specs.Rule.{number_of, IsPieceDue};
-ghost use Rattle.piece_deques.specs.Ends.{IsOpen, pushed_weight};
-ghost use Rattle.pod_pool.specs.Done.{weigh};
-ghost use Rattle.pod_pool.specs.Dealing.{deal, pushed_of};
+ghost use Rattle.observations.specs.rule.Limits.{most_pods};
+ghost use Rattle.piece_deques.specs.state.Rule.{number_of, IsPieceDue};
+ghost use Rattle.piece_deques.specs.state.Ends.{IsOpen, pushed_weight};
+ghost use Rattle.pod_pool.specs.state.Done.{weigh};
+ghost use Rattle.pod_pool.specs.state.Dealing.{deal, pushed_of};
 
 use piece_deques::{Deal, Owner, number_of, push};
 use pod_piece::PodPiece;

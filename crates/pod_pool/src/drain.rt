@@ -3,9 +3,9 @@
 ghost use Rattle.std.specs.Prelude.{◌≡◌, ◌+◌, ◌++◌, ℕ, None, IfOk, IfErr, vec_capacity};
 ghost use Rattle.std.specs.List.{sum_by};
 ghost use Rattle.crossbeam_deque.specs.Handles.{view, worker_deque, worker_view, stealer_deque};
-ghost use Rattle.piece_deques.specs.Rule.{all_parts};
-ghost use Rattle.pod_pool.specs.Done.{IsLeftOf};
-ghost use Rattle.pod_pool.specs.WorkerResults.{kept};
+ghost use Rattle.piece_deques.specs.state.Rule.{all_parts};
+ghost use Rattle.pod_pool.specs.state.Done.{IsLeftOf};
+ghost use Rattle.pod_pool.specs.state.WorkerResults.{kept};
 
 use crate::finished_worker::FinishedWorker;
 use crate::gate::Gate;

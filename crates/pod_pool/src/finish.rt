@@ -2,12 +2,12 @@
 
 ghost use Rattle.std.specs.Prelude.{◌≡◌, ◌<◌, ◌≤◌, ◌+◌, [], ℕ, true, None, Some, vec_capacity};
 ghost use Rattle.std.specs.Prelude.{IfOk, IfErr, IfSome, OnOk, OnErr, is_ok, if◌then◌else◌};
-ghost use Rattle.pod_piece.specs.Piece.{all_updated};
-ghost use Rattle.event_book.specs.Totals.{nothing, plus};
-ghost use Rattle.event_book.specs.Shares.{share_with};
-ghost use Rattle.piece_deques.specs.Rule.{IsPieceDue};
-ghost use Rattle.pod_pool.specs.Done.{IsDone, IsLeftFrom, IsLeftOf};
-ghost use Rattle.pod_pool.specs.WorkerResults.{kept, KeepsOneMore, HasRoomForOne, HasRoomFor};
+ghost use Rattle.pod_piece.specs.state.Piece.{all_updated};
+ghost use Rattle.event_book.specs.state.Totals.{nothing, plus};
+ghost use Rattle.event_book.specs.state.Shares.{share_with};
+ghost use Rattle.piece_deques.specs.state.Rule.{IsPieceDue};
+ghost use Rattle.pod_pool.specs.state.Done.{IsDone, IsLeftFrom, IsLeftOf};
+ghost use Rattle.pod_pool.specs.state.WorkerResults.{kept, KeepsOneMore, HasRoomForOne, HasRoomFor};
 
 use crate::gate::{Gate, update};
 use crate::worker_result::WorkerResult;

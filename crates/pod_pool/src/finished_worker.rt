@@ -2,9 +2,9 @@
 
 ghost use Rattle.std.specs.Prelude.{◌≡◌, ◌≤◌, ◌+◌, length, vec_capacity};
 ghost use Rattle.crossbeam_deque.specs.Handles.{worker_view};
-ghost use Rattle.piece_deques.specs.Rule.{all_parts};
-ghost use Rattle.piece_deques.specs.Ends.{IsOwner};
-ghost use Rattle.pod_pool.specs.WorkerResults.{kept};
+ghost use Rattle.piece_deques.specs.state.Rule.{all_parts};
+ghost use Rattle.piece_deques.specs.state.Ends.{IsOwner};
+ghost use Rattle.pod_pool.specs.state.WorkerResults.{kept};
 
 use crate::worker_result::WorkerResult;
 use piece_deques::{Deal, Owner};

@@ -1,7 +1,7 @@
 //! What is told of each update.
 
 ghost use Rattle.std.specs.Prelude.{◌≡◌, ◌<◌, OnOk, OnErr};
-ghost use Rattle.pod_piece.specs.Piece.{updated};
+ghost use Rattle.pod_piece.specs.state.Piece.{updated};
 
 use piece_deques::number_of;
 use pod_piece::PodPiece;

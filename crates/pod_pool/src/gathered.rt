@@ -1,14 +1,14 @@
 //! From the contexts that come back to the pieces in order.
 
 ghost use Rattle.std.specs.Prelude.{◌≡◌, ◌<◌, ◌≤◌, ◌+◌, IfOk, IfErr, length, map, vec_len};
-ghost use Rattle.observations.specs.Limits.{most_pods};
-ghost use Rattle.event_book.specs.Shares.{most_parts};
-ghost use Rattle.event_book.specs.Limits.{AreLow};
-ghost use Rattle.piece_deques.specs.Rule.{AreNumbered};
-ghost use Rattle.pod_pool.specs.Done.{IsLeftOf};
-ghost use Rattle.pod_pool.specs.Contexts.{context_tag, AreLaid};
-ghost use Rattle.pod_pool.specs.Order.{IsRoundDone};
-ghost use Rattle.pod_pool.specs.Rooms.{HasRoom};
+ghost use Rattle.observations.specs.rule.Limits.{most_pods};
+ghost use Rattle.event_book.specs.state.Shares.{most_parts};
+ghost use Rattle.event_book.specs.state.Limits.{AreLow};
+ghost use Rattle.piece_deques.specs.state.Rule.{AreNumbered};
+ghost use Rattle.pod_pool.specs.state.Done.{IsLeftOf};
+ghost use Rattle.pod_pool.specs.state.Contexts.{context_tag, AreLaid};
+ghost use Rattle.pod_pool.specs.state.Order.{IsRoundDone};
+ghost use Rattle.pod_pool.specs.state.Rooms.{HasRoom};
 
 use crate::absorb::absorb_all;
 use crate::collect::collect;

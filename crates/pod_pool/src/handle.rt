@@ -2,7 +2,7 @@
 
 ghost use Rattle.std.specs.Prelude.{◌≡◌, ◌≤◌, [], ◌∷◌, ◌++◌, length, IfNone, IfSome};
 ghost use Rattle.crossbeam_deque.specs.Handles.{view, IsPassOf, stealer_deque, stealer_flavor};
-ghost use Rattle.piece_deques.specs.Rule.{IsPieceDue, FoundEmpty};
+ghost use Rattle.piece_deques.specs.state.Rule.{IsPieceDue, FoundEmpty};
 
 use piece_deques::{Deal, Permit, Thief, steal};
 use pod_piece::PodPiece;

@@ -1,9 +1,9 @@
 //! The order of pieces.
 
 ghost use Rattle.std.specs.Prelude.{◌≡◌, ℕ, All, IsPermutation, map};
-ghost use Rattle.pod_piece.specs.Piece.{all_updated};
-ghost use Rattle.piece_deques.specs.Rule.{AreNumbered};
-ghost use Rattle.pod_pool.specs.Done.{IsDone, weigh};
+ghost use Rattle.pod_piece.specs.state.Piece.{all_updated};
+ghost use Rattle.piece_deques.specs.state.Rule.{AreNumbered};
+ghost use Rattle.pod_pool.specs.state.Done.{IsDone, weigh};
 
 use piece_deques::{Deal, number_of};
 use pod_piece::PodPiece;

@@ -2,9 +2,9 @@
 
 ghost use Rattle.std.specs.Prelude.{◌≡◌, ◌<◌, ◌≤◌, ◌+◌, ℕ, [], All, map, vec_len, vec_capacity};
 ghost use Rattle.crossbeam_deque.specs.Handles.{stealer_deque, worker_deque};
-ghost use Rattle.event_book.specs.Limits.{most_workers};
-ghost use Rattle.pod_pool.specs.Permits.{owner_deque, permit_deque};
-ghost use Rattle.pod_pool.specs.Slots.{IsHost, IsRich, IsDealtSlot};
+ghost use Rattle.event_book.specs.rule.Limits.{most_workers};
+ghost use Rattle.pod_pool.specs.state.Permits.{owner_deque, permit_deque};
+ghost use Rattle.pod_pool.specs.state.Slots.{IsHost, IsRich, IsDealtSlot};
 
 use crate::handle::StealHandle;
 use crate::slot::{DealtSlot, WorkerSlot};

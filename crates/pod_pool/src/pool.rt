@@ -1,13 +1,14 @@
 //! The pool.
 
 ghost use Rattle.std.specs.Prelude.{◌≡◌, ◌<◌, ◌≤◌, All, IfOk, IfErr, length, map, min, max};
-ghost use Rattle.observations.specs.Limits.{most_pods};
-ghost use Rattle.pod_piece.specs.Piece.{all_updated};
-ghost use Rattle.event_book.specs.Shares.{most_parts};
-ghost use Rattle.event_book.specs.Limits.{most_workers, AreLow};
-ghost use Rattle.piece_deques.specs.Rule.{AreNumbered};
-ghost use Rattle.pod_pool.specs.Faults.{GivesBack};
-ghost use Rattle.pod_pool.specs.Order.{HasEntered};
+ghost use Rattle.observations.specs.rule.Limits.{most_pods};
+ghost use Rattle.pod_piece.specs.state.Piece.{all_updated};
+ghost use Rattle.event_book.specs.state.Shares.{most_parts};
+ghost use Rattle.event_book.specs.rule.Limits.{most_workers};
+ghost use Rattle.event_book.specs.state.Limits.{AreLow};
+ghost use Rattle.piece_deques.specs.state.Rule.{AreNumbered};
+ghost use Rattle.pod_pool.specs.state.Faults.{GivesBack};
+ghost use Rattle.pod_pool.specs.state.Order.{HasEntered};
 
 use crate::buffers::make_buffers;
 use crate::contexts::lay_out;

@@ -1,7 +1,7 @@
 //! The workers' threads.
 
 ghost use Rattle.std.specs.Prelude.{◌≡◌, ◌<◌, None, All, length, map};
-ghost use Rattle.pod_pool.specs.Contexts.{context_tag, HasEmptied};
+ghost use Rattle.pod_pool.specs.state.Contexts.{context_tag, HasEmptied};
 
 use crate::context::WorkerContext;
 use crate::gate::Gate;

@@ -1,15 +1,15 @@
 //! The end of a round: pieces that the book had no room for are entered, and all pieces are put in order.
 
 ghost use Rattle.std.specs.Prelude.{◌≡◌, ◌≤◌, ◌+◌, ℕ, List, None, length, vec_capacity};
-ghost use Rattle.observations.specs.Limits.{most_pods};
+ghost use Rattle.observations.specs.rule.Limits.{most_pods};
 ghost use Rattle.event_book.specs.declared.totals.Totals.{Totals as SomeTotals};
-ghost use Rattle.event_book.specs.Rounds.{AreAdditionsOf};
-ghost use Rattle.event_book.specs.Shares.{most_parts};
-ghost use Rattle.event_book.specs.Limits.{AreLow};
-ghost use Rattle.piece_deques.specs.Rule.{AreNumbered};
-ghost use Rattle.pod_pool.specs.Done.{weigh};
-ghost use Rattle.pod_pool.specs.WorkerResults.{kept};
-ghost use Rattle.pod_pool.specs.Order.{IsRoundDone};
+ghost use Rattle.event_book.specs.state.Rounds.{AreAdditionsOf};
+ghost use Rattle.event_book.specs.state.Shares.{most_parts};
+ghost use Rattle.event_book.specs.state.Limits.{AreLow};
+ghost use Rattle.piece_deques.specs.state.Rule.{AreNumbered};
+ghost use Rattle.pod_pool.specs.state.Done.{weigh};
+ghost use Rattle.pod_pool.specs.state.WorkerResults.{kept};
+ghost use Rattle.pod_pool.specs.state.Order.{IsRoundDone};
 
 use crate::order::in_order;
 use crate::worker_result::WorkerResult;

@@ -1,7 +1,7 @@
 //! What is made ready before a piece is dealt.
 
 ghost use Rattle.std.specs.Prelude.{◌≡◌, ◌≤◌, ℕ, [], All, vec_len, vec_capacity};
-ghost use Rattle.pod_pool.specs.Permits.{taken_by, IsInOrder};
+ghost use Rattle.pod_pool.specs.state.Permits.{taken_by, IsInOrder};
 
 use crate::context::WorkerContext;
 use crate::handle::StealHandle;

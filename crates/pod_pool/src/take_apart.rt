@@ -3,11 +3,11 @@
 ghost use Rattle.std.specs.Prelude.{◌≡◌, ◌≤◌, ◌+◌, ℕ, [], None, All, IfOk, IfErr, OnOk, map, vec_len, vec_capacity};
 ghost use Rattle.std.specs.List.{sum_by};
 ghost use Rattle.crossbeam_deque.specs.Handles.{worker_view};
-ghost use Rattle.piece_deques.specs.Rule.{all_parts};
-ghost use Rattle.pod_pool.specs.Done.{IsLeftOf};
-ghost use Rattle.pod_pool.specs.Permits.{pushed_count, taken_by};
-ghost use Rattle.pod_pool.specs.Contexts.{context_deque, context_tag, IsLaid};
-ghost use Rattle.pod_pool.specs.FinishedWorkers.{finished_deque, finished_kept, finished_taken, IsAway, IsRow};
+ghost use Rattle.piece_deques.specs.state.Rule.{all_parts};
+ghost use Rattle.pod_pool.specs.state.Done.{IsLeftOf};
+ghost use Rattle.pod_pool.specs.state.Permits.{pushed_count, taken_by};
+ghost use Rattle.pod_pool.specs.state.Contexts.{context_deque, context_tag, IsLaid};
+ghost use Rattle.pod_pool.specs.state.FinishedWorkers.{finished_deque, finished_kept, finished_taken, IsAway, IsRow};
 
 use crate::context::WorkerContext;
 use crate::finished_worker::FinishedWorker;

@@ -4,12 +4,12 @@ ghost use Rattle.std.specs.Prelude.{◌≡◌, ◌≢◌, ◌<◌, ◌≤◌, �
 ghost use mathlib.Core.Option.{some};
 ghost use lib.ListN.{get_elem?};
 ghost use Rattle.crossbeam_deque.specs.Handles.{worker_view};
-ghost use Rattle.event_book.specs.Totals.{nothing};
-ghost use Rattle.event_book.specs.Shares.{share_with};
-ghost use Rattle.piece_deques.specs.Rule.{FoundEmpty};
-ghost use Rattle.piece_deques.specs.Ends.{IsOwner};
-ghost use Rattle.pod_pool.specs.Permits.{owner_deque, permit_deque, pushed_to, taken_by, FoundAllEmpty};
-ghost use Rattle.pod_pool.specs.Contexts.{tag_of, context_tag, IsSameWorker, HasEmptied};
+ghost use Rattle.event_book.specs.state.Totals.{nothing};
+ghost use Rattle.event_book.specs.state.Shares.{share_with};
+ghost use Rattle.piece_deques.specs.state.Rule.{FoundEmpty};
+ghost use Rattle.piece_deques.specs.state.Ends.{IsOwner};
+ghost use Rattle.pod_pool.specs.state.Permits.{owner_deque, permit_deque, pushed_to, taken_by, FoundAllEmpty};
+ghost use Rattle.pod_pool.specs.state.Contexts.{tag_of, context_tag, IsSameWorker, HasEmptied};
 
 use crate::context::WorkerContext;
 use crate::gate::Gate;

@@ -2,7 +2,7 @@
 
 ghost use Rattle.std.specs.Prelude.{◌<◌, All};
 ghost use Rattle.std.specs.Option.{option_to_list};
-ghost use Rattle.pod_pool.specs.Done.{IsDone, IsLeftOf, AreSumsOf};
+ghost use Rattle.pod_pool.specs.state.Done.{IsDone, IsLeftOf, AreSumsOf};
 
 use event_book::Shares;
 use piece_deques::Deal;

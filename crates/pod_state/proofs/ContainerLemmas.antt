@@ -2,27 +2,30 @@
 use Rattle.std.proofs.Common.{◌≡◌, ℕ, ◌<◌, Bool, List, [], ◌∷◌, ◌++◌, length, get_or, Option, Some}
 use Rattle.std.proofs.Common.{None, refl, subst, sym, ◌∙◌}
 use Rattle.std.specs.Prelude.{◌↔◌, ◌≢◌, IsSomeAnd, IsTrue, slice_get, unwrap_or}
-use Rattle.histories.specs.Histories.{recorded}
+use Rattle.histories.specs.rule.Histories.{recorded}
 use Rattle.histories.proofs.Items.{any_default}
 use Rattle.histories.proofs.Places.{length-project}
 use Rattle.manifest.specs.declared.pod.ContainerSpec.{ContainerSpec}
 use Rattle.manifest.specs.declared.pod.PodSpec.{PodSpec}
 use Rattle.manifest.specs.declared.pod.Role.TheVariants.{Init}
-use Rattle.observations.specs.Pods.{PodObs}
+use Rattle.observations.specs.rule.Pods.{PodObs}
 use Rattle.phase.specs.declared.view.ContainerView.{ContainerView}
 use Rattle.containers.specs.declared.container.Container.{Container}
-use Rattle.containers.specs.Ticks.{ContainerTick}
-use Rattle.containers.specs.Container.{IsStateOf}
+use Rattle.containers.specs.rule.Ticks.{ContainerTick}
+use Rattle.containers.specs.state.Container.{IsStateOf}
 use Rattle.containers.specs.declared.events.ContainerEvents.{ContainerEvents}
-use Rattle.containers.specs.Events.{AreEvents}
+use Rattle.containers.specs.rule.Events.{AreEvents}
 use Rattle.manifest.specs.declared.policy.Policy.{Policy}
-use Rattle.containers.specs.Probed as probed
-use Rattle.containers.specs.Shown as shown
+use Rattle.containers.specs.rule.Probed as probed
+use Rattle.containers.specs.rule.Shown as shown
+use Rattle.containers.specs.state.Shown as viewed
 use Rattle.containers.specs.declared.status.ContainerStatus.{ContainerStatus}
-use Rattle.pod_state.specs.Events.{IsMadeOf}
-use Rattle.pod_state.specs.Pods.{PodEntry, PodTick, pod_tick, ticks_of, unseen, Serves, IsReadyInPod, IsViewOf}
-use Rattle.pod_state.specs.Pods.{IsEnd, counted, EndsEvicted}
-use Rattle.pod_state.specs.Containers.{IsShownOf, AreShown, AreStatusesOf, IsContainerOf, AreContainersOf, AreKept}
+use Rattle.pod_state.specs.rule.Events.{IsMadeOf}
+use Rattle.pod_state.specs.rule.Pods.{PodEntry, PodTick, pod_tick, ticks_of, unseen, Serves, IsReadyInPod}
+use Rattle.pod_state.specs.state.Pods.{IsViewOf}
+use Rattle.pod_state.specs.rule.Pods.{IsEnd, counted, EndsEvicted}
+use Rattle.pod_state.specs.rule.Containers.{IsShownOf, AreStatusesOf}
+use Rattle.pod_state.specs.state.Containers.{AreShown, IsContainerOf, AreContainersOf, AreKept}
 use Rattle.pod_state.proofs.EndLemmas.{IsEnd-unique}
 use Rattle.pod_state.proofs.TickLemmas.{ticks_more, of_spec, implies, within}
 use Rattle.pod_state.proofs.ViewLemmas.{serves_is}
@@ -75,11 +78,11 @@ made_is pod max_restart_delay n h observed policy before made same step is =
 pub view_is : (pod : PodSpec) (max_restart_delay n : ℕ) (h : List PodTick) (container : Container)
     (view : ContainerView)
     → ((spec : ContainerSpec) (k : List ContainerTick) → IsStateOf spec max_restart_delay k container
-    → shown.IsViewOf spec k view)
+    → viewed.IsViewOf spec k view)
     → IsContainerOf pod max_restart_delay h n container → IsViewOf pod h n view
 view_is pod max_restart_delay n h container view shows is =
     implies pod n (λ spec. IsStateOf spec max_restart_delay (ticks_of h n) container)
-    (λ spec. shown.IsViewOf spec (ticks_of h n) view) (λ spec st. shows spec (ticks_of h n) st) is
+    (λ spec. viewed.IsViewOf spec (ticks_of h n) view) (λ spec st. shows spec (ticks_of h n) st) is
 
 -- whether it is ready if it serves
 pub serving_ready : (pod : PodSpec) (max_restart_delay n : ℕ) (h : List PodTick) (container : Container) (ready : Bool)

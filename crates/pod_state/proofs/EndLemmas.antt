@@ -3,18 +3,18 @@ use Rattle.std.proofs.Common.{◌≡◌, inl, inr, ℕ, suc, ◌<◌, List, [], 
 use Rattle.std.proofs.Common.{ap, subst, sym, ◌∙◌, arith}
 use Rattle.std.specs.Prelude.{◌↔◌, IsSomeAnd}
 use Rattle.std.proofs.lemmas.List.{length-take-le}
-use Rattle.histories.specs.Histories.{up_to, HoldsAt}
+use Rattle.histories.specs.rule.Histories.{up_to, HoldsAt}
 use Rattle.histories.proofs.Places.{length-more, up_to-old, up_to-new}
 use Rattle.histories.proofs.First.{Grows, IsFirst-old, IsFirst-new, IsFirst-split, IsFirstPlace-unique, none_more}
 use Rattle.histories.proofs.Growth.{grows_so, so_last}
 use Rattle.phase.specs.declared.phase.Phase.{Phase}
 use Rattle.phase.specs.declared.phase.Phase.TheVariants.{Pending, Succeeded, Failed}
 use Rattle.manifest.specs.declared.pod.PodSpec.{PodSpec}
-use Rattle.phase.specs.RawPhase.{IsTerminal, AreInitialized}
-use Rattle.pod_state.specs.Pods.{PodTick, facts, numbers, AllReady, IsRawPhaseAfter, EndsPod, IsEnd, counted}
-use Rattle.pod_state.specs.Pods.{IsPhaseBy, IsPhase, IsInitialized, AreContainersReady, HasEnded, EndsEvicted}
+use Rattle.phase.specs.rule.RawPhase.{IsTerminal, AreInitialized}
+use Rattle.pod_state.specs.rule.Pods.{PodTick, facts, numbers, AllReady, IsRawPhaseAfter, EndsPod, IsEnd, counted}
+use Rattle.pod_state.specs.rule.Pods.{IsPhaseBy, IsPhase, IsInitialized, AreContainersReady, HasEnded, EndsEvicted}
 use Rattle.containers.specs.declared.container.Container.{Container}
-use Rattle.pod_state.specs.Containers.{AreContainersOf, AreKept}
+use Rattle.pod_state.specs.state.Containers.{AreContainersOf, AreKept}
 use Rattle.phase.proofs.PhaseLemmas.{where_same, IsRawPhase-unique}
 use Rattle.phase.proofs.DecideLemmas.{terminal_cases}
 

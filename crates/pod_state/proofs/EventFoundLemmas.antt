@@ -3,8 +3,8 @@ use Rattle.std.proofs.Common.{◌≡◌, ◌∙◌, inl, inr, ℕ, ◌<◌, List
 use Rattle.std.proofs.Common.{refl, sym, ap, subst}
 use Rattle.std.specs.Prelude.{All, slice_get, unwrap_or}
 use Rattle.std.proofs.lemmas.Option.{get_or_from_slice_get}
-use Rattle.histories.specs.TheOne.{IsTheOne}
-use Rattle.histories.specs.Histories.{recorded}
+use Rattle.histories.specs.rule.TheOne.{IsTheOne}
+use Rattle.histories.specs.rule.Histories.{recorded}
 use Rattle.histories.proofs.Decide.{OrNot}
 use Rattle.histories.proofs.Found.{list_of}
 use Rattle.histories.proofs.Places.{length-project}
@@ -14,17 +14,17 @@ use Rattle.manifest.specs.declared.pod.ContainerSpec.{ContainerSpec}
 use Rattle.manifest.specs.declared.pod.PodSpec.{PodSpec}
 use Rattle.phase.specs.declared.phase.Phase.{Phase}
 use Rattle.phase.specs.declared.phase.Phase.TheVariants.{Pending, Running, Succeeded, Failed}
-use Rattle.probes.specs.Container.{AreInRange}
+use Rattle.probes.specs.state.Container.{AreInRange}
 use Rattle.containers.specs.declared.pod_event_kind.PodEventKind.{PodEventKind}
 use Rattle.containers.specs.declared.pod_event_kind.PodEventKind.TheVariants as kinds
 use Rattle.containers.specs.declared.events.ContainerEvents.{ContainerEvents}
-use Rattle.containers.specs.Ticks.{ContainerTick}
-use Rattle.containers.specs.Events.{AreEvents}
+use Rattle.containers.specs.rule.Ticks.{ContainerTick}
+use Rattle.containers.specs.rule.Events.{AreEvents}
 use Rattle.containers.proofs.EventFoundLemmas.{some_list_of_events as some_of_container}
 use Rattle.pod_state.specs.declared.events.PodEvent.{PodEvent}
-use Rattle.pod_state.specs.Pods.{PodEntry, PodTick, ticks_of, unseen, HasEnded, IsEnd, IsPhase}
-use Rattle.pod_state.specs.Events.{IsMadeOf, ChangesPhase, AreEventsOfLivePod, events_from, events_at}
-use Rattle.pod_state.specs.Laws.{SomeListOfEvents}
+use Rattle.pod_state.specs.rule.Pods.{PodEntry, PodTick, ticks_of, unseen, HasEnded, IsEnd, IsPhase}
+use Rattle.pod_state.specs.rule.Events.{IsMadeOf, ChangesPhase, AreEventsOfLivePod, events_from, events_at}
+use Rattle.pod_state.specs.state.Laws.{SomeListOfEvents}
 use Rattle.pod_state.proofs.TickLemmas.{of_spec, ticks_more}
 use Rattle.pod_state.proofs.EndLemmas.{raw_unique, IsPhase-unique}
 use Rattle.pod_state.proofs.FoundLemmas.{some_raw_phase, some_end, some_phase}

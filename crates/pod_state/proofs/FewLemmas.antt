@@ -4,9 +4,10 @@ use Rattle.phase.specs.declared.view.ContainerView.{ContainerView}
 use Rattle.manifest.specs.declared.pod.PodSpec.{PodSpec}
 use Rattle.containers.specs.declared.container.Container.{Container}
 use Rattle.containers.specs.declared.events.ContainerEvents.{ContainerEvents}
-use Rattle.pod_state.specs.Pods.{PodTick, IsViewOf, AreViewsOf}
-use Rattle.pod_state.specs.Containers.{IsContainerOf, AreContainersOf}
-use Rattle.pod_state.specs.Events.{IsMadeOf, AreMade}
+use Rattle.pod_state.specs.rule.Pods.{PodTick}
+use Rattle.pod_state.specs.state.Pods.{IsViewOf, AreViewsOf}
+use Rattle.pod_state.specs.state.Containers.{IsContainerOf, AreContainersOf}
+use Rattle.pod_state.specs.rule.Events.{IsMadeOf, AreMade}
 use Rattle.pod_state.proofs.ContainerLemmas.{item_at}
 
 -- what holds of each of one or two items, each by its place

@@ -5,7 +5,7 @@ use Rattle.std.proofs.Common.{subst}
 use Rattle.std.specs.Prelude.{slice_get}
 use Rattle.std.proofs.lemmas.Bool.{cases_eq}
 use Rattle.std.proofs.lemmas.Option.{same_Some}
-use Rattle.histories.specs.Histories.{HoldsAt}
+use Rattle.histories.specs.rule.Histories.{HoldsAt}
 use Rattle.histories.proofs.Decide.{OrNot, negated, either, all_three, implied, test_of, given_or_not}
 use Rattle.histories.proofs.Found.{all_below, first_so, so_or_not, transition_of, list_of}
 use Rattle.histories.proofs.Lists.{given_at}
@@ -15,19 +15,21 @@ use Rattle.phase.specs.declared.phase.Phase.{Phase}
 use Rattle.phase.specs.declared.phase.Phase.TheVariants.{Pending, Failed}
 use Rattle.phase.specs.declared.conditions.Condition.{Condition}
 use Rattle.phase.specs.declared.view.ContainerView.{ContainerView}
-use Rattle.phase.specs.RawPhase.{IsTerminal, AreInitialized}
+use Rattle.phase.specs.rule.RawPhase.{IsTerminal, AreInitialized}
 use Rattle.phase.proofs.DecideLemmas.{role_or_not, initialized_or_not as views_initialized_or_not}
 use Rattle.phase.proofs.DecideLemmas.{terminal_cases}
-use Rattle.containers.specs.Shown as shown
+use Rattle.containers.specs.rule.Shown as shown
+use Rattle.containers.specs.state.Shown as viewed
 use Rattle.containers.specs.declared.status.ContainerStatus.{ContainerStatus}
 use Rattle.containers.proofs.FoundLemmas.{view_of, status_of, ready_or_not}
 use Rattle.pod_state.specs.declared.lifecycle.Lifecycle.{Lifecycle}
-use Rattle.pod_state.specs.Pods.{PodTick, ticks_of, Serves, IsReadyInPod, facts, numbers, IsViewOf, AreViewsOf}
-use Rattle.pod_state.specs.Pods.{IsRawPhaseAfter, EndsPod, IsEnd, counted, EndsEvicted, IsPhaseBy, IsPhase}
-use Rattle.pod_state.specs.Pods.{IsInitialized, AllReady, AreContainersReady}
-use Rattle.pod_state.specs.Lifecycles.{IsConditionAfter, IsLifecycleOf}
-use Rattle.pod_state.specs.Containers.{IsContainerStatus, AreStatusesOf}
-use Rattle.pod_state.specs.Laws.{SomeStatus}
+use Rattle.pod_state.specs.rule.Pods.{PodTick, ticks_of, Serves, IsReadyInPod, facts, numbers}
+use Rattle.pod_state.specs.state.Pods.{IsViewOf, AreViewsOf}
+use Rattle.pod_state.specs.rule.Pods.{IsRawPhaseAfter, EndsPod, IsEnd, counted, EndsEvicted, IsPhaseBy, IsPhase}
+use Rattle.pod_state.specs.rule.Pods.{IsInitialized, AllReady, AreContainersReady}
+use Rattle.pod_state.specs.rule.Lifecycles.{IsConditionAfter, IsLifecycleOf}
+use Rattle.pod_state.specs.rule.Containers.{IsContainerStatus, AreStatusesOf}
+use Rattle.pod_state.specs.state.Laws.{SomeStatus}
 use Rattle.pod_state.proofs.TickLemmas.{of_spec}
 use Rattle.pod_state.proofs.ViewLemmas.{initialized_after}
 use Rattle.pod_state.proofs.EndLemmas.{IsEnd-unique, raw_unique}
@@ -40,7 +42,7 @@ view_at : (pod : PodSpec) (h : List PodTick) (k : ℕ) → k < length pod.contai
 view_at pod h k lt =
     let spec = given_at pod.containers k lt in
     let view = view_of spec.0 (ticks_of h k) in
-    (view.0, of_spec pod k (λ spec. shown.IsViewOf spec (ticks_of h k) view.0) spec.0 spec.1 view.1)
+    (view.0, of_spec pod k (λ spec. viewed.IsViewOf spec (ticks_of h k) view.0) spec.0 spec.1 view.1)
 
 pub some_views : (pod : PodSpec) (h : List PodTick) → (views : List ContainerView) × AreViewsOf pod h views
 some_views pod h =

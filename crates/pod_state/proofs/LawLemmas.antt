@@ -4,14 +4,16 @@ use Rattle.std.proofs.Common.{Some, refl, subst, sym, ◌∙◌, append_assoc, a
 use Rattle.std.specs.Prelude.{◌↔◌}
 use Rattle.std.proofs.lemmas.Bool.{cases_lt}
 use Rattle.std.proofs.lemmas.List.{append-nil}
-use Rattle.histories.specs.Histories.{moment_at, HoldsAt, IsFirst, IsRising, IsSteady, IsTransition}
+use Rattle.histories.specs.rule.Histories.{moment_at, HoldsAt, IsFirst, IsSteady, IsTransition}
+use Rattle.histories.specs.state.Histories.{IsRising}
 use Rattle.histories.proofs.Places.{moment_at-below}
 use Rattle.histories.proofs.Transitions.{transition_differs}
 use Rattle.phase.specs.declared.phase.Phase.{Phase}
 use Rattle.manifest.specs.declared.pod.PodSpec.{PodSpec}
-use Rattle.phase.specs.RawPhase.{IsTerminal}
-use Rattle.pod_state.specs.Pods.{PodTick, facts, numbers, IsPhase}
-use Rattle.pod_state.specs.Laws.{ChangesAt, OnePhase, EndedStaysEnded, OneRawPhase, TransitionsAreChanges, OneStatus}
+use Rattle.phase.specs.rule.RawPhase.{IsTerminal}
+use Rattle.pod_state.specs.rule.Pods.{PodTick, facts, numbers, IsPhase}
+use Rattle.pod_state.specs.state.Laws.{ChangesAt, OnePhase, EndedStaysEnded, OneRawPhase, TransitionsAreChanges}
+use Rattle.pod_state.specs.state.Laws.{OneStatus}
 use Rattle.phase.proofs.DecideLemmas.{some_of_views}
 use Rattle.phase.proofs.PhaseLemmas.{IsRawPhase-unique}
 use Rattle.pod_state.proofs.EndLemmas.{IsPhase-unique, phase_ended}

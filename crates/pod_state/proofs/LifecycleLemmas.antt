@@ -2,7 +2,7 @@
 use Rattle.std.proofs.Common.{◌≡◌, inl, inr, ℕ, suc, zero, ◌<◌, Bool, true, false, List, [], ◌∷◌, ◌++◌, length}
 use Rattle.std.proofs.Common.{Option, Some, None, refl, ap, subst, sym, ◌∙◌, arith}
 use Rattle.std.specs.Prelude.{◌↔◌, IsTrue, not}
-use Rattle.histories.specs.Histories.{Recorded, recorded, moment_at, HoldsAt}
+use Rattle.histories.specs.rule.Histories.{Recorded, recorded, moment_at, HoldsAt}
 use Rattle.histories.proofs.Places.{length-more, project-append}
 use Rattle.histories.proofs.First.{Grows}
 use Rattle.histories.proofs.Growth.{grows_entry, grows_so}
@@ -15,12 +15,14 @@ use Rattle.phase.specs.declared.conditions.Values.{Values}
 use Rattle.manifest.specs.declared.pod.PodSpec.{PodSpec}
 use Rattle.pod_state.specs.declared.lifecycle.Lifecycle.{Lifecycle}
 use Rattle.phase.specs.declared.view.ContainerView.{ContainerView}
-use Rattle.phase.specs.Facts.{of_view}
-use Rattle.phase.specs.RawPhase.{IsTerminal, AreInitialized}
-use Rattle.phase.specs.Conditions.{last_or, IsConditionOf, IsStateOf}
-use Rattle.pod_state.specs.Pods.{PodTick, facts, numbers, counted, AllReady, IsPhase, IsInitialized}
-use Rattle.pod_state.specs.Pods.{AreContainersReady, AreViewsOf}
-use Rattle.pod_state.specs.Lifecycles.{IsConditionAfter, IsLifecycleOf, AreValuesOf, IsProgressOf}
+use Rattle.phase.specs.state.Facts.{of_view}
+use Rattle.phase.specs.rule.RawPhase.{IsTerminal, AreInitialized}
+use Rattle.phase.specs.state.Conditions.{last_or, IsConditionOf, IsStateOf}
+use Rattle.pod_state.specs.rule.Pods.{PodTick, facts, numbers, counted, AllReady, IsPhase, IsInitialized}
+use Rattle.pod_state.specs.rule.Pods.{AreContainersReady}
+use Rattle.pod_state.specs.state.Pods.{AreViewsOf}
+use Rattle.pod_state.specs.rule.Lifecycles.{IsConditionAfter, IsLifecycleOf}
+use Rattle.pod_state.specs.state.Lifecycles.{AreValuesOf, IsProgressOf}
 use Rattle.phase.proofs.ConditionLemmas.{IsTrueAt, last_or-more}
 use Rattle.phase.proofs.DecideLemmas.{terminal_cases}
 use Rattle.pod_state.proofs.EndLemmas.{IsPhase-unique, phase_ended, phase_evicted, terminal_end}

@@ -11,13 +11,13 @@ use Rattle.phase.specs.declared.phase.Phase.{Phase}
 use Rattle.containers.specs.declared.pod_event_kind.PodEventKind.{PodEventKind}
 use Rattle.containers.specs.declared.events.ContainerEvents.{ContainerEvents}
 use Rattle.pod_state.specs.declared.events.PodEvent.{PodEvent}
-use Rattle.containers.specs.Events.{AreEvents}
+use Rattle.containers.specs.rule.Events.{AreEvents}
 use Rattle.containers.proofs.LawLemmas.{one_list_of_events}
 use Rattle.manifest.specs.declared.pod.ContainerSpec.{ContainerSpec}
 use Rattle.manifest.specs.declared.pod.PodSpec.{PodSpec}
-use Rattle.pod_state.specs.Pods.{PodTick, ticks_of}
-use Rattle.pod_state.specs.Events.{IsMadeOf, ChangesPhase, AreEventsOfLivePod, places_in, events_at, events_from}
-use Rattle.pod_state.specs.Laws.{NoEventsAfterTheEnd, OneListOfEvents}
+use Rattle.pod_state.specs.rule.Pods.{PodTick, ticks_of}
+use Rattle.pod_state.specs.rule.Events.{IsMadeOf, ChangesPhase, AreEventsOfLivePod, places_in, events_at, events_from}
+use Rattle.pod_state.specs.state.Laws.{NoEventsAfterTheEnd, OneListOfEvents}
 use Rattle.pod_state.proofs.TickLemmas.{whatever, together}
 use Rattle.pod_state.proofs.EndLemmas.{raw_unique}
 

@@ -2,23 +2,24 @@
 use Rattle.std.proofs.Common.{◌≡◌, ◌∙◌, inl, inr, ℕ, List, [], ◌∷◌, ◌++◌, length, Option, Some, None, false}
 use Rattle.std.proofs.Common.{slice_index_or, refl, sym, subst, ap, arith}
 use Rattle.std.specs.Prelude.{◌↔◌, ◌≢◌, IsSomeAnd, IsTrue, slice_get, unwrap_or}
-use Rattle.histories.specs.Histories.{EndsBefore}
+use Rattle.histories.specs.state.Histories.{EndsBefore}
 use Rattle.state_diff.specs.declared.seen.Seen.{Seen}
-use Rattle.state_diff.specs.Instances.{IsAcceptable}
+use Rattle.state_diff.specs.state.Instances.{IsAcceptable}
 use Rattle.state_diff.proofs.Steps.{is_before}
 use Rattle.manifest.specs.declared.pod.ContainerSpec.{ContainerSpec}
 use Rattle.observations.specs.declared.container.ContainerObs.{ContainerObs}
-use Rattle.containers.specs.Ticks.{ContainerTick, listings}
-use Rattle.containers.specs.Container.{Accepts, IsBefore, IsStateOf as IsContainerStateOf}
+use Rattle.containers.specs.rule.Ticks.{ContainerTick, listings}
+use Rattle.containers.specs.state.Container.{Accepts, IsBefore, IsStateOf as IsContainerStateOf}
 use Rattle.manifest.specs.declared.pod.PodSpec.{PodSpec}
-use Rattle.phase.specs.RawPhase.{IsTerminal}
+use Rattle.phase.specs.rule.RawPhase.{IsTerminal}
 use Rattle.containers.specs.declared.container.Container.{Container}
 use Rattle.pod_state.specs.declared.state.PodState.{PodState}
-use Rattle.pod_state.specs.Pods.{PodTick, ticks_of, unseen, IsPhase, IsEnd}
-use Rattle.pod_state.specs.Lifecycles.{IsLifecycleOf, IsProgressOf}
-use Rattle.pod_state.specs.Containers.{AreContainersOf, AreKept}
-use Rattle.pod_state.specs.States.{IsStateOf, MayFollow}
-use Rattle.pod_state.specs.Events.{AreMade, AreEventsOf, events_at, events_from}
+use Rattle.pod_state.specs.rule.Pods.{PodTick, ticks_of, unseen, IsPhase, IsEnd}
+use Rattle.pod_state.specs.rule.Lifecycles.{IsLifecycleOf}
+use Rattle.pod_state.specs.state.Lifecycles.{IsProgressOf}
+use Rattle.pod_state.specs.state.Containers.{AreContainersOf, AreKept}
+use Rattle.pod_state.specs.state.States.{IsStateOf, MayFollow}
+use Rattle.pod_state.specs.rule.Events.{AreMade, AreEventsOf, events_at, events_from}
 use Rattle.pod_state.specs.declared.events.PodEvent.{PodEvent}
 use Rattle.pod_state.specs.declared.lifecycle.Lifecycle.{Lifecycle}
 use Rattle.containers.specs.declared.pod_event_kind.PodEventKind.{PodEventKind}

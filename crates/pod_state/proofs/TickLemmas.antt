@@ -3,11 +3,11 @@ use Rattle.std.proofs.Common.{◌≡◌, ℕ, ◌<◌, List, [], ◌∷◌, ◌+
 use Rattle.std.proofs.Common.{subst, sym}
 use Rattle.std.specs.Prelude.{IsSomeAnd, slice_get, unwrap_or}
 use Rattle.std.proofs.lemmas.Option.{slice_get_read, slice_get_within}
-use Rattle.histories.specs.Histories.{recorded}
+use Rattle.histories.specs.rule.Histories.{recorded}
 use Rattle.histories.proofs.Places.{project-append}
 use Rattle.manifest.specs.declared.pod.ContainerSpec.{ContainerSpec}
 use Rattle.manifest.specs.declared.pod.PodSpec.{PodSpec}
-use Rattle.pod_state.specs.Pods.{PodEntry, PodTick, ticks_of, unseen, OfSpec}
+use Rattle.pod_state.specs.rule.Pods.{PodEntry, PodTick, ticks_of, unseen, OfSpec}
 
 -- one more tick
 pub ticks_more : (h : List PodTick) (x : PodTick) (container : ℕ)

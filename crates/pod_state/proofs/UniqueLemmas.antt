@@ -3,7 +3,7 @@ use Rattle.std.proofs.Common.{◌≡◌, inl, inr, ℕ, ℤ, Bool, List, Option,
 use Rattle.std.specs.Prelude.{◌↔◌}
 use Rattle.histories.proofs.First.{IsFirstMoment-unique}
 use Rattle.state_diff.specs.declared.seen.CriState.TheVariants.{Created, Running as IsRunning, Exited}
-use Rattle.state_diff.specs.Instances.{Tick, IsState}
+use Rattle.state_diff.specs.rule.Instances.{Tick, IsState}
 use Rattle.state_diff.proofs.Acceptable.{same_test}
 use Rattle.state_diff.proofs.Unique.{IsNewest-unique, IsState-unique}
 use Rattle.phase.specs.declared.phase.Phase.{Phase}
@@ -14,12 +14,12 @@ use Rattle.phase.specs.declared.container.ContainerState.TheVariants.{Waiting, R
 use Rattle.containers.specs.declared.status.ContainerStatus.{ContainerStatus}
 use Rattle.manifest.specs.declared.pod.PodSpec.{PodSpec}
 use Rattle.pod_state.specs.declared.lifecycle.Lifecycle.{Lifecycle}
-use Rattle.containers.specs.Ticks.{ContainerTick}
-use Rattle.containers.specs.Shown.{state_behind, IsContainerState, IsRestarts, IsShown}
+use Rattle.containers.specs.rule.Ticks.{ContainerTick}
+use Rattle.containers.specs.rule.Shown.{state_behind, IsContainerState, IsRestarts, IsShown}
 use Rattle.manifest.specs.declared.pod.ContainerSpec.{ContainerSpec}
-use Rattle.pod_state.specs.Pods.{PodTick, ticks_of, OfSpec, counted, EndsEvicted}
-use Rattle.pod_state.specs.Lifecycles.{IsConditionAfter, IsLifecycleOf}
-use Rattle.pod_state.specs.Containers.{IsContainerStatus}
+use Rattle.pod_state.specs.rule.Pods.{PodTick, ticks_of, OfSpec, counted, EndsEvicted}
+use Rattle.pod_state.specs.rule.Lifecycles.{IsConditionAfter, IsLifecycleOf}
+use Rattle.pod_state.specs.rule.Containers.{IsContainerStatus}
 use Rattle.pod_state.proofs.TickLemmas.{together, whatever}
 use Rattle.pod_state.proofs.EndLemmas.{IsEnd-unique, IsPhase-unique}
 

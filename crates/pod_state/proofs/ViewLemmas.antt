@@ -10,15 +10,16 @@ use Rattle.manifest.specs.declared.pod.ContainerSpec.{ContainerSpec}
 use Rattle.manifest.specs.declared.pod.PodSpec.{PodSpec}
 use Rattle.phase.specs.declared.phase.Phase.{Phase}
 use Rattle.phase.specs.declared.view.ContainerView.{ContainerView}
-use Rattle.phase.specs.Facts.{of_view}
-use Rattle.phase.specs.RawPhase.{IsRawPhase, AreInitialized}
+use Rattle.phase.specs.state.Facts.{of_view}
+use Rattle.phase.specs.rule.RawPhase.{IsRawPhase, AreInitialized}
 use Rattle.phase.proofs.PhaseLemmas.{SameFacts, AreSame, lists_turned, raw_same, initialized_same}
-use Rattle.containers.specs.Ticks.{ContainerTick}
-use Rattle.containers.specs.Probed as probed
-use Rattle.containers.specs.Shown as shown
+use Rattle.containers.specs.rule.Ticks.{ContainerTick}
+use Rattle.containers.specs.rule.Probed as probed
+use Rattle.containers.specs.state.Shown as shown
 use Rattle.containers.proofs.ViewLemmas.{view_code}
-use Rattle.pod_state.specs.Pods.{PodTick, ticks_of, OfSpec, Serves, facts, numbers, IsViewOf, AreViewsOf}
-use Rattle.pod_state.specs.Pods.{IsRawPhaseAfter}
+use Rattle.pod_state.specs.rule.Pods.{PodTick, ticks_of, OfSpec, Serves, facts, numbers}
+use Rattle.pod_state.specs.state.Pods.{IsViewOf, AreViewsOf}
+use Rattle.pod_state.specs.rule.Pods.{IsRawPhaseAfter}
 use Rattle.pod_state.proofs.TickLemmas.{whatever}
 
 same_role : (o : Option ContainerSpec) (ticks : List ContainerTick) (view : ContainerView) (role : Role)

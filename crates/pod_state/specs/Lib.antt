@@ -1,6 +1,2 @@
-pub mod Pods
-pub mod Containers
-pub mod Lifecycles
-pub mod States
-pub mod Events
-pub mod Laws
+pub mod rule
+pub mod state

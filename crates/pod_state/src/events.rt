@@ -3,7 +3,7 @@
 ghost use Rattle.std.specs.Prelude.{◌≡◌, ◌≢◌, ◌↔◌, ◌++◌, ◌∷◌, [], Some, None, OnOk, IfOk};
 ghost use Rattle.containers.specs.declared.pod_event_kind.PodEventKind.{PodEventKind};
 ghost use Rattle.containers.specs.declared.pod_event_kind.PodEventKind.TheVariants as kinds;
-ghost use Rattle.pod_state.specs.Events.{restart_in, places_in, events_at, events_from};
+ghost use Rattle.pod_state.specs.rule.Events.{restart_in, places_in, events_at, events_from};
 
 use containers::{ContainerEvents, PodEventKind};
 use phase::Phase;

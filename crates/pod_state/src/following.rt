@@ -2,17 +2,18 @@
 
 ghost use Rattle.std.specs.Prelude.{◌≡◌, ◌≢◌, ◌↔◌, ◌<◌, ℕ, List, [], ◌∷◌, ◌++◌, length, slice_get, unwrap_or};
 ghost use Rattle.std.specs.Prelude.{IsTrue, IfOk};
-ghost use Rattle.quantity.specs.Duration.{end_of_time};
+ghost use Rattle.quantity.specs.rule.Duration.{end_of_time};
 ghost use Rattle.manifest.specs.declared.pod.ContainerSpec.{ContainerSpec};
 ghost use Rattle.manifest.specs.declared.pod.PodSpec.{PodSpec};
 ghost use Rattle.manifest.specs.declared.pod.Role.TheVariants.{Init};
-ghost use Rattle.containers.specs.Ticks.{ContainerTick};
-ghost use Rattle.containers.specs.Probed.{IsContainerReady};
-ghost use Rattle.containers.specs.Container.{Accepts, IsBefore, IsStateOf};
-ghost use Rattle.pod_state.specs.Pods.{PodTick, pod_tick, unseen, AreViewsOf, AllReady};
-ghost use Rattle.pod_state.specs.Containers.{IsContainerOf, AreContainersOf, AreShown};
-ghost use Rattle.pod_state.specs.Events.{IsMadeOf, AreMade};
-ghost use Rattle.pod_state.specs.States.{AllAccept, AllBefore};
+ghost use Rattle.containers.specs.rule.Ticks.{ContainerTick};
+ghost use Rattle.containers.specs.rule.Probed.{IsContainerReady};
+ghost use Rattle.containers.specs.state.Container.{Accepts, IsBefore, IsStateOf};
+ghost use Rattle.pod_state.specs.rule.Pods.{PodTick, pod_tick, unseen, AllReady};
+ghost use Rattle.pod_state.specs.state.Pods.{AreViewsOf};
+ghost use Rattle.pod_state.specs.state.Containers.{IsContainerOf, AreContainersOf, AreShown};
+ghost use Rattle.pod_state.specs.rule.Events.{IsMadeOf, AreMade};
+ghost use Rattle.pod_state.specs.state.States.{AllAccept, AllBefore};
 
 use containers::{Container, ContainerEvents, ContainerStatus};
 use manifest::{ContainerSpec, MaxRestartDelay, Policy};

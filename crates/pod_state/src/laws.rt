@@ -1,6 +1,6 @@
 //! What the definitions of phases, conditions, container statuses and events imply. The functions do nothing;
 //! their contracts are the laws.
-ghost use Rattle.pod_state.specs.Laws as laws;
+ghost use Rattle.pod_state.specs.state.Laws as laws;
 
 /// A pod has exactly one raw phase after ticks of which each container has a view.
 pub fn one_raw_phase()

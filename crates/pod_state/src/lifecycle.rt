@@ -1,12 +1,14 @@
 //! The phase and the conditions of a pod, tick by tick.
 
 ghost use Rattle.std.specs.Prelude.{◌≡◌, ◌↔◌, ℕ, List, [], ◌∷◌, ◌++◌, length, Option, Some, None, IsTrue};
-ghost use Rattle.histories.specs.Histories.{recorded};
+ghost use Rattle.histories.specs.rule.Histories.{recorded};
 ghost use Rattle.manifest.specs.declared.pod.PodSpec.{PodSpec};
-ghost use Rattle.phase.specs.Facts.{of_view};
-ghost use Rattle.phase.specs.RawPhase.{IsTerminal, AreInitialized};
-ghost use Rattle.pod_state.specs.Pods.{PodEntry, PodTick, HasEnded, AreViewsOf};
-ghost use Rattle.pod_state.specs.Lifecycles.{IsLifecycleOf, IsProgressOf, IsNextPhase, IsNext};
+ghost use Rattle.phase.specs.state.Facts.{of_view};
+ghost use Rattle.phase.specs.rule.RawPhase.{IsTerminal, AreInitialized};
+ghost use Rattle.pod_state.specs.rule.Pods.{PodEntry, PodTick, HasEnded};
+ghost use Rattle.pod_state.specs.state.Pods.{AreViewsOf};
+ghost use Rattle.pod_state.specs.rule.Lifecycles.{IsLifecycleOf};
+ghost use Rattle.pod_state.specs.state.Lifecycles.{IsProgressOf, IsNextPhase, IsNext};
 
 use manifest::Policy;
 use phase::{Conditions, ContainerView, Phase, Values, are_initialized, raw_phase};

@@ -2,15 +2,18 @@
 
 ghost use Rattle.std.specs.Prelude.{◌≡◌, ◌↔◌, ◌<◌, ℕ, List, [], ◌∷◌, ◌++◌, length, Option, Some, None, IsTrue};
 ghost use Rattle.std.specs.Prelude.{IfOk, OnOk, OnErr, vec_len};
-ghost use Rattle.quantity.specs.Duration.{end_of_time};
-ghost use Rattle.histories.specs.Histories.{recorded};
+ghost use Rattle.quantity.specs.rule.Duration.{end_of_time};
+ghost use Rattle.histories.specs.rule.Histories.{recorded};
 ghost use Rattle.manifest.specs.declared.pod.PodSpec.{PodSpec};
-ghost use Rattle.phase.specs.RawPhase.{IsTerminal};
-ghost use Rattle.pod_state.specs.Pods.{PodEntry, PodTick, pod_tick, AreViewsOf, IsEnd, EndsEvicted};
-ghost use Rattle.pod_state.specs.Containers.{AreContainersOf, AreStatusesOf};
-ghost use Rattle.pod_state.specs.Events.{AreMade};
-ghost use Rattle.pod_state.specs.Lifecycles.{IsLifecycleOf, IsProgressOf};
-ghost use Rattle.pod_state.specs.States.{before_of, HasContainers, IsStateOf, LeadsTo, MakesEvents, MayFollow};
+ghost use Rattle.phase.specs.rule.RawPhase.{IsTerminal};
+ghost use Rattle.pod_state.specs.rule.Pods.{PodEntry, PodTick, pod_tick, IsEnd, EndsEvicted};
+ghost use Rattle.pod_state.specs.state.Pods.{AreViewsOf};
+ghost use Rattle.pod_state.specs.rule.Containers.{AreStatusesOf};
+ghost use Rattle.pod_state.specs.state.Containers.{AreContainersOf};
+ghost use Rattle.pod_state.specs.rule.Events.{AreMade};
+ghost use Rattle.pod_state.specs.rule.Lifecycles.{IsLifecycleOf};
+ghost use Rattle.pod_state.specs.state.Lifecycles.{IsProgressOf};
+ghost use Rattle.pod_state.specs.state.States.{before_of, HasContainers, IsStateOf, LeadsTo, MakesEvents, MayFollow};
 
 use crate::events::{PodEvent, events_of, phase_event};
 use crate::following::{all_ready, first_containers, next_containers, show, step, views_of};

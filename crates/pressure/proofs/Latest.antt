@@ -3,10 +3,10 @@ use Rattle.std.proofs.Common.{◌≡◌, ◌⊎◌, inl, inr, ℕ, zero, suc, �
 use Rattle.std.proofs.Common.{length, Option, Some, None, max, subst, sym, ◌∙◌, arith}
 use Rattle.std.specs.Prelude.{IsTrue}
 use Rattle.std.proofs.lemmas.Bool.{cases_lt}
-use Rattle.histories.specs.Histories.{recorded, moment_at}
+use Rattle.histories.specs.rule.Histories.{recorded, moment_at}
 use Rattle.histories.proofs.Places.{kept, added, split, entry_at-below, moment_at-old, moment_at-new}
-use Rattle.pressure.specs.Pressures.{Observation, IsMetAt}
-use Rattle.pressure.specs.State.{IsLatest, IsLatestMet, later_of}
+use Rattle.pressure.specs.rule.Pressures.{Observation, IsMetAt}
+use Rattle.pressure.specs.state.State.{IsLatest, IsLatestMet, later_of}
 
 -- one more observation leaves the moments before it as they are
 pub moment_at-back : (h : List Observation) (x : Observation) (t m : ℕ) → t < length h

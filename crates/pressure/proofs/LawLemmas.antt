@@ -3,10 +3,10 @@ use Rattle.std.proofs.Common.{◌≡◌, ◌⊎◌, inl, inr, ℕ, ◌-◌, ◌<
 use Rattle.std.proofs.Common.{Option, Some, None, refl, subst, sym, ◌∙◌, append_assoc, append-nil, arith}
 use Rattle.std.specs.Option.{unwrap_or}
 use Rattle.std.proofs.lemmas.Bool.{cases_lt, cases_order}
-use Rattle.histories.specs.Histories.{HoldsAt, IsTransition, moment_at}
-use Rattle.pressure.specs.Pressures.{Observation, IsMetAt, IsUnderPressure}
-use Rattle.pressure.specs.State.{IsLatestMet, later_of}
-use Rattle.pressure.specs.Laws.{NoPeriodIsMetNow, TrueForThePeriod, OneSince}
+use Rattle.histories.specs.rule.Histories.{HoldsAt, IsTransition, moment_at}
+use Rattle.pressure.specs.rule.Pressures.{Observation, IsMetAt, IsUnderPressure}
+use Rattle.pressure.specs.state.State.{IsLatestMet, later_of}
+use Rattle.pressure.specs.state.Laws.{NoPeriodIsMetNow, TrueForThePeriod, OneSince}
 use Rattle.pressure.proofs.Since.{since_new, since_stays, none_recorded, since_is, since_unique}
 use Rattle.pressure.proofs.Values.{true_by}
 use Rattle.pressure.proofs.Latest.{latest_kept, latest_moved}

@@ -4,12 +4,12 @@ use Rattle.std.proofs.Common.{Some, None, refl, subst, sym, ◌∙◌, arith}
 use Rattle.std.specs.Prelude.{◌↔◌, IsTrue}
 use Rattle.std.specs.Option.{unwrap_or}
 use Rattle.std.proofs.lemmas.List.{take_all}
-use Rattle.histories.specs.Histories.{Recorded, up_to, HoldsAt, IsSteady, IsTransition}
+use Rattle.histories.specs.rule.Histories.{Recorded, up_to, HoldsAt, IsSteady, IsTransition}
 use Rattle.histories.proofs.First.{IsFirstMoment-unique}
 use Rattle.histories.proofs.Decide.{same_bool}
 use Rattle.histories.proofs.Growth.{grows_so}
 use Rattle.histories.proofs.Transitions.{Extends, IsSteady-last, transition_first, transition_stays, transition_new}
-use Rattle.pressure.specs.Pressures.{Observation, IsUnderPressure, IsSince}
+use Rattle.pressure.specs.rule.Pressures.{Observation, IsUnderPressure, IsSince}
 
 -- what holds of a history up to a place, over one more record
 extends : {A : Type 0} (P : List (Recorded A) → Type 0) (h : List (Recorded A)) (x : Recorded A)

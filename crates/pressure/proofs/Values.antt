@@ -2,11 +2,11 @@
 use Rattle.std.proofs.Common.{◌≡◌, ◌⊎◌, inl, inr, ℕ, ◌-◌, ◌<◌, ◌≤◌, Bool, List, [], ◌∷◌, ◌++◌, length, Option, Some}
 use Rattle.std.proofs.Common.{None, subst, sym, ◌∙◌, arith}
 use Rattle.std.specs.Prelude.{◌↔◌, IsTrue, IsSomeAnd}
-use Rattle.histories.specs.Histories.{recorded}
+use Rattle.histories.specs.rule.Histories.{recorded}
 use Rattle.histories.proofs.Moments.{last_moment-more}
 use Rattle.histories.proofs.Places.{length-more, kept, added, split, entry_at-below, moment_at-old}
-use Rattle.pressure.specs.Pressures.{Observation, IsMetAt, WasMetLately, IsUnderPressure}
-use Rattle.pressure.specs.State.{IsLatestMet}
+use Rattle.pressure.specs.rule.Pressures.{Observation, IsMetAt, WasMetLately, IsUnderPressure}
+use Rattle.pressure.specs.state.State.{IsLatestMet}
 use Rattle.pressure.proofs.Latest.{moment_at-back}
 
 -- the last place of one more

@@ -1,3 +1,2 @@
-pub mod Laws
-pub mod Pressures
-pub mod State
+pub mod rule
+pub mod state

@@ -1,7 +1,7 @@
 //! What is true of every condition, for every list of observations. The functions do nothing; their
 //! contracts are the laws.
 
-ghost use Rattle.pressure.specs.Laws as laws;
+ghost use Rattle.pressure.specs.state.Laws as laws;
 
 /// With a period of 0 a condition is true exactly when it is met now.
 pub fn no_period_is_met_now()

@@ -2,9 +2,9 @@
 
 ghost use Rattle.std.specs.Prelude.{◌≡◌, ◌≢◌, ◌⊎◌, ◌↔◌, ◌<◌, ◌-◌, ℕ, List, [], ◌∷◌, ◌++◌, Option, Some, None, Bool};
 ghost use Rattle.std.specs.Prelude.{IsTrue, IsSomeAnd};
-ghost use Rattle.histories.specs.Histories.{recorded, HoldsAt, IsTransition};
-ghost use Rattle.pressure.specs.Pressures.{Observation, IsUnderPressure, IsSince};
-ghost use Rattle.pressure.specs.State.{IsLatestMet, later_of, IsStateOf};
+ghost use Rattle.histories.specs.rule.Histories.{recorded, HoldsAt, IsTransition};
+ghost use Rattle.pressure.specs.rule.Pressures.{Observation, IsUnderPressure, IsSince};
+ghost use Rattle.pressure.specs.state.State.{IsLatestMet, later_of, IsStateOf};
 
 /// Follows one node condition, such as MemoryPressure, over its observations: whether the condition is
 /// met, which it is while one of its thresholds is active. It stays true until it has not been met

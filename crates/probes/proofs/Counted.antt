@@ -7,14 +7,14 @@ use Rattle.std.proofs.lemmas.List.Elements.{filter_map-append}
 use Rattle.std.proofs.lemmas.Option.{slice_get_within}
 use Rattle.manifest.specs.declared.outcome.Outcome.{Outcome}
 use Rattle.manifest.specs.declared.outcome.Outcome.TheVariants.{Success, Failure}
-use Rattle.manifest.specs.Probe.{Probe}
+use Rattle.manifest.specs.rule.Probe.{Probe}
 use Rattle.probes.specs.declared.startup.StartupProgress.{StartupProgress}
 use Rattle.probes.specs.declared.startup.StartupProgress.TheVariants.{Waiting, Passed, Failed}
-use Rattle.probes.specs.Outcomes.{PassesWithin, FailsWithin}
-use Rattle.probes.specs.Ticks.{Tick, belonging, startup_results, HasPassed, IsStarted}
-use Rattle.probes.specs.Startup.{IsProgressOf, IsProgressWith}
-use Rattle.probes.specs.Container.{IsPassTick, AreCounted}
-use Rattle.histories.specs.Histories.{Lasts}
+use Rattle.probes.specs.rule.Outcomes.{PassesWithin, FailsWithin}
+use Rattle.probes.specs.rule.Ticks.{Tick, belonging, startup_results, HasPassed, IsStarted}
+use Rattle.probes.specs.state.Startup.{IsProgressOf, IsProgressWith}
+use Rattle.probes.specs.rule.Container.{IsPassTick, AreCounted}
+use Rattle.histories.specs.state.Histories.{Lasts}
 use Rattle.histories.proofs.First.{IsFirst-unique}
 use Rattle.histories.proofs.Lasting.{Lasts-all, ComesTrue-later, ComesTrue-now}
 use Rattle.histories.proofs.Lists.{slice_get-kept}

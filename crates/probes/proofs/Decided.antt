@@ -7,13 +7,13 @@ use Rattle.histories.proofs.Decide.{OrNot, negated, both, implied, less_or_not, 
 use Rattle.histories.proofs.Found.{some_below, all_below}
 use Rattle.manifest.specs.declared.outcome.Outcome.{Outcome}
 use Rattle.manifest.specs.declared.outcome.Outcome.TheVariants.{Success, Failure, Unknown}
-use Rattle.manifest.specs.Probe.{Probe, Probes}
+use Rattle.manifest.specs.rule.Probe.{Probe, Probes}
 use Rattle.probes.specs.declared.probe_set.Cause.{Cause}
 use Rattle.probes.specs.declared.probe_set.Cause.TheVariants.{Startup, Liveness}
-use Rattle.probes.specs.Outcomes.{EndsRun, FailsInARow, HoldsAfter, FailsWithin}
-use Rattle.probes.specs.Ticks.{Tick, startup_results, liveness_results, readiness_results, HasPassed, IsStarted}
-use Rattle.probes.specs.Ticks.{HasStartupFailed, HasLivenessFailed, HoldsReady}
-use Rattle.probes.specs.Container.{IsKillOrdered, IsInstanceReady}
+use Rattle.probes.specs.rule.Outcomes.{EndsRun, FailsInARow, HoldsAfter, FailsWithin}
+use Rattle.probes.specs.rule.Ticks.{Tick, startup_results, liveness_results, readiness_results, HasPassed, IsStarted}
+use Rattle.probes.specs.rule.Ticks.{HasStartupFailed, HasLivenessFailed, HoldsReady}
+use Rattle.probes.specs.rule.Container.{IsKillOrdered, IsInstanceReady}
 use Rattle.probes.proofs.Counted.{AreCounted-unique}
 use Rattle.probes.proofs.Determined.{passes_or_not, counted_of}
 

@@ -6,11 +6,12 @@ use Rattle.std.proofs.lemmas.List.{take_all, take-take}
 use Rattle.std.proofs.lemmas.Option.{same_Some}
 use Rattle.manifest.specs.declared.outcome.Outcome.{Outcome}
 use Rattle.manifest.specs.declared.outcome.Outcome.TheVariants.{Success, Failure, Unknown}
-use Rattle.manifest.specs.Probe.{Probe, Probes}
-use Rattle.probes.specs.Outcomes.{PassesWithin}
-use Rattle.probes.specs.Ticks.{Tick, startup_results, HasPassed, IsStarted, HoldsReady}
-use Rattle.histories.specs.Histories.{Lasts, ComesTrue}
-use Rattle.probes.specs.Container.{IsPassTick, AreCounted, IsInstanceReady}
+use Rattle.manifest.specs.rule.Probe.{Probe, Probes}
+use Rattle.probes.specs.rule.Outcomes.{PassesWithin}
+use Rattle.probes.specs.rule.Ticks.{Tick, startup_results, HasPassed, IsStarted, HoldsReady}
+use Rattle.histories.specs.rule.Histories.{ComesTrue}
+use Rattle.histories.specs.state.Histories.{Lasts}
+use Rattle.probes.specs.rule.Container.{IsPassTick, AreCounted, IsInstanceReady}
 use Rattle.histories.proofs.First.{IsFirst-unique}
 use Rattle.histories.proofs.Lasting.{Lasts-all, ComesTrue-later}
 use Rattle.probes.proofs.Counted.{passed_lasts}

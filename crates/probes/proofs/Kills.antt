@@ -2,13 +2,15 @@
 use Rattle.std.proofs.Common.{◌≡◌, inl, inr, ℕ, ◌-◌, ◌<◌, ◌≤◌, List, [], ◌++◌, Option, Some, None, arith}
 use Rattle.std.proofs.lemmas.List.Elements.{filter_map-append}
 use Rattle.manifest.specs.declared.outcome.Outcome.TheVariants.{Failure}
-use Rattle.manifest.specs.Probe.{Probe, Probes, HasNumbersInRange}
+use Rattle.manifest.specs.rule.Probe.{Probe, Probes}
+use Rattle.manifest.specs.state.Probe.{HasNumbersInRange}
 use Rattle.probes.specs.declared.probe_set.Cause.{Cause}
 use Rattle.probes.specs.declared.probe_set.Cause.TheVariants.{Startup, Liveness}
-use Rattle.probes.specs.Ticks.{Tick, belonging, IsStarted, HasStartupFailed, HasLivenessFailed}
-use Rattle.probes.specs.Container.{AreInRange, AreCounted, IsKillOrdered}
+use Rattle.probes.specs.rule.Ticks.{Tick, belonging, IsStarted, HasStartupFailed, HasLivenessFailed}
+use Rattle.probes.specs.rule.Container.{AreCounted, IsKillOrdered}
+use Rattle.probes.specs.state.Container.{AreInRange}
 use Rattle.probes.proofs.Runs.{EndsRun-old}
-use Rattle.histories.specs.Histories.{Lasts}
+use Rattle.histories.specs.state.Histories.{Lasts}
 use Rattle.probes.proofs.Counted.{FailsWithin-more, not_both, passed_by, AreCounted-more}
 
 -- a startup that has failed stays so

@@ -8,7 +8,8 @@ use Rattle.std.proofs.lemmas.Option.{same_Some}
 use Rattle.histories.proofs.Lists.{slice_get-old, slice_get-kept, slice_get-new}
 use Rattle.manifest.specs.declared.outcome.Outcome.{Outcome}
 use Rattle.manifest.specs.declared.outcome.Outcome.TheVariants.{Success, Failure}
-use Rattle.probes.specs.Outcomes.{EndsRun, FailsInARow, HoldsAfter, IsRunLength}
+use Rattle.probes.specs.rule.Outcomes.{EndsRun, FailsInARow, HoldsAfter}
+use Rattle.probes.specs.state.Outcomes.{IsRunLength}
 
 -- the new element, where its place is known by an equation
 slice_get-at : {X : Type 0} (xs : List X) (x : X) (k : ℕ) → k ≡ length xs → slice_get (xs ++ x ∷ []) k ≡ Some x

@@ -3,20 +3,21 @@ use Rattle.std.proofs.Common.{◌≡◌, ℕ, ◌-◌, Bool, true, false, List, 
 use Rattle.std.proofs.Common.{is_some, refl, sym, subst, ◌∙◌}
 use Rattle.std.specs.Prelude.{◌↔◌, IsTrue, IsSomeAnd}
 use Rattle.std.proofs.lemmas.Option.{same_Some}
-use Rattle.manifest.specs.Probe.{Probe, Probes}
+use Rattle.manifest.specs.rule.Probe.{Probe, Probes}
 use Rattle.probes.specs.declared.probe_set.Cause.{Cause}
 use Rattle.probes.specs.declared.probe_set.Cause.TheVariants as causes
 use Rattle.probes.specs.declared.probe_set.ProbeSet.{ProbeSet}
 use Rattle.probes.specs.declared.startup.Startup.{Startup}
 use Rattle.probes.specs.declared.liveness.Liveness.{Liveness}
 use Rattle.probes.specs.declared.readiness.Readiness.{Readiness}
-use Rattle.probes.specs.Ticks.{Tick, IsStarted, HasPassed, HasStartupFailed, HasLivenessFailed, HoldsReady}
-use Rattle.probes.specs.Startup.{IsStartupOf, IsProgressWith}
-use Rattle.probes.specs.Liveness.{IsLivenessOf}
-use Rattle.probes.specs.Readiness.{IsReadinessOf}
-use Rattle.probes.specs.Container.{AreInRange, AreCounted, IsKillOrdered, IsSomeKillOrdered, IsPassTick, IsKillTick}
-use Rattle.probes.specs.Container.{IsInstanceReady}
-use Rattle.probes.specs.ProbeSet.{Follows, IsStateOf}
+use Rattle.probes.specs.rule.Ticks.{Tick, IsStarted, HasPassed, HasStartupFailed, HasLivenessFailed, HoldsReady}
+use Rattle.probes.specs.state.Startup.{IsStartupOf, IsProgressWith}
+use Rattle.probes.specs.state.Liveness.{IsLivenessOf}
+use Rattle.probes.specs.state.Readiness.{IsReadinessOf}
+use Rattle.probes.specs.rule.Container.{AreCounted, IsKillOrdered, IsPassTick}
+use Rattle.probes.specs.state.Container.{AreInRange, IsSomeKillOrdered, IsKillTick}
+use Rattle.probes.specs.rule.Container.{IsInstanceReady}
+use Rattle.probes.specs.state.ProbeSet.{Follows, IsStateOf}
 use Rattle.histories.proofs.Lasting.{ComesTrue-now}
 use Rattle.probes.proofs.Counted.{AreCounted-unique, AreCounted-more, AreCounted-none, AreCounted-start, passed_lasts}
 use Rattle.probes.proofs.Kills.{kill_lasts, one_cause}

@@ -9,14 +9,16 @@ use Rattle.std.proofs.lemmas.Option.{same_Some}
 use Rattle.std.proofs.lemmas.List.Elements.{filter_map-append}
 use Rattle.manifest.specs.declared.outcome.Outcome.{Outcome}
 use Rattle.manifest.specs.declared.outcome.Outcome.TheVariants.{Success, Failure}
-use Rattle.manifest.specs.Probe.{Probe}
+use Rattle.manifest.specs.rule.Probe.{Probe}
 use Rattle.probes.specs.declared.configured.ProbeResult.{ProbeResult}
 use Rattle.probes.specs.declared.startup.StartupProgress.{StartupProgress}
-use Rattle.probes.specs.Outcomes.{EndsRun, FailsInARow, HoldsAfter, IsRunLength}
-use Rattle.probes.specs.Ticks.{Tick, belonging, with_probe, result_of}
-use Rattle.probes.specs.Startup.{IsProgressOf, IsProgressWith}
-use Rattle.probes.specs.Liveness.{CountsLiveness}
-use Rattle.probes.specs.Readiness.{CountsReadiness, CountsResults}
+use Rattle.probes.specs.rule.Outcomes.{EndsRun, FailsInARow, HoldsAfter}
+use Rattle.probes.specs.state.Outcomes.{IsRunLength}
+use Rattle.probes.specs.rule.Ticks.{Tick, belonging}
+use Rattle.probes.specs.state.Ticks.{with_probe, result_of}
+use Rattle.probes.specs.state.Startup.{IsProgressOf, IsProgressWith}
+use Rattle.probes.specs.state.Liveness.{CountsLiveness}
+use Rattle.probes.specs.state.Readiness.{CountsReadiness, CountsResults}
 use Rattle.probes.proofs.Runs.{IsRunLength-reaches, FailsInARow-more, HoldsAfter-more}
 
 -- one more element, which gives nothing or an item

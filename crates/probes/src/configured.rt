@@ -1,7 +1,7 @@
 //! A probe that may not be configured.
 
 ghost use Rattle.std.specs.Prelude.{◌≡◌};
-ghost use Rattle.probes.specs.Ticks.{result_of};
+ghost use Rattle.probes.specs.state.Ticks.{result_of};
 
 use crate::outcome::belonging;
 use manifest::{Outcome, Probe};
@@ -17,7 +17,7 @@ pub struct Configured {
 
 impl Model for Configured {
     ghost use Rattle.std.specs.Prelude.{Option};
-    ghost use Rattle.manifest.specs.Probe.{Probe};
+    ghost use Rattle.manifest.specs.rule.Probe.{Probe};
 
     ghost Value = { Option Probe };
 

@@ -1,6 +1,6 @@
 //! What the definitions of probes imply, for every container and every list of ticks. The functions
 //! do nothing; their contracts are the laws.
-ghost use Rattle.probes.specs.Laws as laws;
+ghost use Rattle.probes.specs.state.Laws as laws;
 
 /// No instance is to be killed for two causes.
 pub fn one_cause()

@@ -1,8 +1,9 @@
 //! The liveness probe of an instance, result by result.
 
 ghost use Rattle.std.specs.Prelude.{◌≡◌, ◌↔◌, ℕ, List, [], IsTrue};
-ghost use Rattle.probes.specs.Ticks.{Tick, TakesOne, HasLivenessFailed};
-ghost use Rattle.probes.specs.Liveness.{IsLivenessOf};
+ghost use Rattle.probes.specs.rule.Ticks.{Tick, HasLivenessFailed};
+ghost use Rattle.probes.specs.state.Ticks.{TakesOne};
+ghost use Rattle.probes.specs.state.Liveness.{IsLivenessOf};
 
 use crate::configured::Configured;
 use crate::outcome::is_failure;

@@ -2,8 +2,8 @@
 
 ghost use Rattle.std.specs.Prelude.{◌≡◌, ◌↔◌, IsTrue};
 ghost use Rattle.manifest.specs.declared.outcome.Outcome.TheVariants.{Success, Failure};
-ghost use Rattle.probes.specs.Outcomes.{is_known};
-ghost use Rattle.probes.specs.Ticks.{belonging};
+ghost use Rattle.probes.specs.rule.Outcomes.{is_known};
+ghost use Rattle.probes.specs.rule.Ticks.{belonging};
 
 use manifest::{Outcome, Probe};
 

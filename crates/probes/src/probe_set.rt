@@ -1,10 +1,11 @@
 //! The three probes of a container, over all of its instances.
 
 ghost use Rattle.std.specs.Prelude.{◌≡◌, ◌↔◌, ◌-◌, ℕ, List, [], ◌∷◌, ◌++◌, length, Option, Some, None, IsTrue, false};
-ghost use Rattle.manifest.specs.Probe.{Probes};
-ghost use Rattle.probes.specs.Ticks.{Tick, tick, IsStarted};
-ghost use Rattle.probes.specs.Container.{IsInstanceReady, IsKillOrdered, IsSomeKillOrdered};
-ghost use Rattle.probes.specs.ProbeSet.{Follows, HasBegun, HasNotBegun, IsStateOf, AreVerdicts};
+ghost use Rattle.manifest.specs.rule.Probe.{Probes};
+ghost use Rattle.probes.specs.rule.Ticks.{Tick, tick, IsStarted};
+ghost use Rattle.probes.specs.rule.Container.{IsInstanceReady, IsKillOrdered};
+ghost use Rattle.probes.specs.state.Container.{IsSomeKillOrdered};
+ghost use Rattle.probes.specs.state.ProbeSet.{Follows, HasBegun, HasNotBegun, IsStateOf, AreVerdicts};
 
 use crate::configured::Configured;
 use crate::liveness::Liveness;

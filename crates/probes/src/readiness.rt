@@ -1,8 +1,9 @@
 //! The readiness probe of an instance, result by result.
 
 ghost use Rattle.std.specs.Prelude.{◌≡◌, ◌↔◌, ◌⊎◌, ℕ, List, [], IsTrue};
-ghost use Rattle.probes.specs.Ticks.{Tick, TakesOne, HoldsReady};
-ghost use Rattle.probes.specs.Readiness.{IsReadinessOf};
+ghost use Rattle.probes.specs.rule.Ticks.{Tick, HoldsReady};
+ghost use Rattle.probes.specs.state.Ticks.{TakesOne};
+ghost use Rattle.probes.specs.state.Readiness.{IsReadinessOf};
 
 use crate::configured::Configured;
 use crate::outcome::{is_failure, is_success};

@@ -2,7 +2,7 @@
 
 ghost use Rattle.std.specs.Prelude.{◌≡◌, ◌↔◌, List, ◌∷◌, [], ◌++◌, IsTrue};
 ghost use Rattle.manifest.specs.declared.outcome.Outcome.{Outcome};
-ghost use Rattle.probes.specs.Outcomes.{IsRunLength};
+ghost use Rattle.probes.specs.state.Outcomes.{IsRunLength};
 
 /// How many results at the end have one outcome, counted up to a limit, after one more result that
 /// has it or not.

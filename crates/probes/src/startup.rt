@@ -2,8 +2,9 @@
 
 ghost use Rattle.std.specs.Prelude.{◌≡◌, ◌≢◌, ◌≤◌, ◌↔◌, ℕ, List, ◌∷◌, [], ◌++◌, IsTrue};
 ghost use Rattle.manifest.specs.declared.outcome.Outcome.{Outcome};
-ghost use Rattle.probes.specs.Ticks.{Tick, TakesOne, IsStarted, HasStartupFailed};
-ghost use Rattle.probes.specs.Startup.{IsProgressOf, IsStartupOf};
+ghost use Rattle.probes.specs.rule.Ticks.{Tick, IsStarted, HasStartupFailed};
+ghost use Rattle.probes.specs.state.Ticks.{TakesOne};
+ghost use Rattle.probes.specs.state.Startup.{IsProgressOf, IsStartupOf};
 
 use crate::configured::Configured;
 use crate::outcome::is_success;

@@ -8,9 +8,9 @@ use Rattle.manifest.specs.declared.resources.Resource.{Resource}
 use Rattle.manifest.specs.declared.resources.Resource.TheVariants.{Cpu, Memory}
 use Rattle.qos.specs.declared.class.Qos.{Qos}
 use Rattle.qos.specs.declared.class.Qos.TheVariants.{Guaranteed, Burstable, BestEffort}
-use Rattle.qos.specs.Container.{own_request_of, limit_of, request_of, RequestEqualsLimit, IsGuaranteed}
-use Rattle.qos.specs.Container.{HasRequestOrLimit, HasSomeRequestOrLimit}
-use Rattle.qos.specs.Class.{IsOfClass}
+use Rattle.qos.specs.rule.Container.{own_request_of, limit_of, request_of, RequestEqualsLimit, IsGuaranteed}
+use Rattle.qos.specs.rule.Container.{HasRequestOrLimit, HasSomeRequestOrLimit}
+use Rattle.qos.specs.rule.Class.{IsOfClass}
 
 equals_or_not : (resource : Resource) (container : ContainerSpec) → OrNot (RequestEqualsLimit resource container)
 equals_or_not resource container = there (limit_of container resource) (request_of container resource)

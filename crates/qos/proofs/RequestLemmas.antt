@@ -6,9 +6,9 @@ use Rattle.manifest.specs.declared.pod.Role.{Role}
 use Rattle.manifest.specs.declared.pod.Role.TheVariants.{Init, Sidecar, App}
 use Rattle.manifest.specs.declared.pod.ContainerSpec.{ContainerSpec}
 use Rattle.manifest.specs.declared.resources.Resource.{Resource}
-use Rattle.qos.specs.Container.{requested}
-use Rattle.qos.specs.Requests.{for_app_or_sidecar, for_init, requested_by_app_or_sidecar, requested_by_init}
-use Rattle.qos.specs.Requests.{sum_of_apps_and_sidecars, greatest_of_inits, effective_request_of}
+use Rattle.qos.specs.rule.Container.{requested}
+use Rattle.qos.specs.rule.Requests.{for_app_or_sidecar, for_init, requested_by_app_or_sidecar, requested_by_init}
+use Rattle.qos.specs.rule.Requests.{sum_of_apps_and_sidecars, greatest_of_inits, effective_request_of}
 
 covers_app : (resource : Resource) (containers : List ContainerSpec) (container : ContainerSpec)
     → Contains containers container

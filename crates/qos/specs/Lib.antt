@@ -1,4 +1,2 @@
-pub mod Container
-pub mod Class
-pub mod Requests
-pub mod Laws
+pub mod rule
+pub mod state

@@ -1,8 +1,8 @@
 //! QoS classes.
 
 ghost use Rattle.std.specs.Prelude.{◌↔◌, All, Any, IsTrue};
-ghost use Rattle.qos.specs.Container.{IsGuaranteed, HasSomeRequestOrLimit};
-ghost use Rattle.qos.specs.Class.{IsOfClass};
+ghost use Rattle.qos.specs.rule.Container.{IsGuaranteed, HasSomeRequestOrLimit};
+ghost use Rattle.qos.specs.rule.Class.{IsOfClass};
 
 use crate::container::{has_some_request_or_limit, is_guaranteed};
 use manifest::{ContainerSpec, PodSpec};

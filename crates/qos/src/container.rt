@@ -2,9 +2,10 @@
 
 ghost use Rattle.std.specs.Prelude.{◌≡◌, ◌≤◌, ◌↔◌, IfSome, IsTrue};
 ghost use Rattle.manifest.specs.declared.resources.Resource.TheVariants.{Cpu, Memory};
-ghost use Rattle.quantity.specs.Quantity.{greatest_quantity};
-ghost use Rattle.qos.specs.Container.{set_amount, limit_of, request_of, requested, RequestEqualsLimit, IsGuaranteed};
-ghost use Rattle.qos.specs.Container.{HasRequestOrLimit, HasSomeRequestOrLimit};
+ghost use Rattle.quantity.specs.rule.Quantity.{greatest_quantity};
+ghost use Rattle.qos.specs.rule.Container.{set_amount, limit_of, request_of, requested, RequestEqualsLimit};
+ghost use Rattle.qos.specs.rule.Container.{IsGuaranteed};
+ghost use Rattle.qos.specs.rule.Container.{HasRequestOrLimit, HasSomeRequestOrLimit};
 
 use manifest::{ContainerSpec, Resource};
 use quantity::Quantity;
@@ -58,7 +59,7 @@ fn request_equals_limit(container: &ContainerSpec, resource: Resource) -> bool
 }
 
 /// Whether that is so of cpu and of memory.
-#[tactic(auto, unfolding(crate::specs::Container::IsGuaranteed))]
+#[tactic(auto, unfolding(crate::specs::rule::Container::IsGuaranteed))]
 pub(crate) fn is_guaranteed(container: &ContainerSpec) -> bool
     ensures { IsTrue result ↔ IsGuaranteed container.now }
 {

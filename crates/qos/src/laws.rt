@@ -1,6 +1,6 @@
 //! What the definitions of classes and effective requests imply, for every pod. The functions do
 //! nothing; their contracts are the laws.
-ghost use Rattle.qos.specs.Laws as laws;
+ghost use Rattle.qos.specs.state.Laws as laws;
 
 /// Every pod is of exactly one class.
 pub fn one_class()

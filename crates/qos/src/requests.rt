@@ -1,10 +1,10 @@
 //! Effective requests.
 
 ghost use Rattle.std.specs.Prelude.{◌≡◌, ◌≤◌, ◌*◌, length};
-ghost use Rattle.manifest.specs.Containers.{most_containers};
-ghost use Rattle.quantity.specs.Quantity.{greatest_quantity};
-ghost use Rattle.qos.specs.Requests.{requested_by_app_or_sidecar, requested_by_init, sum_of_apps_and_sidecars};
-ghost use Rattle.qos.specs.Requests.{greatest_of_inits, effective_request_of};
+ghost use Rattle.manifest.specs.rule.Containers.{most_containers};
+ghost use Rattle.quantity.specs.rule.Quantity.{greatest_quantity};
+ghost use Rattle.qos.specs.rule.Requests.{requested_by_app_or_sidecar, requested_by_init, sum_of_apps_and_sidecars};
+ghost use Rattle.qos.specs.rule.Requests.{greatest_of_inits, effective_request_of};
 
 use crate::container::requested;
 use manifest::{ContainerSpec, PodSpec, Resource, Role};

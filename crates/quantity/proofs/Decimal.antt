@@ -9,7 +9,8 @@ use Rattle.std.proofs.Math.Nat.{pow-suc, pow-le-pow_right, mul-le-mul}
 use Rattle.std.specs.List.{prefix_len}
 use Rattle.std.proofs.lemmas.List.{length-take, length-take-le, get_or-take}
 use Rattle.std.proofs.lemmas.List.Sums.{prefix_len_passes, prefix_len-le-length}
-use Rattle.quantity.specs.Digits.{AllDigits, leading_digits}
+use Rattle.quantity.specs.rule.Digits.{leading_digits}
+use Rattle.quantity.specs.state.Digits.{AllDigits}
 
 -- the value of a digit's byte
 pub digit_value_is : (c : ℕ) → is_ascii_digit c ≡ true → (digit_value c ≡ c - 48) × (48 ≤ c) × (c ≤ 57)

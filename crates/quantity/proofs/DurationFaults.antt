@@ -13,10 +13,12 @@ use Rattle.std.proofs.lemmas.List.{length-drop}
 use Rattle.std.proofs.lemmas.List.Elements.{All-nil, All-cons}
 use Rattle.std.proofs.lemmas.List.Sums.{sum_by-cons}
 use Rattle.std.proofs.lemmas.Slice.Eq.{bytes_eq-Decides}
-use Rattle.quantity.specs.Digits.{leading_digits, after_digits}
-use Rattle.quantity.specs.Duration.{Part, part_text, part_seconds, IsPart, HasUnitFault, HasPartFault, HasFaultAfter}
-use Rattle.quantity.specs.Duration.{HasDurationFault, unit_seconds, pieces_of, piece_seconds, sum_onto, duration_of}
-use Rattle.quantity.specs.Duration.{end_of_time}
+use Rattle.quantity.specs.rule.Digits.{leading_digits, after_digits}
+use Rattle.quantity.specs.state.Duration.{Part, part_text, part_seconds, IsPart, HasUnitFault, HasPartFault}
+use Rattle.quantity.specs.state.Duration.{HasFaultAfter}
+use Rattle.quantity.specs.rule.Duration.{unit_seconds, pieces_of, piece_seconds, sum_onto, duration_of}
+use Rattle.quantity.specs.state.Duration.{HasDurationFault}
+use Rattle.quantity.specs.rule.Duration.{end_of_time}
 use Rattle.quantity.specs.declared.fault.QuantityFault.{QuantityFault}
 use Rattle.quantity.specs.declared.fault.QuantityFault.TheVariants.{BadDigit, BadSuffix, TooManyDigits}
 use Rattle.quantity.proofs.Decimal.{leading_are_digits, length_leading}

@@ -14,9 +14,10 @@ use Rattle.std.proofs.lemmas.List.Elements.{All-nil, All-cons}
 use Rattle.std.proofs.lemmas.List.Sums.{sum_by-cons}
 use Rattle.std.proofs.lemmas.Option.{slice_get_within, get_or_from_slice_get}
 use Rattle.std.proofs.lemmas.Slice.Eq.{bytes_eq-Decides}
-use Rattle.quantity.specs.Digits.{leading_digits, after_digits}
-use Rattle.quantity.specs.Duration.{Part, part_text, part_seconds, IsPart, IsSumOf, HasSeconds, unit_seconds}
-use Rattle.quantity.specs.Duration.{pieces_of, piece_seconds, sum_onto, duration_of, end_of_time}
+use Rattle.quantity.specs.rule.Digits.{leading_digits, after_digits}
+use Rattle.quantity.specs.rule.Duration.{unit_seconds}
+use Rattle.quantity.specs.state.Duration.{Part, part_text, part_seconds, IsPart, IsSumOf, HasSeconds}
+use Rattle.quantity.specs.rule.Duration.{pieces_of, piece_seconds, sum_onto, duration_of, end_of_time}
 use Rattle.quantity.proofs.Decimal.{leading_are_digits, length_leading}
 use Rattle.quantity.proofs.Durations.{pieces_split, piece_seconds-take, sum_next}
 use Rattle.quantity.proofs.Numbers.{prefix_len-digits, leading-append, whole_text}

@@ -6,7 +6,7 @@ use Rattle.std.specs.Char.{is_ascii_digit}
 use Rattle.std.specs.List.{prefix_len}
 use Rattle.std.proofs.lemmas.Bool.Decides.{nat_tests}
 use Rattle.std.proofs.lemmas.List.{take-take}
-use Rattle.quantity.specs.Duration.{pieces_of, joined, piece_seconds, sum_onto, end_of_time}
+use Rattle.quantity.specs.rule.Duration.{pieces_of, joined, piece_seconds, sum_onto, end_of_time}
 use Rattle.quantity.specs.declared.fault.QuantityFault.{QuantityFault}
 use Rattle.quantity.specs.declared.fault.QuantityFault.TheVariants.{TooManyDigits}
 

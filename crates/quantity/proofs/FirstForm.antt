@@ -3,7 +3,7 @@ use Rattle.std.proofs.Common.{◌≡◌, ◌<◌, ◌+◌, ◌-◌, ◌⊎◌, �
 use Rattle.std.proofs.Common.{Some, None}
 use Rattle.std.specs.Prelude.{Option}
 use Rattle.std.specs.Option.{is_some}
-use Rattle.quantity.specs.Printed.{first_form, form_at}
+use Rattle.quantity.specs.state.Printed.{first_form, form_at}
 use Rattle.quantity.specs.declared.form.Form.{Form}
 
 pub first_of_none : (q : ℕ) → first_form q 0 ≡ None

@@ -12,11 +12,13 @@ use Rattle.std.proofs.lemmas.List.{length-append, length-replicate}
 use Rattle.std.proofs.lemmas.List.Elements.{All-append, All-replicate}
 use Rattle.std.proofs.lemmas.Nat.{div-add-mod'}
 use Rattle.std.proofs.Math.Nat.{mod-lt}
-use Rattle.quantity.specs.Digits.{AllDigits}
-use Rattle.quantity.specs.Printed.{scale_suffix, scale_numerator, scale_at, exact_number, least_number, form_of}
-use Rattle.quantity.specs.Printed.{form_at, form_text, form_count, zero_padded}
-use Rattle.quantity.specs.Quantity.{HasThousandths, thousandths_of}
-use Rattle.quantity.specs.Suffix.{HasFactor, factor_of, times}
+use Rattle.quantity.specs.state.Digits.{AllDigits}
+use Rattle.quantity.specs.state.Printed.{scale_suffix, scale_numerator, scale_at, exact_number, least_number, form_of}
+use Rattle.quantity.specs.state.Printed.{form_at, form_text, form_count, zero_padded}
+use Rattle.quantity.specs.rule.Quantity.{thousandths_of}
+use Rattle.quantity.specs.state.Quantity.{HasThousandths}
+use Rattle.quantity.specs.rule.Suffix.{factor_of, times}
+use Rattle.quantity.specs.state.Suffix.{HasFactor}
 use Rattle.quantity.specs.declared.form.Form.{Form}
 use Rattle.quantity.specs.declared.form.Scale.{Scale}
 use Rattle.quantity.proofs.Decimal.{product_le}

@@ -7,9 +7,9 @@ use Rattle.std.proofs.lemmas.Bool.{cases_lt}
 use Rattle.std.proofs.lemmas.Bool.Decides.{nat_tests}
 use Rattle.std.proofs.lemmas.Nat.{le-div, div_below}
 use Rattle.std.proofs.Math.Nat.{one-le-pow}
-use Rattle.quantity.specs.Printed.{few_digits, least_number, exact_number}
-use Rattle.quantity.specs.Quantity.{thousandths_of}
-use Rattle.quantity.specs.Suffix.{times}
+use Rattle.quantity.specs.state.Printed.{few_digits, least_number, exact_number}
+use Rattle.quantity.specs.rule.Quantity.{thousandths_of}
+use Rattle.quantity.specs.rule.Suffix.{times}
 use Rattle.quantity.proofs.Decimal.{product_le}
 use Rattle.quantity.proofs.Numbers.{div_ceil_is_least}
 

@@ -10,10 +10,12 @@ use Rattle.std.proofs.lemmas.List.{length-append}
 use Rattle.std.proofs.lemmas.List.Elements.{All-from_recursion, All-append}
 use Rattle.std.proofs.Math.Nat.{pow-suc}
 use Rattle.std.specs.Char.{is_ascii_digit, digit_value}
-use Rattle.quantity.specs.Digits.{AllDigits}
-use Rattle.quantity.specs.Printed.{scale_at, scale_numerator, form_of, form_at, form_count, least_number}
-use Rattle.quantity.specs.Quantity.{HasThousandths, IsLeastNotBelow, greatest_quantity, thousandths_of}
-use Rattle.quantity.specs.Suffix.{HasFactor, IsExponent, named_factors, times, divided_by}
+use Rattle.quantity.specs.state.Digits.{AllDigits}
+use Rattle.quantity.specs.state.Printed.{scale_at, scale_numerator, form_of, form_at, form_count, least_number}
+use Rattle.quantity.specs.rule.Quantity.{greatest_quantity, thousandths_of}
+use Rattle.quantity.specs.state.Quantity.{HasThousandths, IsLeastNotBelow}
+use Rattle.quantity.specs.rule.Suffix.{times, divided_by}
+use Rattle.quantity.specs.state.Suffix.{HasFactor, IsExponent, named_factors}
 use Rattle.quantity.specs.declared.form.Form.{Form}
 use Rattle.quantity.specs.declared.suffix.Factor.{Factor}
 use Rattle.quantity.proofs.Decimal.{product_le, ten_mono, digit_value_is}

@@ -14,9 +14,11 @@ use Rattle.std.proofs.lemmas.List.{take_at, drop_at, get_or_append_left, get_or-
 use Rattle.std.proofs.lemmas.List.{length-append}
 use Rattle.std.proofs.lemmas.List.Sums.{prefix_len_is}
 use Rattle.std.proofs.Math.Nat.{pow-suc}
-use Rattle.quantity.specs.Digits.{AllDigits, leading_digits, after_digits}
-use Rattle.quantity.specs.Number.{whole_of, has_point, fraction_of, after_number}
-use Rattle.quantity.specs.Quantity.{IsLeastNotBelow, number_value}
+use Rattle.quantity.specs.rule.Digits.{leading_digits, after_digits}
+use Rattle.quantity.specs.state.Digits.{AllDigits}
+use Rattle.quantity.specs.rule.Number.{whole_of, has_point, fraction_of, after_number}
+use Rattle.quantity.specs.rule.Quantity.{number_value}
+use Rattle.quantity.specs.state.Quantity.{IsLeastNotBelow}
 use Rattle.quantity.proofs.Decimal.{product_le, leading_are_digits}
 
 here : (digits rest : List ℕ) → get_or (digits ++ rest) (length digits) 0 ≡ get_or rest 0 0

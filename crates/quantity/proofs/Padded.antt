@@ -4,7 +4,7 @@ use Rattle.std.specs.Prelude.{◌==◌, decimal, replicate}
 use Rattle.std.specs.Fmt.{styled_decimal, padded_integral, format_spec, char_count}
 use Rattle.std.proofs.lemmas.Bool.Decides.{nat_tests}
 use Rattle.std.proofs.lemmas.List.{append-nil}
-use Rattle.quantity.specs.Printed.{zero_padded}
+use Rattle.quantity.specs.state.Printed.{zero_padded}
 
 padded_zeros : (places : ℕ) (numeral : List ℕ) → padded_integral (format_spec 32 0 4 places 18446744073709551615)
     false [] numeral ≡ replicate (places - length numeral) 48 ++ numeral

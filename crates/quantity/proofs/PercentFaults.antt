@@ -9,10 +9,11 @@ use Rattle.std.specs.Str.{bytes_eq}
 use Rattle.std.proofs.lemmas.Bool.{false≢true, and_parts}
 use Rattle.std.proofs.lemmas.Bool.Decides.{nat_tests}
 use Rattle.std.proofs.lemmas.Slice.Eq.{bytes_eq-Decides}
-use Rattle.quantity.specs.Digits.{after_digits}
-use Rattle.quantity.specs.Number.{whole_of, has_point, fraction_of, after_number}
-use Rattle.quantity.specs.Percent.{HasParts, HasPartsFault, HasNumberFault, HasPercentFault, hundredths_of, percent_of}
-use Rattle.quantity.specs.Steps.{◌>>=◌, refused_if}
+use Rattle.quantity.specs.rule.Digits.{after_digits}
+use Rattle.quantity.specs.rule.Number.{whole_of, has_point, fraction_of, after_number}
+use Rattle.quantity.specs.rule.Percent.{hundredths_of, percent_of}
+use Rattle.quantity.specs.state.Percent.{HasParts, HasPartsFault, HasNumberFault, HasPercentFault}
+use Rattle.quantity.specs.rule.Steps.{◌>>=◌, refused_if}
 use Rattle.quantity.specs.declared.fault.QuantityFault.{QuantityFault}
 use Rattle.quantity.specs.declared.fault.QuantityFault.TheVariants.{BadDigit, BadSuffix, TooManyDigits}
 use Rattle.quantity.proofs.Decimal.{leading_are_digits}

@@ -6,10 +6,11 @@ use Rattle.std.specs.Str.Parse.{digits_value}
 use Rattle.std.specs.Str.{bytes_eq}
 use Rattle.std.proofs.lemmas.Bool.Decides.{nat_tests}
 use Rattle.std.proofs.lemmas.Slice.Eq.{bytes_eq-Decides}
-use Rattle.quantity.specs.Digits.{AllDigits}
-use Rattle.quantity.specs.Number.{whole_of, has_point, fraction_of, after_number}
-use Rattle.quantity.specs.Percent.{HasHundredths, hundredths_of, percent_of}
-use Rattle.quantity.specs.Quantity.{number_value}
+use Rattle.quantity.specs.state.Digits.{AllDigits}
+use Rattle.quantity.specs.rule.Number.{whole_of, has_point, fraction_of, after_number}
+use Rattle.quantity.specs.rule.Percent.{hundredths_of, percent_of}
+use Rattle.quantity.specs.state.Percent.{HasHundredths}
+use Rattle.quantity.specs.rule.Quantity.{number_value}
 use Rattle.quantity.proofs.Decimal.{digit_value_is, leading_are_digits}
 use Rattle.quantity.proofs.Numbers.{parts_with_point, parts_without_point, digits_value-append, number_split}
 use Rattle.quantity.proofs.StepsPassed.{passed}

@@ -3,8 +3,9 @@ use Rattle.std.proofs.Common.{◌≡◌, ◌≤◌, ◌<◌, ◌^◌, ◌⊎◌,
 use Rattle.std.specs.Prelude.{nat_lt, ◌%◌, ◌/◌}
 use Rattle.std.proofs.lemmas.Bool.{cases_lt}
 use Rattle.std.proofs.lemmas.Bool.Decides.{nat_tests}
-use Rattle.quantity.specs.Printed.{quantity_text, form_count}
-use Rattle.quantity.specs.Quantity.{HasThousandths, greatest_quantity}
+use Rattle.quantity.specs.state.Printed.{quantity_text, form_count}
+use Rattle.quantity.specs.rule.Quantity.{greatest_quantity}
+use Rattle.quantity.specs.state.Quantity.{HasThousandths}
 use Rattle.quantity.proofs.FirstForm.{first_exists, first_is_at}
 use Rattle.quantity.proofs.FormMeaning.{form_at_means}
 use Rattle.quantity.proofs.FormsComplete.{text_has_form}

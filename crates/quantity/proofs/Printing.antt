@@ -10,11 +10,13 @@ use Rattle.std.proofs.lemmas.Fmt.{decimal_is_IsNumeral, decimal_digit, length-de
 use Rattle.std.proofs.lemmas.List.{append-nil, get_or_default, length-append}
 use Rattle.std.proofs.lemmas.List.Elements.{All-append}
 use Rattle.std.proofs.lemmas.Str.Parse.{digit_at}
-use Rattle.quantity.specs.Digits.{AllDigits}
-use Rattle.quantity.specs.Percent.{HasHundredths, percent_text}
-use Rattle.quantity.specs.Printed.{plain_text}
-use Rattle.quantity.specs.Quantity.{HasThousandths, IsLeastNotBelow, greatest_quantity}
-use Rattle.quantity.specs.Suffix.{HasFactor, times, divided_by}
+use Rattle.quantity.specs.state.Digits.{AllDigits}
+use Rattle.quantity.specs.state.Percent.{HasHundredths, percent_text}
+use Rattle.quantity.specs.state.Printed.{plain_text}
+use Rattle.quantity.specs.rule.Quantity.{greatest_quantity}
+use Rattle.quantity.specs.state.Quantity.{HasThousandths, IsLeastNotBelow}
+use Rattle.quantity.specs.rule.Suffix.{times, divided_by}
+use Rattle.quantity.specs.state.Suffix.{HasFactor}
 use Rattle.quantity.specs.declared.suffix.Factor.{Factor}
 use Rattle.quantity.proofs.Numbers.{digits_value-append}
 

@@ -2,9 +2,9 @@
 use Rattle.std.proofs.Common.{◌≡◌, ◌≤◌, ◌<◌, ℕ, false, List, length, arith, Ok, Err, Some, None}
 use Rattle.std.specs.Prelude.{◌==◌, nat_lt}
 use Rattle.std.proofs.lemmas.Bool.Decides.{nat_tests}
-use Rattle.quantity.specs.Number.{whole_of, fraction_of, after_number}
-use Rattle.quantity.specs.Suffix.{factor_of, suffix_fault}
-use Rattle.quantity.specs.Quantity.{scaled_number_of, digit_count, number_value, thousandths_of}
+use Rattle.quantity.specs.rule.Number.{whole_of, fraction_of, after_number}
+use Rattle.quantity.specs.rule.Suffix.{factor_of, suffix_fault}
+use Rattle.quantity.specs.rule.Quantity.{scaled_number_of, digit_count, number_value, thousandths_of}
 use Rattle.quantity.specs.declared.suffix.Factor.{Factor}
 
 pub scaled_number_none : (text : List ℕ) → 0 < digit_count text → digit_count text ≤ 17

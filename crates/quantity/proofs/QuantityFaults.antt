@@ -6,11 +6,15 @@ use Rattle.std.specs.Char.{is_ascii_digit}
 use Rattle.std.proofs.lemmas.Bool.Decides.{nat_tests}
 use Rattle.std.proofs.lemmas.List.{take_at, drop_at, append-nil}
 use Rattle.std.proofs.lemmas.List.Sums.{sum_by-append, sum_by-cons}
-use Rattle.quantity.specs.Digits.{AllDigits, after_digits, leading_digits}
-use Rattle.quantity.specs.Number.{IsLongestRun, whole_of, has_point, fraction_of, after_number, run_of}
-use Rattle.quantity.specs.Quantity.{HasQuantityFault, HasNumberFault, after_plus, digit_count, number_value}
-use Rattle.quantity.specs.Quantity.{thousandths_of, scaled_number_of, quantity_of}
-use Rattle.quantity.specs.Suffix.{HasFactor, factor_of, suffix_fault}
+use Rattle.quantity.specs.rule.Digits.{after_digits, leading_digits}
+use Rattle.quantity.specs.state.Digits.{AllDigits}
+use Rattle.quantity.specs.rule.Number.{whole_of, has_point, fraction_of, after_number}
+use Rattle.quantity.specs.state.Number.{IsLongestRun, run_of}
+use Rattle.quantity.specs.rule.Quantity.{after_plus, digit_count, number_value}
+use Rattle.quantity.specs.state.Quantity.{HasQuantityFault, HasNumberFault}
+use Rattle.quantity.specs.rule.Quantity.{thousandths_of, scaled_number_of, quantity_of}
+use Rattle.quantity.specs.rule.Suffix.{factor_of, suffix_fault}
+use Rattle.quantity.specs.state.Suffix.{HasFactor}
 use Rattle.quantity.specs.declared.suffix.Factor.{Factor}
 use Rattle.quantity.specs.declared.fault.QuantityFault.{QuantityFault}
 use Rattle.quantity.specs.declared.fault.QuantityFault.TheVariants.{Empty, BadDigit, TooManyDigits, Negative}

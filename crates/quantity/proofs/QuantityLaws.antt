@@ -10,12 +10,15 @@ use Rattle.std.specs.Str.Parse.{digits_value, digits_value_after}
 use Rattle.std.proofs.lemmas.Bool.Decides.{nat_tests}
 use Rattle.std.proofs.lemmas.Grind.{div_ceil_times}
 use Rattle.std.proofs.lemmas.List.Elements.{All-cons, All-append}
-use Rattle.quantity.specs.Digits.{AllDigits, after_digits, leading_digits}
-use Rattle.quantity.specs.Number.{whole_of, fraction_of, after_number}
-use Rattle.quantity.specs.Quantity.{HasThousandths, greatest_quantity, after_plus, digit_count, number_value}
-use Rattle.quantity.specs.Quantity.{thousandths_of}
-use Rattle.quantity.specs.Quantity.{scaled_number_of, quantity_of}
-use Rattle.quantity.specs.Suffix.{factor_of, IsInBounds}
+use Rattle.quantity.specs.rule.Digits.{after_digits, leading_digits}
+use Rattle.quantity.specs.state.Digits.{AllDigits}
+use Rattle.quantity.specs.rule.Number.{whole_of, fraction_of, after_number}
+use Rattle.quantity.specs.rule.Quantity.{greatest_quantity, after_plus, digit_count, number_value}
+use Rattle.quantity.specs.state.Quantity.{HasThousandths}
+use Rattle.quantity.specs.rule.Quantity.{thousandths_of}
+use Rattle.quantity.specs.rule.Quantity.{scaled_number_of, quantity_of}
+use Rattle.quantity.specs.rule.Suffix.{factor_of}
+use Rattle.quantity.specs.state.Suffix.{IsInBounds}
 use Rattle.quantity.specs.declared.suffix.Factor.{Factor}
 use Rattle.quantity.proofs.Decimal.{digit_value_is, leading_are_digits, product_le}
 use Rattle.quantity.proofs.Numbers.{leading-append, after-append, whole_text, digits_value_after-append, ceil_at_most}

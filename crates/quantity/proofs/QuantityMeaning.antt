@@ -6,11 +6,13 @@ use Rattle.std.specs.Char.{is_ascii_digit}
 use Rattle.std.specs.Int.{div_ceil}
 use Rattle.std.specs.Str.Parse.{digits_value}
 use Rattle.std.proofs.lemmas.Bool.Decides.{nat_tests, eqb_tells}
-use Rattle.quantity.specs.Digits.{AllDigits}
-use Rattle.quantity.specs.Number.{whole_of, has_point, fraction_of, after_number}
-use Rattle.quantity.specs.Quantity.{HasThousandths, IsLeastNotBelow, greatest_quantity, digit_count, number_value}
-use Rattle.quantity.specs.Quantity.{thousandths_of, scaled_number_of, quantity_of}
-use Rattle.quantity.specs.Suffix.{factor_of, IsInBounds}
+use Rattle.quantity.specs.state.Digits.{AllDigits}
+use Rattle.quantity.specs.rule.Number.{whole_of, has_point, fraction_of, after_number}
+use Rattle.quantity.specs.rule.Quantity.{greatest_quantity, digit_count, number_value}
+use Rattle.quantity.specs.state.Quantity.{HasThousandths, IsLeastNotBelow}
+use Rattle.quantity.specs.rule.Quantity.{thousandths_of, scaled_number_of, quantity_of}
+use Rattle.quantity.specs.rule.Suffix.{factor_of}
+use Rattle.quantity.specs.state.Suffix.{IsInBounds}
 use Rattle.quantity.specs.declared.suffix.Factor.{Factor}
 use Rattle.quantity.proofs.Decimal.{digit_value_is, leading_are_digits, product_le}
 use Rattle.quantity.proofs.Numbers.{parts_with_point, parts_without_point, digits_value-append, div_ceil_is_least}

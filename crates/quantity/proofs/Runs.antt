@@ -9,9 +9,11 @@ use Rattle.std.proofs.lemmas.Option.{unwrap_or-slice_get}
 use Rattle.std.proofs.lemmas.List.{get_or_at, length-append, append-nil}
 use Rattle.std.proofs.lemmas.List.Elements.{All-cons, All-append}
 use Rattle.std.proofs.lemmas.List.Sums.{sum_by-append, sum_by-cons}
-use Rattle.quantity.specs.Digits.{AllDigits, after_digits, leading_digits}
-use Rattle.quantity.specs.Laws.{NumberIsLongestRun}
-use Rattle.quantity.specs.Number.{has_point, IsRun}
+use Rattle.quantity.specs.rule.Digits.{after_digits, leading_digits}
+use Rattle.quantity.specs.state.Digits.{AllDigits}
+use Rattle.quantity.specs.state.Laws.{NumberIsLongestRun}
+use Rattle.quantity.specs.rule.Number.{has_point}
+use Rattle.quantity.specs.state.Number.{IsRun}
 use Rattle.quantity.proofs.Decimal.{digit_value_is, leading_are_digits}
 use Rattle.quantity.proofs.Numbers.{whole_text, point_first}
 use Rattle.quantity.proofs.QuantityLaws.{after_stops}

@@ -3,7 +3,7 @@ use Rattle.std.proofs.Common.{◌≡◌, ◌≢◌, ◌<◌, ◌⊎◌, ⊎_elim
 use Rattle.std.proofs.Common.{Some, None, Option, Result, List, [], ◌∷◌, length, arith}
 use Rattle.std.specs.Prelude.{⊤, if◌then◌else◌, IfOk, OnErr, IfErr, slice_index, ◌==◌}
 use Rattle.std.proofs.lemmas.Bool.Decides.{nat_tests}
-use Rattle.quantity.specs.Steps.{◌>>=◌, refused_if, some_or}
+use Rattle.quantity.specs.rule.Steps.{◌>>=◌, refused_if, some_or}
 use Rattle.quantity.specs.declared.fault.QuantityFault.{QuantityFault}
 use Rattle.quantity.specs.declared.fault.QuantityFault.TheVariants.{Empty, Negative}
 

@@ -10,10 +10,12 @@ use Rattle.std.proofs.lemmas.Bool.Decides.{nat_tests, eqb_tells}
 use Rattle.std.proofs.lemmas.List.{append-nil, nil_from_length, length-append}
 use Rattle.std.proofs.lemmas.List.Elements.{All-from_recursion, Contains-append_left, Contains-append_right}
 use Rattle.std.proofs.Math.Nat.{one-le-pow}
-use Rattle.quantity.specs.Digits.{AllDigits, after_digits, leading_digits}
-use Rattle.quantity.specs.Suffix.{HasFactor, IsExponent, IsInBounds, named_factors, factor_of, times, divided_by}
-use Rattle.quantity.specs.Suffix.{power_of, exponent_factor, factor_for, decimal_factors, binary_factors}
-use Rattle.quantity.specs.Suffix.{decimal_factor, binary_factor, begins_exponent}
+use Rattle.quantity.specs.rule.Digits.{after_digits, leading_digits}
+use Rattle.quantity.specs.state.Digits.{AllDigits}
+use Rattle.quantity.specs.rule.Suffix.{factor_of, times, divided_by}
+use Rattle.quantity.specs.state.Suffix.{HasFactor, IsExponent, IsInBounds, named_factors}
+use Rattle.quantity.specs.rule.Suffix.{power_of, exponent_factor, factor_for, decimal_factors, binary_factors}
+use Rattle.quantity.specs.rule.Suffix.{decimal_factor, binary_factor, begins_exponent}
 use Rattle.quantity.specs.declared.suffix.Factor.{Factor}
 use Rattle.quantity.proofs.Decimal.{ten_mono, digit_value_is, leading_are_digits}
 use Rattle.quantity.proofs.Numbers.{after-append, whole_text}

@@ -1,10 +1,2 @@
-pub mod Digits
-pub mod Duration
-pub mod Laws
-pub mod Limit
-pub mod Number
-pub mod Percent
-pub mod Printed
-pub mod Quantity
-pub mod Steps
-pub mod Suffix
+pub mod rule
+pub mod state

@@ -4,7 +4,8 @@ ghost use Rattle.std.specs.Prelude.{◌≡◌, ◌≤◌, ◌<◌, ◌^◌, ◌+
 ghost use Rattle.std.specs.List.{prefix_len};
 ghost use Rattle.std.specs.Char.{is_ascii_digit};
 ghost use Rattle.std.specs.Str.Parse.{digits_value};
-ghost use Rattle.quantity.specs.Digits.{AllDigits, leading_digits, after_digits};
+ghost use Rattle.quantity.specs.rule.Digits.{leading_digits, after_digits};
+ghost use Rattle.quantity.specs.state.Digits.{AllDigits};
 
 /// How many decimal digits the text begins with.
 pub(crate) fn count_digits(text: &[u8]) -> usize

@@ -4,8 +4,9 @@ ghost use Rattle.std.specs.Prelude.{◌≡◌, ◌<◌, ◌≤◌, ◌^◌, ◌*
 ghost use Rattle.std.specs.Prelude.{slice_get, length};
 ghost use Rattle.std.specs.List.{prefix_len};
 ghost use Rattle.std.specs.Char.{is_ascii_digit};
-ghost use Rattle.quantity.specs.Duration.{duration_of, HasSeconds, HasDurationFault, piece_seconds, pieces_of};
-ghost use Rattle.quantity.specs.Duration.{sum_onto, unit_seconds};
+ghost use Rattle.quantity.specs.rule.Duration.{duration_of, piece_seconds, pieces_of};
+ghost use Rattle.quantity.specs.state.Duration.{HasSeconds, HasDurationFault};
+ghost use Rattle.quantity.specs.rule.Duration.{sum_onto, unit_seconds};
 
 use crate::digits::{count_digits, decimal};
 use crate::fault::QuantityFault;
@@ -31,7 +32,7 @@ pub fn seconds_of(text: &[u8]) -> Result<u64, QuantityFault>
 }
 
 /// The seconds of a duration, or the first fault.
-#[tactic(auto, unfolding(crate::specs::Duration::duration_of))]
+#[tactic(auto, unfolding(crate::specs::rule::Duration::duration_of))]
 fn read_duration(text: &[u8]) -> Result<u64, QuantityFault>
     ensures { result ≡ duration_of text.now }
 {

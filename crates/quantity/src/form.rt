@@ -1,9 +1,10 @@
 //! The texts that are printed of large quantities: which of them writes a quantity exactly.
 
 ghost use Rattle.std.specs.Prelude.{◌≡◌, ◌≤◌, ◌<◌, ◌+◌, ◌-◌, ◌*◌, ◌/◌, ◌%◌, ◌^◌, Some, IfSome};
-ghost use Rattle.quantity.specs.Quantity.{greatest_quantity};
-ghost use Rattle.quantity.specs.Printed.{scale_at, scale_suffix, scale_numerator, form_text, few_digits};
-ghost use Rattle.quantity.specs.Printed.{least_number, exact_number, form_at, form_count, first_form, printed_form};
+ghost use Rattle.quantity.specs.rule.Quantity.{greatest_quantity};
+ghost use Rattle.quantity.specs.state.Printed.{scale_at, scale_suffix, scale_numerator, form_text, few_digits};
+ghost use Rattle.quantity.specs.state.Printed.{least_number, exact_number, form_at, form_count, first_form};
+ghost use Rattle.quantity.specs.state.Printed.{printed_form};
 
 use crate::quantity::scaled;
 use crate::suffix::Factor;

@@ -4,7 +4,7 @@
 
 ghost use Rattle.std.specs.Prelude.{ℕ, List};
 ghost use Rattle.quantity.specs.declared.fault.QuantityFault.{QuantityFault};
-ghost use Rattle.quantity.specs.Laws as laws;
+ghost use Rattle.quantity.specs.state.Laws as laws;
 
 /// A text has at most one value as a quantity.
 pub fn quantity_text_has_one_value()

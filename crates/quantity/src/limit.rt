@@ -1,8 +1,9 @@
 //! A limit that is a quantity or a percentage.
 
 ghost use Rattle.std.specs.Prelude.{◌≡◌, ◌≤◌, IfSome};
-ghost use Rattle.quantity.specs.Limit.{limit_of, amount_of, HasItsCapacity};
-ghost use Rattle.quantity.specs.Quantity.{greatest_quantity};
+ghost use Rattle.quantity.specs.rule.Limit.{limit_of, amount_of};
+ghost use Rattle.quantity.specs.state.Limit.{HasItsCapacity};
+ghost use Rattle.quantity.specs.rule.Quantity.{greatest_quantity};
 
 use crate::fault::QuantityFault;
 use crate::percent::Percent;
@@ -21,7 +22,7 @@ pub enum Limit {
 impl Limit {
     /// Reads a percentage where the text ends with `%`, and a quantity from any other text. The fault is the first
     /// one of the text, in the order of [`Percent::parse`] or of [`Quantity::parse`].
-    #[tactic(auto, unfolding(crate::specs::Limit::limit_of))]
+    #[tactic(auto, unfolding(crate::specs::rule::Limit::limit_of))]
     pub fn parse(text: &[u8]) -> Result<Limit, QuantityFault>
         ensures { result ≡ limit_of text.now }
     {

@@ -1,8 +1,8 @@
 //! A number with a point, at the beginning of a text.
 
 ghost use Rattle.std.specs.Prelude.{◌≡◌, ◌≤◌, ◌+◌, length};
-ghost use Rattle.quantity.specs.Digits.{AllDigits};
-ghost use Rattle.quantity.specs.Number.{whole_of, has_point, fraction_of, after_number};
+ghost use Rattle.quantity.specs.state.Digits.{AllDigits};
+ghost use Rattle.quantity.specs.rule.Number.{whole_of, has_point, fraction_of, after_number};
 
 use crate::digits::split_digits;
 

@@ -1,9 +1,10 @@
 //! Percentages, as `12.5%`.
 
 ghost use Rattle.std.specs.Prelude.{◌≡◌, ◌≤◌, ◌-◌, ◌*◌, ◌^◌, ℕ, length, IfOk, IfErr, OnErr};
-ghost use Rattle.quantity.specs.Digits.{AllDigits};
-ghost use Rattle.quantity.specs.Percent.{percent_of, HasHundredths, HasPercentFault, hundredths_of, share_of};
-ghost use Rattle.quantity.specs.Quantity.{greatest_quantity};
+ghost use Rattle.quantity.specs.state.Digits.{AllDigits};
+ghost use Rattle.quantity.specs.rule.Percent.{percent_of, hundredths_of, share_of};
+ghost use Rattle.quantity.specs.state.Percent.{HasHundredths, HasPercentFault};
+ghost use Rattle.quantity.specs.rule.Quantity.{greatest_quantity};
 
 use crate::digits::decimal;
 use crate::fault::QuantityFault;
@@ -68,7 +69,7 @@ impl Percent {
     }
 
     /// The percentage that a text writes, or the first fault.
-    #[tactic(auto, unfolding(crate::specs::Percent::percent_of))]
+    #[tactic(auto, unfolding(crate::specs::rule::Percent::percent_of))]
     fn read(text: &[u8]) -> Result<Percent, QuantityFault>
         ensures { result ≡ percent_of text.now }
     {
@@ -97,7 +98,7 @@ impl Percent {
 }
 
 impl fmt::Display for Percent {
-    ghost use Rattle.quantity.specs.Percent.{percent_text};
+    ghost use Rattle.quantity.specs.state.Percent.{percent_text};
     ghost use Rattle.std.specs.Prelude.{Some};
 
     ghost output = { λ p. Some (percent_text p) };

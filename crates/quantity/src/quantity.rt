@@ -2,10 +2,11 @@
 
 ghost use Rattle.std.specs.Prelude.{◌≡◌, ◌≤◌, ◌<◌, ◌+◌, ◌-◌, ◌*◌, ◌^◌, ℕ, length, min, IfOk, IfErr, OnErr};
 ghost use Rattle.std.specs.Int.{div_ceil};
-ghost use Rattle.quantity.specs.Digits.{AllDigits};
-ghost use Rattle.quantity.specs.Suffix.{IsInBounds};
-ghost use Rattle.quantity.specs.Quantity.{quantity_of, HasThousandths, HasQuantityFault, scaled_number_of};
-ghost use Rattle.quantity.specs.Quantity.{number_value, thousandths_of, after_plus, greatest_quantity};
+ghost use Rattle.quantity.specs.state.Digits.{AllDigits};
+ghost use Rattle.quantity.specs.state.Suffix.{IsInBounds};
+ghost use Rattle.quantity.specs.rule.Quantity.{quantity_of, scaled_number_of};
+ghost use Rattle.quantity.specs.state.Quantity.{HasThousandths, HasQuantityFault};
+ghost use Rattle.quantity.specs.rule.Quantity.{number_value, thousandths_of, after_plus, greatest_quantity};
 
 use crate::digits::decimal;
 use crate::fault::QuantityFault;
@@ -25,7 +26,7 @@ const GREATEST: u128 = 1000 * ((1 << 63) - 1);
 
 impl Model for Quantity {
     ghost use Rattle.std.specs.Prelude.{ℕ, ◌≤◌};
-    ghost use Rattle.quantity.specs.Quantity.{greatest_quantity};
+    ghost use Rattle.quantity.specs.rule.Quantity.{greatest_quantity};
 
     ghost Value = { ℕ };
 
@@ -70,7 +71,7 @@ impl Quantity {
     }
 
     /// The quantity that a text writes, or the first fault.
-    #[tactic(auto, unfolding(crate::specs::Quantity::quantity_of))]
+    #[tactic(auto, unfolding(crate::specs::rule::Quantity::quantity_of))]
     fn read(text: &[u8]) -> Result<Quantity, QuantityFault>
         ensures { result ≡ quantity_of text.now }
     {
@@ -96,7 +97,7 @@ fn without_plus(text: &[u8]) -> &[u8]
 }
 
 /// The thousandths of a number and its suffix.
-#[tactic(auto, unfolding(crate::specs::Quantity::scaled_number_of))]
+#[tactic(auto, unfolding(crate::specs::rule::Quantity::scaled_number_of))]
 fn scaled_number(text: &[u8]) -> Result<u128, QuantityFault>
     ensures value { result ≡ scaled_number_of text.now }
     ensures bound { IfOk result (λ n. n ≤ greatest_quantity) }
@@ -150,7 +151,7 @@ fn rounded_up(above: u128, below: u128) -> u128
 }
 
 impl fmt::Display for Quantity {
-    ghost use Rattle.quantity.specs.Printed.{quantity_text};
+    ghost use Rattle.quantity.specs.state.Printed.{quantity_text};
     ghost use Rattle.std.specs.Prelude.{Some};
 
     ghost output = { λ q. Some (quantity_text q) };

@@ -1,8 +1,9 @@
 //! The suffix of a quantity, as `Gi`, `m` and `e3`.
 
 ghost use Rattle.std.specs.Prelude.{◌≡◌, ◌≤◌, ◌<◌, ◌^◌, IfSome};
-ghost use Rattle.quantity.specs.Suffix.{factor_of, decimal_factor, binary_factor, exponent_factor, power_of};
-ghost use Rattle.quantity.specs.Suffix.{begins_exponent, suffix_fault, IsInBounds, times, divided_by};
+ghost use Rattle.quantity.specs.rule.Suffix.{factor_of, decimal_factor, binary_factor, exponent_factor, power_of};
+ghost use Rattle.quantity.specs.rule.Suffix.{begins_exponent, suffix_fault, times, divided_by};
+ghost use Rattle.quantity.specs.state.Suffix.{IsInBounds};
 
 use crate::digits::{decimal, split_digits};
 use crate::fault::QuantityFault;
@@ -34,7 +35,7 @@ impl Factor {
     }
 
     /// The factor of a suffix, and none for any other text.
-    #[tactic(auto, unfolding(crate::specs::Suffix::factor_of))]
+    #[tactic(auto, unfolding(crate::specs::rule::Suffix::factor_of))]
     pub(crate) fn of(suffix: &[u8]) -> Option<Factor>
         ensures factor { result ≡ factor_of suffix.now }
         ensures bounds { IfSome result IsInBounds }

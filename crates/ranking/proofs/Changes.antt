@@ -3,8 +3,8 @@ use Rattle.std.proofs.Common.{◌≡◌, inl, inr, ℕ, Bool, true, false, cond,
 use Rattle.std.specs.Prelude.{not, Option, Some, None}
 use Rattle.std.specs.Ordering.{nat_cmp, is_eq}
 use Rattle.ranking.specs.declared.key.RankKey.{RankKey}
-use Rattle.ranking.specs.Keys.{rank_cmp}
-use Rattle.ranking.specs.Index.{Matches}
+use Rattle.ranking.specs.state.Keys.{rank_cmp}
+use Rattle.ranking.specs.state.Index.{Matches}
 use Rattle.ranking.proofs.KeyOrder.{numbers_exact, keys_exact, tested, IsWith, with_here, with_other}
 
 -- a new key of a pod that had none

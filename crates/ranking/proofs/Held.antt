@@ -9,12 +9,12 @@ use Rattle.std.specs.declared.cmp.Ordering.TheVariants.{Less, Equal, Greater}
 use Rattle.std.proofs.lemmas.Bool.{cases_eq}
 use Rattle.std.proofs.lemmas.Bool.Decides.{eqb_tells}
 use Rattle.signals.specs.declared.signal.Signal.{Signal}
-use Rattle.phase.specs.RawPhase.{IsTerminal}
+use Rattle.phase.specs.rule.RawPhase.{IsTerminal}
 use Rattle.pod_piece.specs.declared.status.PodStatus.{PodStatus}
 use Rattle.ranking.specs.declared.key.RankKey.{RankKey}
-use Rattle.ranking.specs.Keys.{key_of, rank_cmp}
-use Rattle.ranking.specs.Order.{IsBefore, IsVictim}
-use Rattle.ranking.specs.Index.{Ranks, Matches, IsIndexOf, AreHeldWithout, AreHeldAfter, key_at}
+use Rattle.ranking.specs.state.Keys.{key_of, rank_cmp}
+use Rattle.ranking.specs.rule.Order.{IsBefore, IsVictim}
+use Rattle.ranking.specs.state.Index.{Ranks, Matches, IsIndexOf, AreHeldWithout, AreHeldAfter, key_at}
 use Rattle.ranking.proofs.KeyOrder.{numbers_exact, keys_exact, IsWith, with_here, with_other}
 use Rattle.ranking.proofs.Tells.{tells_keys}
 

@@ -8,7 +8,7 @@ use Rattle.std.specs.Cmp.{IsTotalOrder, nat_cmp_total, int_cmp_total, bool_cmp_t
 use Rattle.std.proofs.lemmas.Cmp.{tied_itself}
 use Rattle.std.proofs.lemmas.Map.Lookups.{CmpEqualImpliesEq, exact_unsigned, exact_signed, exact_pairs}
 use Rattle.ranking.specs.declared.key.RankKey.{RankKey}
-use Rattle.ranking.specs.Keys.{rank_cmp}
+use Rattle.ranking.specs.state.Keys.{rank_cmp}
 
 -- an order that is total and tells all apart
 pub record IsExact {K : Type 0} (R : K → K → Ordering) : Type 0 where

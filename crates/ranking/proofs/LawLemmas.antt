@@ -9,11 +9,11 @@ use Rattle.signals.specs.declared.signal.Signal.{Signal}
 use Rattle.phase.proofs.DecideLemmas.{terminal_cases}
 use Rattle.pod_piece.specs.declared.status.PodStatus.{PodStatus}
 use Rattle.ranking.specs.declared.key.RankKey.{RankKey}
-use Rattle.ranking.specs.Amounts.{used, has_requests, requested}
-use Rattle.ranking.specs.Order.{ranks_unsampled_first, IsBefore, IsVictim}
-use Rattle.ranking.specs.Keys.{key_of, rank_cmp}
-use Rattle.ranking.specs.Index.{AreHeldAfter, AreHeldWithout}
-use Rattle.ranking.specs.Laws.{LesserKeyIsBefore, OrderIsTotal, OneVictim, OneIsHeldAfter, OneIsHeldWithout}
+use Rattle.ranking.specs.rule.Amounts.{used, has_requests, requested}
+use Rattle.ranking.specs.rule.Order.{ranks_unsampled_first, IsBefore, IsVictim}
+use Rattle.ranking.specs.state.Keys.{key_of, rank_cmp}
+use Rattle.ranking.specs.state.Index.{AreHeldAfter, AreHeldWithout}
+use Rattle.ranking.specs.state.Laws.{LesserKeyIsBefore, OrderIsTotal, OneVictim, OneIsHeldAfter, OneIsHeldWithout}
 use Rattle.ranking.proofs.KeyOrder.{keys_exact}
 use Rattle.ranking.proofs.Tells.{tells_keys}
 

@@ -10,10 +10,10 @@ use Rattle.std.specs.Bool.{Decides}
 use Rattle.std.proofs.lemmas.Bool.Decides.{nat_tests}
 use Rattle.signals.specs.declared.signal.Signal.{Signal}
 use Rattle.pod_piece.specs.declared.status.PodStatus.{PodStatus}
-use Rattle.ranking.specs.Amounts.{used, has_requests, requested}
-use Rattle.ranking.specs.Order.{First, UnsampledAlone, UnsampledFirst, ranks_unsampled_first, ExceedsAlone}
-use Rattle.ranking.specs.Order.{HasLowerPriority, UsesMore, HasLowerNumber, IsBefore}
-use Rattle.ranking.specs.Keys.{key_of, rank_cmp}
+use Rattle.ranking.specs.rule.Amounts.{used, has_requests, requested}
+use Rattle.ranking.specs.rule.Order.{First, UnsampledAlone, UnsampledFirst, ranks_unsampled_first, ExceedsAlone}
+use Rattle.ranking.specs.rule.Order.{HasLowerPriority, UsesMore, HasLowerNumber, IsBefore}
+use Rattle.ranking.specs.state.Keys.{key_of, rank_cmp}
 
 -- an ordering tells which of two comes before the other
 pub record Tells (before after : Type 0) (o : Ordering) : Type 0 where

@@ -5,8 +5,8 @@ use Rattle.std.specs.Prelude.{◌≢◌}
 use Rattle.std.proofs.lemmas.Bool.{cases_eq}
 use Rattle.signals.specs.declared.signal.Signal.{Signal}
 use Rattle.pod_piece.specs.declared.status.PodStatus.{PodStatus}
-use Rattle.ranking.specs.Order.{IsBefore, IsVictim}
-use Rattle.ranking.specs.Laws.{SomeVictim}
+use Rattle.ranking.specs.rule.Order.{IsBefore, IsVictim}
+use Rattle.ranking.specs.state.Laws.{SomeVictim}
 use Rattle.ranking.proofs.LawLemmas.{RankAlike, some_before, goes_on_before, before_alike}
 
 -- the candidates are pods below count, of which each is known to be one or not, and has its number, by

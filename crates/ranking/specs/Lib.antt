@@ -1,5 +1,2 @@
-pub mod Amounts
-pub mod Order
-pub mod Keys
-pub mod Index
-pub mod Laws
+pub mod rule
+pub mod state

@@ -1,9 +1,9 @@
 //! What a pod uses and requests of what a signal measures.
 
 ghost use Rattle.std.specs.Prelude.{◌≡◌, ◌≤◌, ◌*◌};
-ghost use Rattle.quantity.specs.Quantity.{greatest_quantity};
-ghost use Rattle.ranking.specs.Amounts.{newest, local_storage, used, requested, has_requests};
-ghost use Rattle.ranking.specs.Order.{ranks_unsampled_first};
+ghost use Rattle.quantity.specs.rule.Quantity.{greatest_quantity};
+ghost use Rattle.ranking.specs.rule.Amounts.{newest, local_storage, used, requested, has_requests};
+ghost use Rattle.ranking.specs.rule.Order.{ranks_unsampled_first};
 
 use observations::Usage;
 use pod_piece::EffectiveRequests;

@@ -1,10 +1,10 @@
 //! The pods that have not ended, by their places in the order of eviction.
 
 ghost use Rattle.std.specs.Prelude.{◌≡◌, ◌==◌, ℕ, [], Option, Some, None, OnOk, OnErr, IsOk, if◌then◌else◌};
-ghost use Rattle.phase.specs.RawPhase.{IsTerminal};
+ghost use Rattle.phase.specs.rule.RawPhase.{IsTerminal};
 ghost use Rattle.pod_piece.specs.declared.status.PodStatus.{PodStatus};
-ghost use Rattle.ranking.specs.Index.{IsIndexOf, AreHeldAfter, AreHeldWithout, ranks, key_at};
-ghost use Rattle.ranking.specs.Order.{IsVictim};
+ghost use Rattle.ranking.specs.state.Index.{IsIndexOf, AreHeldAfter, AreHeldWithout, ranks, key_at};
+ghost use Rattle.ranking.specs.rule.Order.{IsVictim};
 
 use crate::key::{RankKey, rank_key};
 use pod_piece::PodStatus;
@@ -27,8 +27,8 @@ impl Model for RankIndex {
     ghost use Rattle.std.specs.BTreeMap.{get};
     ghost use Rattle.std.specs.BTreeSet.{contains};
     ghost use Rattle.std.specs.Ordering.{nat_cmp};
-    ghost use Rattle.ranking.specs.Index.{Ranks, ranks, Matches};
-    ghost use Rattle.ranking.specs.Keys.{rank_cmp};
+    ghost use Rattle.ranking.specs.state.Index.{Ranks, ranks, Matches};
+    ghost use Rattle.ranking.specs.state.Keys.{rank_cmp};
 
     ghost Value = { Ranks };
 

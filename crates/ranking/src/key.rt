@@ -1,7 +1,7 @@
 //! A pod's place in the order of eviction, as a key.
 
 ghost use Rattle.std.specs.Prelude.{◌≡◌};
-ghost use Rattle.ranking.specs.Keys.{key_of};
+ghost use Rattle.ranking.specs.state.Keys.{key_of};
 
 use crate::amounts::{has_requests, ranks_unsampled_first, requested, used};
 use pod_piece::PodStatus;

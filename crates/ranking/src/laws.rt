@@ -1,7 +1,7 @@
 //! What is true of the order of eviction, of all pods. The functions do nothing; their contracts are
 //! the laws.
 
-ghost use Rattle.ranking.specs.Laws as laws;
+ghost use Rattle.ranking.specs.state.Laws as laws;
 
 /// The lesser of two keys is that of the pod that is ranked before the other.
 pub fn lesser_key_is_before()

@@ -1,9 +1,9 @@
 -- One piece more of a round.
 use Rattle.std.proofs.Common.{◌≡◌, ◌∙◌, ℕ, ◌+◌, List, [], ◌∷◌, ◌++◌, length, length-append, sym, ap}
 use Rattle.std.specs.Prelude.{◌<◌}
-use Rattle.pod_piece.specs.Piece.{Piece}
+use Rattle.pod_piece.specs.state.Piece.{Piece}
 use Rattle.test_pods.proofs.Pieces as pieces
-use Rattle.refused_calls.specs.Round.{AreFirst}
+use Rattle.refused_calls.specs.state.Round.{AreFirst}
 
 pub one_more : (count : ℕ) (old new : List Piece) (piece : Piece) → AreFirst count old → new ≡ old ++ piece ∷ []
     → piece.number ≡ count → 0 < piece.waiting → AreFirst (count + 1) new

@@ -1,1 +1,1 @@
-pub mod Round
+pub mod state

@@ -1,6 +1,6 @@
 //! A pod that arrives.
 
-ghost use Rattle.tick_round.specs.Node.{HasRoom};
+ghost use Rattle.tick_round.specs.state.Node.{HasRoom};
 
 use crate::nodes::{report_of, told};
 use crate::recorded::last_pod;

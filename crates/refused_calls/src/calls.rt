@@ -1,7 +1,7 @@
 //! The calls that have a book, each over one of its own.
 
 ghost use Rattle.std.specs.Prelude.{◌≡◌};
-ghost use Rattle.tick_round.specs.Node.{HasRoom};
+ghost use Rattle.tick_round.specs.state.Node.{HasRoom};
 
 use crate::arrivals::arrive;
 use crate::nodes::node_of;

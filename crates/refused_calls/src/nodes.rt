@@ -1,8 +1,8 @@
 //! A node with its pods: how it is made for a call, and what it tells.
 
 ghost use Rattle.std.specs.Prelude.{◌≡◌, ◌<◌, length, None, IfOk, IsTrue};
-ghost use Rattle.observations.specs.Limits.{most_pods};
-ghost use Rattle.tick_round.specs.Node.{HasRoom};
+ghost use Rattle.observations.specs.rule.Limits.{most_pods};
+ghost use Rattle.tick_round.specs.state.Node.{HasRoom};
 
 use crate::recorded::{config, is_report, pods, ticks};
 use crate::seen::{Saw, Unprepared};

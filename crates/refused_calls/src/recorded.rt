@@ -1,7 +1,7 @@
 //! The trace of the calls, and its report.
 
 ghost use Rattle.std.specs.Prelude.{IfOk};
-ghost use Rattle.trace.specs.Sound.{AreAcceptable, HasShape};
+ghost use Rattle.trace.specs.state.Sound.{AreAcceptable, HasShape};
 
 use crate::seen::Unprepared;
 use manifest::PodSpec;

@@ -1,8 +1,8 @@
 //! A round of a pool over a book of its own.
 
 ghost use Rattle.std.specs.Prelude.{◌+◌, IfOk, IfErr, OnOk};
-ghost use Rattle.pod_pool.specs.Faults.{GivesBack};
-ghost use Rattle.refused_calls.specs.Round.{AreFirst, AreLevel, IsWholeShare};
+ghost use Rattle.pod_pool.specs.state.Faults.{GivesBack};
+ghost use Rattle.refused_calls.specs.state.Round.{AreFirst, AreLevel, IsWholeShare};
 
 use crate::pieces::{Stage, pending, shows};
 use crate::seen::{Line, Saw, Unprepared};

@@ -1,8 +1,8 @@
 //! All ticks of the trace at once, which make one round.
 
 ghost use Rattle.std.specs.Prelude.{◌≡◌, IfOk};
-ghost use Rattle.event_book.specs.Totals.{nothing};
-ghost use Rattle.tick_round.specs.Node.{MayTakeAll};
+ghost use Rattle.event_book.specs.state.Totals.{nothing};
+ghost use Rattle.tick_round.specs.state.Node.{MayTakeAll};
 
 use crate::nodes::told;
 use crate::recorded::read;

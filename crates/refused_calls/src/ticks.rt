@@ -1,6 +1,6 @@
 //! A tick, in each way that a node takes one.
 
-ghost use Rattle.tick_round.specs.Node.{MayTake};
+ghost use Rattle.tick_round.specs.state.Node.{MayTake};
 
 use crate::nodes::{tells_nothing, told};
 use crate::recorded::{first_tick, last_pod};

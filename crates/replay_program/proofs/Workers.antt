@@ -3,9 +3,9 @@ use Rattle.std.proofs.Common.{ℕ, ◌<◌, ◌≤◌, List, Option, Some, None,
 use Rattle.clap.specs.Words.{Row, Text, subcommand_of}
 use Rattle.commands.specs.declared.job.Job.{Job}
 use Rattle.commands.specs.declared.job.Job.TheVariants.{Run, Check, Play}
-use Rattle.commands.specs.Jobs.{HasWorkers, IsJobOf, IsJobFor, IsAskedBy}
-use Rattle.commands.specs.Program.{most_workers, program}
-use Rattle.replay_program.specs.Jobs.{HasFewWorkers}
+use Rattle.commands.specs.state.Jobs.{HasWorkers, IsJobOf, IsJobFor, IsAskedBy}
+use Rattle.commands.specs.state.Program.{most_workers, program}
+use Rattle.replay_program.specs.state.Jobs.{HasFewWorkers}
 
 few : (rows : List Row) (workers : ℕ) → HasWorkers rows workers → (0 < workers) × (workers ≤ most_workers)
 few rows workers has = (omega (arith, has.some), has.few)

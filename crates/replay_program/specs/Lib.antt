@@ -1,1 +1,1 @@
-pub mod Jobs
+pub mod state

@@ -6,8 +6,8 @@ mod fault;
 mod progress;
 
 ghost use Rattle.std.specs.Prelude.{◌<◌, ◌≤◌, ◌^◌};
-ghost use Rattle.commands.specs.Program.{most_workers};
-ghost use Rattle.replay_program.specs.Jobs.{HasFewWorkers};
+ghost use Rattle.commands.specs.state.Program.{most_workers};
+ghost use Rattle.replay_program.specs.state.Jobs.{HasFewWorkers};
 
 use fault::Fault;
 use kubelet_replay::{

@@ -1,6 +1,2 @@
-pub mod Counted
-pub mod MemSink
-pub mod MemSource
-pub mod Reading
-pub mod Stop
-pub mod Stream
+pub mod rule
+pub mod state

@@ -1,7 +1,7 @@
 //! A reader or a writer of std, with the number of its failed calls.
 
 ghost use Rattle.std.specs.Prelude.{◌≡◌, ◌+◌, ◌^◌, ◌<◌, IsErr, MatchResult, is_err, if◌then◌else◌};
-ghost use Rattle.replay_stream.specs.Stream.{has_stalled};
+ghost use Rattle.replay_stream.specs.rule.Stream.{has_stalled};
 
 use crate::fault::{ReadFailed, WriteFailed};
 use crate::stream::{Sink, Source};
@@ -18,7 +18,7 @@ pub struct Counted<T: Drop> {
 }
 
 impl<T: Drop> Counted<T> {
-    ghost use Rattle.replay_stream.specs.Counted.{failed_calls, inner_of};
+    ghost use Rattle.replay_stream.specs.state.Counted.{failed_calls, inner_of};
 
     /// No call was made yet.
     pub fn new(inner: T) -> Counted<T>

@@ -22,8 +22,8 @@ pub struct MemSink<'a> {
 
 impl<'a> MemSink<'a> {
     ghost use Rattle.std.specs.Prelude.{◌≡◌, [], None, Some, length};
-    ghost use Rattle.replay_stream.specs.MemSink.{sink_bytes, sink_room, sink_step, sink_failures};
-    ghost use Rattle.replay_stream.specs.MemSink.{calls_to_stop, sink_stop};
+    ghost use Rattle.replay_stream.specs.state.MemSink.{sink_bytes, sink_room, sink_step, sink_failures};
+    ghost use Rattle.replay_stream.specs.state.MemSink.{calls_to_stop, sink_stop};
 
     /// Writes into `room`, `step` bytes a call.
     pub fn new(room: &'a mut [u8], step: usize) -> MemSink<'a>
@@ -70,10 +70,10 @@ impl Sink for MemSink<'_> {
     ghost use Rattle.std.specs.Prelude.{◌≡◌, ◌+◌, ◌-◌, ◌^◌, ◌<◌, ◌≤◌, ◌↔◌, Some, IfOk, IsErr};
     ghost use Rattle.std.specs.Prelude.{if◌then◌else◌, length, min, take};
     ghost use Rattle.std.specs.Io.KnownBytes.{WriteAppends};
-    ghost use Rattle.replay_stream.specs.Stop.{is_stopped, one_fewer};
-    ghost use Rattle.replay_stream.specs.Stream.{has_stalled};
-    ghost use Rattle.replay_stream.specs.MemSink.{sink_bytes, sink_room, sink_step, sink_failures};
-    ghost use Rattle.replay_stream.specs.MemSink.{calls_to_stop, sink_stop, piece_of};
+    ghost use Rattle.replay_stream.specs.state.Stop.{is_stopped, one_fewer};
+    ghost use Rattle.replay_stream.specs.rule.Stream.{has_stalled};
+    ghost use Rattle.replay_stream.specs.state.MemSink.{sink_bytes, sink_room, sink_step, sink_failures};
+    ghost use Rattle.replay_stream.specs.state.MemSink.{calls_to_stop, sink_stop, piece_of};
 
     ghost written = { λ s. Some (take s.len s.room.now) };
 

@@ -19,8 +19,9 @@ pub struct MemSource<'a> {
 
 impl<'a> MemSource<'a> {
     ghost use Rattle.std.specs.Prelude.{◌≡◌, ◌*◌, ◌<◌, None};
-    ghost use Rattle.replay_stream.specs.Stop.{bytes_before, failing_after};
-    ghost use Rattle.replay_stream.specs.MemSource.{source_bytes, source_step, source_failures, calls_to_failure};
+    ghost use Rattle.replay_stream.specs.state.Stop.{bytes_before, failing_after};
+    ghost use Rattle.replay_stream.specs.state.MemSource.{source_bytes, source_step, source_failures};
+    ghost use Rattle.replay_stream.specs.state.MemSource.{calls_to_failure};
 
     /// Reads all of `bytes`, `step` bytes a call.
     pub fn new(bytes: &'a [u8], step: usize) -> MemSource<'a>
@@ -72,8 +73,9 @@ impl Source for MemSource<'_> {
     ghost use Rattle.std.specs.Prelude.{◌≡◌, ◌+◌, ◌^◌, ◌<◌, ◌≤◌, ◌↔◌, Some, IfOk, IsErr};
     ghost use Rattle.std.specs.Prelude.{is_err, if◌then◌else◌, length, min};
     ghost use Rattle.std.specs.Io.KnownBytes.{ReadConsumes};
-    ghost use Rattle.replay_stream.specs.Stop.{one_fewer};
-    ghost use Rattle.replay_stream.specs.MemSource.{source_bytes, source_step, source_failures, calls_to_failure};
+    ghost use Rattle.replay_stream.specs.state.Stop.{one_fewer};
+    ghost use Rattle.replay_stream.specs.state.MemSource.{source_bytes, source_step, source_failures};
+    ghost use Rattle.replay_stream.specs.state.MemSource.{calls_to_failure};
 
     ghost left = { λ s. Some s.bytes.now };
 

@@ -2,7 +2,7 @@
 
 ghost use Rattle.std.specs.Prelude.{◌≡◌, ℕ, List, ◌+◌, ◌^◌, ◌<◌, ◌≤◌, IfOk, OnOk, IfSome, IsErrOf, length};
 ghost use Rattle.std.specs.Io.KnownBytes.{Consumes, IsAtEnd};
-ghost use Rattle.replay_stream.specs.Reading.{failed_reads};
+ghost use Rattle.replay_stream.specs.state.Reading.{failed_reads};
 
 use crate::fault::{ReadAllFault, ReadFailed};
 use crate::stream::Source;

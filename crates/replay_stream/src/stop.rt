@@ -1,7 +1,7 @@
 //! Where a reader or a writer over memory stops.
 
 ghost use Rattle.std.specs.Prelude.{◌≡◌, ◌↔◌, Some, IsTrue};
-ghost use Rattle.replay_stream.specs.Stop.{one_fewer};
+ghost use Rattle.replay_stream.specs.state.Stop.{one_fewer};
 
 /// How a reader or a writer over memory stops.
 #[derive(Clone, Copy, Debug, PartialEq, Eq)]

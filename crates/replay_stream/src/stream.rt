@@ -2,7 +2,7 @@
 
 ghost use Rattle.std.specs.Prelude.{◌≡◌, ℕ, ◌+◌, ◌^◌, ◌<◌, ◌≤◌, List, Option, IfOk, length, is_err, if◌then◌else◌};
 ghost use Rattle.std.specs.Io.KnownBytes.{ReadConsumes, WriteAppends};
-ghost use Rattle.replay_stream.specs.Stream.{has_stalled};
+ghost use Rattle.replay_stream.specs.rule.Stream.{has_stalled};
 
 use crate::fault::{ReadFailed, WriteFailed};
 

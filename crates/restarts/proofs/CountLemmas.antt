@@ -1,8 +1,8 @@
 -- The count after one more exit.
 use Rattle.std.proofs.Common.{◌≡◌, ℕ, ◌+◌, ◌<◌, ◌≤◌, List, [], ◌∷◌, ◌++◌, min, refl, arith, inl, inr}
 use Rattle.std.proofs.lemmas.Bool.{cases_lt}
-use Rattle.restarts.specs.Exits.{Exit}
-use Rattle.restarts.specs.Counts.{IsCountOf}
+use Rattle.restarts.specs.rule.Exits.{Exit}
+use Rattle.restarts.specs.state.Counts.{IsCountOf}
 use Rattle.restarts.proofs.Numbers.{number_short, number_long}
 
 below : {n : ℕ} → (600 ≤ n → ⊥) → n < 600

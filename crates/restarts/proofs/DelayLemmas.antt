@@ -5,9 +5,9 @@ use Rattle.std.proofs.Math.Nat.{pow-le-pow_right}
 use Rattle.std.proofs.lemmas.Bool.{cases_lt}
 use Rattle.std.proofs.lemmas.Grind.{pow_more}
 use Rattle.std.specs.Prelude.{Contains, map}
-use Rattle.restarts.specs.Exits.{Exit}
-use Rattle.restarts.specs.Delays.{delay_of, IsDelay}
-use Rattle.restarts.specs.Counts.{IsCountOf}
+use Rattle.restarts.specs.rule.Exits.{Exit}
+use Rattle.restarts.specs.rule.Delays.{delay_of, IsDelay}
+use Rattle.restarts.specs.state.Counts.{IsCountOf}
 
 -- it does not fall
 pub delay_of-rises : (max_restart_delay m n : ℕ) → m ≤ n → delay_of max_restart_delay m ≤ delay_of max_restart_delay n

@@ -1,11 +1,11 @@
 -- The laws of the delays.
 use Rattle.std.proofs.Common.{◌≡◌, ℕ, ◌+◌, ◌≤◌, List, [], ◌∷◌, ◌++◌, Option, Some, None, refl, ap, ◌∙◌, sym, min, ◌*◌}
 use Rattle.std.proofs.Common.{arith}
-use Rattle.histories.specs.Histories.{recorded}
-use Rattle.restarts.specs.Exits.{Exit}
-use Rattle.restarts.specs.Delays.{IsRestartDue, delay_of}
-use Rattle.restarts.specs.Laws.{EveryListHasOneDelay, DelayIsOneOfSeven, LongRunResets, DelayDoesNotFall}
-use Rattle.restarts.specs.Laws.{DelayDoubles, LongRunForgets}
+use Rattle.histories.specs.rule.Histories.{recorded}
+use Rattle.restarts.specs.rule.Exits.{Exit}
+use Rattle.restarts.specs.rule.Delays.{IsRestartDue, delay_of}
+use Rattle.restarts.specs.state.Laws.{EveryListHasOneDelay, DelayIsOneOfSeven, LongRunResets, DelayDoesNotFall}
+use Rattle.restarts.specs.state.Laws.{DelayDoubles, LongRunForgets}
 use Rattle.restarts.proofs.Places.{last_moment-after}
 use Rattle.restarts.proofs.Numbers.{number_of, number_unique, number_short, number_long, number_forgets}
 use Rattle.restarts.proofs.Numbers.{number_remembers}

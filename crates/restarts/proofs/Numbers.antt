@@ -2,7 +2,7 @@
 use Rattle.std.proofs.Common.{◌≡◌, inl, inr, ℕ, ◌+◌, ◌<◌, ◌≤◌, List, [], ◌∷◌, ◌++◌, length, refl, sym, subst}
 use Rattle.std.proofs.Common.{append_assoc, append-nil, arith, length-append}
 use Rattle.std.proofs.lemmas.Bool.{cases_lt}
-use Rattle.restarts.specs.Exits.{Exit, IsNumber}
+use Rattle.restarts.specs.rule.Exits.{Exit, IsNumber}
 use Rattle.restarts.proofs.Places.{beginning_short, beginning_long, beginning_unique, beginning_forgets}
 use Rattle.restarts.proofs.Places.{beginning_remembers}
 

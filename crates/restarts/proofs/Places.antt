@@ -3,12 +3,12 @@ use Rattle.std.proofs.Common.{◌≡◌, inl, inr, ℕ, ◌+◌, ◌-◌, ◌<�
 use Rattle.std.proofs.Common.{arith, length-append}
 use Rattle.std.specs.Prelude.{◌↔◌}
 use Rattle.std.proofs.lemmas.Bool.{cases_lt}
-use Rattle.histories.specs.Histories.{IsLast, last_moment}
+use Rattle.histories.specs.rule.Histories.{IsLast, last_moment}
 use Rattle.histories.proofs.First.{Grows, none_more}
 use Rattle.histories.proofs.Growth.{grows_entry}
 use Rattle.histories.proofs.Last.{IsLast-unique, IsLast-old, IsLast-new, IsLast-moved, IsLast-moved_back}
 use Rattle.histories.proofs.Ahead.{ahead, moment_at-ahead}
-use Rattle.restarts.specs.Exits.{Exit, IsLong, IsBeginning}
+use Rattle.restarts.specs.rule.Exits.{Exit, IsLong, IsBeginning}
 
 grows : (exits : List Exit) (x : Exit) → Grows (length exits) (IsLong exits) (IsLong (exits ++ x ∷ [])) (600 ≤ x.entry)
 grows exits x = grows_entry (λ run. 600 ≤ run) exits x

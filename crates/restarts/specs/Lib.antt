@@ -1,5 +1,2 @@
-pub mod Backoff
-pub mod Counts
-pub mod Delays
-pub mod Exits
-pub mod Laws
+pub mod rule
+pub mod state

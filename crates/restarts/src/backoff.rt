@@ -1,12 +1,12 @@
 //! How long a restart is backed off.
 
 ghost use Rattle.std.specs.Prelude.{◌≡◌, ◌+◌, ◌<◌, ◌≤◌, ◌↔◌, ℕ, List, [], ◌∷◌, ◌++◌, IsTrue};
-ghost use Rattle.quantity.specs.Duration.{end_of_time};
-ghost use Rattle.histories.specs.Histories.{recorded};
-ghost use Rattle.manifest.specs.RestartDelay.{most_max_delay};
-ghost use Rattle.restarts.specs.Exits.{Exit, long_run};
-ghost use Rattle.restarts.specs.Delays.{delay_of};
-ghost use Rattle.restarts.specs.Counts.{last_count, IsCountOf};
+ghost use Rattle.quantity.specs.rule.Duration.{end_of_time};
+ghost use Rattle.histories.specs.rule.Histories.{recorded};
+ghost use Rattle.manifest.specs.rule.RestartDelay.{most_max_delay};
+ghost use Rattle.restarts.specs.rule.Exits.{Exit, long_run};
+ghost use Rattle.restarts.specs.rule.Delays.{delay_of};
+ghost use Rattle.restarts.specs.state.Counts.{last_count, IsCountOf};
 
 use manifest::MaxRestartDelay;
 
@@ -33,8 +33,8 @@ pub struct Backoff {
 }
 
 impl Backoff {
-    ghost use Rattle.restarts.specs.Delays.{IsDelay, IsRestartDue};
-    ghost use Rattle.restarts.specs.Backoff.{IsStateOf};
+    ghost use Rattle.restarts.specs.rule.Delays.{IsDelay, IsRestartDue};
+    ghost use Rattle.restarts.specs.state.Backoff.{IsStateOf};
 
     /// No exit yet, on a node with this maximum delay.
     pub fn new(max_restart_delay: MaxRestartDelay) -> Backoff

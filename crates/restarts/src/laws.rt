@@ -1,6 +1,6 @@
 //! Laws of the delays, for every list of exits.
 
-ghost use Rattle.restarts.specs.Laws as laws;
+ghost use Rattle.restarts.specs.state.Laws as laws;
 
 /// Every list of exits has a delay, and only one.
 pub fn every_list_has_one_delay()

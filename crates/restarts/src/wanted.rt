@@ -1,7 +1,7 @@
 //! After which exits a container is started again.
 
 ghost use Rattle.std.specs.Prelude.{◌↔◌, IsTrue};
-ghost use Rattle.manifest.specs.Policy.{WantsRestart};
+ghost use Rattle.manifest.specs.rule.Policy.{WantsRestart};
 
 use manifest::{Policy, Role};
 

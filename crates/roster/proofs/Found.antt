@@ -5,8 +5,8 @@ use Rattle.std.specs.Prelude.{bytes_eq, slice_get, slice_set, if◌then◌else�
 use Rattle.std.proofs.lemmas.List.{map-append, length-map}
 use Rattle.std.proofs.lemmas.Option.{slice_get-map}
 use Rattle.std.proofs.lemmas.Slice.Eq.{bytes_eq-Decides}
-use Rattle.lists.specs.Names.{place_of}
-use Rattle.roster.specs.Roll.{number_in}
+use Rattle.lists.specs.rule.Names.{place_of}
+use Rattle.roster.specs.rule.Roll.{number_in}
 
 pub same_key : (k key : List ℕ) → bytes_eq k key ≡ true → k ≡ key
 same_key k key e = (bytes_eq-Decides k key).0 e

@@ -6,8 +6,8 @@ use Rattle.std.specs.Option.{option_flatten}
 use Rattle.std.proofs.lemmas.List.{length-append}
 use Rattle.std.proofs.lemmas.Option.{slice_get_within}
 use Rattle.histories.proofs.Lists.{given_at, set_length, set_here, set_others, slice_get-old, slice_get-new}
-use Rattle.lists.specs.Names.{place_of}
-use Rattle.roster.specs.Holders.{holder_of, HasHeld}
+use Rattle.lists.specs.rule.Names.{place_of}
+use Rattle.roster.specs.state.Holders.{holder_of, HasHeld}
 use Rattle.roster.proofs.Found.{same_key, is_itself, place_there, place_old, place_last}
 
 -- what stands at a place

@@ -7,8 +7,8 @@ use Rattle.std.proofs.lemmas.List.{length-append}
 use Rattle.std.proofs.lemmas.Option.{slice_get_within}
 use Rattle.histories.proofs.Lists.{set_length}
 use Rattle.manifest.specs.declared.pod.PodSpec.{PodSpec}
-use Rattle.roster.specs.Roll.{key_of_pod, present_keys, number_in}
-use Rattle.roster.specs.Holders.{HasHeld, AreApart, IsKept}
+use Rattle.roster.specs.rule.Roll.{key_of_pod, present_keys, number_in}
+use Rattle.roster.specs.state.Holders.{HasHeld, AreApart, IsKept}
 use Rattle.roster.proofs.Found.{number_there, number_push}
 use Rattle.roster.proofs.Present.{present_length, present_push, present_set, apart_push, apart_set, number_without}
 

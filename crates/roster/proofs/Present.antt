@@ -4,8 +4,8 @@ use Rattle.std.proofs.Common.{None, refl, ap, sym, subst, inl, inr, arith}
 use Rattle.std.specs.Prelude.{bytes_eq, slice_get, slice_set, if◌then◌else◌}
 use Rattle.histories.proofs.Lists.{place_split, set_split}
 use Rattle.manifest.specs.declared.pod.PodSpec.{PodSpec}
-use Rattle.roster.specs.Roll.{key_of_pod, present_keys, number_in}
-use Rattle.roster.specs.Holders.{AreApart}
+use Rattle.roster.specs.rule.Roll.{key_of_pod, present_keys, number_in}
+use Rattle.roster.specs.state.Holders.{AreApart}
 use Rattle.roster.proofs.Found.{same_key, number_there, number_given, number_blank}
 
 pub present_length : (pods : List PodSpec) (departures : List (Option ℕ))

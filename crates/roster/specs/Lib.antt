@@ -1,2 +1,2 @@
-pub mod Roll
-pub mod Holders
+pub mod rule
+pub mod state

@@ -1,8 +1,8 @@
 //! Which pod has a key.
 
 ghost use Rattle.std.specs.Prelude.{◌≡◌, length, Some, None, IsTrue, IsFalse, OnOk, string_bytes};
-ghost use Rattle.lists.specs.Names.{place_of};
-ghost use Rattle.roster.specs.Holders.{holder_of, HasHeld};
+ghost use Rattle.lists.specs.rule.Names.{place_of};
+ghost use Rattle.roster.specs.state.Holders.{holder_of, HasHeld};
 
 use lists::NameList;
 use std::alloc::AllocError;

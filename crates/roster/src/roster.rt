@@ -1,7 +1,7 @@
 //! The pods of a trace.
 
 ghost use Rattle.std.specs.Prelude.{◌≡◌, ◌++◌, ◌∷◌, [], ◌<◌, Some, None, IfOk, OnOk, string_bytes};
-ghost use Rattle.roster.specs.Roll.{nothing, key_of_pod, number_of, is_present, with_pod, without};
+ghost use Rattle.roster.specs.rule.Roll.{nothing, key_of_pod, number_of, is_present, with_pod, without};
 
 use crate::hold::{hold, holder_of, release};
 use lists::{NameList, Sequence};
@@ -21,8 +21,8 @@ pub struct Roster {
 }
 
 impl Model for Roster {
-    ghost use Rattle.roster.specs.Roll.{Roll, roll};
-    ghost use Rattle.roster.specs.Holders.{IsKept};
+    ghost use Rattle.roster.specs.rule.Roll.{Roll, roll};
+    ghost use Rattle.roster.specs.state.Holders.{IsKept};
 
     ghost Value = { Roll };
 

@@ -10,11 +10,12 @@ use Rattle.round_core.specs.declared.hand.Hand.{Hand}
 use Rattle.round_core.specs.declared.hand.Hand.TheVariants.{Empty, Taken, Updated}
 use Rattle.round_steps.specs.declared.step.Step.{Step}
 use Rattle.round_steps.specs.declared.step.Step.TheVariants.{Pop, Steal, Update, Enter}
-use Rattle.event_book.specs.Shares.{one_update}
-use Rattle.event_book.specs.Totals.{plus}
-use Rattle.round_core.specs.Pool.{WorkerState, PoolState, idle, worker_at, with_deque, holding, with_hand, is_empty}
-use Rattle.round_core.specs.Pool.{marked, popped, finishing, entered, entry_at, steal, step}
-use Rattle.round_core.specs.Places.{held, held_updated, worker_weight, waiting}
+use Rattle.event_book.specs.state.Shares.{one_update}
+use Rattle.event_book.specs.state.Totals.{plus}
+use Rattle.round_core.specs.state.Pool.{WorkerState, PoolState, idle, worker_at, with_deque, holding, with_hand}
+use Rattle.round_core.specs.state.Pool.{is_empty}
+use Rattle.round_core.specs.state.Pool.{marked, popped, finishing, entered, entry_at, steal, step}
+use Rattle.round_core.specs.state.Places.{held, held_updated, worker_weight, waiting}
 use Rattle.round_core.proofs.Sums.{sum_set_gain, sum_set_moved, steal_cases}
 
 -- what an update and an entry add to a worker's amount; a piece that changes hands takes its own amount along

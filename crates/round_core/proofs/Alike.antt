@@ -5,15 +5,17 @@ use Rattle.std.specs.Prelude.{nat_lt, not, ◌&&◌, ◌==◌, if◌then◌else�
 use Rattle.std.proofs.Math.ListN.{get_or-map}
 use Rattle.std.proofs.lemmas.List.{length-map, map-set}
 use Rattle.event_book.specs.declared.totals.Entry.{Entry}
-use Rattle.event_book.specs.Totals.{nothing}
+use Rattle.event_book.specs.state.Totals.{nothing}
 use Rattle.round_core.specs.declared.hand.Hand.{Hand}
 use Rattle.round_core.specs.declared.hand.Hand.TheVariants.{Empty, Taken, Updated}
 use Rattle.round_steps.specs.declared.step.Step.{Step}
 use Rattle.round_steps.specs.declared.step.Step.TheVariants.{Pop, Steal, Update, Enter}
-use Rattle.round_core.specs.Pool.{WorkerState, PoolState, idle, worker_at, with_deque, holding, with_hand, is_empty}
-use Rattle.round_core.specs.Pool.{popped, can_steal, stolen, marked, finishing, step, run, finishing_steps, drain_steps}
-use Rattle.round_core.specs.Pool.{deal, after_steps, after_drain}
-use Rattle.round_core.specs.Places.{AreAlike}
+use Rattle.round_core.specs.state.Pool.{WorkerState, PoolState, idle, worker_at, with_deque, holding, with_hand}
+use Rattle.round_core.specs.state.Pool.{is_empty}
+use Rattle.round_core.specs.state.Pool.{popped, can_steal, stolen, marked, finishing, step, run, finishing_steps}
+use Rattle.round_core.specs.state.Pool.{drain_steps}
+use Rattle.round_core.specs.state.Pool.{deal, after_steps, after_drain}
+use Rattle.round_core.specs.state.Places.{AreAlike}
 
 -- a worker but for its share
 abbrev bare : WorkerState → WorkerState

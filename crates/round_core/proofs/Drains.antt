@@ -9,9 +9,9 @@ use Rattle.event_book.specs.declared.totals.Entry.{Entry}
 use Rattle.round_core.specs.declared.hand.Hand.{Hand}
 use Rattle.round_core.specs.declared.hand.Hand.TheVariants.{Empty, Taken, Updated}
 use Rattle.round_steps.specs.declared.step.Step.TheVariants.{Pop, Update, Enter}
-use Rattle.round_core.specs.Pool.{WorkerState, PoolState, idle, worker_at, with_hand, is_empty, marked, popped}
-use Rattle.round_core.specs.Pool.{finishing, step, run, emptying_steps, finishing_steps, drain_steps, drain}
-use Rattle.round_core.specs.Places.{IsQuietWorker, IsQuiet}
+use Rattle.round_core.specs.state.Pool.{WorkerState, PoolState, idle, worker_at, with_hand, is_empty, marked, popped}
+use Rattle.round_core.specs.state.Pool.{finishing, step, run, emptying_steps, finishing_steps, drain_steps, drain}
+use Rattle.round_core.specs.state.Places.{IsQuietWorker, IsQuiet}
 use Rattle.round_core.proofs.Runs.{run-append}
 
 -- this worker stands after those that are done, and before the rest

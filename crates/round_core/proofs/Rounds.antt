@@ -11,12 +11,13 @@ use Rattle.event_book.specs.declared.totals.Totals.{Totals}
 use Rattle.round_core.specs.declared.hand.Hand.{Hand}
 use Rattle.round_core.specs.declared.hand.Hand.TheVariants.{Empty, Taken, Updated}
 use Rattle.round_steps.specs.declared.step.Step.{Step}
-use Rattle.event_book.specs.Totals.{sums_of}
+use Rattle.event_book.specs.state.Totals.{sums_of}
 use Rattle.event_book.proofs.Numbers.{totals_same}
-use Rattle.round_core.specs.Pool.{WorkerState, PoolState, idle, entry_at, deal, drain_steps, after_steps, after_drain}
-use Rattle.round_core.specs.Places.{sum_below, one_at, held, held_updated, worker_weight, pool_weight}
-use Rattle.round_core.specs.Places.{finished_weight, places, times_finished, times_marked, times_updated}
-use Rattle.round_core.specs.Places.{sum_of_shares, with_drain, IsQuietWorker, IsQuiet}
+use Rattle.round_core.specs.state.Pool.{WorkerState, PoolState, idle, entry_at, deal, drain_steps, after_steps}
+use Rattle.round_core.specs.state.Pool.{after_drain}
+use Rattle.round_core.specs.state.Places.{sum_below, one_at, held, held_updated, worker_weight, pool_weight}
+use Rattle.round_core.specs.state.Places.{finished_weight, places, times_finished, times_marked, times_updated}
+use Rattle.round_core.specs.state.Places.{sum_of_shares, with_drain, IsQuietWorker, IsQuiet}
 use Rattle.round_core.proofs.Accounts.{IsTotal, marked_of}
 use Rattle.round_core.proofs.Runs.{sum_below-zero, sum_below-one, sum_below-one_at, sum_below-one_past}
 use Rattle.round_core.proofs.Runs.{sum_below-entries, sum_deal, book_deal, weight_deal, weight_run, marks_run}

@@ -12,9 +12,11 @@ use Rattle.event_book.specs.declared.totals.Entry.{Entry}
 use Rattle.event_book.specs.declared.totals.Totals.{Totals}
 use Rattle.round_steps.specs.declared.step.Step.{Step}
 use Rattle.round_steps.specs.declared.step.Step.TheVariants.{Pop, Steal, Update, Enter}
-use Rattle.round_core.specs.Pool.{WorkerState, PoolState, idle, no_entry, worker_at, with_piece, deal, entry_at, step}
-use Rattle.round_core.specs.Pool.{run}
-use Rattle.round_core.specs.Places.{sum_below, one_at, worker_weight, pool_weight, waiting, updated_by, updates_of}
+use Rattle.round_core.specs.state.Pool.{WorkerState, PoolState, idle, no_entry, worker_at, with_piece, deal, entry_at}
+use Rattle.round_core.specs.state.Pool.{step}
+use Rattle.round_core.specs.state.Pool.{run}
+use Rattle.round_core.specs.state.Places.{sum_below, one_at, worker_weight, pool_weight, waiting, updated_by}
+use Rattle.round_core.specs.state.Places.{updates_of}
 use Rattle.round_core.proofs.Sums.{sum_set_gain}
 use Rattle.round_core.proofs.Accounts.{gain, step_gain, weight_account, marks_account, marked_of, finished_account}
 use Rattle.round_core.proofs.Accounts.{share_account, book_gain, IsTotal}

@@ -8,8 +8,9 @@ use Rattle.std.proofs.lemmas.List.{set_past, get_or_past}
 use Rattle.std.proofs.lemmas.List.Sums.{sum_by-set}
 use Rattle.round_core.specs.declared.hand.Hand.{Hand}
 use Rattle.round_core.specs.declared.hand.Hand.TheVariants.{Empty, Taken, Updated}
-use Rattle.round_core.specs.Pool.{WorkerState, PoolState, idle, worker_at, set_worker, with_deque, holding, is_empty}
-use Rattle.round_core.specs.Pool.{can_steal, stolen, steal}
+use Rattle.round_core.specs.state.Pool.{WorkerState, PoolState, idle, worker_at, set_worker, with_deque, holding}
+use Rattle.round_core.specs.state.Pool.{is_empty}
+use Rattle.round_core.specs.state.Pool.{can_steal, stolen, steal}
 
 -- one worker is replaced, and has gained so much
 pub sum_set_gain : (f : WorkerState → ℕ) (workers : List WorkerState) (w : ℕ) (new : WorkerState) (gain : ℕ)

@@ -7,8 +7,8 @@ use Rattle.event_book.specs.declared.totals.Entry.{Entry}
 use Rattle.event_book.specs.declared.totals.Totals.{Totals}
 use Rattle.round_steps.specs.declared.step.Step.{Step}
 use Rattle.round_steps.specs.declared.step.Step.TheVariants.{Pop, Steal, Update, Enter}
-use Rattle.round_core.specs.Pool.{WorkerState, PoolState, idle, worker_at, can_steal, stolen, step, run}
-use Rattle.round_core.specs.Pool.{emptying_steps, finishing_steps, drain_steps}
+use Rattle.round_core.specs.state.Pool.{WorkerState, PoolState, idle, worker_at, can_steal, stolen, step, run}
+use Rattle.round_core.specs.state.Pool.{emptying_steps, finishing_steps, drain_steps}
 use Rattle.round_core.proofs.Sums.{steal_cases}
 use Rattle.round_core.proofs.Runs.{run-append}
 

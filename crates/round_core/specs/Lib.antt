@@ -1,2 +1,1 @@
-pub mod Pool
-pub mod Places
+pub mod state

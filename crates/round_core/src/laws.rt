@@ -6,10 +6,11 @@
 ghost use Rattle.std.specs.Prelude.{◌≡◌, ℕ, ◌<◌, ◌≤◌, List, length};
 ghost use Rattle.event_book.specs.declared.totals.Entry.{Entry};
 ghost use Rattle.round_steps.specs.declared.step.Step.{Step};
-ghost use Rattle.event_book.specs.Totals.{sums_of};
-ghost use Rattle.round_core.specs.Pool.{deal, after_steps, after_drain};
-ghost use Rattle.round_core.specs.Places.{places, pool_weight, sum_below, times_finished, times_marked, times_updated};
-ghost use Rattle.round_core.specs.Places.{sum_of_shares, with_drain, IsQuiet, AreAlike};
+ghost use Rattle.event_book.specs.state.Totals.{sums_of};
+ghost use Rattle.round_core.specs.state.Pool.{deal, after_steps, after_drain};
+ghost use Rattle.round_core.specs.state.Places.{places, pool_weight, sum_below, times_finished, times_marked};
+ghost use Rattle.round_core.specs.state.Places.{times_updated};
+ghost use Rattle.round_core.specs.state.Places.{sum_of_shares, with_drain, IsQuiet, AreAlike};
 
 /// After any steps each piece stands at exactly one place: in a deque, in a hand or on a finished list.
 pub fn each_piece_at_one_place()

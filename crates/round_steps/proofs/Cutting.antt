@@ -5,7 +5,7 @@ use Rattle.std.proofs.Common.{refl, eqb}
 use Rattle.std.proofs.lemmas.Bool.{ne_eqb}
 use Rattle.std.proofs.lemmas.List.Elements.{All-head, All-tail}
 use Rattle.std.proofs.lemmas.List.Splits.{slice_split_none, slice_split_at}
-use Rattle.round_steps.specs.Steps.{lines_of}
+use Rattle.round_steps.specs.state.Steps.{lines_of}
 
 -- none of the bytes is s
 abbrev pub IsFreeOf : ℕ → List ℕ → Type 0

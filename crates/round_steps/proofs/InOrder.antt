@@ -5,8 +5,8 @@ use Rattle.std.specs.Prelude.{Ok}
 use Rattle.std.proofs.lemmas.List.Elements.{filter-append}
 use Rattle.std.proofs.lemmas.List.{length_push}
 use Rattle.round_steps.specs.declared.step.Step.{Step}
-use Rattle.round_steps.specs.Spelling.{Spells}
-use Rattle.round_steps.specs.Steps.{counts, most_steps, SpellInOrder, AreSteps, SaysBehind}
+use Rattle.round_steps.specs.state.Spelling.{Spells}
+use Rattle.round_steps.specs.state.Steps.{counts, most_steps, SpellInOrder, AreSteps, SaysBehind}
 
 -- an empty line more
 pub empty_more : (lines : List (List ℕ)) (steps : List Step) → AreSteps lines steps

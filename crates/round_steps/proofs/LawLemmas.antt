@@ -5,10 +5,10 @@ use Rattle.std.proofs.lemmas.List.Elements.{filter-append}
 use Rattle.std.proofs.lemmas.Bool.{cases_order}
 use Rattle.round_steps.specs.declared.step.Step.{Step}
 use Rattle.round_steps.specs.declared.step.Step.TheVariants.{Pop, Steal, Update, Enter}
-use Rattle.round_steps.specs.Spelling.{Names, NamesBoth, Spells, spells_pop, spells_steal, spells_update}
-use Rattle.round_steps.specs.Spelling.{spells_enter}
-use Rattle.round_steps.specs.Steps.{counts, SpellInOrder, AreSteps, IsFirstFault}
-use Rattle.round_steps.specs.Laws.{OneSpelling, OneAnswer}
+use Rattle.round_steps.specs.state.Spelling.{Names, NamesBoth, Spells, spells_pop, spells_steal, spells_update}
+use Rattle.round_steps.specs.state.Spelling.{spells_enter}
+use Rattle.round_steps.specs.state.Steps.{counts, SpellInOrder, AreSteps, IsFirstFault}
+use Rattle.round_steps.specs.state.Laws.{OneSpelling, OneAnswer}
 use Rattle.round_steps.proofs.InOrder.{counted_first}
 use Rattle.round_steps.proofs.Numbers.{one_number, one_pair}
 use Rattle.round_steps.proofs.Words.{apart, same_rest}

@@ -3,7 +3,7 @@ use Rattle.std.proofs.Common.{◌≡◌, ◌≢◌, ◌/◌, ◌%◌, ◌<◌, �
 use Rattle.std.proofs.Common.{MatchOption, Option, None, Some, Bor}
 use Rattle.std.proofs.Common.{◌∙◌, ap, sym, subst, arith, unwrap_or}
 use Rattle.std.proofs.lemmas.List.Elements.{All-cons, All-nil}
-use Rattle.round_steps.specs.Spelling.{digit, last_worker, two_bytes, Names, NamesBoth}
+use Rattle.round_steps.specs.state.Spelling.{digit, last_worker, two_bytes, Names, NamesBoth}
 use Rattle.round_steps.proofs.Cutting.{IsFreeOf, cut_once, stands_in}
 
 same_pair : (p q : ℕ × ℕ) → Some p ≡ Some q → (p.0 ≡ q.0) × (p.1 ≡ q.1)

@@ -8,9 +8,9 @@ use Rattle.std.proofs.lemmas.List.Sums.{count_by-le-length}
 use Rattle.round_steps.specs.declared.step.Step.{Step}
 use Rattle.round_steps.specs.declared.fault.StepsFault.{StepsFault}
 use Rattle.round_steps.specs.declared.fault.StepsFault.TheVariants.{TooLong, Line, OutOfMemory}
-use Rattle.round_steps.specs.Steps.{lines_of, longest_steps_file, AreSteps, IsFirstFault, IsFirstFaultBy}
-use Rattle.round_steps.specs.Steps.{IsFaultyBehind}
-use Rattle.round_steps.specs.Steps.{IsFaultOf}
+use Rattle.round_steps.specs.state.Steps.{lines_of, longest_steps_file, AreSteps, IsFirstFault, IsFirstFaultBy}
+use Rattle.round_steps.specs.state.Steps.{IsFaultyBehind}
+use Rattle.round_steps.specs.state.Steps.{IsFaultOf}
 
 -- the lines before the rest say the steps
 pub record HasRead (text rest : List ℕ) (number : ℕ) (steps : List Step) : Type 0 where

@@ -2,8 +2,8 @@
 use Rattle.std.proofs.Common.{◌≡◌, ◌≢◌, ℕ, List, ◌∷◌, ◌++◌, codes, get_or, ap, sym, subst, arith, ◌∙◌}
 use Rattle.std.proofs.lemmas.List.{append_cancel_left}
 use Rattle.round_steps.specs.declared.step.Step.{Step}
-use Rattle.round_steps.specs.Spelling.{Names, NamesBoth, Spells, spells_pop, spells_steal, spells_update}
-use Rattle.round_steps.specs.Spelling.{spells_enter}
+use Rattle.round_steps.specs.state.Spelling.{Names, NamesBoth, Spells, spells_pop, spells_steal, spells_update}
+use Rattle.round_steps.specs.state.Spelling.{spells_enter}
 
 pub apart : (line : List ℕ) (v w : ℕ) (vs ws : List ℕ) → v ≢ w → line ≡ v ∷ vs → line ≡ w ∷ ws → ⊥
 apart line v w vs ws other is so = other (ap (λ (l : List ℕ). get_or l 0 0) (sym is ∙ so))

@@ -1,4 +1,1 @@
-pub mod Spelling
-pub mod Steps
-pub mod Fault
-pub mod Laws
+pub mod state

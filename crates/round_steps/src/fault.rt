@@ -1,7 +1,7 @@
 //! Why a steps file was refused.
 
 ghost use Rattle.std.specs.Prelude.{◌≡◌, IfOk, string_bytes};
-ghost use Rattle.round_steps.specs.Fault.{status, line_of};
+ghost use Rattle.round_steps.specs.state.Fault.{status, line_of};
 
 use std::alloc::{AllocError, Global};
 use thiserror::Error;

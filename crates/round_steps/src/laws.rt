@@ -1,6 +1,6 @@
 //! What the definitions of a steps file imply. The functions do nothing; their contracts are the laws.
 
-ghost use Rattle.round_steps.specs.Laws as laws;
+ghost use Rattle.round_steps.specs.state.Laws as laws;
 
 /// A line spells one step at most.
 pub fn one_spelling()

@@ -1,7 +1,7 @@
 //! A text cut at a byte.
 
 ghost use Rattle.std.specs.Prelude.{◌≡◌, ◌≢◌, ◌∷◌, ◌++◌, [], All, MatchOption};
-ghost use Rattle.round_steps.specs.Steps.{lines_of};
+ghost use Rattle.round_steps.specs.state.Steps.{lines_of};
 
 /// What stands before the first such byte, and what stands behind it, if there is one.
 pub(crate) fn cut(text: &[u8], byte: u8) -> (&[u8], Option<&[u8]>)

@@ -1,8 +1,9 @@
 //! Reading a steps file.
 
 ghost use Rattle.std.specs.Prelude.{◌<◌, ◌≤◌, ◌↔◌, ◌∷◌, ◌++◌, [], ℕ, List, IsTrue, IfOk, IfErr, OnOk, length};
-ghost use Rattle.round_steps.specs.Steps.{lines_of, longest_steps_file, most_steps, AreSteps, SaysBehind, IsWithin};
-ghost use Rattle.round_steps.specs.Steps.{IsFaultOf, IsFirstFaultBy, Refuses};
+ghost use Rattle.round_steps.specs.state.Steps.{lines_of, longest_steps_file, most_steps, AreSteps, SaysBehind};
+ghost use Rattle.round_steps.specs.state.Steps.{IsWithin};
+ghost use Rattle.round_steps.specs.state.Steps.{IsFaultOf, IsFirstFaultBy, Refuses};
 
 use crate::fault::StepsFault;
 use crate::lines::first_line;

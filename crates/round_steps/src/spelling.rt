@@ -2,7 +2,7 @@
 
 ghost use Rattle.std.specs.Prelude.{◌≡◌, ◌≢◌, ◌<◌, ◌++◌, ℕ, List, MatchOption};
 ghost use Rattle.round_steps.specs.declared.step.Step.{Step};
-ghost use Rattle.round_steps.specs.Spelling.{digit, two_bytes, Names, NamesBoth, Spells};
+ghost use Rattle.round_steps.specs.state.Spelling.{digit, two_bytes, Names, NamesBoth, Spells};
 
 use crate::lines::cut;
 use crate::step::Step;

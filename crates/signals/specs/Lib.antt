@@ -1,3 +1,2 @@
-pub mod BySignal
-pub mod Laws
-pub mod Signals
+pub mod rule
+pub mod state

@@ -1,7 +1,8 @@
 //! One value for each signal.
 
 ghost use Rattle.std.specs.Prelude.{◌≡◌};
-ghost use Rattle.signals.specs.BySignal.{of, every};
+ghost use Rattle.signals.specs.rule.BySignal.{of};
+ghost use Rattle.signals.specs.state.BySignal.{every};
 
 use crate::signal::Signal;
 

@@ -1,7 +1,7 @@
 //! What is true of every signal and every text. The functions do nothing; their contracts are the
 //! laws.
 
-ghost use Rattle.signals.specs.Laws as laws;
+ghost use Rattle.signals.specs.state.Laws as laws;
 
 /// A signal's name names that signal, and a text that names a signal is the signal's name.
 pub fn names_are_inverse()

@@ -2,7 +2,7 @@
 
 ghost use Rattle.std.specs.Prelude.{◌≡◌};
 ghost use Rattle.signals.specs.declared.signal.Signal.{Signal};
-ghost use Rattle.signals.specs.Signals.{name_of, named, is_of_file_system};
+ghost use Rattle.signals.specs.rule.Signals.{name_of, named, is_of_file_system};
 
 /// What a kubelet watches for eviction, in the order in which its thresholds are served.
 /// (Kubernetes, "Node-pressure Eviction", "Eviction signals"; the order is this profile's.)

@@ -1,7 +1,7 @@
 //! Thresholds on a signal.
 
 ghost use Rattle.std.specs.Prelude.{◌≡◌};
-ghost use Rattle.signals.specs.Signals.{kind_name};
+ghost use Rattle.signals.specs.rule.Signals.{kind_name};
 
 use quantity::Limit;
 

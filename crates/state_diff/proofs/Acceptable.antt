@@ -6,14 +6,15 @@ use Rattle.std.specs.Bool.{Decides}
 use Rattle.std.specs.List.{list_all, list_any}
 use Rattle.std.proofs.lemmas.Bool.{and_parts, or_cases, leb-true, le-leb, or_right, and_from}
 use Rattle.std.proofs.lemmas.Bool.Decides.{Decides-eqb, Decides-and}
-use Rattle.state_diff.specs.States.{rank, is_known}
+use Rattle.state_diff.specs.rule.States.{rank, is_known}
 use Rattle.state_diff.specs.declared.seen.Seen.{Seen}
 use Rattle.state_diff.specs.declared.seen.CriState.{CriState}
 use Rattle.state_diff.specs.declared.seen.CriState.TheVariants.{Created, Running, Exited, Unknown}
-use Rattle.state_diff.specs.Instances.{Tick, seen_at, IsOf, IsOfAs, IsOfKnown, Listed, IsLastKnown, IsEffective}
-use Rattle.state_diff.specs.Instances.{IsAcceptable}
-use Rattle.state_diff.specs.Acceptable.{is_of, is_at_most, known_after, last_known, effective_state, is_not_older}
-use Rattle.state_diff.specs.Acceptable.{is_not_gone, is_not_back, is_acceptable}
+use Rattle.state_diff.specs.rule.Instances.{Tick, seen_at, IsOf, IsOfAs, IsOfKnown, Listed, IsLastKnown, IsEffective}
+use Rattle.state_diff.specs.state.Instances.{IsAcceptable}
+use Rattle.state_diff.specs.rule.Acceptable.{is_of, is_at_most, known_after, last_known, effective_state}
+use Rattle.state_diff.specs.rule.Acceptable.{is_not_older}
+use Rattle.state_diff.specs.rule.Acceptable.{is_not_gone, is_not_back, is_acceptable}
 use Rattle.state_diff.proofs.Places.{known_of}
 use Rattle.state_diff.proofs.Steps.{IsEffective-unique}
 

@@ -5,20 +5,22 @@ use Rattle.std.proofs.Common.{length, Option, Some, None, refl, subst, sym, arit
 use Rattle.std.specs.Prelude.{IsSomeAnd, unwrap_or}
 use Rattle.std.proofs.lemmas.Bool.{cases_lt, cases_eq}
 use Rattle.std.proofs.lemmas.Option.{same_Some}
-use Rattle.histories.specs.Histories.{IsFirstPlace, IsFirstMoment}
+use Rattle.histories.specs.rule.Histories.{IsFirstPlace, IsFirstMoment}
 use Rattle.histories.proofs.Moments.{moment_within}
 use Rattle.histories.proofs.Decide.{OrNot, negated, both, either, all_three, less_or_not, given_or_not}
 use Rattle.histories.proofs.Found.{some_below, first_place, first_moment, first_or_none, first_or_not}
 use Rattle.state_diff.specs.declared.seen.Seen.{Seen}
 use Rattle.state_diff.specs.declared.seen.CriState.{CriState}
 use Rattle.state_diff.specs.declared.seen.CriState.TheVariants.{Created, Running, Exited, Unknown}
-use Rattle.state_diff.specs.States.{is_exited}
-use Rattle.state_diff.specs.Instances.{Tick, tick, seen_at, IsOf, IsOfAs, Listed, ListedAs, Ends, IsNewest, killed_code}
-use Rattle.state_diff.specs.Instances.{IsEffective, IsState, IsStart, IsExit, IsCodeAt, IsExitCode, IsSetUp}
-use Rattle.state_diff.specs.Instances.{IsRun}
-use Rattle.state_diff.specs.Laws.{SomeOfEach}
-use Rattle.state_diff.specs.Acceptable.{effective_state}
-use Rattle.state_diff.specs.Differ.{IsSeenOf, IsNewestSeen}
+use Rattle.state_diff.specs.rule.States.{is_exited}
+use Rattle.state_diff.specs.rule.Instances.{Tick, seen_at, IsOf, IsOfAs, Listed, ListedAs, Ends, IsNewest}
+use Rattle.state_diff.specs.rule.Instances.{killed_code}
+use Rattle.state_diff.specs.state.Instances.{tick}
+use Rattle.state_diff.specs.rule.Instances.{IsEffective, IsState, IsStart, IsExit, IsCodeAt, IsExitCode, IsSetUp}
+use Rattle.state_diff.specs.rule.Instances.{IsRun}
+use Rattle.state_diff.specs.state.Laws.{SomeOfEach}
+use Rattle.state_diff.specs.rule.Acceptable.{effective_state}
+use Rattle.state_diff.specs.state.Differ.{IsSeenOf, IsNewestSeen}
 use Rattle.state_diff.proofs.Places.{seen_at-below}
 use Rattle.state_diff.proofs.Growth.{Ends-below}
 use Rattle.state_diff.proofs.Listings.{of_weaker}

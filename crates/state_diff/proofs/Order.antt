@@ -8,11 +8,12 @@ use Rattle.histories.proofs.Places.{length-more, entry_at-old, entry_at-new, ent
 use Rattle.state_diff.specs.declared.seen.Seen.{Seen}
 use Rattle.state_diff.specs.declared.seen.CriState.{CriState}
 use Rattle.state_diff.specs.declared.seen.CriState.TheVariants.{Created, Running, Exited}
-use Rattle.state_diff.specs.States.{rank}
-use Rattle.state_diff.specs.Instances.{Tick, tick, listing_of, seen_at, IsOf, IsOfAs, Listed, ListedAs, IsExit}
-use Rattle.state_diff.specs.Instances.{MayFollow, IsAcceptable, IsAcceptableHistory}
-use Rattle.state_diff.specs.Acceptable.{known_after, last_known, effective_state}
-use Rattle.state_diff.specs.Laws.{StartsBeforeExit, ExitedStaysExited, NewestNeverFalls, AcceptableIsNewest}
+use Rattle.state_diff.specs.rule.States.{rank}
+use Rattle.state_diff.specs.rule.Instances.{Tick, listing_of, seen_at, IsOf, IsOfAs, Listed, ListedAs, IsExit}
+use Rattle.state_diff.specs.state.Instances.{tick}
+use Rattle.state_diff.specs.state.Instances.{MayFollow, IsAcceptable, IsAcceptableHistory}
+use Rattle.state_diff.specs.rule.Acceptable.{known_after, last_known, effective_state}
+use Rattle.state_diff.specs.state.Laws.{StartsBeforeExit, ExitedStaysExited, NewestNeverFalls, AcceptableIsNewest}
 use Rattle.state_diff.proofs.Places.{added, split, seen_at-below}
 use Rattle.state_diff.proofs.Growth.{IsExit-old}
 use Rattle.state_diff.proofs.Acceptable.{taken_or_kept, effective_state_is}

@@ -1,13 +1,13 @@
 -- The run of an instance.
 use Rattle.std.proofs.Common.{◌≡◌, ℕ, ◌-◌, List, Option, Some, None, refl, subst}
 use Rattle.std.specs.Prelude.{IsSomeAnd, IfSome, ◌↔◌, unwrap_or}
-use Rattle.histories.specs.Histories.{IsFirstMoment}
+use Rattle.histories.specs.rule.Histories.{IsFirstMoment}
 use Rattle.histories.proofs.First.{none_at}
 use Rattle.state_diff.specs.declared.seen.CriState.TheVariants.{Running}
 use Rattle.state_diff.specs.declared.instance.Instance.{Instance}
-use Rattle.state_diff.specs.Instances.{Tick, ListedAs, Ends, IsNewest, IsRun}
-use Rattle.state_diff.specs.Instance.{IsInstanceOf}
-use Rattle.state_diff.specs.Differ.{IsNewestOf, IsNewestRun}
+use Rattle.state_diff.specs.rule.Instances.{Tick, ListedAs, Ends, IsNewest, IsRun}
+use Rattle.state_diff.specs.state.Instance.{IsInstanceOf}
+use Rattle.state_diff.specs.state.Differ.{IsNewestOf, IsNewestRun}
 use Rattle.state_diff.proofs.Unique.{IsNewest-unique}
 
 -- the run, from the moments of the start and the exit

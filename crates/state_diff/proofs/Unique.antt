@@ -5,8 +5,9 @@ use Rattle.histories.proofs.First.{IsFirst-unique}
 use Rattle.state_diff.specs.declared.seen.Seen.{Seen}
 use Rattle.state_diff.specs.declared.seen.CriState.{CriState}
 use Rattle.state_diff.specs.declared.seen.CriState.TheVariants.{Running}
-use Rattle.state_diff.specs.Instances.{Tick, seen_at, IsOf, ListedAs, IsNewest, IsState, IsCodeAt, IsExitCode, Ends}
-use Rattle.state_diff.specs.Laws.{OneOfEach}
+use Rattle.state_diff.specs.rule.Instances.{Tick, seen_at, IsOf, ListedAs, IsNewest, IsState, IsCodeAt, IsExitCode}
+use Rattle.state_diff.specs.rule.Instances.{Ends}
+use Rattle.state_diff.specs.state.Laws.{OneOfEach}
 use Rattle.state_diff.proofs.Steps.{IsEffective-unique}
 
 pub IsNewest-unique : (h : List Tick) (a b : ℕ) → IsNewest h a → IsNewest h b → a ≡ b

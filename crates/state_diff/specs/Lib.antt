@@ -1,6 +1,2 @@
-pub mod States
-pub mod Instances
-pub mod Acceptable
-pub mod Instance
-pub mod Differ
-pub mod Laws
+pub mod rule
+pub mod state

@@ -2,16 +2,18 @@
 
 ghost use Rattle.std.specs.Prelude.{◌≡◌, ◌↔◌, ◌<◌, ◌≤◌, ◌-◌, ℕ, ℤ, List, [], ◌∷◌, ◌++◌, length, Option, Some, None};
 ghost use Rattle.std.specs.Prelude.{IsSomeAnd, IsTrue, IsSome, IfSome, MatchOption};
-ghost use Rattle.state_diff.specs.Instances.{Tick, tick, IsOf, seen_at, Listed, ListedAs, IsNewest, IsState, IsExit};
-ghost use Rattle.state_diff.specs.Instances.{IsExitCode, IsStart, Ends, IsSetUp, IsAcceptable, IsEffective};
-ghost use Rattle.state_diff.specs.Acceptable.{is_acceptable};
-ghost use Rattle.histories.specs.Histories.{IsFirstMoment, last_moment};
-ghost use Rattle.state_diff.specs.States.{rank};
+ghost use Rattle.state_diff.specs.rule.Instances.{Tick, IsOf, seen_at, Listed, ListedAs, IsNewest, IsState, IsExit};
+ghost use Rattle.state_diff.specs.state.Instances.{tick};
+ghost use Rattle.state_diff.specs.rule.Instances.{IsExitCode, IsStart, Ends, IsSetUp, IsEffective};
+ghost use Rattle.state_diff.specs.state.Instances.{IsAcceptable};
+ghost use Rattle.state_diff.specs.rule.Acceptable.{is_acceptable};
+ghost use Rattle.histories.specs.rule.Histories.{IsFirstMoment, last_moment};
+ghost use Rattle.state_diff.specs.rule.States.{rank};
 ghost use Rattle.state_diff.specs.declared.seen.CriState.TheVariants.{Running};
-ghost use Rattle.state_diff.specs.Instance.{IsInstanceOf};
+ghost use Rattle.state_diff.specs.state.Instance.{IsInstanceOf};
 ghost use Rattle.state_diff.specs.declared.instance.Instance.{Instance};
-ghost use Rattle.state_diff.specs.Differ.{Accepts, IsBefore, IsNewestSeen, IsOfNewest, IsNewestRun, IsStateOf};
-ghost use Rattle.state_diff.specs.Differ.{AreChanges, SetsUp, IsNewestOf, IsListedBy};
+ghost use Rattle.state_diff.specs.state.Differ.{Accepts, IsBefore, IsNewestSeen, IsOfNewest, IsNewestRun, IsStateOf};
+ghost use Rattle.state_diff.specs.state.Differ.{AreChanges, SetsUp, IsNewestOf, IsListedBy};
 
 use crate::instance::Instance;
 use crate::seen::Seen;

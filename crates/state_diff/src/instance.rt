@@ -2,8 +2,9 @@
 
 ghost use Rattle.std.specs.Prelude.{◌≡◌, ◌≢◌, ◌↔◌, ◌≤◌, ◌-◌, ℕ, ℤ, List, [], ◌∷◌, ◌++◌, Option, Some, None};
 ghost use Rattle.std.specs.Prelude.{IsSomeAnd, IfSome, IsTrue, is_some, unwrap_or};
-ghost use Rattle.state_diff.specs.Instances.{Tick, tick, Listed, IsOf, IsEffective};
-ghost use Rattle.state_diff.specs.States.{is_exited as exited, rank};
+ghost use Rattle.state_diff.specs.rule.Instances.{Tick, Listed, IsOf, IsEffective};
+ghost use Rattle.state_diff.specs.state.Instances.{tick};
+ghost use Rattle.state_diff.specs.rule.States.{is_exited as exited, rank};
 ghost use Rattle.state_diff.specs.declared.seen.Seen.{Seen};
 
 use crate::seen::{CriState, Seen};
@@ -27,7 +28,7 @@ pub struct Instance {
 }
 
 impl Instance {
-    ghost use Rattle.state_diff.specs.Instance.{IsInstanceOf};
+    ghost use Rattle.state_diff.specs.state.Instance.{IsInstanceOf};
 
     /// An attempt that no tick has listed yet.
     pub fn new(attempt: u32) -> Self

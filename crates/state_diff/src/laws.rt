@@ -1,5 +1,5 @@
 //! What the definitions of instances imply. The functions do nothing; their contracts are the laws.
-ghost use Rattle.state_diff.specs.Laws as laws;
+ghost use Rattle.state_diff.specs.state.Laws as laws;
 
 /// Whatever is listed, there is a newest attempt or none is listed, and an instance has a state, a start or
 /// none, and an exit with its code and its run, or none.

@@ -1,7 +1,7 @@
 //! An instance of a container, as one tick lists it.
 
 ghost use Rattle.std.specs.Prelude.{◌≡◌, ◌≢◌, ◌↔◌, is_some, IsTrue};
-ghost use Rattle.state_diff.specs.States.{is_exited as exited, rank as rank_of};
+ghost use Rattle.state_diff.specs.rule.States.{is_exited as exited, rank as rank_of};
 
 /// The state of an instance, as the container runtime lists it: the `ContainerState` of the
 /// Container Runtime Interface (CRI v1).

@@ -2,9 +2,9 @@
 use Rattle.std.proofs.Common.{◌≡◌, ◌∙◌, ◌++◌, ◌∷◌, [], List, Some, length, sym, ap, subst, inl, inr}
 use Rattle.std.specs.Prelude.{◌<◌, slice_get}
 use Rattle.histories.proofs.Lists.{place_split}
-use Rattle.pod_piece.specs.Piece.{Piece}
+use Rattle.pod_piece.specs.state.Piece.{Piece}
 use Rattle.piece_deques.proofs.Lists.{grown}
-use Rattle.test_pods.specs.Pods.{ArePending}
+use Rattle.test_pods.specs.state.Pods.{ArePending}
 
 pub one_more : (old new : List Piece) (piece : Piece) → ArePending old → new ≡ old ++ piece ∷ []
     → piece.number ≡ length old → 0 < piece.waiting → ArePending new

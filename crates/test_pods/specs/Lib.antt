@@ -1,1 +1,1 @@
-pub mod Pods
+pub mod state

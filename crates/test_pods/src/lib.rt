@@ -2,9 +2,9 @@
 #![tactic(auto)]
 
 ghost use Rattle.std.specs.Prelude.{◌≡◌, ◌<◌, ◌↔◌, Err, IfSome, IsTrue, OnErr, OnOk};
-ghost use Rattle.pod_state.specs.Pods.{pod_tick};
-ghost use Rattle.pod_piece.specs.Piece.{with_tick};
-ghost use Rattle.test_pods.specs.Pods.{MayBeHanded};
+ghost use Rattle.pod_state.specs.rule.Pods.{pod_tick};
+ghost use Rattle.pod_piece.specs.state.Piece.{with_tick};
+ghost use Rattle.test_pods.specs.state.Pods.{MayBeHanded};
 ghost use Rattle.test_pods.specs.declared.Unhanded.TheVariants.{NotNext};
 
 use observations::PodObs;

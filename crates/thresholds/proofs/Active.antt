@@ -4,8 +4,8 @@ use Rattle.std.proofs.Common.{refl, subst, arith}
 use Rattle.std.specs.Prelude.{◌↔◌}
 use Rattle.std.proofs.lemmas.Bool.{cases_lt}
 use Rattle.histories.proofs.Places.{length-more, kept, added, split, entry_at-below}
-use Rattle.thresholds.specs.Samples.{Sample, sample, IsBelow, IsBelowAt}
-use Rattle.thresholds.specs.Thresholds.{IsActive}
+use Rattle.thresholds.specs.rule.Samples.{Sample, sample, IsBelow, IsBelowAt}
+use Rattle.thresholds.specs.rule.Thresholds.{IsActive}
 
 -- what is below a limit is below a greater one
 pub below_more : (limit more : ℕ) (value : Option ℕ) → limit ≤ more → IsBelow limit value → IsBelow more value

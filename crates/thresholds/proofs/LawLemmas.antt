@@ -2,11 +2,12 @@
 use Rattle.std.proofs.Common.{◌≡◌, ◌⊎◌, inl, inr, ℕ, ◌+◌, ◌-◌, ◌<◌, List, [], ◌∷◌, ◌++◌, length, Option, Some, None}
 use Rattle.std.proofs.Common.{refl, subst, sym, append_assoc, append-nil, arith}
 use Rattle.std.specs.Option.{option_or}
-use Rattle.histories.specs.Histories.{moment_at}
+use Rattle.histories.specs.rule.Histories.{moment_at}
 use Rattle.histories.proofs.Places.{entry_at-below}
-use Rattle.thresholds.specs.Samples.{Sample, IsBelow, IsBelowAt}
-use Rattle.thresholds.specs.Thresholds.{IsActive, IsActiveSince, IsDue}
-use Rattle.thresholds.specs.Laws.{DueIsActive, HardIsDueWhenActive, NoReclaimIsBelowNow, ActiveGoesOn, OneActiveSince}
+use Rattle.thresholds.specs.rule.Samples.{Sample, IsBelow, IsBelowAt}
+use Rattle.thresholds.specs.rule.Thresholds.{IsActive, IsActiveSince, IsDue}
+use Rattle.thresholds.specs.state.Laws.{DueIsActive, HardIsDueWhenActive, NoReclaimIsBelowNow, ActiveGoesOn}
+use Rattle.thresholds.specs.state.Laws.{OneActiveSince}
 use Rattle.thresholds.proofs.Active.{active_more, active_or_not, none_active}
 use Rattle.thresholds.proofs.Since.{since_goes_on, since_none, since_some, since_unique}
 

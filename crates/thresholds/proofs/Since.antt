@@ -5,13 +5,13 @@ use Rattle.std.specs.Prelude.{◌↔◌, IsTrue, IsSome, IsSomeAnd}
 use Rattle.std.specs.Option.{option_or}
 use Rattle.std.proofs.lemmas.Bool.{cases_lt}
 use Rattle.std.proofs.lemmas.List.{take_all}
-use Rattle.histories.specs.Histories.{HoldsAt, up_to}
+use Rattle.histories.specs.rule.Histories.{HoldsAt, up_to}
 use Rattle.histories.proofs.Moments.{last_moment-more}
 use Rattle.histories.proofs.Places.{length-more}
 use Rattle.histories.proofs.First.{Grows, IsFirstMoment-more, IsFirstMoment-unique}
 use Rattle.histories.proofs.Growth.{grows_so}
-use Rattle.thresholds.specs.Samples.{Sample, sample, IsBelow}
-use Rattle.thresholds.specs.Thresholds.{IsActive, IsActiveFrom, IsActiveSince, IsDue}
+use Rattle.thresholds.specs.rule.Samples.{Sample, sample, IsBelow}
+use Rattle.thresholds.specs.rule.Thresholds.{IsActive, IsActiveFrom, IsActiveSince, IsDue}
 use Rattle.thresholds.proofs.Active.{below_or_not, active_by, active_still, active_from, none_active}
 
 -- the stretch, over one more sample that leaves the threshold active

@@ -1,4 +1,2 @@
-pub mod Laws
-pub mod Samples
-pub mod Thresholds
-pub mod Watch
+pub mod rule
+pub mod state

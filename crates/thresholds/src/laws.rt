@@ -1,7 +1,7 @@
 //! What is true of every threshold, for every list of samples. The functions do nothing; their
 //! contracts are the laws.
 
-ghost use Rattle.thresholds.specs.Laws as laws;
+ghost use Rattle.thresholds.specs.state.Laws as laws;
 
 /// A threshold that is due is active.
 pub fn due_is_active()

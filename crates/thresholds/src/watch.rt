@@ -3,12 +3,12 @@
 ghost use Rattle.std.specs.Prelude.{◌≡◌, ◌↔◌, ◌≤◌, ◌-◌, ℕ, List, [], ◌∷◌, ◌++◌, Option, Some, None, IsTrue, IsSome};
 ghost use Rattle.std.specs.Prelude.{IsSomeAnd, IfSome};
 ghost use Rattle.std.specs.Option.{option_or};
-ghost use Rattle.quantity.specs.Quantity.{greatest_quantity};
+ghost use Rattle.quantity.specs.rule.Quantity.{greatest_quantity};
 ghost use Rattle.signals.specs.declared.threshold.Threshold.{Threshold};
-ghost use Rattle.quantity.specs.Limit.{HasItsCapacity};
-ghost use Rattle.thresholds.specs.Samples.{Sample, sample as sample_of, IsBelow};
-ghost use Rattle.thresholds.specs.Thresholds.{IsThresholdActive, IsThresholdDue};
-ghost use Rattle.thresholds.specs.Watch.{IsActiveAfter, IsStateOf};
+ghost use Rattle.quantity.specs.state.Limit.{HasItsCapacity};
+ghost use Rattle.thresholds.specs.rule.Samples.{Sample, sample as sample_of, IsBelow};
+ghost use Rattle.thresholds.specs.rule.Thresholds.{IsThresholdActive, IsThresholdDue};
+ghost use Rattle.thresholds.specs.state.Watch.{IsActiveAfter, IsStateOf};
 
 use signals::Threshold;
 

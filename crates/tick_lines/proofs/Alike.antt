@@ -1,10 +1,11 @@
 -- What is said depends on the fields that are read.
 use Rattle.std.proofs.Common.{refl}
-use Rattle.tick_lines.specs.Listings.{instance_of, listing_of}
-use Rattle.tick_lines.specs.Results.{result_of}
-use Rattle.tick_lines.specs.Entries.{entry_of}
-use Rattle.tick_lines.specs.Line.{tick_line_of}
-use Rattle.tick_lines.specs.Laws.{ReadsOnly, line_fields, entry_fields, listing_fields, result_fields, OnlyTheirFields}
+use Rattle.tick_lines.specs.rule.Listings.{instance_of, listing_of}
+use Rattle.tick_lines.specs.rule.Results.{result_of}
+use Rattle.tick_lines.specs.rule.Entries.{entry_of}
+use Rattle.tick_lines.specs.rule.Line.{tick_line_of}
+use Rattle.tick_lines.specs.state.Laws.{ReadsOnly, line_fields, entry_fields, listing_fields, result_fields}
+use Rattle.tick_lines.specs.state.Laws.{OnlyTheirFields}
 
 line_alike : ReadsOnly line_fields tick_line_of
 unfolding tick_line_of

@@ -5,8 +5,8 @@ use Rattle.std.specs.Prelude.{IfSome, codes, is_some}
 use Rattle.json.specs.Token.{Token}
 use Rattle.serde_json.specs.Data.{Data}
 use Rattle.serde_json.specs.Find.{as_object}
-use Rattle.json_fields.specs.Fields.{field_at}
-use Rattle.json_fields.specs.Tape.{AreAllPassed}
+use Rattle.json_fields.specs.rule.Fields.{field_at}
+use Rattle.json_fields.specs.state.Tape.{AreAllPassed}
 use Rattle.json_fields.proofs.OnMembers.{read_whole}
 use Rattle.json_fields.proofs.Only.{same_value}
 use Rattle.manifest.specs.declared.outcome.Outcome.{Outcome}
@@ -16,12 +16,12 @@ use Rattle.state_diff.specs.declared.seen.CriState.{CriState}
 use Rattle.tick_lines.specs.declared.fault.TickLineFault.{TickLineFault}
 use Rattle.tick_lines.specs.declared.tape.ListingMembers.{ListingMembers}
 use Rattle.tick_lines.specs.declared.tape.ResultMembers.{ResultMembers}
-use Rattle.tick_lines.specs.Fields.{quantity_at}
-use Rattle.tick_lines.specs.Listings.{attempt_of, state_of, instance_of, listing_of}
-use Rattle.tick_lines.specs.Results.{result_of}
-use Rattle.tick_lines.specs.Tape.{text_in, code_in, probe_in, outcome_in, IsFound}
-use Rattle.tick_lines.specs.Tape.{ListingRead, ResultRead, UsageRead}
-use Rattle.tick_lines.specs.Usages.{usage_in}
+use Rattle.tick_lines.specs.rule.Fields.{quantity_at}
+use Rattle.tick_lines.specs.rule.Listings.{attempt_of, state_of, instance_of, listing_of}
+use Rattle.tick_lines.specs.rule.Results.{result_of}
+use Rattle.tick_lines.specs.state.Tape.{text_in, code_in, probe_in, outcome_in, IsFound}
+use Rattle.tick_lines.specs.state.Tape.{ListingRead, ResultRead, UsageRead}
+use Rattle.tick_lines.specs.rule.Usages.{usage_in}
 
 found_whole : {A E : Type 0} (f : Option Data → Result A E) (name : List ℕ) (d : Data) (left : List Token)
     (o : Option A) (x : A) → IsFound f name d left o → AreAllPassed left → o ≡ Some x → f (field_at name d) ≡ Ok x

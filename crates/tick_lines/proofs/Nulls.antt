@@ -7,22 +7,22 @@ use Rattle.std.proofs.lemmas.Slice.Eq.{bytes_eq-Decides}
 use Rattle.serde_json.specs.Data.{Data, null, object, Members, put}
 use Rattle.serde_json.specs.Find.{get_member}
 use Rattle.serde_json.proofs.Views.{get_member-put, get_member-put_other}
-use Rattle.json_fields.specs.Fields.{present, field_at}
+use Rattle.json_fields.specs.rule.Fields.{present, field_at}
 use Rattle.signals.specs.declared.signal.Signal.TheVariants.{MemoryAvailable, NodefsAvailable, ImagefsAvailable}
 use Rattle.signals.specs.declared.signal.Signal.TheVariants.{NodefsInodesFree, ImagefsInodesFree, PidAvailable}
-use Rattle.signals.specs.Signals.{name_of}
+use Rattle.signals.specs.rule.Signals.{name_of}
 use Rattle.json_fields.specs.declared.scope.Scope.{Scope}
 use Rattle.tick_lines.specs.declared.fault.TickLineFault.{TickLineFault}
-use Rattle.tick_lines.specs.Listings.{listing_of}
-use Rattle.tick_lines.specs.Results.{result_of}
-use Rattle.tick_lines.specs.Usages.{usage_in}
-use Rattle.tick_lines.specs.Entries.{entry_of}
-use Rattle.json_fields.specs.SignalMaps.{read_each, read_map}
+use Rattle.tick_lines.specs.rule.Listings.{listing_of}
+use Rattle.tick_lines.specs.rule.Results.{result_of}
+use Rattle.tick_lines.specs.rule.Usages.{usage_in}
+use Rattle.tick_lines.specs.rule.Entries.{entry_of}
+use Rattle.json_fields.specs.rule.SignalMaps.{read_each, read_map}
 use Rattle.json_fields.proofs.SignalMapNulls.{strangers_ignore}
-use Rattle.tick_lines.specs.Samples.{samples_in}
-use Rattle.tick_lines.specs.Line.{tick_line_of}
-use Rattle.tick_lines.specs.Laws.{AreAlike, ReadsOnly, line_fields, entry_fields, listing_fields, result_fields}
-use Rattle.tick_lines.specs.Laws.{IgnoresNull, NullIsAbsent}
+use Rattle.tick_lines.specs.state.Samples.{samples_in}
+use Rattle.tick_lines.specs.rule.Line.{tick_line_of}
+use Rattle.tick_lines.specs.state.Laws.{AreAlike, ReadsOnly, line_fields, entry_fields, listing_fields, result_fields}
+use Rattle.tick_lines.specs.state.Laws.{IgnoresNull, NullIsAbsent}
 use Rattle.tick_lines.proofs.Alike.{only_their_fields}
 
 differ : (q k : List ℕ) → bytes_eq q k ≡ false → q ≡ k → ⊥

@@ -3,26 +3,27 @@ use Rattle.std.proofs.Common.{◌≡◌, ℕ, Bool, List, [], ◌∷◌, Option,
 use Rattle.std.specs.Prelude.{◌^◌, is_some, if◌then◌else◌, option_and_then, nat_lt, bytes_eq, codes}
 use Rattle.serde_json.specs.Data.{Data, Items}
 use Rattle.serde_json.specs.Find.{as_str, as_number, as_u64, as_array, as_object}
-use Rattle.json_fields.specs.Fields.{field_at, text_at, items_list}
-use Rattle.json_fields.specs.Reading.{else_fault}
+use Rattle.json_fields.specs.rule.Fields.{field_at, text_at, items_list}
+use Rattle.json_fields.specs.rule.Reading.{else_fault}
 use Rattle.json_fields.proofs.Only.{Only, only_ok, only_err, only_bind, only_if, only_some, only_each}
-use Rattle.json_fields.specs.Quantities.{quantity_in}
+use Rattle.json_fields.specs.rule.Quantities.{quantity_in}
 use Rattle.json_fields.specs.declared.fault.FieldFault.{FieldFault}
 use Rattle.state_diff.specs.declared.seen.CriState.TheVariants as states
 use Rattle.tick_lines.specs.declared.fault.TickLineFault.{TickLineFault}
 use Rattle.tick_lines.specs.declared.fault.TickLineFault.TheVariants.{Usage}
 use Rattle.json_fields.specs.declared.scope.Scope.{Scope}
 use Rattle.json_fields.specs.declared.scope.Scope.TheVariants.{Node, FileSystems}
-use Rattle.tick_lines.specs.Fields.{items_from, items_of, only_object, quantity_at, value_named}
-use Rattle.tick_lines.specs.Listings.{attempt_from, attempt_of, state_names, state_numbered, state_from, state_of}
-use Rattle.tick_lines.specs.Listings.{instance_of, listing_of}
-use Rattle.tick_lines.specs.Results.{probe_names, probe_named, outcome_names, outcome_named, result_of}
-use Rattle.tick_lines.specs.Usages.{usage_in, usage_of}
-use Rattle.tick_lines.specs.Entries.{entry_of, entries_of}
+use Rattle.tick_lines.specs.rule.Fields.{items_from, items_of, only_object, quantity_at, value_named}
+use Rattle.tick_lines.specs.rule.Listings.{attempt_from, attempt_of, state_names, state_numbered, state_from}
+use Rattle.tick_lines.specs.rule.Listings.{state_of}
+use Rattle.tick_lines.specs.rule.Listings.{instance_of, listing_of}
+use Rattle.tick_lines.specs.rule.Results.{probe_names, probe_named, outcome_names, outcome_named, result_of}
+use Rattle.tick_lines.specs.rule.Usages.{usage_in, usage_of}
+use Rattle.tick_lines.specs.rule.Entries.{entry_of, entries_of}
 use Rattle.json_fields.proofs.SignalMapRefused.{map_only}
-use Rattle.tick_lines.specs.Samples.{samples_of}
-use Rattle.tick_lines.specs.Line.{tick_line_of}
-use Rattle.tick_lines.specs.Laws.{OneKind}
+use Rattle.tick_lines.specs.rule.Samples.{samples_of}
+use Rattle.tick_lines.specs.rule.Line.{tick_line_of}
+use Rattle.tick_lines.specs.state.Laws.{OneKind}
 
 abbrev pub IsUsageFault : TickLineFault → Type 0
 IsUsageFault fault = fault ≡ Usage

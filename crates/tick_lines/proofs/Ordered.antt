@@ -3,16 +3,16 @@ use Rattle.std.proofs.Common.{◌≡◌, List, [], ◌∷◌, Option, Some, None
 use Rattle.std.specs.List.{AllZip}
 use Rattle.serde_json.specs.Data.{Data, Items}
 use Rattle.serde_json.specs.Find.{as_array}
-use Rattle.json_fields.specs.Fields.{items_list}
-use Rattle.json_fields.specs.Reading.{◌>>=◌, each}
+use Rattle.json_fields.specs.rule.Fields.{items_list}
+use Rattle.json_fields.specs.rule.Reading.{◌>>=◌, each}
 use Rattle.json_fields.proofs.Steps.{bind_ok}
 use Rattle.json_fields.proofs.Only.{same_value}
 use Rattle.tick_lines.specs.declared.fault.TickLineFault.{TickLineFault}
-use Rattle.tick_lines.specs.Fields.{items_from, items_of}
-use Rattle.tick_lines.specs.Listings.{listing_of}
-use Rattle.tick_lines.specs.Results.{result_of}
-use Rattle.tick_lines.specs.Entries.{entry_of}
-use Rattle.tick_lines.specs.Laws.{SaysInOrder, InOrder}
+use Rattle.tick_lines.specs.rule.Fields.{items_from, items_of}
+use Rattle.tick_lines.specs.rule.Listings.{listing_of}
+use Rattle.tick_lines.specs.rule.Results.{result_of}
+use Rattle.tick_lines.specs.rule.Entries.{entry_of}
+use Rattle.tick_lines.specs.state.Laws.{SaysInOrder, InOrder}
 use Rattle.tick_lines.proofs.Parts.{line_parts, entry_parts}
 
 each_ok : {A B E : Type 0} (f : A → Result B E) (xs : List A) (ys : List B) → each f xs ≡ Ok ys

@@ -2,8 +2,8 @@
 use Rattle.std.proofs.Common.{◌≡◌, ◌∙◌, Ok, ap}
 use Rattle.std.specs.Prelude.{codes}
 use Rattle.serde_json.specs.Data.{Data}
-use Rattle.json_fields.specs.Fields.{field_at, text_at}
-use Rattle.json_fields.specs.Reading.{some_or}
+use Rattle.json_fields.specs.rule.Fields.{field_at, text_at}
+use Rattle.json_fields.specs.rule.Reading.{some_or}
 use Rattle.json_fields.proofs.Steps.{bind_ok}
 use Rattle.json_fields.proofs.Only.{same_value}
 use Rattle.observations.specs.declared.usage.Usage.{Usage}
@@ -11,13 +11,13 @@ use Rattle.tick_lines.specs.declared.entry.TickEntry.{TickEntry}
 use Rattle.tick_lines.specs.declared.fault.TickLineFault.TheVariants as faults
 use Rattle.tick_lines.specs.declared.line.TickLine.{TickLine}
 use Rattle.json_fields.specs.declared.scope.Scope.TheVariants.{Node, FileSystems}
-use Rattle.tick_lines.specs.Fields.{only_object, quantity_at}
-use Rattle.tick_lines.specs.Listings.{listings_of}
-use Rattle.tick_lines.specs.Results.{results_of}
-use Rattle.tick_lines.specs.Usages.{usage_in, usage_of, unsampled_of}
-use Rattle.tick_lines.specs.Entries.{entry_of, entries_of}
-use Rattle.tick_lines.specs.Samples.{samples_of}
-use Rattle.tick_lines.specs.Line.{tick_line_of}
+use Rattle.tick_lines.specs.rule.Fields.{only_object, quantity_at}
+use Rattle.tick_lines.specs.rule.Listings.{listings_of}
+use Rattle.tick_lines.specs.rule.Results.{results_of}
+use Rattle.tick_lines.specs.rule.Usages.{usage_in, usage_of, unsampled_of}
+use Rattle.tick_lines.specs.rule.Entries.{entry_of, entries_of}
+use Rattle.tick_lines.specs.rule.Samples.{samples_of}
+use Rattle.tick_lines.specs.rule.Line.{tick_line_of}
 
 pub record IsLine (d : Data) (line : TickLine) : Type 0 where
   pub entries : entries_of (field_at (codes "pods") d) ≡ Ok line.entries

@@ -3,26 +3,26 @@ use Rattle.std.proofs.Common.{◌≡◌, ◌∙◌, ℕ, Option, Some, None, Res
 use Rattle.std.specs.Prelude.{◌↔◌, codes}
 use Rattle.std.proofs.lemmas.Option.{same_Some, none-some}
 use Rattle.serde_json.specs.Data.{Data}
-use Rattle.json_fields.specs.Fields.{field_at}
-use Rattle.json_fields.specs.Reading.{◌>>=◌, else_fault}
+use Rattle.json_fields.specs.rule.Fields.{field_at}
+use Rattle.json_fields.specs.rule.Reading.{◌>>=◌, else_fault}
 use Rattle.json_fields.proofs.Steps.{bind_ok}
 use Rattle.json_fields.proofs.Only.{same_value}
 use Rattle.observations.specs.declared.usage.Usage.{Usage}
-use Rattle.json_fields.specs.Quantities.{quantity_in}
+use Rattle.json_fields.specs.rule.Quantities.{quantity_in}
 use Rattle.json_fields.specs.declared.fault.FieldFault.{FieldFault}
-use Rattle.signals.specs.BySignal.{of}
-use Rattle.signals.specs.Signals.{name_of}
+use Rattle.signals.specs.rule.BySignal.{of}
+use Rattle.signals.specs.rule.Signals.{name_of}
 use Rattle.signals.specs.declared.by_signal.BySignal.{BySignal}
 use Rattle.signals.specs.declared.signal.Signal.{Signal}
 use Rattle.json_fields.specs.declared.scope.Scope.{Scope}
 use Rattle.json_fields.specs.declared.scope.Scope.TheVariants.{Node, FileSystems}
-use Rattle.json_fields.specs.SignalMaps.{in_map}
+use Rattle.json_fields.specs.rule.SignalMaps.{in_map}
 use Rattle.json_fields.proofs.EachSignal.{map_read}
 use Rattle.tick_lines.specs.declared.fault.TickLineFault.TheVariants as faults
-use Rattle.tick_lines.specs.Fields.{quantity_at}
-use Rattle.tick_lines.specs.Usages.{usage_in, usage_of}
-use Rattle.tick_lines.specs.Samples.{samples_of}
-use Rattle.tick_lines.specs.Laws.{IsSample, IsUsage, SaysUsage, SamplesSaid, UsageSaid}
+use Rattle.tick_lines.specs.rule.Fields.{quantity_at}
+use Rattle.tick_lines.specs.rule.Usages.{usage_in, usage_of}
+use Rattle.tick_lines.specs.rule.Samples.{samples_of}
+use Rattle.tick_lines.specs.state.Laws.{IsSample, IsUsage, SaysUsage, SamplesSaid, UsageSaid}
 use Rattle.tick_lines.proofs.Parts.{line_parts, entry_parts, usage_parts}
 
 -- the value that was found is this quantity

@@ -2,22 +2,22 @@
 use Rattle.std.proofs.Common.{◌≡◌, ℕ, false, List, Option, Some, None, Result, Ok, Err, refl, ap}
 use Rattle.std.specs.Prelude.{option_and_then, codes}
 use Rattle.serde_json.specs.Data.{Data}
-use Rattle.json_fields.specs.Fields.{field_at}
-use Rattle.json_fields.specs.Reading.{◌>>=◌}
+use Rattle.json_fields.specs.rule.Fields.{field_at}
+use Rattle.json_fields.specs.rule.Reading.{◌>>=◌}
 use Rattle.json_fields.proofs.Only.{Only}
-use Rattle.signals.specs.Signals.{named, is_of_file_system}
+use Rattle.signals.specs.rule.Signals.{named, is_of_file_system}
 use Rattle.signals.specs.declared.signal.Signal.{Signal}
 use Rattle.tick_lines.specs.declared.fault.TickLineFault.{TickLineFault}
 use Rattle.tick_lines.specs.declared.fault.TickLineFault.TheVariants.{Usage}
 use Rattle.json_fields.specs.declared.scope.Scope.{Scope}
 use Rattle.json_fields.specs.declared.scope.Scope.TheVariants.{Node, FileSystems}
-use Rattle.tick_lines.specs.Entries.{entries_of}
-use Rattle.json_fields.specs.SignalMaps.{includes_named, may_name}
+use Rattle.tick_lines.specs.rule.Entries.{entries_of}
+use Rattle.json_fields.specs.rule.SignalMaps.{includes_named, may_name}
 use Rattle.json_fields.proofs.SignalMapStrangers.{map_refused}
-use Rattle.tick_lines.specs.Fields.{quantity_at}
-use Rattle.tick_lines.specs.Samples.{samples_of}
-use Rattle.tick_lines.specs.Line.{tick_line_of}
-use Rattle.tick_lines.specs.Laws.{OnlySignals}
+use Rattle.tick_lines.specs.rule.Fields.{quantity_at}
+use Rattle.tick_lines.specs.rule.Samples.{samples_of}
+use Rattle.tick_lines.specs.rule.Line.{tick_line_of}
+use Rattle.tick_lines.specs.state.Laws.{OnlySignals}
 use Rattle.tick_lines.proofs.OnlyUsage.{IsUsageFault, entries_only, samples_only}
 
 -- the fault of a later step is the answer where each earlier step has the same fault alone

@@ -2,18 +2,18 @@
 use Rattle.std.proofs.Common.{◌≡◌, ◌∙◌, Some, Ok, ap}
 use Rattle.std.specs.Prelude.{codes}
 use Rattle.serde_json.specs.Data.{Data}
-use Rattle.json_fields.specs.Fields.{text_at}
-use Rattle.json_fields.specs.Reading.{some_or}
+use Rattle.json_fields.specs.rule.Fields.{text_at}
+use Rattle.json_fields.specs.rule.Reading.{some_or}
 use Rattle.json_fields.proofs.Steps.{bind_ok, there_is}
 use Rattle.json_fields.proofs.Only.{same_value}
 use Rattle.tick_lines.specs.declared.entry.TickEntry.{TickEntry}
 use Rattle.tick_lines.specs.declared.fault.TickLineFault.TheVariants.{Usage}
 use Rattle.tick_lines.specs.declared.listing.Listing.{Listing}
 use Rattle.tick_lines.specs.declared.probing.ProbeResult.{ProbeResult}
-use Rattle.tick_lines.specs.Listings.{instance_of, listing_of}
-use Rattle.tick_lines.specs.Results.{probe_named, outcome_named, result_of}
-use Rattle.tick_lines.specs.Entries.{entry_of}
-use Rattle.tick_lines.specs.Laws.{TextsSaid}
+use Rattle.tick_lines.specs.rule.Listings.{instance_of, listing_of}
+use Rattle.tick_lines.specs.rule.Results.{probe_named, outcome_named, result_of}
+use Rattle.tick_lines.specs.rule.Entries.{entry_of}
+use Rattle.tick_lines.specs.state.Laws.{TextsSaid}
 use Rattle.tick_lines.proofs.Parts.{entry_parts}
 
 entry_said : (d : Data) (entry : TickEntry) → entry_of d ≡ Ok entry → text_at (codes "pod") d ≡ Some entry.key

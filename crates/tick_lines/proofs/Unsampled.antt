@@ -2,10 +2,10 @@
 use Rattle.std.proofs.Common.{◌≡◌, ◌⊎◌, true, false, Option, Some, None, refl, subst, inl, inr}
 use Rattle.std.specs.Prelude.{codes}
 use Rattle.serde_json.specs.Data.{Data, null, boolean, number, string, array, object}
-use Rattle.json_fields.specs.Fields.{field_at}
+use Rattle.json_fields.specs.rule.Fields.{field_at}
 use Rattle.tick_lines.specs.declared.usage.UnsampledMember.TheVariants.{OfOtherKind}
-use Rattle.tick_lines.specs.Usages.{unsampled_of}
-use Rattle.tick_lines.specs.Laws.{SaysUnsampled, UnsampledSaid}
+use Rattle.tick_lines.specs.rule.Usages.{unsampled_of}
+use Rattle.tick_lines.specs.state.Laws.{SaysUnsampled, UnsampledSaid}
 use Rattle.tick_lines.proofs.Parts.{entry_parts}
 
 abbrev IsSilent : Option Data → Type 0

@@ -1,10 +1,2 @@
-pub mod GivesUnlessMemory
-pub mod Fields
-pub mod Listings
-pub mod Results
-pub mod Usages
-pub mod Entries
-pub mod Samples
-pub mod Line
-pub mod Laws
-pub mod Tape
+pub mod rule
+pub mod state

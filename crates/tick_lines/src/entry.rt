@@ -1,7 +1,7 @@
 //! The entries of a tick line, as they are written.
 
-ghost use Rattle.tick_lines.specs.GivesUnlessMemory.{GivesUnlessMemory};
-ghost use Rattle.tick_lines.specs.Entries.{entry_of};
+ghost use Rattle.tick_lines.specs.state.GivesUnlessMemory.{GivesUnlessMemory};
+ghost use Rattle.tick_lines.specs.rule.Entries.{entry_of};
 
 use crate::fault::TickLineFault;
 use crate::fields::text_of;
@@ -31,7 +31,7 @@ pub struct TickEntry {
     pub unsampled: UnsampledMember,
 }
 
-#[tactic(auto, unfolding(crate::specs::Entries::entry_of))]
+#[tactic(auto, unfolding(crate::specs::rule::Entries::entry_of))]
 fn entry_of<V: TickValue>(alloc: Global, value: &V) -> Result<TickEntry, TickLineFault>
     ensures { GivesUnlessMemory (λ e. e) result (entry_of (V.data value.now)) }
 {

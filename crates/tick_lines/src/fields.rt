@@ -2,9 +2,10 @@
 
 ghost use Rattle.std.specs.Prelude.{map, option_map};
 ghost use Rattle.tick_lines.specs.declared.fault.TickLineFault.TheVariants.{Usage};
-ghost use Rattle.json_fields.specs.Reading.{some_or, GivesExactly};
-ghost use Rattle.tick_lines.specs.GivesUnlessMemory.{GivesUnlessMemory};
-ghost use Rattle.tick_lines.specs.Fields.{items_of, only_object, quantity_at};
+ghost use Rattle.json_fields.specs.rule.Reading.{some_or};
+ghost use Rattle.json_fields.specs.state.Reading.{GivesExactly};
+ghost use Rattle.tick_lines.specs.state.GivesUnlessMemory.{GivesUnlessMemory};
+ghost use Rattle.tick_lines.specs.rule.Fields.{items_of, only_object, quantity_at};
 
 use crate::fault::TickLineFault;
 use json_fields::{Json, quantity_in};

@@ -1,9 +1,9 @@
 //! The items of an array, each of which is read in the same way.
 
 ghost use Rattle.std.specs.Prelude.{map, option_map};
-ghost use Rattle.json_fields.specs.Reading.{each};
-ghost use Rattle.tick_lines.specs.Fields.{each_item};
-ghost use Rattle.tick_lines.specs.GivesUnlessMemory.{GivesUnlessMemory};
+ghost use Rattle.json_fields.specs.rule.Reading.{each};
+ghost use Rattle.tick_lines.specs.rule.Fields.{each_item};
+ghost use Rattle.tick_lines.specs.state.GivesUnlessMemory.{GivesUnlessMemory};
 
 use crate::fault::TickLineFault;
 use crate::fields::items_of;
@@ -15,7 +15,7 @@ use std::alloc::Global;
 pub(crate) trait ReadItem: Drop + Sized {
     ghost use Rattle.std.specs.Prelude.{Result};
     ghost use Rattle.serde_json.specs.Data.{Data};
-    ghost use Rattle.tick_lines.specs.GivesUnlessMemory.{GivesUnlessMemory};
+    ghost use Rattle.tick_lines.specs.state.GivesUnlessMemory.{GivesUnlessMemory};
     ghost use Rattle.tick_lines.specs.declared.fault.TickLineFault.{TickLineFault};
 
     /// What is read of an item, in the definition's words.

@@ -1,6 +1,6 @@
 //! What the definition of a tick line implies, in the words of the format. The functions do nothing;
 //! their contracts are the laws.
-ghost use Rattle.tick_lines.specs.Laws as laws;
+ghost use Rattle.tick_lines.specs.state.Laws as laws;
 
 /// Each element of an array says the entry, the listing or the result at its place, and no others
 /// are said.

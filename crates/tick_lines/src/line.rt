@@ -1,10 +1,10 @@
 //! A tick line, as it is written.
 
 ghost use Rattle.std.specs.Prelude.{codes};
-ghost use Rattle.json_fields.specs.Fields.{field_at};
-ghost use Rattle.tick_lines.specs.Entries.{entries_of};
-ghost use Rattle.tick_lines.specs.GivesUnlessMemory.{GivesUnlessMemory};
-ghost use Rattle.tick_lines.specs.Line.{tick_line_of};
+ghost use Rattle.json_fields.specs.rule.Fields.{field_at};
+ghost use Rattle.tick_lines.specs.rule.Entries.{entries_of};
+ghost use Rattle.tick_lines.specs.state.GivesUnlessMemory.{GivesUnlessMemory};
+ghost use Rattle.tick_lines.specs.rule.Line.{tick_line_of};
 
 use crate::entry::TickEntry;
 use crate::fault::TickLineFault;
@@ -48,7 +48,7 @@ pub fn entries_of<V: TickValue>(
 /// `Usage` where a field that has to be there is missing, or one has a value of another kind or out
 /// of its range, a faulty quantity, or a signal that it may not name; `OutOfMemory` where there is no memory for what
 /// it says.
-#[tactic(auto, unfolding(crate::specs::Line::tick_line_of))]
+#[tactic(auto, unfolding(crate::specs::rule::Line::tick_line_of))]
 pub fn tick_line_of<V: TickValue>(alloc: Global, line: &V) -> Result<TickLine, TickLineFault>
     ensures { GivesUnlessMemory (λ t. t) result (tick_line_of (V.data line.now)) }
 {

@@ -1,10 +1,11 @@
 //! The listings of an entry, as they are written.
 
 ghost use Rattle.std.specs.Prelude.{◌≡◌, option_map};
-ghost use Rattle.json_fields.specs.Reading.{GivesExactly};
-ghost use Rattle.tick_lines.specs.GivesUnlessMemory.{GivesUnlessMemory};
-ghost use Rattle.tick_lines.specs.Listings.{attempt_of, state_named, state_numbered, state_of, code_of, instance_of};
-ghost use Rattle.tick_lines.specs.Listings.{listing_of};
+ghost use Rattle.json_fields.specs.state.Reading.{GivesExactly};
+ghost use Rattle.tick_lines.specs.state.GivesUnlessMemory.{GivesUnlessMemory};
+ghost use Rattle.tick_lines.specs.rule.Listings.{attempt_of, state_named, state_numbered, state_of, code_of};
+ghost use Rattle.tick_lines.specs.rule.Listings.{instance_of};
+ghost use Rattle.tick_lines.specs.rule.Listings.{listing_of};
 
 use crate::fault::TickLineFault;
 use crate::fields::text_of;
@@ -91,7 +92,7 @@ pub(crate) fn code_of<V: Json>(found: Option<&V>) -> Option<i32>
     i32::try_from(found?.signed()?).ok()
 }
 
-#[tactic(auto, unfolding(crate::specs::Listings::instance_of))]
+#[tactic(auto, unfolding(crate::specs::rule::Listings::instance_of))]
 fn instance_of<V: Json>(value: &V) -> Result<ListedInstance, TickLineFault>
     ensures { GivesExactly (λ i. i) result (instance_of (V.data value.now)) }
 {
@@ -102,7 +103,7 @@ fn instance_of<V: Json>(value: &V) -> Result<ListedInstance, TickLineFault>
     })
 }
 
-#[tactic(auto, unfolding(crate::specs::Listings::listing_of))]
+#[tactic(auto, unfolding(crate::specs::rule::Listings::listing_of))]
 fn listing_of<V: Json>(alloc: Global, value: &V) -> Result<Listing, TickLineFault>
     ensures { GivesUnlessMemory (λ l. l) result (listing_of (V.data value.now)) }
 {

@@ -1,9 +1,9 @@
 //! The results of probes in an entry, as they are written.
 
 ghost use Rattle.std.specs.Prelude.{option_map};
-ghost use Rattle.json_fields.specs.Reading.{GivesExactly};
-ghost use Rattle.tick_lines.specs.GivesUnlessMemory.{GivesUnlessMemory};
-ghost use Rattle.tick_lines.specs.Results.{probe_named, outcome_named, result_of};
+ghost use Rattle.json_fields.specs.state.Reading.{GivesExactly};
+ghost use Rattle.tick_lines.specs.state.GivesUnlessMemory.{GivesUnlessMemory};
+ghost use Rattle.tick_lines.specs.rule.Results.{probe_named, outcome_named, result_of};
 
 use crate::fault::TickLineFault;
 use crate::fields::text_of;
@@ -52,7 +52,7 @@ pub(crate) fn outcome_named(found: Option<&str>) -> Result<Outcome, TickLineFaul
     }
 }
 
-#[tactic(auto, unfolding(crate::specs::Results::result_of))]
+#[tactic(auto, unfolding(crate::specs::rule::Results::result_of))]
 fn result_of<V: Json>(alloc: Global, value: &V) -> Result<ProbeResult, TickLineFault>
     ensures { GivesUnlessMemory (λ r. r) result (result_of (V.data value.now)) }
 {

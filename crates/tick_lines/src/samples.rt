@@ -1,8 +1,8 @@
 //! The samples of the node's signals.
 
 ghost use Rattle.std.specs.Prelude.{option_map};
-ghost use Rattle.json_fields.specs.Reading.{GivesExactly};
-ghost use Rattle.tick_lines.specs.Samples.{samples_of};
+ghost use Rattle.json_fields.specs.state.Reading.{GivesExactly};
+ghost use Rattle.tick_lines.specs.rule.Samples.{samples_of};
 
 use crate::fault::TickLineFault;
 use json_fields::{Json, QuantityMap, Scope, read_map};

@@ -1,8 +1,8 @@
 //! What an entry tells of its pod's use of the node.
 
 ghost use Rattle.std.specs.Prelude.{◌≡◌, option_map};
-ghost use Rattle.json_fields.specs.Reading.{GivesExactly};
-ghost use Rattle.tick_lines.specs.Usages.{usage_in, usage_of, unsampled_of};
+ghost use Rattle.json_fields.specs.state.Reading.{GivesExactly};
+ghost use Rattle.tick_lines.specs.rule.Usages.{usage_in, usage_of, unsampled_of};
 
 use crate::fault::TickLineFault;
 use crate::fields::{only_object, quantity_at};
@@ -21,7 +21,7 @@ pub enum UnsampledMember {
     OfOtherKind,
 }
 
-#[tactic(auto, unfolding(crate::specs::Usages::usage_in))]
+#[tactic(auto, unfolding(crate::specs::rule::Usages::usage_in))]
 fn usage_in<V: Json>(value: &V) -> Result<Usage, TickLineFault>
     ensures { GivesExactly (λ u. u) result (usage_in (V.data value.now)) }
 {

@@ -8,27 +8,27 @@ use Rattle.std.proofs.lemmas.Option.{slice_get_within, slice_get_past}
 use Rattle.histories.proofs.Places.{length-more}
 use Rattle.histories.proofs.Lists.{place_split, given_at, slice_get-new}
 use Rattle.manifest.specs.declared.pod.PodSpec.{PodSpec}
-use Rattle.manifest.specs.Containers.{most_containers}
+use Rattle.manifest.specs.rule.Containers.{most_containers}
 use Rattle.node_config.specs.declared.node.NodeConfig.{NodeConfig}
-use Rattle.observations.specs.Observations.{own_ticks}
-use Rattle.observations.specs.Pods.{PodObs}
+use Rattle.observations.specs.rule.Observations.{own_ticks}
+use Rattle.observations.specs.rule.Pods.{PodObs}
 use Rattle.observations.specs.declared.tick.TickObs.{TickObs}
-use Rattle.observations.specs.Limits.{most_pods}
+use Rattle.observations.specs.rule.Limits.{most_pods}
 use Rattle.node_signals.specs.declared.key.ThresholdKey.{ThresholdKey}
-use Rattle.pod_state.specs.Pods.{PodTick, pod_tick}
+use Rattle.pod_state.specs.rule.Pods.{PodTick, pod_tick}
 use Rattle.pod_piece.specs.declared.piece.EvictionRecord.{EvictionRecord}
 use Rattle.pod_piece.specs.declared.status.PodStatus.{PodStatus}
-use Rattle.pod_piece.specs.Piece.{Piece, new_piece, pods_in}
+use Rattle.pod_piece.specs.state.Piece.{Piece, new_piece, pods_in}
 use Rattle.ranking.proofs.LawLemmas.{same_victim}
 use Rattle.eviction.specs.declared.eviction.Eviction.{Eviction}
-use Rattle.eviction.specs.Replay.{EvictedAt, pod_ticks, own_eviction, IsCandidate}
-use Rattle.eviction.specs.Pausing.{kept}
-use Rattle.eviction.specs.Replay.{IsOfVictim, IsEvictionFor, is_paused, unless_paused, IsEvictionOfTick}
+use Rattle.eviction.specs.rule.Replay.{EvictedAt, pod_ticks, own_eviction, IsCandidate}
+use Rattle.eviction.specs.state.Pausing.{kept}
+use Rattle.eviction.specs.rule.Replay.{IsOfVictim, IsEvictionFor, is_paused, unless_paused, IsEvictionOfTick}
 use Rattle.eviction.proofs.Own.{evicted_none}
-use Rattle.node_pods.specs.Pods.{Pods, with_pod}
+use Rattle.node_pods.specs.state.Pods.{Pods, with_pod}
 use Rattle.event_list.proofs.More.{events_arrived}
-use Rattle.tick_round.specs.Node.{State, state, piece_after, HasTaken}
-use Rattle.tick_round.specs.Round.{AreFew, IsKept}
+use Rattle.tick_round.specs.state.Node.{State, state, piece_after, HasTaken}
+use Rattle.tick_round.specs.state.Round.{AreFew, IsKept}
 use Rattle.tick_round.proofs.GoesOn.{kept_by}
 use Rattle.tick_round.proofs.Pieces.{made}
 

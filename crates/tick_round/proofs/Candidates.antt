@@ -4,27 +4,28 @@ use Rattle.std.proofs.Common.{Option, Some, None, refl, sym, ap, subst, ◌∙�
 use Rattle.std.specs.Prelude.{◌↔◌, IsSome, slice_get, option_map}
 use Rattle.std.proofs.lemmas.Option.{slice_get-map}
 use Rattle.std.proofs.lemmas.List.{length-map}
-use Rattle.histories.specs.Histories.{last_moment}
+use Rattle.histories.specs.rule.Histories.{last_moment}
 use Rattle.histories.proofs.Lists.{some_given, same_places}
 use Rattle.manifest.specs.declared.pod.PodSpec.{PodSpec}
 use Rattle.node_config.specs.declared.node.NodeConfig.{NodeConfig}
-use Rattle.observations.specs.Pods.{PodObs}
+use Rattle.observations.specs.rule.Pods.{PodObs}
 use Rattle.observations.specs.declared.tick.TickObs.{TickObs}
-use Rattle.observations.specs.Observations.{shown_of}
+use Rattle.observations.specs.rule.Observations.{shown_of}
 use Rattle.node_signals.specs.declared.key.ThresholdKey.{ThresholdKey}
-use Rattle.node_signals.specs.Thresholds.{IsServed}
+use Rattle.node_signals.specs.rule.Thresholds.{IsServed}
 use Rattle.pod_piece.specs.declared.order.EvictOrder.{EvictOrder}
 use Rattle.pod_piece.specs.declared.status.PodStatus.{PodStatus}
-use Rattle.pod_piece.specs.Piece.{Piece, pods_in}
-use Rattle.pod_piece.specs.Status.{IsStatusOf}
+use Rattle.pod_piece.specs.state.Piece.{Piece, pods_in}
+use Rattle.pod_piece.specs.state.Status.{IsStatusOf}
 use Rattle.ranking.proofs.LawLemmas.{same_victim}
 use Rattle.eviction.specs.declared.eviction.Eviction.{Eviction}
-use Rattle.eviction.specs.Replay.{IsCandidate as IsCandidateIn, IsOfVictim, IsEvictionFor, is_paused, unless_paused}
-use Rattle.eviction.specs.Replay.{IsEvictionOfTick}
-use Rattle.node_pods.specs.Pods.{IsCandidate, MayBeHanded, AreAfter}
+use Rattle.eviction.specs.rule.Replay.{IsCandidate as IsCandidateIn, IsOfVictim, IsEvictionFor, is_paused}
+use Rattle.eviction.specs.rule.Replay.{unless_paused}
+use Rattle.eviction.specs.rule.Replay.{IsEvictionOfTick}
+use Rattle.node_pods.specs.state.Pods.{IsCandidate, MayBeHanded, AreAfter}
 use Rattle.node_pods.proofs.Kept.{present_shown, shown_present}
-use Rattle.tick_round.specs.Evict.{IsEvictionAt, MayBeEvicted}
-use Rattle.tick_round.specs.Node.{piece_after, ArePieces}
+use Rattle.tick_round.specs.state.Evict.{IsEvictionAt, MayBeEvicted}
+use Rattle.tick_round.specs.state.Node.{piece_after, ArePieces}
 use Rattle.tick_round.proofs.Pieces.{pod_at}
 
 -- the pods that are present at the tick, by the last moments of their pieces, are those that the tick shows

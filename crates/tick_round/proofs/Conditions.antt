@@ -5,9 +5,9 @@ use Rattle.observations.specs.declared.tick.TickObs.{TickObs}
 use Rattle.node_config.specs.declared.node.NodeConfig.{NodeConfig}
 use Rattle.node_signals.specs.declared.condition.NodeCondition.{NodeCondition}
 use Rattle.node_signals.specs.declared.condition.NodeCondition.TheVariants.{MemoryPressure, DiskPressure, PidPressure}
-use Rattle.node_signals.specs.Conditions.{conditions}
+use Rattle.node_signals.specs.rule.Conditions.{conditions}
 use Rattle.tick_round.specs.declared.summary.ConditionStatus.{ConditionStatus}
-use Rattle.tick_round.specs.Summary.{IsConditionAfter, AreConditionsAfter}
+use Rattle.tick_round.specs.rule.Summary.{IsConditionAfter, AreConditionsAfter}
 
 at_one : (config : NodeConfig) (ticks : List TickObs) (c c' : NodeCondition) (s s' : ConditionStatus)
     → Some c ≡ Some c' → Some s ≡ Some s' → IsConditionAfter config ticks c s → IsConditionAfter config ticks c' s'

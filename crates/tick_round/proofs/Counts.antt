@@ -6,24 +6,25 @@ use Rattle.std.specs.Option.{option_flatten}
 use Rattle.std.specs.List.{cons_option, filter, filter_map, sum_by}
 use Rattle.std.proofs.lemmas.List.Elements.{filter_map-append}
 use Rattle.std.proofs.lemmas.List.Sums.{sum_by-cons, sum_by-append}
-use Rattle.observations.specs.Pods.{PodObs}
+use Rattle.observations.specs.rule.Pods.{PodObs}
 use Rattle.observations.specs.declared.tick.TickObs.{TickObs}
-use Rattle.observations.specs.Observations.{all_shown, shown_of, own_ticks}
+use Rattle.observations.specs.rule.Observations.{all_shown, shown_of, own_ticks}
 use Rattle.node_signals.specs.declared.event.NodeEvent.{NodeEvent}
 use Rattle.pod_state.specs.declared.events.PodEvent.{PodEvent}
-use Rattle.pod_state.specs.Pods.{pod_tick}
-use Rattle.pod_piece.specs.Made.{MadeEvent}
+use Rattle.pod_state.specs.rule.Pods.{pod_tick}
+use Rattle.pod_piece.specs.state.Made.{MadeEvent}
 use Rattle.eviction.specs.declared.eviction.Eviction.{Eviction}
-use Rattle.eviction.specs.Replay.{pod_ticks}
+use Rattle.eviction.specs.rule.Replay.{pod_ticks}
 use Rattle.event_book.specs.declared.totals.Totals.{Totals}
-use Rattle.event_book.specs.Totals.{is_order, plus}
-use Rattle.event_book.specs.Rounds.{is_made_order, addition_of, sums_of_additions}
+use Rattle.event_book.specs.rule.Totals.{is_order}
+use Rattle.event_book.specs.state.Totals.{plus}
+use Rattle.event_book.specs.state.Rounds.{is_made_order, addition_of, sums_of_additions}
 use Rattle.event_list.specs.declared.event.Event.{Event}
 use Rattle.event_list.specs.declared.event.EventKind.TheVariants.{Pod}
 use Rattle.event_list.specs.declared.tick.TickEvents.{TickEvents}
-use Rattle.event_list.specs.Events.{event, of_pods, of_node, of_eviction}
-use Rattle.event_list.specs.Tick.{events_at, of_ticks}
-use Rattle.event_list.specs.Totals.{pod_events, totals_of}
+use Rattle.event_list.specs.rule.Events.{event, of_pods, of_node, of_eviction}
+use Rattle.event_list.specs.state.Tick.{events_at, of_ticks}
+use Rattle.event_list.specs.rule.Totals.{pod_events, totals_of}
 use Rattle.tick_round.proofs.Told.{weight_of}
 
 -- a count is a sum of ones, and so is one of those that pass a test

@@ -7,26 +7,26 @@ use Rattle.histories.proofs.Places.{length-more}
 use Rattle.manifest.specs.declared.pod.PodSpec.{PodSpec}
 use Rattle.node_config.specs.declared.node.NodeConfig.{NodeConfig}
 use Rattle.observations.specs.declared.tick.TickObs.{TickObs}
-use Rattle.observations.specs.Observations.{shown_of}
+use Rattle.observations.specs.rule.Observations.{shown_of}
 use Rattle.node_signals.specs.declared.key.ThresholdKey.{ThresholdKey}
-use Rattle.pod_state.specs.Pods.{PodTick}
-use Rattle.pod_piece.specs.Piece.{Piece, evicted_at}
-use Rattle.pod_piece.specs.Made.{MadeEvent}
+use Rattle.pod_state.specs.rule.Pods.{PodTick}
+use Rattle.pod_piece.specs.state.Piece.{Piece, evicted_at}
+use Rattle.pod_piece.specs.state.Made.{MadeEvent}
 use Rattle.eviction.specs.declared.eviction.Eviction.{Eviction}
-use Rattle.eviction.specs.Pausing.{Kept, kept, still}
-use Rattle.eviction.specs.Replay.{is_paused, unless_paused}
+use Rattle.eviction.specs.state.Pausing.{Kept, kept, still}
+use Rattle.eviction.specs.rule.Replay.{is_paused, unless_paused}
 use Rattle.event_book.specs.declared.totals.Totals.{Totals}
 use Rattle.event_list.specs.declared.event.Event.{Event}
 use Rattle.event_list.specs.declared.tick.TickEvents.{TickEvents}
-use Rattle.event_list.specs.Events.{of_pods, of_node, of_eviction}
-use Rattle.event_list.specs.Tick.{events_at, of_ticks}
-use Rattle.event_list.specs.Totals.{totals_of}
-use Rattle.node_pods.specs.Pods.{Pods, after_each}
+use Rattle.event_list.specs.rule.Events.{of_pods, of_node, of_eviction}
+use Rattle.event_list.specs.state.Tick.{events_at, of_ticks}
+use Rattle.event_list.specs.rule.Totals.{totals_of}
+use Rattle.node_pods.specs.state.Pods.{Pods, after_each}
 use Rattle.node_pods.proofs.Steps.{after_is}
-use Rattle.tick_round.specs.Evict.{IsEvictionAt, AreWithout}
+use Rattle.tick_round.specs.state.Evict.{IsEvictionAt, AreWithout}
 use Rattle.tick_round.specs.declared.stretch.Begun.{Begun}
-use Rattle.tick_round.specs.Node.{State, state, HasTaken, FitAll}
-use Rattle.tick_round.specs.Stretch.{no_evictions, HasBegun}
+use Rattle.tick_round.specs.state.Node.{State, state, HasTaken, FitAll}
+use Rattle.tick_round.specs.state.Stretch.{no_evictions, HasBegun}
 use Rattle.tick_round.proofs.Folds.{TellAll, tell_others, folded, folds, heeded_now}
 use Rattle.tick_round.proofs.GoesOn.{goes_on, part_of}
 use Rattle.tick_round.proofs.Handing.{after_all, after_all-more, front_handed, rest_handed}

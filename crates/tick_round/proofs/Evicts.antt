@@ -6,11 +6,11 @@ use Rattle.std.proofs.lemmas.Bool.{ltb-true}
 use Rattle.node_config.specs.declared.node.NodeConfig.{NodeConfig}
 use Rattle.node_signals.specs.declared.key.ThresholdKey.{ThresholdKey}
 use Rattle.pod_piece.specs.declared.order.EvictOrder.{EvictOrder}
-use Rattle.pod_piece.specs.Piece.{Piece, pods_in}
-use Rattle.ranking.specs.Order.{IsVictim}
-use Rattle.eviction.specs.Replay.{order_of}
-use Rattle.node_pods.specs.Pods.{IsCandidate}
-use Rattle.tick_round.specs.Evict.{IsEvictionAt}
+use Rattle.pod_piece.specs.state.Piece.{Piece, pods_in}
+use Rattle.ranking.specs.rule.Order.{IsVictim}
+use Rattle.eviction.specs.rule.Replay.{order_of}
+use Rattle.node_pods.specs.state.Pods.{IsCandidate}
+use Rattle.tick_round.specs.state.Evict.{IsEvictionAt}
 
 -- the specification of a pod stands where its piece does
 pub get_pod : (pieces : List Piece) (n : ℕ) (piece : Piece) → slice_get pieces n ≡ Some piece

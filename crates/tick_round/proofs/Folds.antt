@@ -6,30 +6,30 @@ use Rattle.std.proofs.lemmas.Option.{slice_get_within}
 use Rattle.histories.proofs.Places.{length-more}
 use Rattle.histories.proofs.Lists.{given_at}
 use Rattle.manifest.specs.declared.pod.PodSpec.{PodSpec}
-use Rattle.observations.specs.Pods.{PodObs}
+use Rattle.observations.specs.rule.Pods.{PodObs}
 use Rattle.observations.specs.declared.tick.TickObs.{TickObs}
-use Rattle.observations.specs.Observations.{shown_of}
-use Rattle.observations.specs.Limits.{most_ticks}
+use Rattle.observations.specs.rule.Observations.{shown_of}
+use Rattle.observations.specs.rule.Limits.{most_ticks}
 use Rattle.node_signals.specs.declared.node.NodeSignals.{NodeSignals}
 use Rattle.node_signals.specs.declared.key.ThresholdKey.{ThresholdKey}
-use Rattle.pod_piece.specs.Made.{MadeEvent}
-use Rattle.pod_piece.specs.Piece.{Piece, evicted_at}
+use Rattle.pod_piece.specs.state.Made.{MadeEvent}
+use Rattle.pod_piece.specs.state.Piece.{Piece, evicted_at}
 use Rattle.eviction.specs.declared.eviction.Eviction.{Eviction}
-use Rattle.eviction.specs.Pausing.{kept, still}
-use Rattle.eviction.specs.Replay.{is_paused, unless_paused}
+use Rattle.eviction.specs.state.Pausing.{kept, still}
+use Rattle.eviction.specs.rule.Replay.{is_paused, unless_paused}
 use Rattle.eviction.proofs.Pausing.{paused_now}
 use Rattle.event_book.specs.declared.totals.Totals.{Totals}
 use Rattle.event_list.specs.declared.event.Event.{Event}
 use Rattle.event_list.specs.declared.tick.TickEvents.{TickEvents}
-use Rattle.event_list.specs.Events.{of_pods, of_node}
-use Rattle.event_list.specs.Tick.{events_at, of_ticks}
-use Rattle.event_list.specs.Totals.{totals_of}
-use Rattle.node_pods.specs.Pods.{pods_of, after_one, after_each}
+use Rattle.event_list.specs.rule.Events.{of_pods, of_node}
+use Rattle.event_list.specs.state.Tick.{events_at, of_ticks}
+use Rattle.event_list.specs.rule.Totals.{totals_of}
+use Rattle.node_pods.specs.state.Pods.{pods_of, after_one, after_each}
 use Rattle.node_pods.proofs.Steps.{after_is, with_shown_at, with_shown_length}
 use Rattle.node_pods.proofs.Candidates.{same_piece}
-use Rattle.tick_round.specs.Evict.{IsEvictionAt}
-use Rattle.tick_round.specs.Node.{State, state, HasTaken, MayBeHandedAll}
-use Rattle.tick_round.specs.Stretch.{heeded_in, AreCalm, no_evictions}
+use Rattle.tick_round.specs.state.Evict.{IsEvictionAt}
+use Rattle.tick_round.specs.state.Node.{State, state, HasTaken, MayBeHandedAll}
+use Rattle.tick_round.specs.state.Stretch.{heeded_in, AreCalm, no_evictions}
 use Rattle.tick_round.proofs.GoesOn.{goes_on, part_of}
 use Rattle.tick_round.proofs.Handing.{after_all, last_with}
 use Rattle.tick_round.proofs.Made.{made_in, made_told, all_told, TellAllOf}

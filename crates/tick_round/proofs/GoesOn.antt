@@ -9,31 +9,31 @@ use Rattle.histories.proofs.Lists.{place_split, some_given}
 use Rattle.manifest.specs.declared.pod.PodSpec.{PodSpec}
 use Rattle.node_config.specs.declared.node.NodeConfig.{NodeConfig}
 use Rattle.observations.specs.declared.tick.TickObs.{TickObs}
-use Rattle.observations.specs.Observations.{shown_of}
-use Rattle.observations.specs.Limits.{most_ticks, most_pods}
+use Rattle.observations.specs.rule.Observations.{shown_of}
+use Rattle.observations.specs.rule.Limits.{most_ticks, most_pods}
 use Rattle.node_signals.specs.declared.node.NodeSignals.{NodeSignals}
 use Rattle.node_signals.specs.declared.event.NodeEvent.{NodeEvent}
 use Rattle.node_signals.specs.declared.key.ThresholdKey.{ThresholdKey}
-use Rattle.node_signals.specs.Thresholds.{IsServed}
-use Rattle.node_signals.specs.Node.{IsStateOf}
+use Rattle.node_signals.specs.rule.Thresholds.{IsServed}
+use Rattle.node_signals.specs.state.Node.{IsStateOf}
 use Rattle.pod_state.specs.declared.events.PodEvent.{PodEvent}
-use Rattle.pod_piece.specs.Piece.{Piece, pods_in}
+use Rattle.pod_piece.specs.state.Piece.{Piece, pods_in}
 use Rattle.eviction.specs.declared.eviction.Eviction.{Eviction}
-use Rattle.eviction.specs.Pausing.{Kept, kept, still}
-use Rattle.eviction.specs.Replay.{is_paused, pauses, unless_paused}
+use Rattle.eviction.specs.state.Pausing.{Kept, kept, still}
+use Rattle.eviction.specs.rule.Replay.{is_paused, pauses, unless_paused}
 use Rattle.eviction.proofs.More.{no_replay, replay_more}
 use Rattle.eviction.proofs.Pausing.{none_pausing, paused_now, pausing_more}
 use Rattle.event_book.specs.declared.totals.Totals.{Totals}
-use Rattle.event_book.specs.Totals.{nothing}
-use Rattle.node_pods.specs.Pods.{Pods, pods_of, IsCandidate, MayBeHanded, AreAfter}
+use Rattle.event_book.specs.state.Totals.{nothing}
+use Rattle.node_pods.specs.state.Pods.{Pods, pods_of, IsCandidate, MayBeHanded, AreAfter}
 use Rattle.event_list.specs.declared.event.Event.{Event}
-use Rattle.event_list.specs.Events.{of_pods, of_node, of_eviction, ArePodEvents}
-use Rattle.event_list.specs.Totals.{totals_of}
+use Rattle.event_list.specs.rule.Events.{of_pods, of_node, of_eviction, ArePodEvents}
+use Rattle.event_list.specs.rule.Totals.{totals_of}
 use Rattle.event_list.proofs.More.{no_events, events_more}
-use Rattle.tick_round.specs.Evict.{IsEvictionAt, AreWithout}
-use Rattle.tick_round.specs.Node.{State, state, ArePieces, HasTaken, last_of, IsAfter, IsNextBy}
-use Rattle.tick_round.specs.Round.{AreFew, AreFewEvents, IsKept}
-use Rattle.tick_round.specs.Stretch.{IsSampled}
+use Rattle.tick_round.specs.state.Evict.{IsEvictionAt, AreWithout}
+use Rattle.tick_round.specs.state.Node.{State, state, ArePieces, HasTaken, last_of, IsAfter, IsNextBy}
+use Rattle.tick_round.specs.state.Round.{AreFew, AreFewEvents, IsKept}
+use Rattle.tick_round.specs.state.Stretch.{IsSampled}
 use Rattle.tick_round.proofs.Pieces.{pieces_updated, pieces_evicted, pieces_spared}
 use Rattle.tick_round.proofs.Candidates.{ArePresent, are_present, round_of, may_be_evicted, evicts_now, pods_are}
 

@@ -6,16 +6,16 @@ use Rattle.std.specs.List.{cons_option}
 use Rattle.std.proofs.lemmas.List.{length-append, length-map}
 use Rattle.std.proofs.lemmas.Option.{slice_get-map}
 use Rattle.histories.proofs.Places.{length-more}
-use Rattle.observations.specs.Pods.{PodObs}
+use Rattle.observations.specs.rule.Pods.{PodObs}
 use Rattle.observations.specs.declared.tick.TickObs.{TickObs}
-use Rattle.observations.specs.Observations.{shown_of, own_ticks}
-use Rattle.pod_state.specs.Pods.{PodTick, pod_tick}
-use Rattle.pod_piece.specs.Piece.{Piece, begun_with}
-use Rattle.eviction.specs.Replay.{pod_ticks}
-use Rattle.node_pods.specs.Pods.{AreNext, handed_one, handed_each, after_each, closed}
+use Rattle.observations.specs.rule.Observations.{shown_of, own_ticks}
+use Rattle.pod_state.specs.rule.Pods.{PodTick, pod_tick}
+use Rattle.pod_piece.specs.state.Piece.{Piece, begun_with}
+use Rattle.eviction.specs.rule.Replay.{pod_ticks}
+use Rattle.node_pods.specs.state.Pods.{AreNext, handed_one, handed_each, after_each, closed}
 use Rattle.node_pods.proofs.Steps.{closed_handed, with_shown_at, with_shown_length}
-use Rattle.tick_round.specs.Node.{MayBeHandedAll}
-use Rattle.tick_round.specs.Stretch.{handed_all}
+use Rattle.tick_round.specs.state.Node.{MayBeHandedAll}
+use Rattle.tick_round.specs.state.Stretch.{handed_all}
 
 -- the pieces once each tick was handed to them and has come into their statuses, one after the other
 abbrev pub after_all : List Piece → List TickObs → List Piece

@@ -10,24 +10,25 @@ use Rattle.histories.proofs.Places.{length-more}
 use Rattle.histories.proofs.Lists.{take_more, given_at, some_given, slice_get-kept}
 use Rattle.manifest.specs.declared.pod.PodSpec.{PodSpec}
 use Rattle.node_config.specs.declared.node.NodeConfig.{NodeConfig}
-use Rattle.observations.specs.Pods.{PodObs}
+use Rattle.observations.specs.rule.Pods.{PodObs}
 use Rattle.observations.specs.declared.tick.TickObs.{TickObs}
-use Rattle.observations.specs.Observations.{shown_of}
+use Rattle.observations.specs.rule.Observations.{shown_of}
 use Rattle.pod_state.specs.declared.events.PodEvent.{PodEvent}
-use Rattle.pod_state.specs.Pods.{pod_tick}
-use Rattle.pod_state.specs.Events.{AreEventsOf}
-use Rattle.pod_piece.specs.Piece.{Piece, place_of, evicted_at as evicted_piece_at, evicted_before}
-use Rattle.pod_piece.specs.Made.{MadeEvent}
+use Rattle.pod_state.specs.rule.Pods.{pod_tick}
+use Rattle.pod_state.specs.rule.Events.{AreEventsOf}
+use Rattle.pod_piece.specs.rule.Piece.{place_of}
+use Rattle.pod_piece.specs.state.Piece.{Piece, evicted_at as evicted_piece_at, evicted_before}
+use Rattle.pod_piece.specs.state.Made.{MadeEvent}
 use Rattle.pod_piece.proofs.PieceLemmas.{before_is}
 use Rattle.eviction.specs.declared.eviction.Eviction.{Eviction}
-use Rattle.eviction.specs.Replay.{EvictedAt, pod_ticks, evicted_at, own_eviction, later, IsReplay}
+use Rattle.eviction.specs.rule.Replay.{EvictedAt, pod_ticks, evicted_at, own_eviction, later, IsReplay}
 use Rattle.eviction.proofs.Evicted.{evicted_pod_lived}
 use Rattle.eviction.proofs.Own.{pod_ticks-more, of_pod}
 use Rattle.event_list.specs.declared.event.Event.{Event}
 use Rattle.event_list.specs.declared.event.EventKind.TheVariants.{Pod}
-use Rattle.event_list.specs.Events.{ArePodEvents, event, of_pods}
-use Rattle.event_list.specs.Tick.{events_at}
-use Rattle.tick_round.specs.Node.{piece_after, ArePieces}
+use Rattle.event_list.specs.rule.Events.{ArePodEvents, event, of_pods}
+use Rattle.event_list.specs.state.Tick.{events_at}
+use Rattle.tick_round.specs.state.Node.{piece_after, ArePieces}
 use Rattle.tick_round.proofs.Pieces.{fewer}
 use Rattle.tick_round.proofs.Told.{TellsTick}
 

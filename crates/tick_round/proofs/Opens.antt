@@ -10,34 +10,35 @@ use Rattle.manifest.specs.declared.pod.PodSpec.{PodSpec}
 use Rattle.node_config.specs.declared.node.NodeConfig.{NodeConfig}
 use Rattle.observations.specs.declared.tick.TickObs.{TickObs}
 use Rattle.node_signals.specs.declared.node.NodeSignals.{NodeSignals}
-use Rattle.pod_piece.specs.Piece.{Piece, all_updated, at_rest, pods_in}
-use Rattle.pod_piece.specs.Made.{MadeEvent, round_length}
+use Rattle.pod_piece.specs.state.Piece.{Piece, all_updated, at_rest, pods_in}
+use Rattle.pod_piece.specs.state.Made.{MadeEvent, round_length}
 use Rattle.eviction.specs.declared.eviction.Eviction.{Eviction}
-use Rattle.eviction.specs.Pausing.{Kept, kept, still}
-use Rattle.eviction.specs.Replay.{pod_ticks}
+use Rattle.eviction.specs.state.Pausing.{Kept, kept, still}
+use Rattle.eviction.specs.rule.Replay.{pod_ticks}
 use Rattle.event_book.specs.declared.totals.Totals.{Totals}
-use Rattle.event_book.specs.Totals.{plus}
-use Rattle.event_book.specs.Rounds.{AreAdditionsOf, sums_of_additions}
+use Rattle.event_book.specs.state.Totals.{plus}
+use Rattle.event_book.specs.state.Rounds.{AreAdditionsOf, sums_of_additions}
 use Rattle.event_list.specs.declared.event.Event.{Event}
 use Rattle.event_list.specs.declared.tick.TickEvents.{TickEvents}
-use Rattle.event_list.specs.Events.{of_eviction}
-use Rattle.event_list.specs.Tick.{of_ticks, AddsEvents, AreMadeBy, AreOfTicks, MomentsRise}
-use Rattle.event_list.specs.Totals.{totals_of}
-use Rattle.node_pods.specs.Pods.{Pods, pods_of, AreNumbered, AreNext, handed_each, after_each, closed}
-use Rattle.node_pods.specs.Pods.{sent_from, staying, Awaited, awaited, joined}
-use Rattle.node_pods.specs.Steps.{AreFree}
+use Rattle.event_list.specs.rule.Events.{of_eviction}
+use Rattle.event_list.specs.state.Tick.{of_ticks, AddsEvents, AreMadeBy, AreOfTicks, MomentsRise}
+use Rattle.event_list.specs.rule.Totals.{totals_of}
+use Rattle.node_pods.specs.state.Pods.{Pods, pods_of, AreNumbered, AreNext, handed_each, after_each, closed}
+use Rattle.node_pods.specs.state.Pods.{sent_from, staying, Awaited, awaited, joined}
+use Rattle.node_pods.specs.state.Steps.{AreFree}
 use Rattle.node_pods.proofs.Steps.{is_closed, are_closed, joined_updated, after_is}
 use Rattle.node_pods.proofs.Candidates.{same_piece}
-use Rattle.tick_round.specs.Evict.{IsEvictionAt, AreWithout}
+use Rattle.tick_round.specs.state.Evict.{IsEvictionAt, AreWithout}
 use Rattle.tick_round.specs.declared.stretch.Begun.{Begun}
 use Rattle.tick_round.specs.declared.stretch.Stretch.{Stretch}
 use Rattle.tick_round.specs.declared.stretch.Round.{Round}
-use Rattle.tick_round.specs.Node.{State, state, ArePieces, HasTaken, Fits, FitAll, MayBeHandedAll}
-use Rattle.tick_round.specs.Round.{IsKept}
-use Rattle.tick_round.specs.Stretch.{IsSampled, heeded_in, IsCalm, AreCalm, no_evictions, handed_all, HasBegun, IsOpen}
-use Rattle.tick_round.specs.Stretch.{MayGoOn, GoesOnWith, Takes, IsStretchOf, IsPassed, MayClose, MayEnd}
-use Rattle.tick_round.specs.Stretch.{CanEnd, IsOut}
-use Rattle.tick_round.specs.Update.{AreAdded}
+use Rattle.tick_round.specs.state.Node.{State, state, ArePieces, HasTaken, Fits, FitAll, MayBeHandedAll}
+use Rattle.tick_round.specs.state.Round.{IsKept}
+use Rattle.tick_round.specs.state.Stretch.{IsSampled, heeded_in, IsCalm, AreCalm, no_evictions, handed_all, HasBegun}
+use Rattle.tick_round.specs.state.Stretch.{IsOpen}
+use Rattle.tick_round.specs.state.Stretch.{MayGoOn, GoesOnWith, Takes, IsStretchOf, IsPassed, MayClose, MayEnd}
+use Rattle.tick_round.specs.state.Stretch.{CanEnd, IsOut}
+use Rattle.tick_round.specs.state.Update.{AreAdded}
 use Rattle.tick_round.proofs.Counts.{AreRows, totals_added}
 use Rattle.tick_round.proofs.Ends.{closes}
 use Rattle.tick_round.proofs.Evicts.{get_pod}

@@ -4,19 +4,19 @@ use Rattle.std.proofs.Common.{subst, arith}
 use Rattle.std.specs.Prelude.{slice_get}
 use Rattle.std.specs.List.{filter_map, sum_by}
 use Rattle.std.proofs.lemmas.List.Sums.{sum_by-cons}
-use Rattle.observations.specs.Pods.{PodObs}
+use Rattle.observations.specs.rule.Pods.{PodObs}
 use Rattle.observations.specs.declared.tick.TickObs.{TickObs}
-use Rattle.observations.specs.Observations.{all_shown}
-use Rattle.observations.specs.Limits.{most_pods}
-use Rattle.pod_piece.specs.Piece.{Piece}
+use Rattle.observations.specs.rule.Observations.{all_shown}
+use Rattle.observations.specs.rule.Limits.{most_pods}
+use Rattle.pod_piece.specs.state.Piece.{Piece}
 use Rattle.event_book.specs.declared.totals.Totals.{Totals}
-use Rattle.event_book.specs.Limits.{AreLow}
-use Rattle.node_pods.specs.Pods.{sent_from}
+use Rattle.event_book.specs.state.Limits.{AreLow}
+use Rattle.node_pods.specs.state.Pods.{sent_from}
 use Rattle.node_pods.proofs.Sent.{sent_at, sent_few}
-use Rattle.tick_round.specs.Node.{State}
-use Rattle.tick_round.specs.Round.{IsKept}
-use Rattle.tick_round.specs.Stretch.{handed_all}
-use Rattle.tick_round.specs.Update.{MayUpdate}
+use Rattle.tick_round.specs.state.Node.{State}
+use Rattle.tick_round.specs.state.Round.{IsKept}
+use Rattle.tick_round.specs.state.Stretch.{handed_all}
+use Rattle.tick_round.specs.state.Update.{MayUpdate}
 use Rattle.tick_round.proofs.Handing.{handed_all-length}
 
 -- ticks that show no more pods than a node may have make no more updates than that each

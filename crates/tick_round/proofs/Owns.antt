@@ -9,31 +9,32 @@ use Rattle.std.proofs.lemmas.List.Sums.{sum_by-cons}
 use Rattle.std.proofs.lemmas.Option.{slice_get_within, slice_get-map}
 use Rattle.histories.proofs.Lists.{given_at}
 use Rattle.manifest.specs.declared.pod.PodSpec.{PodSpec}
-use Rattle.manifest.specs.Containers.{most_containers}
+use Rattle.manifest.specs.rule.Containers.{most_containers}
 use Rattle.node_config.specs.declared.node.NodeConfig.{NodeConfig}
-use Rattle.observations.specs.Pods.{PodObs}
+use Rattle.observations.specs.rule.Pods.{PodObs}
 use Rattle.observations.specs.declared.tick.TickObs.{TickObs}
-use Rattle.observations.specs.Observations.{shown_of, own_ticks}
-use Rattle.observations.specs.Limits.{most_ticks}
+use Rattle.observations.specs.rule.Observations.{shown_of, own_ticks}
+use Rattle.observations.specs.rule.Limits.{most_ticks}
 use Rattle.node_signals.specs.declared.node.NodeSignals.{NodeSignals}
-use Rattle.pod_state.specs.Pods.{PodTick, pod_tick}
-use Rattle.pod_piece.specs.Piece.{Piece, ticks, all_updated, with_number, evicted_at, place_of}
-use Rattle.pod_piece.specs.Made.{MadeEvent, AreMadeOver, AreRoundEvents, round_of, round_length}
+use Rattle.pod_state.specs.rule.Pods.{PodTick, pod_tick}
+use Rattle.pod_piece.specs.rule.Piece.{place_of}
+use Rattle.pod_piece.specs.state.Piece.{Piece, ticks, all_updated, with_number, evicted_at}
+use Rattle.pod_piece.specs.state.Made.{MadeEvent, AreMadeOver, AreRoundEvents, round_of, round_length}
 use Rattle.eviction.specs.declared.eviction.Eviction.{Eviction}
-use Rattle.eviction.specs.Pausing.{still}
-use Rattle.eviction.specs.Replay.{pod_ticks}
+use Rattle.eviction.specs.state.Pausing.{still}
+use Rattle.eviction.specs.rule.Replay.{pod_ticks}
 use Rattle.event_book.specs.declared.totals.Totals.{Totals}
-use Rattle.event_book.specs.Totals.{plus}
-use Rattle.event_book.specs.Limits.{IsLowAddition}
-use Rattle.event_book.specs.Rounds.{addition_of, IsAdditionOf, AreAdditionsOf, sums_of_additions}
+use Rattle.event_book.specs.state.Totals.{plus}
+use Rattle.event_book.specs.state.Limits.{IsLowAddition}
+use Rattle.event_book.specs.state.Rounds.{addition_of, IsAdditionOf, AreAdditionsOf, sums_of_additions}
 use Rattle.event_book.proofs.Made.{one_made, low_addition, empty_round}
 use Rattle.event_list.specs.declared.tick.TickEvents.{TickEvents}
-use Rattle.event_list.specs.Tick.{AreMadeBy, IsMomentOf, AreOfTicks, MomentsRise}
-use Rattle.node_pods.specs.Pods.{sent_from, after_each}
+use Rattle.event_list.specs.state.Tick.{AreMadeBy, IsMomentOf, AreOfTicks, MomentsRise}
+use Rattle.node_pods.specs.state.Pods.{sent_from, after_each}
 use Rattle.node_pods.proofs.Candidates.{same_piece}
-use Rattle.tick_round.specs.Node.{MayBeHandedAll}
-use Rattle.tick_round.specs.Round.{AreFewEvents}
-use Rattle.tick_round.specs.Stretch.{AreCalm, handed_all}
+use Rattle.tick_round.specs.state.Node.{MayBeHandedAll}
+use Rattle.tick_round.specs.state.Round.{AreFewEvents}
+use Rattle.tick_round.specs.state.Stretch.{AreCalm, handed_all}
 use Rattle.tick_round.proofs.Counts.{AreRows, AreFor}
 use Rattle.tick_round.proofs.Handing.{IsGrown, not_grown, handed_at, handed_all-length}
 use Rattle.tick_round.proofs.Told.{AreBehind, AreTold, told_from}

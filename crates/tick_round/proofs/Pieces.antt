@@ -6,30 +6,30 @@ use Rattle.std.specs.List.{cons_option}
 use Rattle.std.proofs.lemmas.Bool.{cases_eq}
 use Rattle.std.proofs.lemmas.List.{length-take-le}
 use Rattle.std.proofs.lemmas.Option.{slice_get_within}
-use Rattle.histories.specs.Histories.{up_to, HoldsAt}
+use Rattle.histories.specs.rule.Histories.{up_to, HoldsAt}
 use Rattle.histories.proofs.Places.{length-more}
 use Rattle.histories.proofs.Lists.{given_at}
 use Rattle.manifest.specs.declared.pod.PodSpec.{PodSpec}
-use Rattle.observations.specs.Pods.{PodObs}
+use Rattle.observations.specs.rule.Pods.{PodObs}
 use Rattle.observations.specs.declared.tick.TickObs.{TickObs}
-use Rattle.observations.specs.Observations.{shown_of, own_ticks}
+use Rattle.observations.specs.rule.Observations.{shown_of, own_ticks}
 use Rattle.node_config.specs.declared.node.NodeConfig.{NodeConfig}
 use Rattle.phase.specs.declared.phase.Phase.{Phase}
-use Rattle.phase.specs.RawPhase.{IsTerminal}
+use Rattle.phase.specs.rule.RawPhase.{IsTerminal}
 use Rattle.phase.proofs.DecideLemmas.{terminal_cases}
-use Rattle.pod_state.specs.Pods.{PodTick, pod_tick, EndsPod, IsPhase}
+use Rattle.pod_state.specs.rule.Pods.{PodTick, pod_tick, EndsPod, IsPhase}
 use Rattle.pod_state.proofs.EndLemmas.{lives}
 use Rattle.pod_piece.specs.declared.piece.EvictionRecord.{EvictionRecord}
 use Rattle.pod_piece.specs.declared.status.PodStatus.{PodStatus}
-use Rattle.pod_piece.specs.Piece.{Piece}
-use Rattle.pod_piece.specs.Status.{IsStatusOf}
+use Rattle.pod_piece.specs.state.Piece.{Piece}
+use Rattle.pod_piece.specs.state.Status.{IsStatusOf}
 use Rattle.eviction.specs.declared.eviction.Eviction.{Eviction}
-use Rattle.eviction.specs.Replay.{EvictedAt, pod_ticks, evicted_at, own_eviction}
+use Rattle.eviction.specs.rule.Replay.{EvictedAt, pod_ticks, evicted_at, own_eviction}
 use Rattle.eviction.proofs.Own.{pod_ticks-more, pod_ticks-rest, own_eviction-longer, own_eviction-other}
 use Rattle.eviction.proofs.Own.{own_eviction-now}
-use Rattle.node_pods.specs.Pods.{IsCandidate, AreAfter, AreEvicted}
+use Rattle.node_pods.specs.state.Pods.{IsCandidate, AreAfter, AreEvicted}
 use Rattle.node_pods.proofs.Steps.{shown_at}
-use Rattle.tick_round.specs.Node.{piece_after, ArePieces}
+use Rattle.tick_round.specs.state.Node.{piece_after, ArePieces}
 
 -- a piece by its fields
 abbrev pub made : ℕ → PodSpec → ℕ → List PodTick → Option EvictionRecord → Piece

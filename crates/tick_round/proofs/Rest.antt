@@ -6,22 +6,22 @@ use Rattle.std.specs.List.{cons_option}
 use Rattle.std.proofs.lemmas.List.{length-append, map-append}
 use Rattle.std.proofs.lemmas.List.Elements.{filter_map-append}
 use Rattle.std.proofs.lemmas.Option.{slice_get_within}
-use Rattle.histories.specs.Histories.{EndsBefore}
+use Rattle.histories.specs.state.Histories.{EndsBefore}
 use Rattle.histories.proofs.Lists.{given_at}
 use Rattle.manifest.specs.declared.pod.PodSpec.{PodSpec}
-use Rattle.observations.specs.Pods.{PodObs}
+use Rattle.observations.specs.rule.Pods.{PodObs}
 use Rattle.observations.specs.declared.tick.TickObs.{TickObs}
-use Rattle.observations.specs.Observations.{shown_of, own_ticks}
-use Rattle.pod_state.specs.Pods.{PodTick, pod_tick}
-use Rattle.pod_piece.specs.Listings.{IsNextTick}
-use Rattle.pod_piece.specs.Piece.{Piece, pods_in}
-use Rattle.eviction.specs.Replay.{pod_ticks}
-use Rattle.node_pods.specs.Pods.{after_one, after_each}
+use Rattle.observations.specs.rule.Observations.{shown_of, own_ticks}
+use Rattle.pod_state.specs.rule.Pods.{PodTick, pod_tick}
+use Rattle.pod_piece.specs.state.Listings.{IsNextTick}
+use Rattle.pod_piece.specs.state.Piece.{Piece, pods_in}
+use Rattle.eviction.specs.rule.Replay.{pod_ticks}
+use Rattle.node_pods.specs.state.Pods.{after_one, after_each}
 use Rattle.node_pods.proofs.Steps.{with_shown_at, with_shown_length}
 use Rattle.node_pods.proofs.Candidates.{same_piece}
-use Rattle.tick_round.specs.Node.{State, HasTaken, FitAll, MayBeHandedAll, last_of, IsNextBy}
-use Rattle.tick_round.specs.Round.{IsKept}
-use Rattle.tick_round.specs.Stretch.{HasTakenSome}
+use Rattle.tick_round.specs.state.Node.{State, HasTaken, FitAll, MayBeHandedAll, last_of, IsNextBy}
+use Rattle.tick_round.specs.state.Round.{IsKept}
+use Rattle.tick_round.specs.state.Stretch.{HasTakenSome}
 use Rattle.tick_round.proofs.Ends.{after_all-length}
 use Rattle.tick_round.proofs.GoesOn.{last_more}
 use Rattle.tick_round.proofs.Handing.{after_all, last_with, rest_handed, own_first}

@@ -3,14 +3,14 @@ use Rattle.std.proofs.Common.{◌≡◌, ◌∙◌, ℕ, zero, suc, ◌+◌, ◌
 use Rattle.std.proofs.Common.{refl, ap, subst, arith}
 use Rattle.std.specs.Prelude.{slice_get}
 use Rattle.std.specs.List.{All}
-use Rattle.pod_piece.specs.Piece.{Piece}
+use Rattle.pod_piece.specs.state.Piece.{Piece}
 use Rattle.event_book.specs.declared.totals.Totals.{Totals}
-use Rattle.event_book.specs.Totals.{plus}
-use Rattle.event_book.specs.Rounds.{AreAdditionsOf, sums_of_additions}
-use Rattle.piece_deques.specs.Rule.{AreNumbered}
-use Rattle.node_pods.specs.Pods.{sent_from}
+use Rattle.event_book.specs.state.Totals.{plus}
+use Rattle.event_book.specs.state.Rounds.{AreAdditionsOf, sums_of_additions}
+use Rattle.piece_deques.specs.state.Rule.{AreNumbered}
+use Rattle.node_pods.specs.state.Pods.{sent_from}
 use Rattle.node_pods.proofs.Sent.{sent_at}
-use Rattle.tick_round.specs.Update.{MayUpdate, AreAdded}
+use Rattle.tick_round.specs.state.Update.{MayUpdate, AreAdded}
 
 item_at : (pieces : List Piece) (n : ℕ) (d : Piece) → n < length pieces → slice_get pieces n ≡ Some (get_or pieces n d)
 item_at [] n d lt = absurd (omega arith)

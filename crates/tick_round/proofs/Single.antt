@@ -8,23 +8,23 @@ use Rattle.std.proofs.lemmas.List.Sums.{sum_by-cons}
 use Rattle.std.proofs.lemmas.Option.{slice_get_within, slice_get-map}
 use Rattle.histories.proofs.Lists.{given_at}
 use Rattle.observations.specs.declared.tick.TickObs.{TickObs}
-use Rattle.observations.specs.Observations.{all_shown}
-use Rattle.pod_piece.specs.Piece.{Piece, updated, all_updated, pods_in}
-use Rattle.pod_piece.specs.Made.{round_length}
-use Rattle.eviction.specs.Replay.{pod_ticks}
+use Rattle.observations.specs.rule.Observations.{all_shown}
+use Rattle.pod_piece.specs.state.Piece.{Piece, updated, all_updated, pods_in}
+use Rattle.pod_piece.specs.state.Made.{round_length}
+use Rattle.eviction.specs.rule.Replay.{pod_ticks}
 use Rattle.event_book.specs.declared.totals.Entry.{Entry}
 use Rattle.event_book.specs.declared.totals.Totals.{Totals}
-use Rattle.event_book.specs.Totals.{sums_of, plus}
-use Rattle.event_book.specs.Rounds.{IsAdditionOf, sums_of_additions}
-use Rattle.event_book.specs.Shares.{one_update}
+use Rattle.event_book.specs.state.Totals.{sums_of, plus}
+use Rattle.event_book.specs.state.Rounds.{IsAdditionOf, sums_of_additions}
+use Rattle.event_book.specs.state.Shares.{one_update}
 use Rattle.event_book.proofs.Made.{entry_added}
-use Rattle.node_pods.specs.Pods.{MayBeHanded, sent_from}
+use Rattle.node_pods.specs.state.Pods.{MayBeHanded, sent_from}
 use Rattle.node_pods.proofs.Sent.{sent_at, sent_count}
 use Rattle.node_pods.proofs.Candidates.{same_piece}
-use Rattle.tick_round.specs.Node.{State}
-use Rattle.tick_round.specs.Round.{IsKept}
-use Rattle.tick_round.specs.Stretch.{handed_all}
-use Rattle.tick_round.specs.Update.{AreEntered, AreAdded}
+use Rattle.tick_round.specs.state.Node.{State}
+use Rattle.tick_round.specs.state.Round.{IsKept}
+use Rattle.tick_round.specs.state.Stretch.{handed_all}
+use Rattle.tick_round.specs.state.Update.{AreEntered, AreAdded}
 use Rattle.tick_round.proofs.Handing.{IsGrown, not_grown, handed_at, handed_all-length}
 use Rattle.tick_round.proofs.Opens.{rest_of}
 use Rattle.tick_round.proofs.Owns.{own_few}

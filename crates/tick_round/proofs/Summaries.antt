@@ -3,16 +3,17 @@ use Rattle.std.proofs.Common.{◌≡◌, ◌∙◌, List, length, Option, sym, a
 use Rattle.manifest.specs.declared.pod.PodSpec.{PodSpec}
 use Rattle.node_config.specs.declared.node.NodeConfig.{NodeConfig}
 use Rattle.observations.specs.declared.tick.TickObs.{TickObs}
-use Rattle.node_signals.specs.Node.{IsStateOf}
-use Rattle.pod_piece.specs.Piece.{Piece}
+use Rattle.node_signals.specs.state.Node.{IsStateOf}
+use Rattle.pod_piece.specs.state.Piece.{Piece}
 use Rattle.eviction.specs.declared.eviction.Eviction.{Eviction}
-use Rattle.eviction.specs.Replay.{IsReplay}
+use Rattle.eviction.specs.rule.Replay.{IsReplay}
 use Rattle.event_list.specs.declared.event.Event.{Event}
-use Rattle.event_list.specs.Events.{AreEvents}
-use Rattle.event_list.specs.Totals.{totals_of}
+use Rattle.event_list.specs.rule.Events.{AreEvents}
+use Rattle.event_list.specs.rule.Totals.{totals_of}
 use Rattle.tick_round.specs.declared.summary.Summary.{Summary}
-use Rattle.tick_round.specs.Node.{State, ArePieces, HasTaken}
-use Rattle.tick_round.specs.Summary.{AreConditionsAfter, IsSummary}
+use Rattle.tick_round.specs.state.Node.{State, ArePieces, HasTaken}
+use Rattle.tick_round.specs.rule.Summary.{AreConditionsAfter}
+use Rattle.tick_round.specs.state.Summary.{IsSummary}
 
 -- it shows what the state keeps
 pub record Shows (s : State) (summary : Summary) : Type 0 where

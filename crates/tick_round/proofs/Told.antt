@@ -7,16 +7,16 @@ use Rattle.std.proofs.lemmas.Bool.Decides.{eqb_tells}
 use Rattle.std.proofs.lemmas.List.Elements.{filter_map-append}
 use Rattle.std.proofs.lemmas.List.Sums.{sum_by-cons, sum_by-append}
 use Rattle.manifest.specs.declared.pod.PodSpec.{PodSpec}
-use Rattle.observations.specs.Pods.{PodObs}
+use Rattle.observations.specs.rule.Pods.{PodObs}
 use Rattle.observations.specs.declared.tick.TickObs.{TickObs}
-use Rattle.observations.specs.Observations.{shown_of, own_ticks}
+use Rattle.observations.specs.rule.Observations.{shown_of, own_ticks}
 use Rattle.pod_state.specs.declared.events.PodEvent.{PodEvent}
-use Rattle.pod_state.specs.Pods.{PodTick, pod_tick}
-use Rattle.pod_state.specs.Events.{AreEventsOf}
-use Rattle.pod_piece.specs.Piece.{evicted_before}
-use Rattle.pod_piece.specs.Made.{MadeEvent, made_at, AreMadeOver}
-use Rattle.eviction.specs.Replay.{pod_ticks}
-use Rattle.event_list.specs.Tick.{event_at, events_at}
+use Rattle.pod_state.specs.rule.Pods.{PodTick, pod_tick}
+use Rattle.pod_state.specs.rule.Events.{AreEventsOf}
+use Rattle.pod_piece.specs.state.Piece.{evicted_before}
+use Rattle.pod_piece.specs.state.Made.{MadeEvent, made_at, AreMadeOver}
+use Rattle.eviction.specs.rule.Replay.{pod_ticks}
+use Rattle.event_list.specs.state.Tick.{event_at, events_at}
 
 -- the events of a tick of the pod with the number, which comes after these ticks of the pod, if it shows the pod
 abbrev pub TellsTick : PodSpec → ℕ → Option ℕ → List PodTick → Option PodObs → List PodEvent → Type 0

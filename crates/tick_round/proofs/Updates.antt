@@ -9,15 +9,15 @@ use Rattle.std.proofs.lemmas.List.Sums.{sum_by-cons, sum_by-append}
 use Rattle.std.proofs.lemmas.Option.{slice_get-map, slice_get_within}
 use Rattle.histories.proofs.Places.{length-more}
 use Rattle.histories.proofs.Lists.{place_split, given_at, same_at, set_length, set_here, set_others}
-use Rattle.observations.specs.Limits.{most_pods}
-use Rattle.pod_piece.specs.Piece.{Piece, all_updated}
+use Rattle.observations.specs.rule.Limits.{most_pods}
+use Rattle.pod_piece.specs.state.Piece.{Piece, all_updated}
 use Rattle.event_book.specs.declared.totals.Totals.{Totals}
-use Rattle.event_book.specs.Totals.{plus}
-use Rattle.event_book.specs.Shares.{greatest_total, AreWithin}
-use Rattle.event_book.specs.Limits.{most_round_events, IsLowAddition}
-use Rattle.event_book.specs.Rounds.{IsAdditionOf, sums_of_additions}
+use Rattle.event_book.specs.state.Totals.{plus}
+use Rattle.event_book.specs.state.Shares.{greatest_total, AreWithin}
+use Rattle.event_book.specs.state.Limits.{most_round_events, IsLowAddition}
+use Rattle.event_book.specs.state.Rounds.{IsAdditionOf, sums_of_additions}
 use Rattle.node_pods.proofs.Candidates.{same_piece}
-use Rattle.tick_round.specs.Update.{AreUpTo, MayUpdate, AreAdded, UpdatesAt}
+use Rattle.tick_round.specs.state.Update.{AreUpTo, MayUpdate, AreAdded, UpdatesAt}
 
 abbrev totals : ℕ → ℕ → ℕ → Totals
 totals updates events orders = record { updates = updates; events = events; orders = orders }

@@ -2,10 +2,10 @@
 
 ghost use Rattle.std.specs.Prelude.{◌≡◌, ◌-◌, ◌<◌, length, map, slice_get, Some};
 ghost use Rattle.std.specs.Prelude.{IfOk, OnOk};
-ghost use Rattle.pod_piece.specs.Piece.{Piece, all_updated};
-ghost use Rattle.event_book.specs.Limits.{most_round_events};
-ghost use Rattle.event_book.specs.Shares.{greatest_total};
-ghost use Rattle.tick_round.specs.Update.{AreUpTo, MayUpdate, IsAdded, UpdatesAt, AreAdded};
+ghost use Rattle.pod_piece.specs.state.Piece.{Piece, all_updated};
+ghost use Rattle.event_book.specs.state.Limits.{most_round_events};
+ghost use Rattle.event_book.specs.state.Shares.{greatest_total};
+ghost use Rattle.tick_round.specs.state.Update.{AreUpTo, MayUpdate, IsAdded, UpdatesAt, AreAdded};
 
 use event_book::{Totals, WholeBook};
 use pod_piece::PodPiece;

@@ -1,9 +1,9 @@
 //! The eviction of one tick.
 
 ghost use Rattle.std.specs.Prelude.{◌≡◌, Some, IfOk};
-ghost use Rattle.node_pods.specs.Pods.{IsCandidate};
-ghost use Rattle.ranking.specs.Order.{IsVictim};
-ghost use Rattle.tick_round.specs.Evict.{IsEvictionAt, MayBeEvicted, AreWithout};
+ghost use Rattle.node_pods.specs.state.Pods.{IsCandidate};
+ghost use Rattle.ranking.specs.rule.Order.{IsVictim};
+ghost use Rattle.tick_round.specs.state.Evict.{IsEvictionAt, MayBeEvicted, AreWithout};
 
 use eviction::{Eviction, order_for};
 use node_config::NodeConfig;

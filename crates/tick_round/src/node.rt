@@ -5,14 +5,14 @@ ghost use Rattle.std.specs.Prelude.{List, length, map, None, IsTrue, IfOk, IfErr
 ghost use Rattle.manifest.specs.declared.pod.PodSpec.{PodSpec};
 ghost use Rattle.node_config.specs.declared.node.NodeConfig.{NodeConfig};
 ghost use Rattle.observations.specs.declared.tick.TickObs.{TickObs};
-ghost use Rattle.observations.specs.Observations.{all_shown};
-ghost use Rattle.observations.specs.Limits.{most_pods};
-ghost use Rattle.event_book.specs.Totals.{nothing};
-ghost use Rattle.event_book.specs.Limits.{most_workers};
+ghost use Rattle.observations.specs.rule.Observations.{all_shown};
+ghost use Rattle.observations.specs.rule.Limits.{most_pods};
+ghost use Rattle.event_book.specs.state.Totals.{nothing};
+ghost use Rattle.event_book.specs.rule.Limits.{most_workers};
 ghost use Rattle.tick_round.specs.declared.fault.TickFault.TheVariants.{Halted};
-ghost use Rattle.tick_round.specs.Node.{IsAfter, MayTake, MayTakeAll, HasRoom, TakesTick, TakesTicks};
-ghost use Rattle.tick_round.specs.Played.{AreFinished};
-ghost use Rattle.tick_round.specs.Summary.{IsSummary};
+ghost use Rattle.tick_round.specs.state.Node.{IsAfter, MayTake, MayTakeAll, HasRoom, TakesTick, TakesTicks};
+ghost use Rattle.tick_round.specs.state.Played.{AreFinished};
+ghost use Rattle.tick_round.specs.state.Summary.{IsSummary};
 
 use crate::fault::TickFault;
 use crate::running::Running;
@@ -36,7 +36,7 @@ pub struct Node<U: Ledger, E: Ledger, O: Ledger> {
 
 impl<U: Ledger, E: Ledger, O: Ledger> Model for Node<U, E, O> {
     ghost use Rattle.std.specs.Prelude.{Option};
-    ghost use Rattle.tick_round.specs.Node.{State};
+    ghost use Rattle.tick_round.specs.state.Node.{State};
 
     ghost Value = { Option State };
 

@@ -9,16 +9,16 @@ ghost use Rattle.std.specs.List.{list_all};
 ghost use Rattle.manifest.specs.declared.pod.PodSpec.{PodSpec};
 ghost use Rattle.node_config.specs.declared.node.NodeConfig.{NodeConfig};
 ghost use Rattle.observations.specs.declared.tick.TickObs.{TickObs};
-ghost use Rattle.observations.specs.Observations.{all_shown};
-ghost use Rattle.observations.specs.Limits.{most_pods};
-ghost use Rattle.event_book.specs.Totals.{nothing};
-ghost use Rattle.event_book.specs.Limits.{most_workers};
-ghost use Rattle.node_pods.specs.Pods.{AreNext};
-ghost use Rattle.tick_round.specs.Node.{HasTaken, Fits, FitAll, IsNextBy, IsWhole};
-ghost use Rattle.tick_round.specs.Played.{AreFinished};
-ghost use Rattle.tick_round.specs.Round.{IsKept};
-ghost use Rattle.tick_round.specs.Stretch.{IsOpen, IsOut, AreOut, HasTakenSome};
-ghost use Rattle.tick_round.specs.Summary.{IsSummary};
+ghost use Rattle.observations.specs.rule.Observations.{all_shown};
+ghost use Rattle.observations.specs.rule.Limits.{most_pods};
+ghost use Rattle.event_book.specs.state.Totals.{nothing};
+ghost use Rattle.event_book.specs.rule.Limits.{most_workers};
+ghost use Rattle.node_pods.specs.state.Pods.{AreNext};
+ghost use Rattle.tick_round.specs.state.Node.{HasTaken, Fits, FitAll, IsNextBy, IsWhole};
+ghost use Rattle.tick_round.specs.state.Played.{AreFinished};
+ghost use Rattle.tick_round.specs.state.Round.{IsKept};
+ghost use Rattle.tick_round.specs.state.Stretch.{IsOpen, IsOut, AreOut, HasTakenSome};
+ghost use Rattle.tick_round.specs.state.Summary.{IsSummary};
 
 use crate::alone::update_alone;
 use crate::steps::update_by_steps;
@@ -56,8 +56,8 @@ pub(crate) struct Running<U: Ledger, E: Ledger, O: Ledger> {
 }
 
 impl<U: Ledger, E: Ledger, O: Ledger> Model for Running<U, E, O> {
-    ghost use Rattle.tick_round.specs.Node.{State, state};
-    ghost use Rattle.tick_round.specs.Round.{IsKept};
+    ghost use Rattle.tick_round.specs.state.Node.{State, state};
+    ghost use Rattle.tick_round.specs.state.Round.{IsKept};
 
     ghost Value = { State };
 

@@ -1,10 +1,10 @@
 //! The updates of all pods in a round of one tick, by workers that one thread plays.
 
 ghost use Rattle.std.specs.Prelude.{◌≡◌, ◌<◌, ◌≤◌, All, length, map, IfOk};
-ghost use Rattle.pod_piece.specs.Piece.{updated};
-ghost use Rattle.event_book.specs.Limits.{most_workers};
-ghost use Rattle.tick_round.specs.Played.{AreFinished};
-ghost use Rattle.tick_round.specs.Update.{MayUpdate, AreEntered};
+ghost use Rattle.pod_piece.specs.state.Piece.{updated};
+ghost use Rattle.event_book.specs.rule.Limits.{most_workers};
+ghost use Rattle.tick_round.specs.state.Played.{AreFinished};
+ghost use Rattle.tick_round.specs.state.Update.{MayUpdate, AreEntered};
 
 use event_book::WholeBook;
 use played_round::{Played, update_played};

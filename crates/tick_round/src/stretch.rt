@@ -3,13 +3,14 @@
 ghost use Rattle.std.specs.Prelude.{◌≡◌, ◌∷◌, ◌++◌, [], List, map, None, IsTrue, IfOk, OnOk};
 ghost use Rattle.std.specs.Option.{option_or};
 ghost use Rattle.observations.specs.declared.tick.TickObs.{TickObs as ATick};
-ghost use Rattle.eviction.specs.Pausing.{kept};
-ghost use Rattle.event_list.specs.Events.{of_eviction};
-ghost use Rattle.pod_piece.specs.Piece.{all_updated};
-ghost use Rattle.node_pods.specs.Pods.{AreNext, AreNumbered, sent_from, staying, awaited, joined};
-ghost use Rattle.tick_round.specs.Node.{State, IsNextBy};
-ghost use Rattle.tick_round.specs.Stretch.{IsOpen, MayGoOn, GoesOnWith, Takes, IsPassed, CanClose, MayClose, CanEnd};
-ghost use Rattle.tick_round.specs.Stretch.{MayEnd};
+ghost use Rattle.eviction.specs.state.Pausing.{kept};
+ghost use Rattle.event_list.specs.rule.Events.{of_eviction};
+ghost use Rattle.pod_piece.specs.state.Piece.{all_updated};
+ghost use Rattle.node_pods.specs.state.Pods.{AreNext, AreNumbered, sent_from, staying, awaited, joined};
+ghost use Rattle.tick_round.specs.state.Node.{State, IsNextBy};
+ghost use Rattle.tick_round.specs.state.Stretch.{IsOpen, MayGoOn, GoesOnWith, Takes, IsPassed, CanClose, MayClose};
+ghost use Rattle.tick_round.specs.state.Stretch.{CanEnd};
+ghost use Rattle.tick_round.specs.state.Stretch.{MayEnd};
 
 use crate::evict::{carry_out, eviction_for};
 use crate::running::Running;

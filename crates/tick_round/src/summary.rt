@@ -3,8 +3,8 @@
 ghost use Rattle.std.specs.Prelude.{◌≡◌, List};
 ghost use Rattle.node_config.specs.declared.node.NodeConfig.{NodeConfig};
 ghost use Rattle.observations.specs.declared.tick.TickObs.{TickObs};
-ghost use Rattle.node_signals.specs.Node.{IsStateOf};
-ghost use Rattle.tick_round.specs.Summary.{IsConditionAfter, AreConditionsAfter};
+ghost use Rattle.node_signals.specs.state.Node.{IsStateOf};
+ghost use Rattle.tick_round.specs.rule.Summary.{IsConditionAfter, AreConditionsAfter};
 
 use event_book::Totals;
 use event_list::{Event, Names};

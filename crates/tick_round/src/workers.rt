@@ -1,11 +1,11 @@
 //! The updates of all pods in a round, by workers.
 
 ghost use Rattle.std.specs.Prelude.{◌≡◌, ◌⊎◌, ◌<◌, ◌≤◌, map, IfOk};
-ghost use Rattle.pod_piece.specs.Piece.{all_updated};
-ghost use Rattle.event_book.specs.Limits.{most_workers};
-ghost use Rattle.piece_deques.specs.Rule.{AreNumbered};
-ghost use Rattle.tick_round.specs.Update.{MayUpdate, AreAdded};
-ghost use Rattle.tick_round.specs.Workers.{worth_their_start};
+ghost use Rattle.pod_piece.specs.state.Piece.{all_updated};
+ghost use Rattle.event_book.specs.rule.Limits.{most_workers};
+ghost use Rattle.piece_deques.specs.state.Rule.{AreNumbered};
+ghost use Rattle.tick_round.specs.state.Update.{MayUpdate, AreAdded};
+ghost use Rattle.tick_round.specs.state.Workers.{worth_their_start};
 
 use crate::alone::update_alone;
 use event_book::WholeBook;

@@ -10,9 +10,9 @@ use Rattle.std.proofs.lemmas.Bool.{eqb-true, eqb-false}
 use Rattle.std.proofs.lemmas.List.{get_or-set_same, get_or-set_other, length-set, length-take-le, take_more}
 use Rattle.std.proofs.lemmas.Option.{slice_get-get_or}
 use Rattle.trace.specs.declared.placing.PlacedEntry.{PlacedEntry}
-use Rattle.trace.specs.ByPod.{first_entry, AreFirst}
-use Rattle.trace.specs.Observed.{entry_for}
-use Rattle.trace.specs.Placing.{has_twice, are_of_one_pod}
+use Rattle.trace.specs.state.ByPod.{first_entry, AreFirst}
+use Rattle.trace.specs.rule.Observed.{entry_for}
+use Rattle.trace.specs.rule.Placing.{has_twice, are_of_one_pod}
 use Rattle.trace.proofs.Twice.{turned, twice_more}
 
 later : (b : Bool) (o p : Option ℕ) (n : ℕ) → p ≡ cond (is_some o) o (cond b (Some n) None)

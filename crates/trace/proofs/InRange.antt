@@ -6,8 +6,8 @@ use Rattle.std.proofs.lemmas.Bool.{and_parts, leb-true}
 use Rattle.std.proofs.lemmas.List.Elements.{All-nil, All-cons, All-push, All-append}
 use Rattle.serde_json.specs.Data.{Data}
 use Rattle.serde_json.specs.Find.{as_number, as_i64, as_u64}
-use Rattle.json_fields.specs.Fields.{field_at}
-use Rattle.json_fields.specs.Reading.{each}
+use Rattle.json_fields.specs.rule.Fields.{field_at}
+use Rattle.json_fields.specs.rule.Reading.{each}
 use Rattle.json_fields.proofs.Steps.{bind_ok}
 use Rattle.json_fields.proofs.Only.{same_value}
 use Rattle.manifest_fields.specs.declared.fault.Field.TheVariants as fields
@@ -17,22 +17,24 @@ use Rattle.manifest.specs.declared.pod.ContainerSpec.{ContainerSpec}
 use Rattle.manifest.specs.declared.pod.PodSpec.{PodSpec}
 use Rattle.manifest.specs.declared.pod.Role.{Role}
 use Rattle.manifest.specs.declared.pod.Role.TheVariants.{Init, Sidecar, App}
-use Rattle.manifest_fields.specs.Fields.{object_of, array_or_none, required_text, absent}
-use Rattle.manifest_reader.specs.Manifest.{field_of, role_of, container_of, few, apart, containers_of, app_items_of}
-use Rattle.manifest_reader.specs.Manifest.{containers_in, metadata_of, settings_in, spec_of, pod_at}
-use Rattle.manifest.specs.Names.{is_label}
-use Rattle.manifest.specs.Probe.{Probe, Probes, IsInRange, HasNumbersInRange}
-use Rattle.json_fields.specs.Numbers.{max_int32}
-use Rattle.manifest_fields.specs.ProbeFields.{not_from_0, in_range, number_from, number_of, probe_in}
-use Rattle.manifest_fields.specs.ProbeFields.{probe_of}
-use Rattle.manifest_fields.specs.ProbeFields.{some_probes, unprobed, probes_of}
-use Rattle.manifest_fields.specs.ResourceFields.{resources_of}
+use Rattle.manifest_fields.specs.rule.Fields.{object_of, array_or_none, required_text, absent}
+use Rattle.manifest_reader.specs.rule.Manifest.{field_of, role_of, container_of, few, apart, containers_of}
+use Rattle.manifest_reader.specs.rule.Manifest.{app_items_of}
+use Rattle.manifest_reader.specs.rule.Manifest.{containers_in, metadata_of, settings_in, spec_of, pod_at}
+use Rattle.manifest.specs.rule.Names.{is_label}
+use Rattle.manifest.specs.rule.Probe.{Probe, Probes}
+use Rattle.manifest.specs.state.Probe.{IsInRange, HasNumbersInRange}
+use Rattle.json_fields.specs.rule.Numbers.{max_int32}
+use Rattle.manifest_fields.specs.rule.ProbeFields.{not_from_0, in_range, number_from, number_of, probe_in}
+use Rattle.manifest_fields.specs.rule.ProbeFields.{probe_of}
+use Rattle.manifest_fields.specs.rule.ProbeFields.{some_probes, unprobed, probes_of}
+use Rattle.manifest_fields.specs.rule.ResourceFields.{resources_of}
 use Rattle.node_config.specs.declared.node.Format.{Format}
 use Rattle.trace.specs.declared.trace_so_far.Trace.{Trace}
-use Rattle.trace.specs.Laws.{Says, says_node, says_pod, says_gone, says_tick}
-use Rattle.trace.specs.TraceSoFar.{TraceSoFar}
-use Rattle.trace.specs.Pod.{of_manifest, manifest_of}
-use Rattle.trace.specs.Trace.{trace_of}
+use Rattle.trace.specs.state.Laws.{Says, says_node, says_pod, says_gone, says_tick}
+use Rattle.trace.specs.rule.TraceSoFar.{TraceSoFar}
+use Rattle.trace.specs.rule.Pod.{of_manifest, manifest_of}
+use Rattle.trace.specs.rule.Trace.{trace_of}
 use Rattle.trace.proofs.Said.{IsKept, of_trace}
 
 -- the numbers of each probe are in their ranges: of these, of a container, and of all containers of pods

@@ -4,10 +4,10 @@ use Rattle.std.proofs.Common.{is_some, refl, ap, inl, inr}
 use Rattle.std.specs.Prelude.{◌↔◌, slice_get}
 use Rattle.std.proofs.lemmas.Bool.{cases_Bool}
 use Rattle.manifest.specs.declared.pod.PodSpec.{PodSpec}
-use Rattle.roster.specs.Roll.{Roll, key_of_pod, present_keys, keys_of, number_of, is_present}
+use Rattle.roster.specs.rule.Roll.{Roll, key_of_pod, present_keys, keys_of, number_of, is_present}
 use Rattle.roster.proofs.Found.{number_there, number_given}
-use Rattle.trace.specs.Pod.{has_key}
-use Rattle.trace.specs.Laws.{IsNamed, HasKey}
+use Rattle.trace.specs.rule.Pod.{has_key}
+use Rattle.trace.specs.state.Laws.{IsNamed, HasKey}
 
 -- without departures nobody is present
 none_at : (pods : List PodSpec) (n : ℕ) (key : List ℕ) → slice_get (present_keys pods []) n ≡ Some (Some key) → ⊥

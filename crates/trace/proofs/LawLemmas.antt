@@ -16,8 +16,8 @@ use Rattle.std.proofs.Math.Seq.{drop-length}
 use Rattle.std.proofs.lemmas.Bool.{cases_Bool}
 use Rattle.std.proofs.lemmas.Option.{slice_get_within, slice_get-get_or, get_or_from_slice_get}
 use Rattle.serde_json.specs.Data.{Data}
-use Rattle.json_fields.specs.Fields.{field_at, text_at}
-use Rattle.json_fields.specs.Reading.{◌>>=◌, refused_if, some_or}
+use Rattle.json_fields.specs.rule.Fields.{field_at, text_at}
+use Rattle.json_fields.specs.rule.Reading.{◌>>=◌, refused_if, some_or}
 use Rattle.json_fields.proofs.Steps.{bind_ok}
 use Rattle.trace.proofs.Whole.{gone_said, gone_whole, tick_whole, pod_whole, line_whole}
 use Rattle.trace.proofs.Versions.{some_node}
@@ -31,22 +31,24 @@ use Rattle.trace.specs.declared.trace_so_far.Trace.{Trace}
 use Rattle.trace.specs.declared.trace_so_far.LineKind.{LineKind}
 use Rattle.trace.specs.declared.trace_so_far.LineKind.TheVariants as kinds
 use Rattle.observations.specs.declared.tick.TickObs.{TickObs}
-use Rattle.observations.specs.Limits.{most_pods, most_ticks}
+use Rattle.observations.specs.rule.Limits.{most_pods, most_ticks}
 use Rattle.tick_lines.specs.declared.line.TickLine.{TickLine}
 use Rattle.trace.specs.declared.placing.PlacedEntry.{PlacedEntry}
-use Rattle.json_lines.specs.Lines.{lines_of, is_blank, longest_line}
-use Rattle.trace.specs.Written.{node_in, tick_line_in}
-use Rattle.roster.specs.Roll.{roll, key_of_pod}
-use Rattle.trace.specs.Pod.{has_key, pod_from, named_in}
-use Rattle.trace.specs.Placing.{placed_of}
+use Rattle.json_lines.specs.rule.Lines.{lines_of, is_blank, longest_line}
+use Rattle.trace.specs.rule.Written.{node_in, tick_line_in}
+use Rattle.roster.specs.rule.Roll.{roll, key_of_pod}
+use Rattle.trace.specs.rule.Pod.{has_key, pod_from, named_in}
+use Rattle.trace.specs.rule.Placing.{placed_of}
 use Rattle.node_config.specs.declared.node.Format.{Format}
 use Rattle.node_config.specs.declared.node.Version.{Version}
-use Rattle.trace.specs.TraceSoFar.{TraceSoFar, version_in, heeds, of_node, with_pod, without, with_tick}
-use Rattle.trace.specs.Tick.{moment_of, observed_in, tick_at}
-use Rattle.trace.specs.Trace.{json_of, kind_from, with_node, is_late, pod_line_at, gone_line_at, in_order, line_at}
-use Rattle.trace.specs.Trace.{at_line, trace_in, finished, read_on, nothing, trace_of}
-use Rattle.trace.specs.Laws.{Leaves, AreSaid, IsFaultAt, NoneCounts, IsFirstFault, IsWhole, FirstFault, WholeTrace}
-use Rattle.trace.specs.Laws.{OneFault}
+use Rattle.trace.specs.rule.TraceSoFar.{TraceSoFar, version_in, heeds, of_node, with_pod, without, with_tick}
+use Rattle.trace.specs.rule.Tick.{moment_of, observed_in, tick_at}
+use Rattle.trace.specs.rule.Trace.{json_of, kind_from, with_node, is_late, pod_line_at, gone_line_at, in_order}
+use Rattle.trace.specs.rule.Trace.{line_at}
+use Rattle.trace.specs.rule.Trace.{at_line, trace_in, finished, read_on, nothing, trace_of}
+use Rattle.trace.specs.state.Laws.{Leaves, AreSaid, IsFaultAt, NoneCounts, IsFirstFault, IsWhole, FirstFault}
+use Rattle.trace.specs.state.Laws.{WholeTrace}
+use Rattle.trace.specs.state.Laws.{OneFault}
 
 drop_here : (lines : List (List ℕ)) (n : ℕ) (line : List ℕ) → slice_get lines n ≡ Some line
     → drop n lines ≡ line ∷ drop (suc n) lines

@@ -2,7 +2,7 @@
 use Rattle.std.proofs.Common.{◌≡◌, ℕ, zero, suc, Bool, true, false, List, [], ◌∷◌, ◌++◌, Option, Some, None}
 use Rattle.std.proofs.Common.{Result, Ok, Err, refl}
 use Rattle.std.specs.Prelude.{codes, slice_get, IfOk, bytes_eq, option_map, if◌then◌else◌}
-use Rattle.json_fields.specs.Fields.{text_at}
+use Rattle.json_fields.specs.rule.Fields.{text_at}
 use Rattle.node_config.specs.declared.node.Format.{Format}
 use Rattle.node_config.specs.declared.node.NodeConfig.{NodeConfig}
 use Rattle.node_config.specs.declared.node.Version.{Version}
@@ -10,11 +10,11 @@ use Rattle.node_config.specs.declared.node.Version.TheVariants.{One, Two, Three}
 use Rattle.trace.specs.declared.fault.LineFault.{LineFault}
 use Rattle.trace.specs.declared.trace_so_far.LineKind.TheVariants as kinds
 use Rattle.trace.specs.declared.trace_so_far.Trace.{Trace}
-use Rattle.trace.specs.GivesUnlessMemory.{GivesAt}
-use Rattle.trace.specs.Laws.{Says, says_node, says_pod, says_gone, says_tick}
-use Rattle.trace.specs.Sound.{LeaveInThree}
-use Rattle.trace.specs.Trace.{gone_in, kind_from, trace_of}
-use Rattle.trace.specs.TraceSoFar.{TraceSoFar, version_in}
+use Rattle.trace.specs.state.GivesUnlessMemory.{GivesAt}
+use Rattle.trace.specs.state.Laws.{Says, says_node, says_pod, says_gone, says_tick}
+use Rattle.trace.specs.state.Sound.{LeaveInThree}
+use Rattle.trace.specs.rule.Trace.{gone_in, kind_from, trace_of}
+use Rattle.trace.specs.rule.TraceSoFar.{TraceSoFar, version_in}
 use Rattle.trace.proofs.Said.{IsKept, of_trace}
 
 -- where one has left, the lines so far say version 3

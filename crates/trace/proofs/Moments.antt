@@ -4,16 +4,17 @@ use Rattle.std.proofs.Common.{map, Option, Some, None, Ok, Err, refl, sym, subst
 use Rattle.std.specs.Prelude.{slice_get, option_map, option_and_then, nat_lt, IfSome}
 use Rattle.std.proofs.lemmas.Bool.{ltb-true}
 use Rattle.std.proofs.lemmas.List.{length-map, map_push}
-use Rattle.quantity.specs.Duration.{end_of_time}
+use Rattle.quantity.specs.rule.Duration.{end_of_time}
 use Rattle.serde_json.specs.Data.{Data}
 use Rattle.serde_json.specs.Find.{as_number, as_u64}
-use Rattle.histories.specs.Histories.{Recorded, recorded, moment_at, IsRising, last_moment, EndsBefore}
+use Rattle.histories.specs.rule.Histories.{Recorded, recorded, moment_at, last_moment}
+use Rattle.histories.specs.state.Histories.{IsRising, EndsBefore}
 use Rattle.histories.proofs.Moments.{IsRising-more}
 use Rattle.trace.specs.declared.fault.FaultKind.TheVariants.{Moment}
 use Rattle.observations.specs.declared.tick.TickObs.{TickObs}
-use Rattle.following.specs.Followed.{EndBefore}
-use Rattle.trace.specs.Sound.{AreRising}
-use Rattle.trace.specs.Tick.{is_later, moment_from, moment_of}
+use Rattle.following.specs.state.Followed.{EndBefore}
+use Rattle.trace.specs.state.Sound.{AreRising}
+use Rattle.trace.specs.rule.Tick.{is_later, moment_from, moment_of}
 
 -- the ticks at their moments
 abbrev stamped : List TickObs → List (Recorded TickObs)

@@ -5,9 +5,10 @@ use Rattle.std.specs.List.{list_any}
 use Rattle.std.specs.Prelude.{◌↔◌, IsTrue, slice_get}
 use Rattle.std.proofs.lemmas.Slice.Eq.{bytes_eq-Decides}
 use Rattle.std.proofs.lemmas.Option.{slice_get-get_or}
-use Rattle.manifest.specs.Containers.{has_twice, names_of, AreContainers}
+use Rattle.manifest.specs.rule.Containers.{has_twice, names_of}
+use Rattle.manifest.specs.state.Containers.{AreContainers}
 use Rattle.manifest.specs.declared.pod.ContainerSpec.{ContainerSpec}
-use Rattle.lists.specs.Names.{place_of}
+use Rattle.lists.specs.rule.Names.{place_of}
 
 same_bytes : (xs ys : List ℕ) → bytes_eq xs ys ≡ true → xs ≡ ys
 same_bytes xs ys e = (bytes_eq-Decides xs ys).0 e

@@ -10,14 +10,14 @@ use Rattle.manifest.specs.declared.outcome.Outcome.{Outcome}
 use Rattle.manifest.specs.declared.outcome.ProbeKind.{ProbeKind}
 use Rattle.manifest.specs.declared.outcome.ProbeKind.TheVariants.{Startup, Liveness, Readiness}
 use Rattle.manifest.specs.declared.pod.ContainerSpec.{ContainerSpec}
-use Rattle.manifest.specs.ProbeKinds.{place}
+use Rattle.manifest.specs.rule.ProbeKinds.{place}
 use Rattle.observations.specs.declared.container.ContainerObs.{ContainerObs}
 use Rattle.state_diff.specs.declared.seen.Seen.{Seen}
 use Rattle.trace.specs.declared.placing.PlacedListing.{PlacedListing}
 use Rattle.trace.specs.declared.placing.PlacedResult.{PlacedResult}
-use Rattle.trace.specs.Noted.{is_listed, has_result, NotesListing, NotesResult}
-use Rattle.trace.specs.Observed.{seen_listed, seen_in, outcome_in, results_in, containers_from, lacks_code}
-use Rattle.trace.specs.Placing.{has_twice, are_of_one_container, are_of_one_probe, is_of_probe}
+use Rattle.trace.specs.state.Noted.{is_listed, has_result, NotesListing, NotesResult}
+use Rattle.trace.specs.rule.Observed.{seen_listed, seen_in, outcome_in, results_in, containers_from, lacks_code}
+use Rattle.trace.specs.rule.Placing.{has_twice, are_of_one_container, are_of_one_probe, is_of_probe}
 use Rattle.trace.proofs.Twice.{turned, twice_more}
 
 -- ---- one item more

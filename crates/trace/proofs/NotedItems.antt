@@ -3,25 +3,25 @@ use Rattle.std.proofs.Common.{◌≡◌, ◌∙◌, ℕ, zero, suc, ◌+◌, ◌
 use Rattle.std.proofs.Common.{replicate, take}
 use Rattle.std.proofs.Common.{Result, Ok, Err, OnOk, is_ok, cond, refl, ap, sym, subst, arith}
 use Rattle.std.proofs.lemmas.List.{append_assoc, append-nil}
-use Rattle.json_fields.specs.Reading.{◌>>=◌, each}
+use Rattle.json_fields.specs.rule.Reading.{◌>>=◌, each}
 use Rattle.json_fields.proofs.Only.{same_value}
 use Rattle.json_fields.proofs.Steps.{bind_ok, there_is}
-use Rattle.manifest.specs.Containers.{names_of}
+use Rattle.manifest.specs.rule.Containers.{names_of}
 use Rattle.manifest.specs.declared.pod.ContainerSpec.{ContainerSpec}
 use Rattle.manifest.specs.declared.pod.PodSpec.{PodSpec}
-use Rattle.lists.specs.Names.{place_of}
+use Rattle.lists.specs.rule.Names.{place_of}
 use Rattle.observations.specs.declared.container.ContainerObs.{ContainerObs}
 use Rattle.serde_json.specs.Data.{Data}
-use Rattle.tick_lines.specs.Listings.{listing_of}
-use Rattle.tick_lines.specs.Results.{result_of}
+use Rattle.tick_lines.specs.rule.Listings.{listing_of}
+use Rattle.tick_lines.specs.rule.Results.{result_of}
 use Rattle.trace.specs.declared.fault.FaultKind.{FaultKind}
 use Rattle.trace.specs.declared.fault.FaultKind.TheVariants.{StrangerContainer}
 use Rattle.trace.specs.declared.placing.PlacedListing.{PlacedListing}
 use Rattle.trace.specs.declared.placing.PlacedResult.{PlacedResult}
-use Rattle.trace.specs.Noted.{NotesListing, NotesResult, ListingsNoted, ResultsNoted, AreUnknown, unknown}
-use Rattle.trace.specs.Observed.{containers_from, lacks_code}
-use Rattle.trace.specs.Placing.{container_number, placed_listing, placed_result}
-use Rattle.trace.specs.Tape.{of_item, listing_read, result_read}
+use Rattle.trace.specs.state.Noted.{NotesListing, NotesResult, ListingsNoted, ResultsNoted, AreUnknown, unknown}
+use Rattle.trace.specs.rule.Observed.{containers_from, lacks_code}
+use Rattle.trace.specs.rule.Placing.{container_number, placed_listing, placed_result}
+use Rattle.trace.specs.state.Tape.{of_item, listing_read, result_read}
 use Rattle.trace.proofs.NamedContainers.{place_within}
 use Rattle.trace.proofs.NotedContainers.{listed_once, result_once, coded_more}
 

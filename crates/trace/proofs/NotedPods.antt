@@ -9,15 +9,15 @@ use Rattle.std.proofs.lemmas.List.{append-nil, drop_all, take_all}
 use Rattle.std.proofs.lemmas.List.Elements.{All-head, All-tail}
 use Rattle.std.proofs.lemmas.Option.{slice_get_within}
 use Rattle.manifest.specs.declared.pod.PodSpec.{PodSpec}
-use Rattle.observations.specs.Pods.{PodObs}
-use Rattle.roster.specs.Roll.{Roll, present_keys, number_of, is_present}
+use Rattle.observations.specs.rule.Pods.{PodObs}
+use Rattle.roster.specs.rule.Roll.{Roll, present_keys, number_of, is_present}
 use Rattle.roster.proofs.Found.{number_there}
 use Rattle.roster.proofs.Present.{present_length}
 use Rattle.trace.specs.declared.placing.PlacedEntry.{PlacedEntry}
-use Rattle.trace.specs.Observed.{entry_for, pod_observed, pods_from}
-use Rattle.trace.specs.Placing.{has_twice, are_of_one_pod}
+use Rattle.trace.specs.rule.Observed.{entry_for, pod_observed, pods_from}
+use Rattle.trace.specs.rule.Placing.{has_twice, are_of_one_pod}
 use Rattle.trace.proofs.Twice.{turned, twice_more}
-use Rattle.trace.specs.Slots.{slot_of, slots_from, has_entry, or_present, with_others}
+use Rattle.trace.specs.state.Slots.{slot_of, slots_from, has_entry, or_present, with_others}
 
 -- the entry of a pod, with one entry more that is of another pod
 pub entry_other : (es : List PlacedEntry) (e : PlacedEntry) (n : ℕ) → (e.pod == n) ≡ false

@@ -8,17 +8,18 @@ use Rattle.std.specs.Prelude.{slice_get, codes}
 use Rattle.std.proofs.lemmas.Bool.{or_from}
 use Rattle.std.proofs.lemmas.List.Elements.{All-nil, All-push}
 use Rattle.std.proofs.lemmas.List.Folds.{list_any-append}
-use Rattle.json_fields.specs.Fields.{field_at, text_at}
-use Rattle.json_fields.specs.Reading.{◌>>=◌, each}
+use Rattle.json_fields.specs.rule.Fields.{field_at, text_at}
+use Rattle.json_fields.specs.rule.Reading.{◌>>=◌, each}
 use Rattle.json_fields.proofs.Only.{same_value}
 use Rattle.json_fields.proofs.Steps.{bind_ok, then_ok, there_is}
-use Rattle.json_lines.specs.Lines.{Tick}
+use Rattle.json_lines.specs.state.Lines.{Tick}
 use Rattle.manifest.specs.declared.pod.PodSpec.{PodSpec}
 use Rattle.observations.specs.declared.tick.TickObs.{TickObs}
 use Rattle.observations.specs.declared.container.ContainerObs.{ContainerObs}
-use Rattle.observations.specs.Pods.{PodObs, pod_obs}
+use Rattle.observations.specs.rule.Pods.{PodObs}
+use Rattle.observations.specs.state.Pods.{pod_obs}
 use Rattle.observations.specs.declared.usage.Sampling.TheVariants.{Unsaid}
-use Rattle.roster.specs.Roll.{Roll, number_of, is_present}
+use Rattle.roster.specs.rule.Roll.{Roll, number_of, is_present}
 use Rattle.serde_json.specs.Data.{Data}
 use Rattle.tick_lines.specs.declared.entry.TickEntry.{TickEntry}
 use Rattle.tick_lines.specs.declared.fault.TickLineFault.{TickLineFault}
@@ -28,23 +29,25 @@ use Rattle.tick_lines.specs.declared.probing.ProbeResult.{ProbeResult}
 use Rattle.tick_lines.specs.declared.tape.EntryText.{EntryText}
 use Rattle.tick_lines.specs.declared.tape.LineSamples.{LineSamples}
 use Rattle.tick_lines.specs.declared.usage.UnsampledMember.TheVariants.{No}
-use Rattle.tick_lines.specs.Entries.{entry_of, entries_of}
-use Rattle.tick_lines.specs.Line.{tick_line_of}
-use Rattle.tick_lines.specs.Listings.{listing_of, listings_of}
-use Rattle.tick_lines.specs.Results.{result_of, results_of}
-use Rattle.tick_lines.specs.Fields.{items_of}
-use Rattle.tick_lines.specs.Tape.{left_in, IsEntry, HasSamples}
-use Rattle.trace.specs.Ahead.{IsShown}
+use Rattle.tick_lines.specs.rule.Entries.{entry_of, entries_of}
+use Rattle.tick_lines.specs.rule.Line.{tick_line_of}
+use Rattle.tick_lines.specs.rule.Listings.{listing_of, listings_of}
+use Rattle.tick_lines.specs.rule.Results.{result_of, results_of}
+use Rattle.tick_lines.specs.rule.Fields.{items_of}
+use Rattle.tick_lines.specs.state.Tape.{left_in, IsEntry, HasSamples}
+use Rattle.trace.specs.state.Ahead.{IsShown}
 use Rattle.trace.specs.declared.fault.FaultKind.{FaultKind}
 use Rattle.trace.specs.declared.placing.PlacedEntry.{PlacedEntry}
 use Rattle.trace.specs.declared.placing.PlacedListing.{PlacedListing}
 use Rattle.trace.specs.declared.placing.PlacedResult.{PlacedResult}
-use Rattle.trace.specs.Observed.{containers_from, pod_observed, pods_from, lacks_code}
-use Rattle.trace.specs.Placing.{number_in, pod_numbered, placed_listing, placed_result, entry_of_pod, placed_entry}
-use Rattle.trace.specs.Placing.{placed_of, repeats, speaks, sampled_or}
-use Rattle.trace.specs.Noted.{ListingsNoted, ResultsNoted}
-use Rattle.trace.specs.Slots.{slots_from, has_entry}
-use Rattle.trace.specs.Tape.{of_item, listing_read, result_read, entry_read, item_speaks, EntriesNoted}
+use Rattle.trace.specs.rule.Observed.{containers_from, pod_observed, pods_from, lacks_code}
+use Rattle.trace.specs.rule.Placing.{number_in, pod_numbered, placed_listing, placed_result, entry_of_pod}
+use Rattle.trace.specs.rule.Placing.{placed_entry}
+use Rattle.trace.specs.rule.Placing.{placed_of, repeats, sampled_or}
+use Rattle.trace.specs.state.Placing.{speaks}
+use Rattle.trace.specs.state.Noted.{ListingsNoted, ResultsNoted}
+use Rattle.trace.specs.state.Slots.{slots_from, has_entry}
+use Rattle.trace.specs.state.Tape.{of_item, listing_read, result_read, entry_read, item_speaks, EntriesNoted}
 use Rattle.trace.proofs.NotedItems.{each_more}
 use Rattle.trace.proofs.NotedPods.{apart_more, found_present, slots_length}
 use Rattle.trace.proofs.Placed.{said_of}

@@ -4,7 +4,7 @@ use Rattle.std.proofs.Common.{refl, ap, sym, subst}
 use Rattle.std.specs.Prelude.{All, IfOk, slice_get}
 use Rattle.std.proofs.lemmas.List.Elements.{All-nil, All-cons}
 use Rattle.std.proofs.lemmas.Option.{slice_get_within}
-use Rattle.json_fields.specs.Reading.{◌>>=◌, each}
+use Rattle.json_fields.specs.rule.Reading.{◌>>=◌, each}
 use Rattle.json_fields.proofs.Steps.{bind_ok, then_ok, there_is}
 use Rattle.json_fields.proofs.Only.{same_value}
 use Rattle.manifest.specs.declared.pod.PodSpec.{PodSpec}
@@ -14,10 +14,11 @@ use Rattle.trace.specs.declared.fault.FaultKind.{FaultKind}
 use Rattle.trace.specs.declared.placing.PlacedListing.{PlacedListing}
 use Rattle.trace.specs.declared.placing.PlacedResult.{PlacedResult}
 use Rattle.trace.specs.declared.placing.PlacedEntry.{PlacedEntry}
-use Rattle.trace.specs.GivesUnlessMemory.{GivesUnlessMemory}
-use Rattle.roster.specs.Roll.{Roll}
-use Rattle.trace.specs.Placing.{number_in, pod_numbered, placed_listing, placed_result}
-use Rattle.trace.specs.Placing.{sampling_of, entry_of_pod, placed_entry, entries_of_pods, placed_of}
+use Rattle.trace.specs.state.GivesUnlessMemory.{GivesUnlessMemory}
+use Rattle.roster.specs.rule.Roll.{Roll}
+use Rattle.trace.specs.rule.Placing.{number_in, pod_numbered, placed_listing, placed_result}
+use Rattle.trace.specs.rule.Placing.{sampling_of, entry_of_pod, placed_entry, placed_of}
+use Rattle.trace.specs.state.Placing.{entries_of_pods}
 
 -- the steps of an entry
 abbrev pub placed : Sampling → ℕ → List PlacedListing → List PlacedResult → Result PlacedEntry FaultKind

@@ -5,11 +5,11 @@ use Rattle.observations.specs.declared.tick.TickObs.{TickObs}
 use Rattle.node_config.specs.declared.node.Format.{Format}
 use Rattle.node_config.specs.declared.node.NodeConfig.{NodeConfig}
 use Rattle.trace.specs.declared.trace_so_far.Trace.{Trace}
-use Rattle.json_lines.specs.Lines.{lines_of}
-use Rattle.roster.specs.Roll.{roll}
-use Rattle.trace.specs.TraceSoFar.{TraceSoFar}
-use Rattle.trace.specs.Trace.{nothing, trace_of}
-use Rattle.trace.specs.Laws.{AreSaid, Says}
+use Rattle.json_lines.specs.rule.Lines.{lines_of}
+use Rattle.roster.specs.rule.Roll.{roll}
+use Rattle.trace.specs.rule.TraceSoFar.{TraceSoFar}
+use Rattle.trace.specs.rule.Trace.{nothing, trace_of}
+use Rattle.trace.specs.state.Laws.{AreSaid, Says}
 use Rattle.trace.proofs.LawLemmas.{whole_trace}
 use Rattle.trace.proofs.LawLemmas.Saying.{all_checks}
 

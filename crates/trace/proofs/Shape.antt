@@ -4,26 +4,26 @@ use Rattle.std.proofs.Common.{Option, Some, None, Result, Ok, Err, refl, ap, sym
 use Rattle.std.specs.Prelude.{slice_get, slice_set, codes, IfOk, IsSome}
 use Rattle.std.proofs.lemmas.List.{length-append}
 use Rattle.std.proofs.lemmas.Option.{slice_get_within}
-use Rattle.quantity.specs.Duration.{end_of_time}
+use Rattle.quantity.specs.rule.Duration.{end_of_time}
 use Rattle.histories.proofs.Lists.{given_at, place_split, slice_get-kept, set_length, set_others, set_split}
-use Rattle.json_fields.specs.Fields.{field_at, text_at}
+use Rattle.json_fields.specs.rule.Fields.{field_at, text_at}
 use Rattle.manifest.specs.declared.pod.PodSpec.{PodSpec}
-use Rattle.observations.specs.Pods.{PodObs}
+use Rattle.observations.specs.rule.Pods.{PodObs}
 use Rattle.observations.specs.declared.tick.TickObs.{TickObs}
-use Rattle.observations.specs.Limits.{most_pods, most_ticks}
+use Rattle.observations.specs.rule.Limits.{most_pods, most_ticks}
 use Rattle.node_config.specs.declared.node.Format.{Format}
 use Rattle.trace.specs.declared.fault.LineFault.{LineFault}
 use Rattle.trace.specs.declared.trace_so_far.Trace.{Trace}
 use Rattle.tick_lines.specs.declared.line.TickLine.{TickLine}
 use Rattle.trace.specs.declared.placing.PlacedEntry.{PlacedEntry}
-use Rattle.trace.specs.GivesUnlessMemory.{GivesAt}
-use Rattle.trace.specs.Laws.{HasKey, Says, says_node, says_pod, says_gone, says_tick}
-use Rattle.trace.specs.Observed.{observed}
-use Rattle.trace.specs.TraceSoFar.{TraceSoFar, with_pod, without}
-use Rattle.trace.specs.Pod.{named_in}
-use Rattle.roster.specs.Roll.{Roll, key_of_pod, stays, is_present}
-use Rattle.trace.specs.Sound.{HasArrived, Stays, ShowsEach, AreArrivals, AreDepartures, HaveOwnKeys, HasShape}
-use Rattle.trace.specs.Trace.{trace_of}
+use Rattle.trace.specs.state.GivesUnlessMemory.{GivesAt}
+use Rattle.trace.specs.state.Laws.{HasKey, Says, says_node, says_pod, says_gone, says_tick}
+use Rattle.trace.specs.rule.Observed.{observed}
+use Rattle.trace.specs.rule.TraceSoFar.{TraceSoFar, with_pod, without}
+use Rattle.trace.specs.rule.Pod.{named_in}
+use Rattle.roster.specs.rule.Roll.{Roll, key_of_pod, stays, is_present}
+use Rattle.trace.specs.state.Sound.{HasArrived, Stays, ShowsEach, AreArrivals, AreDepartures, HaveOwnKeys, HasShape}
+use Rattle.trace.specs.rule.Trace.{trace_of}
 use Rattle.trace.proofs.Keys.{named}
 use Rattle.trace.proofs.Moments.{rising-more, moment_later, moment_low}
 use Rattle.trace.proofs.Said.{IsKept, of_trace}

@@ -6,18 +6,19 @@ use Rattle.std.specs.Option.{option_flatten}
 use Rattle.std.proofs.lemmas.List.{length-map}
 use Rattle.manifest.specs.declared.pod.ContainerSpec.{ContainerSpec}
 use Rattle.manifest.specs.declared.pod.PodSpec.{PodSpec}
-use Rattle.observations.specs.Pods.{PodObs}
+use Rattle.observations.specs.rule.Pods.{PodObs}
 use Rattle.observations.specs.declared.tick.TickObs.{TickObs}
-use Rattle.following.specs.Followed.{EndBefore, ComesNext}
+use Rattle.following.specs.state.Followed.{EndBefore, ComesNext}
 use Rattle.tick_lines.specs.declared.line.TickLine.{TickLine}
 use Rattle.trace.specs.declared.placing.PlacedEntry.{PlacedEntry}
 use Rattle.trace.specs.declared.placing.PlacedListing.{PlacedListing}
 use Rattle.trace.specs.declared.placing.PlacedResult.{PlacedResult}
-use Rattle.json_fields.specs.Reading.{refused_if}
+use Rattle.json_fields.specs.rule.Reading.{refused_if}
 use Rattle.trace.specs.declared.fault.FaultKind.{FaultKind}
-use Rattle.roster.specs.Roll.{Roll, is_present}
-use Rattle.trace.specs.Observed.{entry_for, listings_of, results_of, pod_observed, pods_from, containers_from, observed}
-use Rattle.trace.specs.Pod.{container_counts}
+use Rattle.roster.specs.rule.Roll.{Roll, is_present}
+use Rattle.trace.specs.rule.Observed.{entry_for, listings_of, results_of, pod_observed, pods_from, containers_from}
+use Rattle.trace.specs.rule.Observed.{observed}
+use Rattle.trace.specs.state.Pod.{container_counts}
 
 pub containers_shown : (ls : List PlacedListing) (rs : List PlacedResult) (n : ℕ) (cs : List ContainerSpec)
     → length (containers_from ls rs n cs) ≡ length cs

@@ -2,25 +2,26 @@
 use Rattle.std.proofs.Common.{◌≡◌, ◌∙◌, ◌||◌, Bool, true, false, List, [], ◌∷◌, Option, Result, Ok, refl, ap, sym}
 use Rattle.std.proofs.lemmas.Bool.{or_parts, or_from}
 use Rattle.std.specs.List.{list_any}
-use Rattle.json_fields.specs.Reading.{◌>>=◌, each}
+use Rattle.json_fields.specs.rule.Reading.{◌>>=◌, each}
 use Rattle.json_fields.proofs.Only.{same_value}
 use Rattle.json_fields.proofs.Steps.{bind_ok}
 use Rattle.observations.specs.declared.usage.Sampling.{Sampling}
 use Rattle.observations.specs.declared.usage.Usage.{Usage}
-use Rattle.roster.specs.Roll.{Roll}
+use Rattle.roster.specs.rule.Roll.{Roll}
 use Rattle.serde_json.specs.Data.{Data}
 use Rattle.tick_lines.specs.declared.entry.TickEntry.{TickEntry}
 use Rattle.tick_lines.specs.declared.fault.TickLineFault.{TickLineFault}
 use Rattle.tick_lines.specs.declared.line.TickLine.{TickLine}
 use Rattle.tick_lines.specs.declared.usage.UnsampledMember.{UnsampledMember}
 use Rattle.tick_lines.specs.declared.usage.UnsampledMember.TheVariants.{No, Yes, OfOtherKind}
-use Rattle.tick_lines.specs.Entries.{entry_of}
+use Rattle.tick_lines.specs.rule.Entries.{entry_of}
 use Rattle.tick_lines.proofs.Parts.{entry_parts}
 use Rattle.trace.specs.declared.fault.FaultKind.{FaultKind}
 use Rattle.trace.specs.declared.placing.PlacedEntry.{PlacedEntry}
-use Rattle.trace.specs.Placing.{number_in, sampling_of, entry_of_pod, placed_entry, placed_of, speaks, some_speaks}
-use Rattle.trace.specs.Tape.{item_speaks}
-use Rattle.trace.specs.Written.{is_of_other_kind, has_other_kind, heeded}
+use Rattle.trace.specs.rule.Placing.{number_in, sampling_of, entry_of_pod, placed_entry, placed_of}
+use Rattle.trace.specs.state.Placing.{speaks, some_speaks}
+use Rattle.trace.specs.state.Tape.{item_speaks}
+use Rattle.trace.specs.rule.Written.{is_of_other_kind, has_other_kind, heeded}
 use Rattle.trace.proofs.Placed.{with_number}
 
 sampling_alike : (heeds : Bool) (usage : Option Usage) (unsampled : UnsampledMember) → speaks unsampled ≡ false

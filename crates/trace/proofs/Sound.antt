@@ -2,27 +2,29 @@
 use Rattle.std.proofs.Common.{◌≡◌, ℕ, ◌+◌, false, true, List, [], ◌∷◌, ◌++◌, Option, Some, None, Result, Ok, Err}
 use Rattle.std.proofs.Common.{refl, sym, subst, arith}
 use Rattle.std.specs.Prelude.{codes, IfOk}
-use Rattle.histories.specs.Histories.{recorded}
-use Rattle.json_fields.specs.Fields.{field_at}
-use Rattle.state_diff.specs.Acceptable.{is_acceptable}
+use Rattle.histories.specs.rule.Histories.{recorded}
+use Rattle.json_fields.specs.rule.Fields.{field_at}
+use Rattle.state_diff.specs.rule.Acceptable.{is_acceptable}
 use Rattle.state_diff.specs.declared.seen.Seen.{Seen}
-use Rattle.state_diff.specs.Instances.{Tick, IsAcceptableHistory}
+use Rattle.state_diff.specs.rule.Instances.{Tick}
+use Rattle.state_diff.specs.state.Instances.{IsAcceptableHistory}
 use Rattle.state_diff.proofs.Acceptable.{is_acceptable_is}
 use Rattle.state_diff.proofs.Order.{acceptable_more}
 use Rattle.observations.specs.declared.tick.TickObs.{TickObs}
-use Rattle.observations.specs.Pods.{PodObs}
-use Rattle.observations.specs.Observations.{shown_of, listed_in, seen_of, history}
+use Rattle.observations.specs.rule.Pods.{PodObs}
+use Rattle.observations.specs.rule.Observations.{shown_of, listed_in, history}
+use Rattle.observations.specs.state.Observations.{seen_of}
 use Rattle.observations.proofs.OwnTicks.{seen_shown, history_shown, history_rests}
 use Rattle.node_config.specs.declared.node.Format.{Format}
 use Rattle.trace.specs.declared.fault.LineFault.{LineFault}
 use Rattle.trace.specs.declared.trace_so_far.Trace.{Trace}
-use Rattle.following.specs.Backwards.{is_backwards}
-use Rattle.trace.specs.GivesUnlessMemory.{GivesAt}
-use Rattle.trace.specs.Laws.{Says, says_node, says_pod, says_gone, says_tick}
-use Rattle.trace.specs.Observed.{observed}
-use Rattle.trace.specs.TraceSoFar.{TraceSoFar}
-use Rattle.trace.specs.Sound.{AreAcceptable, AreRising}
-use Rattle.trace.specs.Trace.{trace_of}
+use Rattle.following.specs.rule.Backwards.{is_backwards}
+use Rattle.trace.specs.state.GivesUnlessMemory.{GivesAt}
+use Rattle.trace.specs.state.Laws.{Says, says_node, says_pod, says_gone, says_tick}
+use Rattle.trace.specs.rule.Observed.{observed}
+use Rattle.trace.specs.rule.TraceSoFar.{TraceSoFar}
+use Rattle.trace.specs.state.Sound.{AreAcceptable, AreRising}
+use Rattle.trace.specs.rule.Trace.{trace_of}
 use Rattle.following.proofs.Forwards.{pods_forwards}
 use Rattle.trace.proofs.Moments.{rising-more, moment_later}
 use Rattle.trace.proofs.Said.{IsKept, of_trace}

@@ -6,30 +6,32 @@ use Rattle.std.specs.List.{prefix_len}
 use Rattle.std.specs.Prelude.{MatchBool}
 use Rattle.std.proofs.lemmas.Bool.{cases_Bool}
 use Rattle.serde_json.specs.Data.{Data}
-use Rattle.json_fields.specs.Reading.{◌>>=◌}
+use Rattle.json_fields.specs.rule.Reading.{◌>>=◌}
 use Rattle.std.proofs.lemmas.Slice.Eq.{bytes_eq-Decides}
 use Rattle.std.specs.Prelude.{codes}
-use Rattle.json_fields.specs.Fields.{text_at}
-use Rattle.json_fields.specs.Reading.{some_or}
-use Rattle.json_lines.specs.Lines.{LineData, is_blank, json_in, said_by, said_or_not, line_data, lines_of, longest_line}
-use Rattle.json_lines.specs.Ticks.{is_tick_kind, is_tick, moment_at}
+use Rattle.json_fields.specs.rule.Fields.{text_at}
+use Rattle.json_fields.specs.rule.Reading.{some_or}
+use Rattle.json_lines.specs.rule.Lines.{is_blank, json_in, lines_of, longest_line}
+use Rattle.json_lines.specs.state.Lines.{LineData, said_by, said_or_not, line_data}
+use Rattle.json_lines.specs.state.Ticks.{is_tick_kind, is_tick, moment_at}
 use Rattle.node_config.specs.declared.node.Format.{Format}
 use Rattle.node_config.specs.declared.node.Version.{Version}
 use Rattle.tick_lines.specs.declared.fault.TickLineFault.{TickLineFault}
 use Rattle.tick_lines.specs.declared.line.TickLine.{TickLine}
-use Rattle.tick_lines.specs.Line.{tick_line_of}
+use Rattle.tick_lines.specs.rule.Line.{tick_line_of}
 use Rattle.trace.specs.declared.fault.FaultKind.{FaultKind}
 use Rattle.trace.specs.declared.fault.FaultKind.TheVariants.{UnknownKind}
 use Rattle.trace.specs.declared.fault.LineFault.{LineFault}
 use Rattle.trace.specs.declared.trace_so_far.LineKind.{LineKind}
 use Rattle.trace.specs.declared.trace_so_far.Trace.{Trace}
-use Rattle.trace.specs.GivesUnlessMemory.{is_memory}
-use Rattle.trace.specs.TraceSoFar.{TraceSoFar, version_in}
+use Rattle.trace.specs.state.GivesUnlessMemory.{is_memory}
+use Rattle.trace.specs.rule.TraceSoFar.{TraceSoFar, version_in}
 use Rattle.trace.specs.declared.trace_so_far.LineKind.TheVariants as line_kinds
-use Rattle.trace.specs.Taken.{tick_of, tick_after, value_at, any_line_at, lines_at}
-use Rattle.trace.specs.Tick.{tick_in, tick_at}
-use Rattle.trace.specs.Trace.{json_of, kind_from, kind_of_line, turn_of, in_order, kind_and_value, line_at, at_line}
-use Rattle.trace.specs.Trace.{finished, read_on, nothing, trace_of}
+use Rattle.trace.specs.state.Taken.{tick_of, tick_after, value_at, any_line_at, lines_at}
+use Rattle.trace.specs.rule.Tick.{tick_in, tick_at}
+use Rattle.trace.specs.rule.Trace.{json_of, kind_from, kind_of_line, turn_of, in_order, kind_and_value, line_at}
+use Rattle.trace.specs.rule.Trace.{at_line}
+use Rattle.trace.specs.rule.Trace.{finished, read_on, nothing, trace_of}
 
 -- the rest of a text, by what each line says by itself
 abbrev pub read_data : ℕ → TraceSoFar → List LineData → Result Trace LineFault

@@ -7,15 +7,17 @@ use Rattle.std.proofs.lemmas.Bool.{cases_Bool}
 use Rattle.std.proofs.lemmas.List.{take_more, drop_more}
 use Rattle.std.specs.Prelude.{⊤, MatchBool, if◌then◌else◌}
 use Rattle.std.specs.List.{list_any}
-use Rattle.json_fields.specs.Reading.{◌>>=◌, refused_if, GivesExactly}
+use Rattle.json_fields.specs.rule.Reading.{◌>>=◌, refused_if}
+use Rattle.json_fields.specs.state.Reading.{GivesExactly}
 use Rattle.json_fields.proofs.Only.{same_value, no_fault}
 use Rattle.json_fields.proofs.Steps.{then_ok}
-use Rattle.following.specs.Backwards.{is_backwards}
-use Rattle.following.specs.Followed.{EndBefore, ComesNext}
-use Rattle.json_lines.specs.Lines.{LineData, Blank, TooLong, NotJson, Tick, Json, line_data, lines_of}
+use Rattle.following.specs.rule.Backwards.{is_backwards}
+use Rattle.following.specs.state.Followed.{EndBefore, ComesNext}
+use Rattle.json_lines.specs.rule.Lines.{lines_of}
+use Rattle.json_lines.specs.state.Lines.{LineData, Blank, TooLong, NotJson, Tick, Json, line_data}
 use Rattle.json_lines.proofs.Windows.{window_read}
 use Rattle.observations.specs.declared.tick.TickObs.{TickObs}
-use Rattle.roster.specs.Roll.{Roll}
+use Rattle.roster.specs.rule.Roll.{Roll}
 use Rattle.tick_lines.specs.declared.fault.TickLineFault.{TickLineFault}
 use Rattle.tick_lines.specs.declared.line.TickLine.{TickLine}
 use Rattle.trace.specs.declared.fault.FaultKind.{FaultKind}
@@ -25,16 +27,17 @@ use Rattle.trace.specs.declared.trace_so_far.LineKind.TheVariants as line_kinds
 use Rattle.trace.specs.declared.trace_so_far.Turn.{Turn}
 use Rattle.trace.specs.declared.placing.PlacedEntry.{PlacedEntry}
 use Rattle.trace.specs.declared.ahead.LineAhead.{LineAhead}
-use Rattle.trace.specs.Ahead.{IsShown, IsAhead, AreAhead, IsReadAhead, KeepsPods, may_stand}
-use Rattle.trace.specs.GivesUnlessMemory.{is_memory}
-use Rattle.trace.specs.Observed.{observed, some_code_missing}
-use Rattle.trace.specs.TraceSoFar.{TraceSoFar, version_in, heeds, with_tick}
-use Rattle.trace.specs.Placing.{placed_of, is_doubled, has_twice, are_of_one_pod, repeats, some_speaks}
-use Rattle.trace.specs.Pod.{container_counts}
-use Rattle.trace.specs.Taken.{tick_of, tick_after, tick_line_at, any_line_at, lines_at}
-use Rattle.trace.specs.Tick.{moment_from, room_for_tick, observed_in}
-use Rattle.trace.specs.Trace.{turn_of, at_line}
-use Rattle.trace.specs.Written.{heeded}
+use Rattle.trace.specs.state.Ahead.{IsShown, IsAhead, AreAhead, IsReadAhead, KeepsPods, may_stand}
+use Rattle.trace.specs.state.GivesUnlessMemory.{is_memory}
+use Rattle.trace.specs.rule.Observed.{observed, some_code_missing}
+use Rattle.trace.specs.rule.TraceSoFar.{TraceSoFar, version_in, heeds, with_tick}
+use Rattle.trace.specs.rule.Placing.{placed_of, is_doubled, has_twice, are_of_one_pod, repeats}
+use Rattle.trace.specs.state.Placing.{some_speaks}
+use Rattle.trace.specs.state.Pod.{container_counts}
+use Rattle.trace.specs.state.Taken.{tick_of, tick_after, tick_line_at, any_line_at, lines_at}
+use Rattle.trace.specs.rule.Tick.{moment_from, room_for_tick, observed_in}
+use Rattle.trace.specs.rule.Trace.{turn_of, at_line}
+use Rattle.trace.specs.rule.Written.{heeded}
 use Rattle.trace.proofs.Shown.{comes_next, went_on}
 use Rattle.trace.proofs.Silent.{placed_alike, not_refused}
 use Rattle.json_lines.proofs.ZippedParts.{zip_append}

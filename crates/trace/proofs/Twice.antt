@@ -3,7 +3,7 @@ use Rattle.std.proofs.Common.{◌≡◌, ◌∙◌, ℕ, ◌==◌, ◌||◌, Boo
 use Rattle.std.specs.List.{list_any}
 use Rattle.std.proofs.lemmas.Bool.{eqb-true, eqb-false, eq-eqb}
 use Rattle.std.proofs.lemmas.List.Folds.{list_any-append}
-use Rattle.trace.specs.Placing.{has_twice}
+use Rattle.trace.specs.rule.Placing.{has_twice}
 
 differ : (t : Bool) → (t ≡ true → ⊥) → false ≡ t
 differ true h = absurd (h refl)

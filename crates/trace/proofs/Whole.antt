@@ -2,29 +2,30 @@
 use Rattle.std.proofs.Common.{◌≡◌, List, ℕ, Option, Result, Ok, Err, refl, length}
 use Rattle.std.specs.Prelude.{⊤, nat_lt, nat_le, codes}
 use Rattle.serde_json.specs.Data.{Data}
-use Rattle.json_fields.specs.Fields.{field_at, text_at}
-use Rattle.json_fields.specs.Reading.{◌>>=◌, refused_if, some_or}
-use Rattle.following.specs.Backwards.{is_backwards}
+use Rattle.json_fields.specs.rule.Fields.{field_at, text_at}
+use Rattle.json_fields.specs.rule.Reading.{◌>>=◌, refused_if, some_or}
+use Rattle.following.specs.rule.Backwards.{is_backwards}
 use Rattle.manifest.specs.declared.pod.PodSpec.{PodSpec}
 use Rattle.node_config.specs.declared.node.Version.{Version}
 use Rattle.observations.specs.declared.tick.TickObs.{TickObs}
-use Rattle.observations.specs.Limits.{most_pods, most_ticks}
+use Rattle.observations.specs.rule.Limits.{most_pods, most_ticks}
 use Rattle.tick_lines.specs.declared.line.TickLine.{TickLine}
 use Rattle.trace.specs.declared.fault.FaultKind.{FaultKind}
 use Rattle.trace.specs.declared.fault.FaultKind.TheVariants.{TooLong, UnknownKind, Order, TooMany, DuplicatePod}
 use Rattle.trace.specs.declared.fault.FaultKind.TheVariants.{Backwards, ExitCode, StrangerPod}
 use Rattle.trace.specs.declared.trace_so_far.LineKind.{LineKind}
 use Rattle.trace.specs.declared.placing.PlacedEntry.{PlacedEntry}
-use Rattle.json_lines.specs.Lines.{longest_line}
-use Rattle.trace.specs.Observed.{observed, some_code_missing}
-use Rattle.trace.specs.TraceSoFar.{TraceSoFar, version_in, heeds, with_pod, without, with_tick}
-use Rattle.trace.specs.Placing.{placed_of}
-use Rattle.roster.specs.Roll.{key_of_pod}
-use Rattle.trace.specs.Pod.{has_key, pod_from, named_in}
-use Rattle.trace.specs.Tick.{moment_of, observed_in, tick_in, tick_at}
-use Rattle.trace.specs.Trace.{json_of, kind_from, kind_of_line, is_late, pod_in, pod_line_at, gone_line_at, in_order}
-use Rattle.trace.specs.Trace.{kind_and_value, line_at}
-use Rattle.trace.specs.Written.{tick_line_in}
+use Rattle.json_lines.specs.rule.Lines.{longest_line}
+use Rattle.trace.specs.rule.Observed.{observed, some_code_missing}
+use Rattle.trace.specs.rule.TraceSoFar.{TraceSoFar, version_in, heeds, with_pod, without, with_tick}
+use Rattle.trace.specs.rule.Placing.{placed_of}
+use Rattle.roster.specs.rule.Roll.{key_of_pod}
+use Rattle.trace.specs.rule.Pod.{has_key, pod_from, named_in}
+use Rattle.trace.specs.rule.Tick.{moment_of, observed_in, tick_in, tick_at}
+use Rattle.trace.specs.rule.Trace.{json_of, kind_from, kind_of_line, is_late, pod_in, pod_line_at, gone_line_at}
+use Rattle.trace.specs.rule.Trace.{in_order}
+use Rattle.trace.specs.rule.Trace.{kind_and_value, line_at}
+use Rattle.trace.specs.rule.Written.{tick_line_in}
 
 -- the steps of a line, each with those after it
 abbrev pub in_place : TraceSoFar → Data → LineKind → Result TraceSoFar FaultKind

@@ -1,11 +1,11 @@
 //! Lines that are read ahead of their turn, each beside the pods that there are.
 
 ghost use Rattle.std.specs.Prelude.{◌≡◌, ◌≢◌, ◌<◌, false, length, All, IfOk, IfSome, OnErr, OnOk};
-ghost use Rattle.json_lines.specs.Lines.{Tick, data_of, line_data};
+ghost use Rattle.json_lines.specs.state.Lines.{Tick, data_of, line_data};
 ghost use Rattle.trace.specs.declared.fault.FaultKind.TheVariants.{OutOfMemory};
-ghost use Rattle.trace.specs.Ahead.{AreAhead, IsAhead, IsShown};
-ghost use Rattle.trace.specs.Observed.{observed};
-ghost use Rattle.trace.specs.Placing.{are_of_one_pod, has_twice};
+ghost use Rattle.trace.specs.state.Ahead.{AreAhead, IsAhead, IsShown};
+ghost use Rattle.trace.specs.rule.Observed.{observed};
+ghost use Rattle.trace.specs.rule.Placing.{are_of_one_pod, has_twice};
 
 use crate::by_pod::entries_by_pod;
 use crate::fault::FaultKind;

@@ -2,9 +2,9 @@
 
 ghost use Rattle.std.specs.Prelude.{◌≡◌, ◌<◌, All, IfOk, None, Some, is_some, length, option_map, slice_index_or};
 ghost use Rattle.std.specs.Prelude.{slice_set, if◌then◌else◌};
-ghost use Rattle.trace.specs.ByPod.{AreFirst};
-ghost use Rattle.trace.specs.Observed.{entry_for};
-ghost use Rattle.trace.specs.Placing.{has_twice, are_of_one_pod};
+ghost use Rattle.trace.specs.state.ByPod.{AreFirst};
+ghost use Rattle.trace.specs.rule.Observed.{entry_for};
+ghost use Rattle.trace.specs.rule.Placing.{has_twice, are_of_one_pod};
 
 use crate::placing::PlacedEntry;
 use std::alloc::{AllocError, Global};

@@ -2,8 +2,10 @@
 
 ghost use Rattle.std.specs.Prelude.{◌≡◌};
 ghost use Rattle.trace.specs.declared.fault.FaultKind.TheVariants.{OutOfMemory};
-ghost use Rattle.json_fields.specs.Reading.{refused_if, GivesExactly};
-ghost use Rattle.trace.specs.Faults.{kind_of_manifest_fault, kind_of_node_fault, kind_of_tick_fault};
+ghost use Rattle.json_fields.specs.rule.Reading.{refused_if};
+ghost use Rattle.json_fields.specs.state.Reading.{GivesExactly};
+ghost use Rattle.trace.specs.rule.Faults.{kind_of_node_fault, kind_of_tick_fault};
+ghost use Rattle.trace.specs.state.Faults.{kind_of_manifest_fault};
 
 use manifest_reader::ManifestFault;
 use node_lines::NodeFault;
@@ -52,7 +54,7 @@ pub enum FaultKind {
 }
 
 impl FaultKind {
-    ghost use Rattle.trace.specs.Faults.{number_of, word_of};
+    ghost use Rattle.trace.specs.state.Faults.{number_of, word_of};
 
     /// The number and the word by which a refusal names the kind.
     fn refusal(self) -> (u8, &'static str)

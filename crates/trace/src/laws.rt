@@ -1,6 +1,6 @@
 //! What the definition of a trace implies, in the words of the format. The functions do nothing;
 //! their contracts are the laws.
-ghost use Rattle.trace.specs.Laws as laws;
+ghost use Rattle.trace.specs.state.Laws as laws;
 
 /// A text is refused exactly with the fault of its first line that has one, or behind its last line
 /// where no line counts.

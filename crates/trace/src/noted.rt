@@ -1,14 +1,15 @@
 //! What an entry shows of its pod's containers, noted as its listings and results come.
 
 ghost use Rattle.std.specs.Prelude.{◌≡◌, ◌↔◌, ◌<◌, List, [], length, IsTrue, OnOk, Ok, Some, IfSome};
-ghost use Rattle.json_fields.specs.Tape.{data_at, items_in};
-ghost use Rattle.manifest.specs.Containers.{names_of};
-ghost use Rattle.lists.specs.Names.{place_of};
-ghost use Rattle.tick_lines.specs.Tape.{left_in};
+ghost use Rattle.json_fields.specs.state.Tape.{data_at, items_in};
+ghost use Rattle.manifest.specs.rule.Containers.{names_of};
+ghost use Rattle.lists.specs.rule.Names.{place_of};
+ghost use Rattle.tick_lines.specs.state.Tape.{left_in};
 ghost use Rattle.trace.specs.declared.placing.PlacedListing.{PlacedListing};
-ghost use Rattle.trace.specs.Noted.{AreUnknown, NotesListing, NotesResult, ListingsNoted, ResultsNoted, unknown};
-ghost use Rattle.trace.specs.Observed.{containers_from};
-ghost use Rattle.trace.specs.Tape.{listing_read, result_read};
+ghost use Rattle.trace.specs.state.Noted.{AreUnknown, NotesListing, NotesResult, ListingsNoted, ResultsNoted};
+ghost use Rattle.trace.specs.state.Noted.{unknown};
+ghost use Rattle.trace.specs.rule.Observed.{containers_from};
+ghost use Rattle.trace.specs.state.Tape.{listing_read, result_read};
 
 use crate::placing::{PlacedListing, PlacedResult};
 use crate::tick::{lacks_code, seen_listed};

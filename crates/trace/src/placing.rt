@@ -1,12 +1,15 @@
 //! The entries of a tick line, with numbers in the place of names.
 
 ghost use Rattle.std.specs.Prelude.{◌≡◌, ◌==◌, length};
-ghost use Rattle.json_fields.specs.Reading.{each, GivesExactly};
-ghost use Rattle.trace.specs.GivesUnlessMemory.{GivesUnlessMemory};
-ghost use Rattle.trace.specs.Placing.{number_in, container_number, placed_listing, placed_result, pod_numbered};
-ghost use Rattle.trace.specs.Placing.{entry_of_pod, entries_of_pods, has_twice, are_of_one_container, is_of_probe};
-ghost use Rattle.trace.specs.Placing.{are_of_one_probe, repeats, speaks, some_speaks, sampled_or, without_sample};
-ghost use Rattle.trace.specs.Placing.{sampling_of};
+ghost use Rattle.json_fields.specs.rule.Reading.{each};
+ghost use Rattle.json_fields.specs.state.Reading.{GivesExactly};
+ghost use Rattle.trace.specs.state.GivesUnlessMemory.{GivesUnlessMemory};
+ghost use Rattle.trace.specs.rule.Placing.{number_in, container_number, placed_listing, placed_result, pod_numbered};
+ghost use Rattle.trace.specs.rule.Placing.{entry_of_pod, has_twice, are_of_one_container, is_of_probe};
+ghost use Rattle.trace.specs.state.Placing.{entries_of_pods};
+ghost use Rattle.trace.specs.rule.Placing.{are_of_one_probe, repeats, sampled_or, without_sample};
+ghost use Rattle.trace.specs.state.Placing.{speaks, some_speaks};
+ghost use Rattle.trace.specs.rule.Placing.{sampling_of};
 ghost use Rattle.std.specs.List.{list_any};
 
 use crate::fault::FaultKind;
@@ -44,7 +47,7 @@ pub(crate) struct PlacedEntry {
 /// What places that which is written, by the names that it has.
 pub(crate) trait Place<T> {
     ghost use Rattle.std.specs.Prelude.{Result};
-    ghost use Rattle.json_fields.specs.Reading.{GivesExactly};
+    ghost use Rattle.json_fields.specs.state.Reading.{GivesExactly};
     ghost use Rattle.trace.specs.declared.fault.FaultKind.{FaultKind};
 
     type Placed: Drop;
@@ -166,7 +169,7 @@ fn sampling_of(heeds: bool, usage: Option<Usage>, unsampled: UnsampledMember) ->
     sampled_or(without_sample(heeds, unsampled), usage)
 }
 
-#[tactic(auto, unfolding(crate::specs::Placing::entry_of_pod))]
+#[tactic(auto, unfolding(crate::specs::rule::Placing::entry_of_pod))]
 fn entry_of_pod(
     alloc: Global,
     heeds: bool,

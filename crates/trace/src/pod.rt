@@ -2,10 +2,10 @@
 
 ghost use Rattle.std.specs.Prelude.{◌≡◌, option_map, None, IfOk, string_bytes};
 ghost use Rattle.serde_json.specs.View.{view};
-ghost use Rattle.json_fields.specs.Reading.{GivesExactly};
-ghost use Rattle.roster.specs.Roll.{key_of_pod, number_of};
-ghost use Rattle.trace.specs.GivesUnlessMemory.{GivesUnlessMemory};
-ghost use Rattle.trace.specs.Pod.{has_key, new_key, room_for_pod, manifest_of, pod_from};
+ghost use Rattle.json_fields.specs.state.Reading.{GivesExactly};
+ghost use Rattle.roster.specs.rule.Roll.{key_of_pod, number_of};
+ghost use Rattle.trace.specs.state.GivesUnlessMemory.{GivesUnlessMemory};
+ghost use Rattle.trace.specs.rule.Pod.{has_key, new_key, room_for_pod, manifest_of, pod_from};
 
 use crate::fault::{FaultKind, refused_if};
 use crate::trace_so_far::TraceSoFar;

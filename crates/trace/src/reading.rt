@@ -1,21 +1,22 @@
 //! A line, behind what the lines before it say.
 
 ghost use Rattle.std.specs.Prelude.{◌≡◌, option_map, option_and_then, None, Ok, OnOk, string_bytes};
-ghost use Rattle.json_fields.specs.Fields.{field_at};
-ghost use Rattle.node_lines.specs.Node.{whole_number};
+ghost use Rattle.json_fields.specs.rule.Fields.{field_at};
+ghost use Rattle.node_lines.specs.rule.Node.{whole_number};
 ghost use Rattle.serde_json.specs.View.{view};
-ghost use Rattle.json_fields.specs.Reading.{GivesExactly};
-ghost use Rattle.json_lines.specs.Lines.{LineData, data_of};
-ghost use Rattle.trace.specs.Ahead.{IsReadAhead, IsShown, may_stand};
-ghost use Rattle.trace.specs.GivesUnlessMemory.{GivesUnlessMemory};
-ghost use Rattle.roster.specs.Roll.{key_of_pod, number_of};
-ghost use Rattle.trace.specs.Written.{is_foreign, node_in};
-ghost use Rattle.trace.specs.TraceSoFar.{version_in, with_pod, without};
-ghost use Rattle.trace.specs.Pod.{named_in};
-ghost use Rattle.trace.specs.Taken.{tick_line_at, value_at, any_line_at};
-ghost use Rattle.trace.specs.Trace.{gone_in, kind_from, kind_of_line, with_node, with_new_pod, is_late, pod_in};
-ghost use Rattle.trace.specs.Trace.{pod_line_at, gone_line_at, turn_of, in_order};
-ghost use Rattle.trace.specs.Tick.{MayStandBehind, tick_at};
+ghost use Rattle.json_fields.specs.state.Reading.{GivesExactly};
+ghost use Rattle.json_lines.specs.state.Lines.{LineData, data_of};
+ghost use Rattle.trace.specs.state.Ahead.{IsReadAhead, IsShown, may_stand};
+ghost use Rattle.trace.specs.state.GivesUnlessMemory.{GivesUnlessMemory};
+ghost use Rattle.roster.specs.rule.Roll.{key_of_pod, number_of};
+ghost use Rattle.trace.specs.rule.Written.{is_foreign, node_in};
+ghost use Rattle.trace.specs.rule.TraceSoFar.{version_in, with_pod, without};
+ghost use Rattle.trace.specs.rule.Pod.{named_in};
+ghost use Rattle.trace.specs.state.Taken.{tick_line_at, value_at, any_line_at};
+ghost use Rattle.trace.specs.rule.Trace.{gone_in, kind_from, kind_of_line, with_node, with_new_pod, is_late, pod_in};
+ghost use Rattle.trace.specs.rule.Trace.{pod_line_at, gone_line_at, turn_of, in_order};
+ghost use Rattle.trace.specs.rule.Tick.{tick_at};
+ghost use Rattle.trace.specs.state.Tick.{MayStandBehind};
 
 use crate::fault::{FaultKind, refused_if};
 use crate::pod::{new_key, pod_from, room_for_pod};
@@ -86,7 +87,7 @@ fn node_in(alloc: Global, format: Format, line: &Value) -> Result<NodeConfig, Fa
 }
 
 /// Takes a node line.
-#[tactic(auto, unfolding(crate::specs::Trace::with_node))]
+#[tactic(auto, unfolding(crate::specs::rule::Trace::with_node))]
 fn take_node(alloc: Global, so_far: TraceSoFar, line: &Value) -> Result<TraceSoFar, FaultKind>
     ensures { GivesUnlessMemory (λ r. r) result (with_node so_far (view line.now)) }
 {
@@ -166,7 +167,7 @@ fn is_late(version: Version, so_far: &TraceSoFar) -> bool
 }
 
 /// The pod that a pod line says, whatever its key.
-#[tactic(auto, unfolding(crate::specs::Trace::pod_in))]
+#[tactic(auto, unfolding(crate::specs::rule::Trace::pod_in))]
 fn pod_in(
     alloc: Global,
     version: Version,
@@ -181,7 +182,7 @@ fn pod_in(
 }
 
 /// Takes a pod line.
-#[tactic(auto, unfolding(crate::specs::Trace::pod_line_at))]
+#[tactic(auto, unfolding(crate::specs::rule::Trace::pod_line_at))]
 fn take_pod(
     alloc: Global,
     version: Version,
@@ -229,7 +230,7 @@ fn without(so_far: TraceSoFar, number: usize, key: &str) -> TraceSoFar
 }
 
 /// Takes a line by which a pod leaves.
-#[tactic(auto, unfolding(crate::specs::Trace::gone_line_at))]
+#[tactic(auto, unfolding(crate::specs::rule::Trace::gone_line_at))]
 fn take_gone(so_far: TraceSoFar, line: &Value) -> Result<TraceSoFar, FaultKind>
     ensures { GivesExactly (λ r. r) result (gone_line_at so_far (view line.now)) }
 {
@@ -300,7 +301,7 @@ fn take_in_order(
 }
 
 /// Takes a line of JSON.
-#[tactic(auto, unfolding(crate::specs::Taken::value_at))]
+#[tactic(auto, unfolding(crate::specs::state::Taken::value_at))]
 fn take_value(alloc: Global, so_far: TraceSoFar, line: &Value) -> Result<TraceSoFar, FaultKind>
     ensures { GivesUnlessMemory (λ r. r) result (value_at so_far (view line.now)) }
 {
@@ -331,7 +332,7 @@ fn take_tick_line(
 }
 
 /// Whether a tick whose line was read ahead may stand behind the ticks so far.
-#[tactic(auto, unfolding(crate::specs::Ahead::may_stand))]
+#[tactic(auto, unfolding(crate::specs::state::Ahead::may_stand))]
 fn may_stand(so_far: &TraceSoFar, tick: &TickObs) -> Result<(), FaultKind>
     requires { IsReadAhead so_far.now.roll tick.now }
     ensures gives { GivesExactly (λ u. u) result (may_stand so_far.now tick.now) }

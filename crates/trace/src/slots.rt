@@ -3,11 +3,11 @@
 ghost use Rattle.std.specs.Prelude.{◌≡◌, ◌++◌, ◌∷◌, [], ℕ, ◌<◌, false, true, All, IfOk, List, None, Some, length};
 ghost use Rattle.std.specs.Prelude.{slice_get, if◌then◌else◌};
 ghost use Rattle.manifest.specs.declared.pod.PodSpec.{PodSpec};
-ghost use Rattle.roster.specs.Roll.{is_present};
+ghost use Rattle.roster.specs.rule.Roll.{is_present};
 ghost use Rattle.trace.specs.declared.placing.PlacedEntry.{PlacedEntry};
-ghost use Rattle.trace.specs.Noted.{AreUnknown};
-ghost use Rattle.trace.specs.Observed.{pod_observed, pods_from};
-ghost use Rattle.trace.specs.Slots.{has_entry, slots_from};
+ghost use Rattle.trace.specs.state.Noted.{AreUnknown};
+ghost use Rattle.trace.specs.rule.Observed.{pod_observed, pods_from};
+ghost use Rattle.trace.specs.state.Slots.{has_entry, slots_from};
 
 use crate::noted::keep_unknown;
 use manifest::PodSpec;

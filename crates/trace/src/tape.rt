@@ -3,13 +3,13 @@
 
 ghost use Rattle.std.specs.Prelude.{◌≡◌, ◌++◌, ◌∷◌, [], true, length, List, IfOk, IfSome};
 ghost use Rattle.serde_json.specs.Data.{Data};
-ghost use Rattle.json_fields.specs.Tape.{data_at, items_in};
-ghost use Rattle.json_lines.specs.Lines.{Tick, line_data};
-ghost use Rattle.json_lines.specs.Ticks.{moment_at};
-ghost use Rattle.tick_lines.specs.Line.{tick_line_of};
-ghost use Rattle.tick_lines.specs.Tape.{left_in};
-ghost use Rattle.trace.specs.Ahead.{IsShown};
-ghost use Rattle.trace.specs.Tape.{EntriesNoted};
+ghost use Rattle.json_fields.specs.state.Tape.{data_at, items_in};
+ghost use Rattle.json_lines.specs.state.Lines.{Tick, line_data};
+ghost use Rattle.json_lines.specs.state.Ticks.{moment_at};
+ghost use Rattle.tick_lines.specs.rule.Line.{tick_line_of};
+ghost use Rattle.tick_lines.specs.state.Tape.{left_in};
+ghost use Rattle.trace.specs.state.Ahead.{IsShown};
+ghost use Rattle.trace.specs.state.Tape.{EntriesNoted};
 
 use crate::noted::{clear, note_listings, note_results};
 use crate::placing::{pod_numbered, sampled_or};

@@ -3,14 +3,15 @@
 ghost use Rattle.std.specs.Prelude.{◌≡◌, ◌<◌, ◌≤◌, ◌+◌, ◌^◌, ◌∷◌, [], drop, length, map, IfNone, IfOk, IfSome, IsTrue};
 ghost use Rattle.std.specs.List.{prefix_len};
 ghost use Rattle.std.specs.Vec.Iter.{into_iter_items};
-ghost use Rattle.json_fields.specs.Reading.{GivesExactly};
-ghost use Rattle.json_lines.specs.Lines.{Blank, LineData, is_blank, line_data, lines_of};
-ghost use Rattle.roster.specs.Roll.{Roll};
-ghost use Rattle.trace.specs.Ahead.{AreAhead, IsAhead, KeepsPods};
-ghost use Rattle.trace.specs.GivesUnlessMemory.{is_memory, GivesUnlessMemory, GivesAt};
-ghost use Rattle.trace.specs.Sound.{AreAcceptable, AreRising, HasShape, LeaveInThree};
-ghost use Rattle.trace.specs.Taken.{any_line_at, lines_at};
-ghost use Rattle.trace.specs.Trace.{at_line, finished, nothing, trace_of};
+ghost use Rattle.json_fields.specs.state.Reading.{GivesExactly};
+ghost use Rattle.json_lines.specs.rule.Lines.{is_blank, lines_of};
+ghost use Rattle.json_lines.specs.state.Lines.{Blank, LineData, line_data};
+ghost use Rattle.roster.specs.rule.Roll.{Roll};
+ghost use Rattle.trace.specs.state.Ahead.{AreAhead, IsAhead, KeepsPods};
+ghost use Rattle.trace.specs.state.GivesUnlessMemory.{is_memory, GivesUnlessMemory, GivesAt};
+ghost use Rattle.trace.specs.state.Sound.{AreAcceptable, AreRising, HasShape, LeaveInThree};
+ghost use Rattle.trace.specs.state.Taken.{any_line_at, lines_at};
+ghost use Rattle.trace.specs.rule.Trace.{at_line, finished, nothing, trace_of};
 
 use crate::ahead::{LineAhead, line_ahead};
 use crate::fault::{FaultKind, LineFault};

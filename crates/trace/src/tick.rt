@@ -2,20 +2,23 @@
 
 ghost use Rattle.std.specs.Prelude.{◌≡◌, ◌<◌, All, length, option_map, Some, None, if◌then◌else◌, Ok, IfOk};
 ghost use Rattle.std.specs.List.{list_any};
-ghost use Rattle.json_fields.specs.Reading.{refused_if, GivesExactly};
-ghost use Rattle.trace.specs.GivesUnlessMemory.{GivesUnlessMemory};
-ghost use Rattle.trace.specs.TraceSoFar.{with_tick};
-ghost use Rattle.trace.specs.ByPod.{AreFirst};
-ghost use Rattle.trace.specs.Placing.{placed_of, is_doubled};
-ghost use Rattle.trace.specs.Observed.{seen_in, outcome_in, results_in, listings_of, results_of, sampling_from};
-ghost use Rattle.trace.specs.Observed.{seen_listed, containers_from, pod_observed, pods_from, observed, lacks_code};
-ghost use Rattle.trace.specs.Observed.{some_code_missing};
-ghost use Rattle.following.specs.Backwards.{is_backwards};
-ghost use Rattle.following.specs.Followed.{EndBefore, ComesNext};
-ghost use Rattle.trace.specs.Pod.{container_counts};
-ghost use Rattle.trace.specs.Taken.{tick_of, tick_after};
-ghost use Rattle.trace.specs.Tick.{moment_from, room_for_tick, MayStandBehind, observed_in};
-ghost use Rattle.trace.specs.Written.{is_of_other_kind, has_other_kind, heeded, written_in};
+ghost use Rattle.json_fields.specs.rule.Reading.{refused_if};
+ghost use Rattle.json_fields.specs.state.Reading.{GivesExactly};
+ghost use Rattle.trace.specs.state.GivesUnlessMemory.{GivesUnlessMemory};
+ghost use Rattle.trace.specs.rule.TraceSoFar.{with_tick};
+ghost use Rattle.trace.specs.state.ByPod.{AreFirst};
+ghost use Rattle.trace.specs.rule.Placing.{placed_of, is_doubled};
+ghost use Rattle.trace.specs.rule.Observed.{seen_in, outcome_in, results_in, listings_of, results_of, sampling_from};
+ghost use Rattle.trace.specs.rule.Observed.{seen_listed, containers_from, pod_observed, pods_from, observed};
+ghost use Rattle.trace.specs.rule.Observed.{lacks_code};
+ghost use Rattle.trace.specs.rule.Observed.{some_code_missing};
+ghost use Rattle.following.specs.rule.Backwards.{is_backwards};
+ghost use Rattle.following.specs.state.Followed.{EndBefore, ComesNext};
+ghost use Rattle.trace.specs.state.Pod.{container_counts};
+ghost use Rattle.trace.specs.state.Taken.{tick_of, tick_after};
+ghost use Rattle.trace.specs.rule.Tick.{moment_from, room_for_tick, observed_in};
+ghost use Rattle.trace.specs.state.Tick.{MayStandBehind};
+ghost use Rattle.trace.specs.rule.Written.{is_of_other_kind, has_other_kind, heeded, written_in};
 
 use crate::by_pod::{EntriesByPod, entries_by_pod, entry_for};
 use crate::fault::{FaultKind, refused_if};
@@ -282,7 +285,7 @@ pub(crate) fn moment_in(so_far: &TraceSoFar, written: Option<u64>) -> Result<u64
 }
 
 /// The entries with numbers in the place of names: first all pods, then all containers.
-#[tactic(auto, unfolding(crate::specs::Placing::placed_of))]
+#[tactic(auto, unfolding(crate::specs::rule::Placing::placed_of))]
 pub(crate) fn placed_by(
     alloc: Global,
     heeds: bool,
@@ -337,7 +340,7 @@ pub(crate) fn is_backwards(so_far: &TraceSoFar, tick: &TickObs) -> bool
 }
 
 /// The tick, checked against the earlier ticks.
-#[tactic(auto, unfolding(crate::specs::Tick::observed_in))]
+#[tactic(auto, unfolding(crate::specs::rule::Tick::observed_in))]
 fn observed_in(
     alloc: Global,
     so_far: &TraceSoFar,
@@ -380,7 +383,7 @@ pub(crate) fn with_tick(so_far: TraceSoFar, tick: TickObs) -> Result<TraceSoFar,
 }
 
 /// The tick that a tick line says.
-#[tactic(auto, unfolding(crate::specs::Taken::tick_of))]
+#[tactic(auto, unfolding(crate::specs::state::Taken::tick_of))]
 fn tick_of(alloc: Global, so_far: &TraceSoFar, line: &TickRecord) -> Result<TickObs, FaultKind>
     ensures gives { GivesUnlessMemory (λ t. t) result (tick_of so_far.now line.now.at line.now.written) }
     ensures follows { IfOk result (MayStandBehind so_far.now) }
@@ -394,7 +397,7 @@ fn tick_of(alloc: Global, so_far: &TraceSoFar, line: &TickRecord) -> Result<Tick
 }
 
 /// Takes a tick line.
-#[tactic(auto, unfolding(crate::specs::Taken::tick_after))]
+#[tactic(auto, unfolding(crate::specs::state::Taken::tick_after))]
 pub(crate) fn take_tick(
     alloc: Global,
     so_far: TraceSoFar,

@@ -1,7 +1,7 @@
 //! What the lines so far say.
 
 ghost use Rattle.std.specs.Prelude.{◌≡◌};
-ghost use Rattle.trace.specs.TraceSoFar.{heeds};
+ghost use Rattle.trace.specs.rule.TraceSoFar.{heeds};
 
 use following::ListingOrder;
 use lists::Sequence;
@@ -42,9 +42,9 @@ pub(crate) struct TraceSoFar {
 }
 
 impl Model for TraceSoFar {
-    ghost use Rattle.following.specs.Followed.{HasFollowed};
-    ghost use Rattle.trace.specs.TraceSoFar.{TraceSoFar};
-    ghost use Rattle.trace.specs.Pod.{container_counts};
+    ghost use Rattle.following.specs.state.Followed.{HasFollowed};
+    ghost use Rattle.trace.specs.rule.TraceSoFar.{TraceSoFar};
+    ghost use Rattle.trace.specs.state.Pod.{container_counts};
 
     ghost Value = { TraceSoFar };
 

@@ -2,9 +2,9 @@
 
 ghost use Rattle.std.specs.Prelude.{◌≡◌, ◌<◌, ◌≤◌, ◌+◌, ◌++◌, ⊤, IfOk, length, map};
 ghost use Rattle.std.specs.Thread.{IsSync};
-ghost use Rattle.json_lines.specs.Lines.{lines_of};
-ghost use Rattle.trace.specs.Ahead.{AreAhead};
-ghost use Rattle.trace.specs.Windows.{AreEarly, AreFew, window_behind};
+ghost use Rattle.json_lines.specs.rule.Lines.{lines_of};
+ghost use Rattle.trace.specs.state.Ahead.{AreAhead};
+ghost use Rattle.trace.specs.state.Windows.{AreEarly, AreFew, window_behind};
 
 use crate::ahead::{LineAhead, read_each};
 use json_lines::{joined, next_tick_lines};

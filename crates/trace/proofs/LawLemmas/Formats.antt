@@ -1,22 +1,23 @@
 -- What the standard format takes says the same in the extended one.
 use Rattle.std.proofs.Common.{◌≡◌, ℕ, zero, suc, Bool, true, false, List, length, Ok, ap, inl, inr}
 use Rattle.serde_json.specs.Data.{Data}
-use Rattle.json_fields.specs.Reading.{◌>>=◌, refused_if}
-use Rattle.json_lines.specs.Lines.{lines_of}
+use Rattle.json_fields.specs.rule.Reading.{◌>>=◌, refused_if}
+use Rattle.json_lines.specs.rule.Lines.{lines_of}
 use Rattle.node_config.specs.declared.node.Format.{Format}
 use Rattle.node_config.specs.declared.node.Format.TheVariants.{Standard, Extended}
 use Rattle.node_config.specs.declared.node.NodeConfig.{NodeConfig}
-use Rattle.node_lines.specs.Node.{node_of}
+use Rattle.node_lines.specs.rule.Node.{node_of}
 use Rattle.manifest.specs.declared.pod.PodSpec.{PodSpec}
 use Rattle.tick_lines.specs.declared.line.TickLine.{TickLine}
 use Rattle.trace.specs.declared.fault.FaultKind.TheVariants.{Config}
 use Rattle.trace.specs.declared.trace_so_far.LineKind.{LineKind}
 use Rattle.trace.specs.declared.trace_so_far.LineKind.TheVariants as kinds
 use Rattle.trace.specs.declared.placing.PlacedEntry.{PlacedEntry}
-use Rattle.trace.specs.Laws.{Leaves, AreSaid, MayStand, Stands, HasPod, HasMoment, HasWritten, HasPlaces, IsApart}
-use Rattle.trace.specs.Laws.{IsForwards, Says, says_node, says_pod, says_gone, says_tick, StandardIsExtended}
-use Rattle.trace.specs.TraceSoFar.{TraceSoFar}
-use Rattle.trace.specs.Written.{is_foreign, of_node_line, node_in}
+use Rattle.trace.specs.state.Laws.{Leaves, AreSaid, MayStand, Stands, HasPod, HasMoment, HasWritten, HasPlaces}
+use Rattle.trace.specs.state.Laws.{IsApart}
+use Rattle.trace.specs.state.Laws.{IsForwards, Says, says_node, says_pod, says_gone, says_tick, StandardIsExtended}
+use Rattle.trace.specs.rule.TraceSoFar.{TraceSoFar}
+use Rattle.trace.specs.rule.Written.{is_foreign, of_node_line, node_in}
 use Rattle.trace.proofs.LawLemmas.{whole_trace}
 use Rattle.trace.proofs.LawLemmas.Saying.{all_checks}
 

@@ -5,15 +5,16 @@ use Rattle.std.specs.Prelude.{slice_get, option_and_then}
 use Rattle.std.specs.Option.{option_flatten}
 use Rattle.std.proofs.lemmas.Bool.{cases_Bool}
 use Rattle.state_diff.specs.declared.seen.Seen.{Seen}
-use Rattle.state_diff.specs.Acceptable.{is_acceptable}
-use Rattle.state_diff.specs.Instances.{Tick}
+use Rattle.state_diff.specs.rule.Acceptable.{is_acceptable}
+use Rattle.state_diff.specs.rule.Instances.{Tick}
 use Rattle.state_diff.proofs.Acceptable.{is_acceptable_is}
 use Rattle.observations.specs.declared.container.ContainerObs.{ContainerObs}
-use Rattle.observations.specs.Pods.{PodObs}
+use Rattle.observations.specs.rule.Pods.{PodObs}
 use Rattle.observations.specs.declared.tick.TickObs.{TickObs}
-use Rattle.observations.specs.Observations.{seen_of, history}
-use Rattle.following.specs.Backwards.{some_container_backwards, some_pod_backwards, is_backwards}
-use Rattle.trace.specs.Laws.{GoesBack, BackwardsListing}
+use Rattle.observations.specs.rule.Observations.{history}
+use Rattle.observations.specs.state.Observations.{seen_of}
+use Rattle.following.specs.rule.Backwards.{some_container_backwards, some_pod_backwards, is_backwards}
+use Rattle.trace.specs.state.Laws.{GoesBack, BackwardsListing}
 use Rattle.following.proofs.Forwards.{seen_in_pod, pods_forwards}
 
 -- what is listed of a container, if it may not come next

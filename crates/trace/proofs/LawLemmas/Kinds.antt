@@ -2,11 +2,11 @@
 use Rattle.std.proofs.Common.{◌≡◌, ◌⊎◌, ℕ, List, length, slice_get, Option, Some, None, Result, Ok, Err}
 use Rattle.std.proofs.Common.{refl, ap, sym, subst, inl, inr, Bool, true, false}
 use Rattle.std.specs.Prelude.{◌&&◌, ◌-◌, option_and_then, nat_lt, codes}
-use Rattle.quantity.specs.Duration.{end_of_time}
+use Rattle.quantity.specs.rule.Duration.{end_of_time}
 use Rattle.serde_json.specs.Data.{Data}
 use Rattle.serde_json.specs.Find.{as_number, as_u64}
-use Rattle.json_fields.specs.Fields.{field_at}
-use Rattle.json_fields.specs.Reading.{refused_if}
+use Rattle.json_fields.specs.rule.Fields.{field_at}
+use Rattle.json_fields.specs.rule.Reading.{refused_if}
 use Rattle.manifest.specs.declared.pod.PodSpec.{PodSpec}
 use Rattle.trace.specs.declared.fault.FaultKind.{FaultKind}
 use Rattle.trace.specs.declared.fault.FaultKind.TheVariants.{NotJson, Config, SoftWithoutGrace, Manifest, Moment}
@@ -15,38 +15,41 @@ use Rattle.trace.specs.declared.fault.LineFault.{LineFault}
 use Rattle.observations.specs.declared.tick.TickObs.{TickObs}
 use Rattle.tick_lines.specs.declared.entry.TickEntry.{TickEntry}
 use Rattle.tick_lines.specs.declared.probing.ProbeResult.{ProbeResult}
-use Rattle.json_lines.specs.Lines.{lines_of, json_in}
+use Rattle.json_lines.specs.rule.Lines.{lines_of, json_in}
 use Rattle.manifest_fields.specs.declared.fault.ManifestFault.{ManifestFault}
 use Rattle.manifest_fields.specs.declared.fault.ManifestFault.TheVariants.{Missing}
 use Rattle.manifest_fields.specs.declared.fault.ManifestFault.TheVariants as faults
 use Rattle.manifest_fields.specs.declared.fault.Field.TheVariants as fields
-use Rattle.manifest.specs.Containers.{names_of}
-use Rattle.lists.specs.Names.{place_of}
+use Rattle.manifest.specs.rule.Containers.{names_of}
+use Rattle.lists.specs.rule.Names.{place_of}
 use Rattle.tick_lines.specs.declared.listing.Listing.{Listing}
-use Rattle.roster.specs.Roll.{Roll, number_of}
-use Rattle.trace.specs.Pod.{of_manifest, pod_from}
-use Rattle.manifest_reader.specs.Manifest.{pod_at}
-use Rattle.trace.specs.Placing.{number_in, container_number, placed_listing, placed_result, entry_of_pod}
-use Rattle.trace.specs.Placing.{placed_entry, placed_of}
-use Rattle.trace.specs.TraceSoFar.{TraceSoFar, heeds}
-use Rattle.trace.specs.Tick.{is_later, moment_from}
-use Rattle.trace.specs.Trace.{json_of}
-use Rattle.trace.specs.Laws.{IsFirstFault, Fails, too_long, not_json, unknown_kind, misplaced, wrong_node, many_pods}
-use Rattle.trace.specs.Laws.{wrong_pod, duplicate_pod, nobody_gone, many_ticks, wrong_moment, wrong_field, stranger}
-use Rattle.trace.specs.Laws.{doubled, backwards, no_code, KindsOfChecks, IsNotMemory, NeverMemory}
+use Rattle.roster.specs.rule.Roll.{Roll, number_of}
+use Rattle.trace.specs.rule.Pod.{of_manifest, pod_from}
+use Rattle.manifest_reader.specs.rule.Manifest.{pod_at}
+use Rattle.trace.specs.rule.Placing.{number_in, container_number, placed_listing, placed_result, entry_of_pod}
+use Rattle.trace.specs.rule.Placing.{placed_entry, placed_of}
+use Rattle.trace.specs.rule.TraceSoFar.{TraceSoFar, heeds}
+use Rattle.trace.specs.rule.Tick.{is_later, moment_from}
+use Rattle.trace.specs.rule.Trace.{json_of}
+use Rattle.trace.specs.state.Laws.{IsFirstFault, Fails, too_long, not_json, unknown_kind, misplaced, wrong_node}
+use Rattle.trace.specs.state.Laws.{many_pods}
+use Rattle.trace.specs.state.Laws.{wrong_pod, duplicate_pod, nobody_gone, many_ticks, wrong_moment, wrong_field}
+use Rattle.trace.specs.state.Laws.{stranger}
+use Rattle.trace.specs.state.Laws.{doubled, backwards, no_code, KindsOfChecks, IsNotMemory, NeverMemory}
 use Rattle.trace.proofs.LawLemmas.{first_fault}
 use Rattle.trace.proofs.LawLemmas.Checks.{line_fails}
 use Rattle.json_fields.proofs.Only.{Only, only_ok, only_err, only_bind, only_if, only_refused, only_some, only_each}
 use Rattle.node_config.specs.declared.node.Format.{Format}
 use Rattle.node_lines.specs.declared.fault.NodeFault.{NodeFault}
-use Rattle.node_lines.specs.Node.{node_of}
+use Rattle.node_lines.specs.rule.Node.{node_of}
 use Rattle.node_lines.proofs.FaultLemmas.{IsNodeFault, node_only}
 use Rattle.tick_lines.specs.declared.fault.TickLineFault.{TickLineFault}
 use Rattle.tick_lines.specs.declared.line.TickLine.{TickLine}
-use Rattle.tick_lines.specs.Line.{tick_line_of}
+use Rattle.tick_lines.specs.rule.Line.{tick_line_of}
 use Rattle.tick_lines.proofs.OnlyUsage.{IsUsageFault, one_kind}
-use Rattle.trace.specs.Faults.{kind_of_node_fault, kind_of_tick_fault}
-use Rattle.trace.specs.Written.{is_foreign, of_node_line, of_tick_line, node_in, has_other_kind, heeded, tick_line_in}
+use Rattle.trace.specs.rule.Faults.{kind_of_node_fault, kind_of_tick_fault}
+use Rattle.trace.specs.rule.Written.{is_foreign, of_node_line, of_tick_line, node_in, has_other_kind, heeded}
+use Rattle.trace.specs.rule.Written.{tick_line_in}
 use Rattle.manifest_reader.proofs.NeverMemory.{IsFound, missing, pod_at_only}
 
 abbrev Is : FaultKind → FaultKind → Type 0

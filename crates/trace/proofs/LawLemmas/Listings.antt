@@ -13,15 +13,16 @@ use Rattle.trace.specs.declared.placing.PlacedListing.{PlacedListing}
 use Rattle.manifest.specs.declared.pod.ContainerSpec.{ContainerSpec}
 use Rattle.manifest.specs.declared.pod.PodSpec.{PodSpec}
 use Rattle.observations.specs.declared.container.ContainerObs.{ContainerObs}
-use Rattle.observations.specs.Pods.{PodObs}
-use Rattle.observations.specs.Observations.{listed_in, shown_of, seen_of}
-use Rattle.roster.specs.Roll.{Roll, is_present}
+use Rattle.observations.specs.rule.Pods.{PodObs}
+use Rattle.observations.specs.rule.Observations.{listed_in, shown_of}
+use Rattle.observations.specs.state.Observations.{seen_of}
+use Rattle.roster.specs.rule.Roll.{Roll, is_present}
 use Rattle.trace.specs.declared.placing.PlacedEntry.{PlacedEntry}
 use Rattle.trace.specs.declared.placing.PlacedResult.{PlacedResult}
-use Rattle.trace.specs.Placing.{has_twice, are_of_one_pod, are_of_one_container, repeats, is_doubled}
-use Rattle.trace.specs.Observed.{seen_listed, seen_in, containers_from, entry_for, listings_of, results_of}
-use Rattle.trace.specs.Observed.{pod_observed, pods_from, observed}
-use Rattle.trace.specs.Laws.{IsListed, Lists, ListingsShown}
+use Rattle.trace.specs.rule.Placing.{has_twice, are_of_one_pod, are_of_one_container, repeats, is_doubled}
+use Rattle.trace.specs.rule.Observed.{seen_listed, seen_in, containers_from, entry_for, listings_of, results_of}
+use Rattle.trace.specs.rule.Observed.{pod_observed, pods_from, observed}
+use Rattle.trace.specs.state.Laws.{IsListed, Lists, ListingsShown}
 
 abbrev listing : ℕ → ListedInstance → PlacedListing
 listing n instance = record { container = n; instance = instance }

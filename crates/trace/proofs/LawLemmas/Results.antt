@@ -9,10 +9,10 @@ use Rattle.manifest.specs.declared.outcome.Outcome.{Outcome}
 use Rattle.manifest.specs.declared.outcome.ProbeKind.{ProbeKind}
 use Rattle.manifest.specs.declared.outcome.ProbeKind.TheVariants.{Startup, Liveness, Readiness}
 use Rattle.trace.specs.declared.placing.PlacedResult.{PlacedResult}
-use Rattle.manifest.specs.ProbeKinds.{place}
-use Rattle.trace.specs.Placing.{has_twice, is_of_probe, are_of_one_probe}
-use Rattle.trace.specs.Observed.{outcome_in}
-use Rattle.trace.specs.Laws.{IsGiven, ResultsShown}
+use Rattle.manifest.specs.rule.ProbeKinds.{place}
+use Rattle.trace.specs.rule.Placing.{has_twice, is_of_probe, are_of_one_probe}
+use Rattle.trace.specs.rule.Observed.{outcome_in}
+use Rattle.trace.specs.state.Laws.{IsGiven, ResultsShown}
 
 same_probe : (a b : ProbeKind) → (place a == place b) ≡ true → a ≡ b
 same_probe Startup Startup e = refl

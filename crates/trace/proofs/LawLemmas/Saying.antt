@@ -4,8 +4,8 @@ use Rattle.std.proofs.Common.{None, Result, Ok, refl, ap, sym, subst}
 use Rattle.std.specs.Prelude.{⊤, nat_lt, nat_le, codes}
 use Rattle.std.proofs.lemmas.Bool.{ltb-false, leb-false}
 use Rattle.serde_json.specs.Data.{Data}
-use Rattle.json_fields.specs.Fields.{field_at, text_at}
-use Rattle.json_fields.specs.Reading.{◌>>=◌, refused_if}
+use Rattle.json_fields.specs.rule.Fields.{field_at, text_at}
+use Rattle.json_fields.specs.rule.Reading.{◌>>=◌, refused_if}
 use Rattle.json_fields.proofs.Steps.{bind_ok, then_ok}
 use Rattle.json_fields.proofs.Only.{same_value, no_fault}
 use Rattle.trace.proofs.Whole.{with_kind, with_json, with_tick_seen, with_places, with_written, with_moment}
@@ -19,24 +19,25 @@ use Rattle.node_config.specs.declared.node.Version.{Version}
 use Rattle.trace.specs.declared.trace_so_far.LineKind.{LineKind}
 use Rattle.trace.specs.declared.trace_so_far.LineKind.TheVariants as kinds
 use Rattle.observations.specs.declared.tick.TickObs.{TickObs}
-use Rattle.observations.specs.Limits.{most_pods, most_ticks}
+use Rattle.observations.specs.rule.Limits.{most_pods, most_ticks}
 use Rattle.tick_lines.specs.declared.line.TickLine.{TickLine}
 use Rattle.trace.specs.declared.placing.PlacedEntry.{PlacedEntry}
-use Rattle.json_lines.specs.Lines.{longest_line}
-use Rattle.trace.specs.Written.{node_in, tick_line_in}
-use Rattle.roster.specs.Roll.{key_of_pod}
-use Rattle.trace.specs.Pod.{has_key, pod_from, named_in}
+use Rattle.json_lines.specs.rule.Lines.{longest_line}
+use Rattle.trace.specs.rule.Written.{node_in, tick_line_in}
+use Rattle.roster.specs.rule.Roll.{key_of_pod}
+use Rattle.trace.specs.rule.Pod.{has_key, pod_from, named_in}
 use Rattle.trace.proofs.Versions.{no_node, some_node}
 use Rattle.trace.proofs.Keys.{key_nowhere, nowhere_key}
-use Rattle.trace.specs.Placing.{placed_of, is_doubled}
-use Rattle.trace.specs.Observed.{observed, some_code_missing}
-use Rattle.following.specs.Backwards.{is_backwards}
-use Rattle.trace.specs.TraceSoFar.{TraceSoFar, version_in, heeds, of_node, with_pod, without, with_tick}
-use Rattle.trace.specs.Tick.{moment_of, observed_in, tick_at}
-use Rattle.trace.specs.Trace.{json_of, kind_from, with_node, is_late, pod_line_at, gone_line_at, in_order, line_at}
-use Rattle.trace.specs.Laws.{IsJson, IsOfKind, Stands, HasPod, HasMoment, HasWritten, HasPlaces}
-use Rattle.trace.specs.Laws.{IsApart, IsForwards}
-use Rattle.trace.specs.Laws.{Says, says_node, says_pod, says_gone, says_tick, AllChecks}
+use Rattle.trace.specs.rule.Placing.{placed_of, is_doubled}
+use Rattle.trace.specs.rule.Observed.{observed, some_code_missing}
+use Rattle.following.specs.rule.Backwards.{is_backwards}
+use Rattle.trace.specs.rule.TraceSoFar.{TraceSoFar, version_in, heeds, of_node, with_pod, without, with_tick}
+use Rattle.trace.specs.rule.Tick.{moment_of, observed_in, tick_at}
+use Rattle.trace.specs.rule.Trace.{json_of, kind_from, with_node, is_late, pod_line_at, gone_line_at, in_order}
+use Rattle.trace.specs.rule.Trace.{line_at}
+use Rattle.trace.specs.state.Laws.{IsJson, IsOfKind, Stands, HasPod, HasMoment, HasWritten, HasPlaces}
+use Rattle.trace.specs.state.Laws.{IsApart, IsForwards}
+use Rattle.trace.specs.state.Laws.{Says, says_node, says_pod, says_gone, says_tick, AllChecks}
 use Rattle.trace.proofs.LawLemmas.Checks.{PodStands, node_in_order, of_kind, of_gone, of_places, of_pod_said}
 use Rattle.trace.proofs.LawLemmas.Checks.{passed, takes_pods}
 

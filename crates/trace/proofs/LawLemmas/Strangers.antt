@@ -1,12 +1,12 @@
 -- Which entries of a tick line name what isn't known.
 use Rattle.std.proofs.Common.{◌≡◌, ◌∙◌, ◌⊎◌, ℕ, zero, suc, Bool, List, [], ◌∷◌, slice_get, Option, Some, None, Result}
 use Rattle.std.proofs.Common.{Ok, Err, refl, ap, sym, inl, inr}
-use Rattle.json_fields.specs.Reading.{◌>>=◌, some_or, each}
+use Rattle.json_fields.specs.rule.Reading.{◌>>=◌, some_or, each}
 use Rattle.json_fields.proofs.Only.{no_fault, same_fault}
 use Rattle.json_fields.proofs.Steps.{bind_err, then_ok, there_is}
-use Rattle.lists.specs.Names.{place_of}
+use Rattle.lists.specs.rule.Names.{place_of}
 use Rattle.manifest.specs.declared.pod.PodSpec.{PodSpec}
-use Rattle.manifest.specs.Containers.{names_of}
+use Rattle.manifest.specs.rule.Containers.{names_of}
 use Rattle.observations.specs.declared.usage.Sampling.{Sampling}
 use Rattle.trace.specs.declared.fault.FaultKind.{FaultKind}
 use Rattle.trace.specs.declared.fault.FaultKind.TheVariants.{StrangerPod, StrangerContainer}
@@ -16,11 +16,11 @@ use Rattle.tick_lines.specs.declared.probing.ProbeResult.{ProbeResult}
 use Rattle.trace.specs.declared.placing.PlacedListing.{PlacedListing}
 use Rattle.trace.specs.declared.placing.PlacedResult.{PlacedResult}
 use Rattle.trace.specs.declared.placing.PlacedEntry.{PlacedEntry}
-use Rattle.roster.specs.Roll.{Roll, number_of}
+use Rattle.roster.specs.rule.Roll.{Roll, number_of}
 use Rattle.trace.proofs.Keys.{named, unnamed}
-use Rattle.trace.specs.Placing.{number_in, pod_numbered, container_number, placed_listing, placed_result}
-use Rattle.trace.specs.Placing.{entry_of_pod, placed_entry, placed_of}
-use Rattle.trace.specs.Laws.{HasNo, NamesOther, NamesStranger, NamesStrangerContainer, Strangers}
+use Rattle.trace.specs.rule.Placing.{number_in, pod_numbered, container_number, placed_listing, placed_result}
+use Rattle.trace.specs.rule.Placing.{entry_of_pod, placed_entry, placed_of}
+use Rattle.trace.specs.state.Laws.{HasNo, NamesOther, NamesStranger, NamesStrangerContainer, Strangers}
 use Rattle.trace.proofs.Placed.{placed, with_listings, with_pod, with_number, said_of}
 use Rattle.trace.proofs.LawLemmas.Checks.{then_err}
 

@@ -3,14 +3,14 @@ use Rattle.std.proofs.Common.{◌≡◌, ◌∙◌, ℕ, zero, suc, Bool, true, 
 use Rattle.std.proofs.Common.{Err, refl, ap, sym}
 use Rattle.std.specs.Prelude.{◌↔◌, ◌&&◌, slice_get, option_map}
 use Rattle.std.proofs.lemmas.Option.{same_Some}
-use Rattle.json_fields.specs.Reading.{◌>>=◌, each, refused_if}
+use Rattle.json_fields.specs.rule.Reading.{◌>>=◌, each, refused_if}
 use Rattle.json_fields.proofs.Only.{same_value}
 use Rattle.json_fields.proofs.Steps.{bind_ok, there_is}
 use Rattle.manifest.specs.declared.pod.PodSpec.{PodSpec}
 use Rattle.node_config.specs.declared.node.Version.{Version}
 use Rattle.node_config.specs.declared.node.Version.TheVariants.{One, Two, Three}
-use Rattle.observations.specs.Pods.{PodObs}
-use Rattle.roster.specs.Roll.{Roll, number_of, is_present}
+use Rattle.observations.specs.rule.Pods.{PodObs}
+use Rattle.roster.specs.rule.Roll.{Roll, number_of, is_present}
 use Rattle.observations.specs.declared.usage.Sampling.{Sampling}
 use Rattle.observations.specs.declared.usage.Sampling.TheVariants.{Unsaid, Unsampled, Sampled}
 use Rattle.observations.specs.declared.usage.Usage.{Usage}
@@ -19,18 +19,18 @@ use Rattle.tick_lines.specs.declared.fault.TickLineFault.{TickLineFault}
 use Rattle.tick_lines.specs.declared.line.TickLine.{TickLine}
 use Rattle.tick_lines.specs.declared.usage.UnsampledMember.{UnsampledMember}
 use Rattle.tick_lines.specs.declared.usage.UnsampledMember.TheVariants.{No, Yes, OfOtherKind}
-use Rattle.tick_lines.specs.Line.{tick_line_of}
+use Rattle.tick_lines.specs.rule.Line.{tick_line_of}
 use Rattle.tick_lines.proofs.Quantities.{samples_said}
 use Rattle.trace.specs.declared.fault.FaultKind.{FaultKind}
 use Rattle.trace.specs.declared.fault.FaultKind.TheVariants as faults
 use Rattle.trace.specs.declared.fault.FaultKind.TheVariants.{StrangerPod}
 use Rattle.trace.specs.declared.placing.PlacedEntry.{PlacedEntry}
-use Rattle.trace.specs.Observed.{sampling_from, entry_for, observed}
-use Rattle.trace.specs.Placing.{has_twice, are_of_one_pod, number_in, sampling_of, entry_of_pod, placed_entry}
-use Rattle.trace.specs.Placing.{placed_of}
-use Rattle.trace.specs.TraceSoFar.{heeds_unsampled}
-use Rattle.trace.specs.Written.{has_other_kind, written_in}
-use Rattle.trace.specs.Laws.{Tells, sampling_shown_of, UsageShown, SaysUnsampled, UnsampledShown, SignalsShown}
+use Rattle.trace.specs.rule.Observed.{sampling_from, entry_for, observed}
+use Rattle.trace.specs.rule.Placing.{has_twice, are_of_one_pod, number_in, sampling_of, entry_of_pod, placed_entry}
+use Rattle.trace.specs.rule.Placing.{placed_of}
+use Rattle.trace.specs.rule.TraceSoFar.{heeds_unsampled}
+use Rattle.trace.specs.rule.Written.{has_other_kind, written_in}
+use Rattle.trace.specs.state.Laws.{Tells, sampling_shown_of, UsageShown, SaysUnsampled, UnsampledShown, SignalsShown}
 use Rattle.trace.proofs.Placed.{said_of, entry_says}
 use Rattle.trace.proofs.LawLemmas.Listings.{entry_found, entry_given, pod_shown}
 

@@ -1,7 +1,7 @@
 use Rattle.std.proofs.Common.{◌∙◌, List, ℕ, Option, ap, codes}
 use Rattle.clap.specs.Words.{found_of}
 use Rattle.clap.proofs.WalkLemmas.{first_value-rows}
-use Rattle.commands.specs.Jobs.{format_asked}
+use Rattle.commands.specs.state.Jobs.{format_asked}
 use Rattle.commands.proofs.job.format_in.Goals as goal
 
 pub returns : goal.returns

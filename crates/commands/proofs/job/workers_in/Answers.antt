@@ -2,7 +2,7 @@ use Rattle.std.proofs.Common.{◌≡◌, ◌≤◌, ℕ, false, true, List, Resu
 use Rattle.std.specs.Str.Parse.{ParsesUnsigned, ExplainsUnsignedError, HasUnsignedDigitsIfOk}
 use Rattle.std.specs.declared.num.ParseIntError.{ParseIntError}
 use Rattle.clap.specs.Words.{found_of}
-use Rattle.commands.specs.Program.{most_workers}
+use Rattle.commands.specs.state.Program.{most_workers}
 use Rattle.commands.proofs.Found.{unread_workers, read_workers, has_workers}
 use Rattle.commands.proofs.job.workers_in.Goals as goal
 

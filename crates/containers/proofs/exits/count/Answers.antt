@@ -1,7 +1,7 @@
 use Rattle.std.proofs.Common.{◌++◌, ℕ, Option, subst, sym}
-use Rattle.restarts.specs.Delays.{IsDelay}
-use Rattle.restarts.specs.Backoff.{IsStateOf}
-use Rattle.containers.specs.Step.{exits_at}
+use Rattle.restarts.specs.rule.Delays.{IsDelay}
+use Rattle.restarts.specs.state.Backoff.{IsStateOf}
+use Rattle.containers.specs.state.Step.{exits_at}
 use Rattle.containers.proofs.exits.count.Goals as goal
 
 pub returns-in-Some-clause-state : goal.returns-in-Some-clause-state

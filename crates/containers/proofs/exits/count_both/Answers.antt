@@ -1,5 +1,5 @@
 use Rattle.std.proofs.Common.{◌++◌}
-use Rattle.containers.specs.Step.{exits_at}
+use Rattle.containers.specs.state.Step.{exits_at}
 use Rattle.containers.proofs.ExitLemmas.{last_delay, none_more_exits}
 use Rattle.containers.proofs.exits.count_both.Goals as goal
 

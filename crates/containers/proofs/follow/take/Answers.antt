@@ -1,6 +1,6 @@
 use Rattle.std.proofs.Common.{◌++◌, Bool, subst, sym}
-use Rattle.containers.specs.Step.{ticks_at}
-use Rattle.probes.specs.ProbeSet.{IsStateOf}
+use Rattle.containers.specs.state.Step.{ticks_at}
+use Rattle.probes.specs.state.ProbeSet.{IsStateOf}
 use Rattle.containers.proofs.follow.take.Goals as goal
 
 pub returns-then-has_begun-clause-state : goal.returns-then-has_begun-clause-state

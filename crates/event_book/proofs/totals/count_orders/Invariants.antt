@@ -1,6 +1,6 @@
 use Rattle.std.proofs.Common.{◌≡◌, ◌+◌, ◌≤◌, drop, length}
 use Rattle.std.specs.List.{filter}
-use Rattle.event_book.specs.Totals.{is_order}
+use Rattle.event_book.specs.rule.Totals.{is_order}
 use Rattle.event_book.proofs.totals.count_orders.Given as goal
 
 abbrev pub invariant-loop-event : goal.invariant-loop-event

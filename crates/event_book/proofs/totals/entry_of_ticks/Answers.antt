@@ -1,7 +1,7 @@
 use Rattle.std.proofs.Common.{◌+◌, ◌++◌, ◌∷◌, [], take, sym, ap, ◌∙◌, arith}
 use Rattle.std.proofs.lemmas.List.{take_more}
 use Rattle.pod_piece.specs.declared.made.MadeTick.{MadeTick}
-use Rattle.event_book.specs.Totals.{entry_of}
+use Rattle.event_book.specs.state.Totals.{entry_of}
 use Rattle.event_book.proofs.Made.{entry_more, entry_low, made_of-part}
 use Rattle.event_book.proofs.totals.entry_of_ticks.Goals as goal
 

@@ -1,6 +1,6 @@
 use Rattle.std.proofs.Common.{◌≡◌, ◌∙◌, ◌++◌, ℕ, List, append_assoc, ap, codes, string_bytes}
 use Rattle.std.proofs.Common.{OnOk, Result, Ok, Err}
-use Rattle.event_list.specs.Text.{node_event_words, threshold_words}
+use Rattle.event_list.specs.rule.Text.{node_event_words, threshold_words}
 use Rattle.event_list.proofs.text.add_reclaim.Goals as goal
 
 -- one more phrase, where its call has a value

@@ -3,7 +3,7 @@ use Rattle.std.proofs.lemmas.List.{take_more}
 use Rattle.pod_state.specs.declared.events.PodEvent.{PodEvent}
 use Rattle.pod_piece.specs.declared.made.MadeTick.{MadeTick}
 use Rattle.event_list.specs.declared.event.EventKind.TheVariants.{Pod}
-use Rattle.event_list.specs.Events.{event}
+use Rattle.event_list.specs.rule.Events.{event}
 use Rattle.event_list.proofs.Adds.{earlier_more}
 use Rattle.event_list.proofs.tick.add_earlier_events.Goals as goal
 

@@ -1,6 +1,6 @@
 use Rattle.std.proofs.Common.{◌≡◌, ◌++◌, take}
-use Rattle.pod_piece.specs.Made.{made_of}
-use Rattle.event_list.specs.Tick.{events_of}
+use Rattle.pod_piece.specs.state.Made.{made_of}
+use Rattle.event_list.specs.state.Tick.{events_of}
 use Rattle.event_list.proofs.tick.add_earlier_events.Given as goal
 
 abbrev pub invariant-loop-tick : goal.invariant-loop-tick

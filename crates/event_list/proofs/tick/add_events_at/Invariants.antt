@@ -1,7 +1,7 @@
 use Rattle.std.proofs.Common.{◌≡◌, ◌++◌, map, take}
 use Rattle.pod_state.specs.declared.events.PodEvent.{PodEvent}
 use Rattle.event_list.specs.declared.event.EventKind.TheVariants.{Pod}
-use Rattle.event_list.specs.Events.{event}
+use Rattle.event_list.specs.rule.Events.{event}
 use Rattle.event_list.proofs.tick.add_events_at.Given as goal
 
 abbrev pub invariant-loop-event : goal.invariant-loop-event

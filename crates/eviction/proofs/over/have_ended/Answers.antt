@@ -2,8 +2,8 @@ use Rattle.std.proofs.Common.{◌≡◌, ◌∙◌, ℕ, ◌+◌, ◌<◌, suc, 
 use Rattle.std.specs.Prelude.{◌&&◌}
 use Rattle.std.specs.List.{list_all}
 use Rattle.observations.specs.declared.container.ContainerObs.{ContainerObs}
-use Rattle.observations.specs.Observations.{listed_in}
-use Rattle.eviction.specs.Replay.{has_ended}
+use Rattle.observations.specs.rule.Observations.{listed_in}
+use Rattle.eviction.specs.rule.Replay.{has_ended}
 use Rattle.eviction.proofs.Ended.{over_step}
 use Rattle.eviction.proofs.over.have_ended.Goals as goal
 

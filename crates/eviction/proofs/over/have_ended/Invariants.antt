@@ -1,7 +1,7 @@
 use Rattle.std.proofs.Common.{◌≡◌, drop}
 use Rattle.std.specs.List.{list_all}
 use Rattle.observations.specs.declared.container.ContainerObs.{ContainerObs}
-use Rattle.eviction.specs.Replay.{has_ended}
+use Rattle.eviction.specs.rule.Replay.{has_ended}
 use Rattle.eviction.proofs.over.have_ended.Given as goal
 
 -- those that were looked at have ended

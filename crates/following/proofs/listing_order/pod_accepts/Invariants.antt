@@ -1,4 +1,4 @@
-use Rattle.following.specs.Steps.{AreAccepted}
+use Rattle.following.specs.state.Steps.{AreAccepted}
 use Rattle.following.proofs.listing_order.pod_accepts.Given as goal
 
 abbrev pub invariant-loop-container : goal.invariant-loop-container

@@ -1,4 +1,4 @@
-use Rattle.following.specs.Steps.{PodsAreAccepted}
+use Rattle.following.specs.state.Steps.{PodsAreAccepted}
 use Rattle.following.proofs.listing_order.pods_accept.Given as goal
 
 abbrev pub invariant-loop-pod : goal.invariant-loop-pod

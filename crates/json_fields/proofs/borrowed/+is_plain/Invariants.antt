@@ -1,6 +1,6 @@
 use Rattle.std.proofs.Common.{◌≡◌, drop}
 use Rattle.json.specs.Value.{items_view, members_view}
-use Rattle.json_fields.specs.Borrowed.{items_are_plain, members_are_plain}
+use Rattle.json_fields.specs.state.Borrowed.{items_are_plain, members_are_plain}
 use Rattle.json_fields.proofs.borrowed.+is_plain.Given as goal
 
 abbrev pub invariant-items_are_plain-loop-item : goal.invariant-items_are_plain-loop-item

@@ -1,6 +1,6 @@
 use Rattle.std.proofs.Common.{◌≡◌, length}
 use Rattle.json.specs.Value.{members_view}
-use Rattle.json_fields.specs.Borrowed.{has_last_stranger}
+use Rattle.json_fields.specs.state.Borrowed.{has_last_stranger}
 use Rattle.json_fields.proofs.borrowed.has_last_stranger.Given as goal
 
 abbrev pub decreases-loop-rest : goal.decreases-loop-rest

@@ -1,6 +1,6 @@
 use Rattle.std.proofs.Common.{◌≡◌}
 use Rattle.serde_json.specs.View.{members_view}
-use Rattle.json_fields.specs.Strangers.{has_stranger}
+use Rattle.json_fields.specs.rule.Strangers.{has_stranger}
 use Rattle.json_fields.proofs.owned.has_stranger.Given as goal
 
 abbrev pub invariant-loop-name : goal.invariant-loop-name

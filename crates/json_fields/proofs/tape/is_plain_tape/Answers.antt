@@ -1,7 +1,7 @@
 use Rattle.std.proofs.Common.{◌≡◌, ◌≤◌, [], drop, length, true, rules, sym}
 use Rattle.std.proofs.lemmas.List.{drop_all}
 use Rattle.serde_json.specs.Read.{max_depth}
-use Rattle.json_fields.specs.Tape.{fits}
+use Rattle.json_fields.specs.state.Tape.{fits}
 use Rattle.json_fields.proofs.Fitting.{fits_plain}
 use Rattle.json_fields.proofs.tape.is_plain_tape.Goals as goal
 

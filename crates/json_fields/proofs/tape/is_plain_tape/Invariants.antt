@@ -1,7 +1,7 @@
 use Rattle.std.proofs.Common.{◌≡◌, map, drop}
 use Rattle.json.specs.Tape.{node_token}
 use Rattle.serde_json.specs.Read.{max_depth}
-use Rattle.json_fields.specs.Tape.{fits}
+use Rattle.json_fields.specs.state.Tape.{fits}
 use Rattle.json_fields.proofs.tape.is_plain_tape.Given as goal
 
 abbrev pub invariant-loop-node : goal.invariant-loop-node

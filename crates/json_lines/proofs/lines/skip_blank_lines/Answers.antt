@@ -1,6 +1,6 @@
 use Rattle.std.proofs.Common.{◌≡◌, ◌∙◌, ◌+◌, ◌∷◌, arith, rules, sym, true}
 use Rattle.std.specs.List.{prefix_len}
-use Rattle.json_lines.specs.Lines.{lines_of, is_blank}
+use Rattle.json_lines.specs.rule.Lines.{lines_of, is_blank}
 use Rattle.json_lines.proofs.Blanks.{blank_first, drop_first}
 use Rattle.json_lines.proofs.lines.skip_blank_lines.Goals as goal
 

@@ -1,5 +1,5 @@
 use Rattle.std.proofs.Common.{◌≡◌, ◌+◌, ◌++◌, ◌≤◌, length, map}
-use Rattle.json_lines.specs.Lines.{lines_of}
+use Rattle.json_lines.specs.rule.Lines.{lines_of}
 use Rattle.json_lines.proofs.model.next_lines.Given as goal
 
 abbrev pub invariant-loop-rest : goal.invariant-loop-rest

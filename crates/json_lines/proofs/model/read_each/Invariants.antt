@@ -1,5 +1,5 @@
 use Rattle.std.proofs.Common.{◌≡◌, map, take}
-use Rattle.json_lines.specs.Lines.{line_data, data_of}
+use Rattle.json_lines.specs.state.Lines.{line_data, data_of}
 use Rattle.json_lines.proofs.model.read_each.Given as goal
 
 abbrev pub invariant-loop-line : goal.invariant-loop-line

@@ -1,5 +1,5 @@
 use Rattle.std.proofs.Common.{◌≡◌, ◌+◌, ◌*◌, arith, rules, sym}
-use Rattle.json_lines.specs.Lines.{line_data, data_of}
+use Rattle.json_lines.specs.state.Lines.{line_data, data_of}
 use Rattle.json_lines.proofs.ReadChunks.{shared_chunks, map_of_zipped, zip_of_mapped}
 use Rattle.json_lines.proofs.model.read_shared.Goals as goal
 

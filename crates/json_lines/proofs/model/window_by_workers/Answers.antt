@@ -1,5 +1,5 @@
 use Rattle.json_lines.proofs.Windows.{window_read}
-use Rattle.json_lines.specs.Lines.{line_data}
+use Rattle.json_lines.specs.state.Lines.{line_data}
 use Rattle.json_lines.proofs.model.window_by_workers.Goals as goal
 
 pub returns-clause-lines : goal.returns-clause-lines

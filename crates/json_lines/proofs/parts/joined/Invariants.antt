@@ -1,6 +1,6 @@
 use Rattle.std.proofs.Common.{◌≡◌, All, IsOk}
 use Rattle.std.specs.List.{flat_map}
-use Rattle.json_lines.specs.Parts.{read_in}
+use Rattle.json_lines.specs.state.Parts.{read_in}
 use Rattle.json_lines.proofs.parts.joined.Given as goal
 
 abbrev pub invariant-loop-part : goal.invariant-loop-part

@@ -1,4 +1,4 @@
-use Rattle.kubelet_replay.specs.Ticks.{HaveArrived}
+use Rattle.kubelet_replay.specs.state.Ticks.{HaveArrived}
 use Rattle.kubelet_replay.proofs.replayed.arrive.Given as goal
 
 abbrev pub invariant-loop : goal.invariant-loop

@@ -1,6 +1,6 @@
 use Rattle.std.proofs.Common.{◌≡◌, [], length}
 use Rattle.node_config.specs.declared.node.NodeConfig.{NodeConfig}
-use Rattle.tick_round.specs.Node.{IsAfter}
+use Rattle.tick_round.specs.state.Node.{IsAfter}
 use Rattle.kubelet_replay.proofs.NodeLemmas.{IsSoFar}
 use Rattle.kubelet_replay.proofs.replayed.take_by_steps.Given as goal
 

@@ -1,9 +1,9 @@
 use Rattle.std.proofs.Common.{◌≡◌, ◌∙◌, List, [], Option, Some, None, sym, subst}
 use Rattle.manifest.specs.declared.pod.PodSpec.{PodSpec}
 use Rattle.node_config.specs.declared.node.NodeConfig.{NodeConfig}
-use Rattle.tick_round.specs.Node.{State, IsAfter}
+use Rattle.tick_round.specs.state.Node.{State, IsAfter}
 use Rattle.observations.specs.declared.tick.TickObs.{TickObs}
-use Rattle.kubelet_replay.specs.Ticks.{AreReplayable, AreWhole}
+use Rattle.kubelet_replay.specs.state.Ticks.{AreReplayable, AreWhole}
 use Rattle.kubelet_replay.proofs.Replayable.{are_replayable, are_whole}
 use Rattle.kubelet_replay.proofs.report.begin.Goals as goal
 

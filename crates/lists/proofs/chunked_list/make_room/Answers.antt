@@ -1,5 +1,5 @@
 use Rattle.std.proofs.Common.{◌∙◌, ◌++◌, ◌∷◌, [], ap}
-use Rattle.lists.specs.Chunks.{joined}
+use Rattle.lists.specs.state.Chunks.{joined}
 use Rattle.lists.proofs.Joined.{joined_next}
 use Rattle.lists.proofs.chunked_list.make_room.Goals as goal
 

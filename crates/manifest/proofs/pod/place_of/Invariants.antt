@@ -1,6 +1,6 @@
 use Rattle.std.proofs.Common.{◌≡◌, ◌+◌, length, option_map}
-use Rattle.lists.specs.Names.{place_of}
-use Rattle.manifest.specs.Containers.{names_of}
+use Rattle.lists.specs.rule.Names.{place_of}
+use Rattle.manifest.specs.rule.Containers.{names_of}
 use Rattle.manifest.proofs.pod.place_of.Given as goal
 
 abbrev pub invariant-others : goal.invariant-others

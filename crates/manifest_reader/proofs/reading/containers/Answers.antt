@@ -1,6 +1,6 @@
 use Rattle.std.proofs.Common.{◌∙◌, rules}
 use Rattle.serde_json.specs.View.{view}
-use Rattle.manifest_reader.specs.Manifest.{container_of}
+use Rattle.manifest_reader.specs.rule.Manifest.{container_of}
 use Rattle.manifest_reader.proofs.EachItem.{one_more}
 use Rattle.manifest_reader.proofs.Placed.{all_of_pushed}
 use Rattle.manifest_reader.proofs.reading.containers.Goals as goal

@@ -1,9 +1,9 @@
 use Rattle.std.proofs.Common.{◌≡◌, map, drop, length}
 use Rattle.serde_json.specs.View.{view}
-use Rattle.json_fields.specs.Reading.{each}
+use Rattle.json_fields.specs.rule.Reading.{each}
 use Rattle.json_fields.proofs.Each.{with_front}
-use Rattle.manifest.specs.Containers.{AllOf}
-use Rattle.manifest_reader.specs.Manifest.{container_of}
+use Rattle.manifest.specs.state.Containers.{AllOf}
+use Rattle.manifest_reader.specs.rule.Manifest.{container_of}
 use Rattle.manifest_reader.proofs.reading.containers.Given as goal
 
 abbrev pub invariant-loop-value : goal.invariant-loop-value

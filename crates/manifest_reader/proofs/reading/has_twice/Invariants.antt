@@ -1,5 +1,5 @@
 use Rattle.std.proofs.Common.{◌≡◌, length}
-use Rattle.manifest.specs.Containers.{has_twice}
+use Rattle.manifest.specs.rule.Containers.{has_twice}
 use Rattle.manifest_reader.proofs.reading.has_twice.Given as goal
 
 abbrev pub invariant-loop-rest : goal.invariant-loop-rest

@@ -1,5 +1,5 @@
 use Rattle.std.proofs.Common.{◌≡◌, ◌++◌, length}
-use Rattle.node_pods.specs.Pods.{joined_from}
+use Rattle.node_pods.specs.state.Pods.{joined_from}
 use Rattle.node_pods.proofs.each.all_joined.Given as goal
 
 abbrev pub invariant-loop-place : goal.invariant-loop-place

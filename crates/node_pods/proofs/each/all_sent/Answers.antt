@@ -1,4 +1,4 @@
-use Rattle.node_pods.specs.Pods.{sent_from, staying}
+use Rattle.node_pods.specs.state.Pods.{sent_from, staying}
 use Rattle.node_pods.proofs.Steps.{sent_more, kept_more}
 use Rattle.node_pods.proofs.each.all_sent.Goals as goal
 

@@ -1,5 +1,5 @@
 use Rattle.std.proofs.Common.{◌≡◌, ◌++◌, length}
-use Rattle.node_pods.specs.Pods.{sent_from, staying}
+use Rattle.node_pods.specs.state.Pods.{sent_from, staying}
 use Rattle.node_pods.proofs.each.all_sent.Given as goal
 
 abbrev pub invariant-loop-piece : goal.invariant-loop-piece

@@ -1,4 +1,4 @@
-use Rattle.node_pods.specs.Steps.{AreNextBelow}
+use Rattle.node_pods.specs.state.Steps.{AreNextBelow}
 use Rattle.node_pods.proofs.each.are_next.Given as goal
 
 abbrev pub invariant-loop-number : goal.invariant-loop-number

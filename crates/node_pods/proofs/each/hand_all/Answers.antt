@@ -4,8 +4,8 @@ use Rattle.std.specs.Option.{option_flatten}
 use Rattle.std.proofs.lemmas.Option.{slice_get_past}
 use Rattle.histories.proofs.Lists.{rest_more}
 use Rattle.histories.proofs.Places.{length-more}
-use Rattle.observations.specs.Pods.{PodObs}
-use Rattle.node_pods.specs.Pods.{handed_one, handed_each}
+use Rattle.observations.specs.rule.Pods.{PodObs}
+use Rattle.node_pods.specs.state.Pods.{handed_one, handed_each}
 use Rattle.node_pods.proofs.Steps.{none_changed, one_changed, all_changed, with_shown_length, with_shown_at}
 use Rattle.node_pods.proofs.Steps.{shown_next, may_take_next, nothing_left, behind, length_front}
 use Rattle.node_pods.proofs.each.hand_all.Goals as goal

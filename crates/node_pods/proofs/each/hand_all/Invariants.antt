@@ -1,8 +1,8 @@
 use Rattle.std.proofs.Common.{◌≡◌, ◌++◌, length}
 use Rattle.std.specs.Prelude.{slice_get}
 use Rattle.std.specs.Option.{option_flatten}
-use Rattle.node_pods.specs.Pods.{handed_one}
-use Rattle.node_pods.specs.Steps.{AreChangedBelow}
+use Rattle.node_pods.specs.state.Pods.{handed_one}
+use Rattle.node_pods.specs.state.Steps.{AreChangedBelow}
 use Rattle.node_pods.proofs.each.hand_all.Given as goal
 
 abbrev pub invariant-loop-observed : goal.invariant-loop-observed

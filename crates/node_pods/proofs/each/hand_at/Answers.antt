@@ -1,10 +1,10 @@
 use Rattle.std.proofs.Common.{Option, sym, subst}
 use Rattle.std.specs.Prelude.{slice_set}
-use Rattle.observations.specs.Pods.{PodObs}
-use Rattle.pod_state.specs.Pods.{pod_tick}
-use Rattle.pod_piece.specs.Piece.{with_tick}
-use Rattle.node_pods.specs.Pods.{handed_one}
-use Rattle.node_pods.specs.Steps.{MayTake, IsChangedAt}
+use Rattle.observations.specs.rule.Pods.{PodObs}
+use Rattle.pod_state.specs.rule.Pods.{pod_tick}
+use Rattle.pod_piece.specs.state.Piece.{with_tick}
+use Rattle.node_pods.specs.state.Pods.{handed_one}
+use Rattle.node_pods.specs.state.Steps.{MayTake, IsChangedAt}
 use Rattle.node_pods.proofs.Candidates.{read_by_place}
 use Rattle.node_pods.proofs.Steps.{set_changed}
 use Rattle.node_pods.proofs.each.hand_at.Goals as goal

@@ -1,5 +1,5 @@
 use Rattle.std.proofs.Common.{◌≡◌, ◌∙◌, None, length, refl, subst, arith}
-use Rattle.node_pods.specs.Ranked.{AreHeldBelow}
+use Rattle.node_pods.specs.state.Ranked.{AreHeldBelow}
 use Rattle.node_pods.proofs.Candidates.{ranked_more, none_held}
 use Rattle.node_pods.proofs.each.rank_all.Goals as goal
 

@@ -1,7 +1,7 @@
 use Rattle.std.proofs.Common.{◌≡◌, ℕ, Option, None}
 use Rattle.pod_piece.specs.declared.status.PodStatus.{PodStatus}
-use Rattle.ranking.specs.Index.{IsIndexOf}
-use Rattle.node_pods.specs.Ranked.{AreHeldBelow}
+use Rattle.ranking.specs.state.Index.{IsIndexOf}
+use Rattle.node_pods.specs.state.Ranked.{AreHeldBelow}
 use Rattle.node_pods.proofs.each.rank_all.Given as goal
 
 abbrev pub invariant-loop-number : goal.invariant-loop-number

@@ -2,7 +2,7 @@ use Rattle.std.proofs.Common.{◌∙◌, map, refl, ap, arith}
 use Rattle.std.specs.Prelude.{option_map}
 use Rattle.std.proofs.lemmas.List.{length-map}
 use Rattle.std.proofs.lemmas.Option.{slice_get-map, slice_get_within}
-use Rattle.pod_piece.specs.Piece.{at_rest}
+use Rattle.pod_piece.specs.state.Piece.{at_rest}
 use Rattle.node_pods.proofs.Steps.{none_changed, one_changed, all_changed}
 use Rattle.node_pods.proofs.each.rest_all.Goals as goal
 

@@ -1,6 +1,6 @@
 use Rattle.std.proofs.Common.{◌≡◌, length}
-use Rattle.pod_piece.specs.Piece.{at_rest}
-use Rattle.node_pods.specs.Steps.{AreChangedBelow}
+use Rattle.pod_piece.specs.state.Piece.{at_rest}
+use Rattle.node_pods.specs.state.Steps.{AreChangedBelow}
 use Rattle.node_pods.proofs.each.rest_all.Given as goal
 
 abbrev pub invariant-loop-number : goal.invariant-loop-number

@@ -1,4 +1,4 @@
-use Rattle.pod_piece.specs.Piece.{at_rest}
+use Rattle.pod_piece.specs.state.Piece.{at_rest}
 use Rattle.node_pods.proofs.Candidates.{read_by_place}
 use Rattle.node_pods.proofs.Steps.{set_changed}
 use Rattle.node_pods.proofs.each.rest_at.Goals as goal

@@ -1,5 +1,5 @@
 use Rattle.ranking.proofs.LawLemmas.{victim_unique}
-use Rattle.node_pods.specs.Pods.{IsCandidate}
+use Rattle.node_pods.specs.state.Pods.{IsCandidate}
 use Rattle.node_pods.proofs.Candidates.{candidates_alike}
 use Rattle.node_pods.proofs.laws.candidates_are_alike.Goals as goal
 

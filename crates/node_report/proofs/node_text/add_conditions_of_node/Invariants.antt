@@ -1,6 +1,6 @@
 use Rattle.std.proofs.Common.{◌≡◌, ◌++◌, drop, string_bytes}
 use Rattle.std.specs.List.{flat_map}
-use Rattle.node_report.specs.Lines.{node_condition_line}
+use Rattle.node_report.specs.rule.Lines.{node_condition_line}
 use Rattle.node_report.proofs.node_text.add_conditions_of_node.Given as goal
 
 abbrev pub invariant-loop-status : goal.invariant-loop-status

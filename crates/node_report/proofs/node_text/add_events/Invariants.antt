@@ -1,7 +1,7 @@
 use Rattle.std.proofs.Common.{◌≡◌, ◌++◌, drop, string_bytes}
 use Rattle.std.specs.List.{flat_map}
-use Rattle.pod_piece.specs.Piece.{pods_in}
-use Rattle.event_list.specs.Text.{event_line}
+use Rattle.pod_piece.specs.state.Piece.{pods_in}
+use Rattle.event_list.specs.rule.Text.{event_line}
 use Rattle.node_report.proofs.node_text.add_events.Given as goal
 
 abbrev pub invariant-loop-event : goal.invariant-loop-event

@@ -1,7 +1,7 @@
 use Rattle.std.proofs.Common.{◌≡◌, ◌++◌, drop, string_bytes}
 use Rattle.std.specs.List.{flat_map}
-use Rattle.pod_piece.specs.Piece.{pods_in}
-use Rattle.node_report.specs.Lines.{eviction_text}
+use Rattle.pod_piece.specs.state.Piece.{pods_in}
+use Rattle.node_report.specs.rule.Lines.{eviction_text}
 use Rattle.node_report.proofs.node_text.add_evictions.Given as goal
 
 abbrev pub invariant-loop-eviction : goal.invariant-loop-eviction

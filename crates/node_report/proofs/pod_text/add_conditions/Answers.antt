@@ -1,5 +1,5 @@
 use Rattle.std.proofs.Common.{string_bytes, codes}
-use Rattle.node_report.specs.Lines.{condition_line}
+use Rattle.node_report.specs.rule.Lines.{condition_line}
 use Rattle.node_report.proofs.Parts.{four_parts}
 use Rattle.node_report.proofs.pod_text.add_conditions.Goals as goal
 

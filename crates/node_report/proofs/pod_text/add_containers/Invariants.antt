@@ -1,5 +1,5 @@
 use Rattle.std.proofs.Common.{◌≡◌, ◌++◌, drop, string_bytes}
-use Rattle.node_report.specs.Lines.{containers_text}
+use Rattle.node_report.specs.rule.Lines.{containers_text}
 use Rattle.node_report.proofs.pod_text.add_containers.Given as goal
 
 abbrev pub invariant-loop-place : goal.invariant-loop-place

@@ -1,5 +1,5 @@
 use Rattle.node_signals.specs.declared.condition.NodeCondition.TheVariants.{MemoryPressure, DiskPressure, PidPressure}
-use Rattle.node_signals.specs.Events.{ChangesCondition}
+use Rattle.node_signals.specs.rule.Events.{ChangesCondition}
 use Rattle.node_signals.proofs.EventLemmas.{adds_three}
 use Rattle.node_signals.proofs.events.add_condition_events.Goals as goal
 

@@ -1,4 +1,4 @@
-use Rattle.node_signals.specs.Events.{Reclaims}
+use Rattle.node_signals.specs.rule.Events.{Reclaims}
 use Rattle.node_signals.proofs.EventLemmas.{adds_none, adds_next, adds_all}
 use Rattle.node_signals.proofs.events.add_reclaim_events.Goals as goal
 

@@ -1,8 +1,9 @@
 use Rattle.std.proofs.Common.{List, [], ◌∷◌, ◌++◌, take}
 use Rattle.observations.specs.declared.tick.TickObs.{TickObs}
-use Rattle.node_signals.specs.Keys.{serving_order}
-use Rattle.node_signals.specs.Events.{Reclaims, Adds}
-use Rattle.node_signals.specs.Node.{AreWatches}
+use Rattle.node_signals.specs.rule.Keys.{serving_order}
+use Rattle.node_signals.specs.rule.Events.{Reclaims}
+use Rattle.node_signals.specs.state.Events.{Adds}
+use Rattle.node_signals.specs.state.Node.{AreWatches}
 use Rattle.node_signals.proofs.events.add_reclaim_events.Given as goal
 
 abbrev pub invariant-loop-place : goal.invariant-loop-place

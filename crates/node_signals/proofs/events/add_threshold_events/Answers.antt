@@ -1,4 +1,4 @@
-use Rattle.node_signals.specs.Events.{ChangesThreshold}
+use Rattle.node_signals.specs.rule.Events.{ChangesThreshold}
 use Rattle.node_signals.proofs.EventLemmas.{adds_none, adds_next, adds_all}
 use Rattle.node_signals.proofs.events.add_threshold_events.Goals as goal
 

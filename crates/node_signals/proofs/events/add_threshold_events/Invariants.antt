@@ -1,9 +1,10 @@
 use Rattle.std.proofs.Common.{List, [], ◌∷◌, ◌++◌, take}
-use Rattle.node_config.specs.EvictionConfig.{EvictionConfig}
+use Rattle.node_config.specs.rule.EvictionConfig.{EvictionConfig}
 use Rattle.observations.specs.declared.tick.TickObs.{TickObs}
-use Rattle.node_signals.specs.Keys.{serving_order}
-use Rattle.node_signals.specs.Events.{ChangesThreshold, Adds}
-use Rattle.node_signals.specs.Node.{AreWatches}
+use Rattle.node_signals.specs.rule.Keys.{serving_order}
+use Rattle.node_signals.specs.rule.Events.{ChangesThreshold}
+use Rattle.node_signals.specs.state.Events.{Adds}
+use Rattle.node_signals.specs.state.Node.{AreWatches}
 use Rattle.node_signals.proofs.events.add_threshold_events.Given as goal
 
 abbrev pub invariant-loop-place : goal.invariant-loop-place

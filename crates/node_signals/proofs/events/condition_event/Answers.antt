@@ -1,6 +1,6 @@
 use Rattle.std.proofs.Common.{◌++◌, ◌∷◌, []}
 use Rattle.node_signals.specs.declared.event.NodeEvent.TheVariants.{Pressure}
-use Rattle.node_signals.specs.Conditions.{IsTrueAfter}
+use Rattle.node_signals.specs.rule.Conditions.{IsTrueAfter}
 use Rattle.node_signals.proofs.ConditionLemmas.{is_true_of}
 use Rattle.node_signals.proofs.EventLemmas.{change_given}
 use Rattle.node_signals.proofs.events.condition_event.Goals as goal

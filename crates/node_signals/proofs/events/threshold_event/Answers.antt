@@ -1,6 +1,6 @@
 use Rattle.std.proofs.Common.{◌++◌, ◌∷◌, []}
 use Rattle.node_signals.specs.declared.event.NodeEvent.TheVariants.{Threshold}
-use Rattle.node_signals.specs.Thresholds.{IsActiveOnNode}
+use Rattle.node_signals.specs.rule.Thresholds.{IsActiveOnNode}
 use Rattle.node_signals.proofs.ServedLemmas.{one_key}
 use Rattle.node_signals.proofs.EventLemmas.{change_given}
 use Rattle.node_signals.proofs.events.threshold_event.Goals as goal

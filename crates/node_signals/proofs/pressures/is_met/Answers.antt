@@ -1,4 +1,4 @@
-use Rattle.node_signals.specs.Conditions.{Meets}
+use Rattle.node_signals.specs.rule.Conditions.{Meets}
 use Rattle.node_signals.proofs.ServedLemmas.{none_below_first, none_below_next, some_met, none_met, refused}
 use Rattle.node_signals.proofs.pressures.is_met.Goals as goal
 

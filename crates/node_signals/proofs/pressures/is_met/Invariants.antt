@@ -1,8 +1,8 @@
 use Rattle.std.proofs.Common.{List}
-use Rattle.node_config.specs.EvictionConfig.{EvictionConfig}
+use Rattle.node_config.specs.rule.EvictionConfig.{EvictionConfig}
 use Rattle.observations.specs.declared.tick.TickObs.{TickObs}
-use Rattle.node_signals.specs.Conditions.{Meets}
-use Rattle.node_signals.specs.Node.{AreWatches}
+use Rattle.node_signals.specs.rule.Conditions.{Meets}
+use Rattle.node_signals.specs.state.Node.{AreWatches}
 use Rattle.node_signals.proofs.ServedLemmas.{NoneBelow}
 use Rattle.node_signals.proofs.pressures.is_met.Given as goal
 

@@ -1,4 +1,4 @@
-use Rattle.thresholds.specs.Thresholds.{IsThresholdActive}
+use Rattle.thresholds.specs.rule.Thresholds.{IsThresholdActive}
 use Rattle.node_signals.proofs.WatchLemmas.{watched, unwatched}
 use Rattle.node_signals.proofs.watches.is_active.Goals as goal
 

@@ -1,4 +1,4 @@
-use Rattle.thresholds.specs.Thresholds.{IsThresholdDue}
+use Rattle.thresholds.specs.rule.Thresholds.{IsThresholdDue}
 use Rattle.node_signals.proofs.WatchLemmas.{watched, unwatched}
 use Rattle.node_signals.proofs.watches.is_due.Goals as goal
 

@@ -1,7 +1,7 @@
 use Rattle.std.proofs.Common.{List}
-use Rattle.node_config.specs.EvictionConfig.{EvictionConfig}
+use Rattle.node_config.specs.rule.EvictionConfig.{EvictionConfig}
 use Rattle.observations.specs.declared.tick.TickObs.{TickObs}
-use Rattle.node_signals.specs.Node.{AreWatches}
+use Rattle.node_signals.specs.state.Node.{AreWatches}
 use Rattle.node_signals.proofs.WatchLemmas.{AreSampled}
 use Rattle.node_signals.proofs.watches.sample_all.Given as goal
 

@@ -1,4 +1,4 @@
-use Rattle.node_signals.specs.Thresholds.{Asks}
+use Rattle.node_signals.specs.rule.Thresholds.{Asks}
 use Rattle.node_signals.proofs.ServedLemmas.{none_below_first, none_below_next, served_here, none_served, refused}
 use Rattle.node_signals.proofs.watches.served.Goals as goal
 

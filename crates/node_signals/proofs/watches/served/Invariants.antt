@@ -1,7 +1,7 @@
 use Rattle.std.proofs.Common.{List, [], ◌∷◌, ◌++◌}
 use Rattle.observations.specs.declared.tick.TickObs.{TickObs}
-use Rattle.node_signals.specs.Thresholds.{Asks}
-use Rattle.node_signals.specs.Node.{AreWatches}
+use Rattle.node_signals.specs.rule.Thresholds.{Asks}
+use Rattle.node_signals.specs.state.Node.{AreWatches}
 use Rattle.node_signals.proofs.ServedLemmas.{NoneBelow}
 use Rattle.node_signals.proofs.watches.served.Given as goal
 

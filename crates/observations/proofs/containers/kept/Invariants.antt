@@ -1,5 +1,5 @@
 use Rattle.std.proofs.Common.{◌≡◌, ◌++◌, map, drop}
-use Rattle.observations.specs.PackedContainer.{shown_as}
+use Rattle.observations.specs.state.PackedContainer.{shown_as}
 use Rattle.observations.proofs.containers.kept.Given as goal
 
 abbrev pub invariant-loop-one : goal.invariant-loop-one

@@ -1,6 +1,6 @@
 use Rattle.std.proofs.Common.{◌∙◌, ap, refl, sym, Some, w32}
 use Rattle.std.proofs.lemmas.Int.{to_z-of_z}
-use Rattle.state_diff.specs.States.{is_exited}
+use Rattle.state_diff.specs.rule.States.{is_exited}
 use Rattle.observations.proofs.KeptAs.{same_seen, same_unexited, with_code}
 use Rattle.observations.proofs.packed_container.listed.Goals as goal
 

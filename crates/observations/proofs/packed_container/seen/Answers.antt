@@ -1,6 +1,6 @@
 use Rattle.std.proofs.Common.{◌∙◌, ap, sym, w32}
 use Rattle.std.proofs.lemmas.Int.{to_z-of_z}
-use Rattle.observations.specs.PackedContainer.{seen_as}
+use Rattle.observations.specs.state.PackedContainer.{seen_as}
 use Rattle.observations.proofs.KeptAs.{one_seen, one_exited}
 use Rattle.observations.proofs.packed_container.seen.Goals as goal
 

@@ -1,6 +1,6 @@
 use Rattle.std.proofs.Common.{[], ◌∷◌}
 use Rattle.std.proofs.lemmas.List.Elements.{All-cons, All-nil}
-use Rattle.piece_deques.specs.Rule.{IsPieceDue}
+use Rattle.piece_deques.specs.state.Rule.{IsPieceDue}
 use Rattle.piece_deques.proofs.Moves.{pushes}
 use Rattle.piece_deques.proofs.deque.push.Goals as goal
 

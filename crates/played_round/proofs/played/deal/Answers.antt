@@ -1,6 +1,6 @@
 use Rattle.std.proofs.Common.{ap, ◌∙◌, length, arith}
 use Rattle.round_core.proofs.Runs.{length-deal}
-use Rattle.played_round.specs.Round.{RoundState}
+use Rattle.played_round.specs.state.Round.{RoundState}
 use Rattle.played_round.proofs.played.deal.Goals as goal
 
 pub give-requires : goal.give-requires

@@ -1,5 +1,5 @@
 use Rattle.std.proofs.Common.{◌≡◌}
-use Rattle.played_round.specs.Round.{dealt, with_pool}
+use Rattle.played_round.specs.state.Round.{dealt, with_pool}
 use Rattle.played_round.proofs.played.deal.Given as goal
 
 abbrev pub invariant-loop-number : goal.invariant-loop-number

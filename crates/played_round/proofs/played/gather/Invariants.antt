@@ -1,6 +1,6 @@
 use Rattle.std.proofs.Common.{◌≡◌, ◌+◌, ◌++◌, length, map}
-use Rattle.event_book.specs.Totals.{plus}
-use Rattle.round_core.specs.Places.{sum_of_shares}
+use Rattle.event_book.specs.state.Totals.{plus}
+use Rattle.round_core.specs.state.Places.{sum_of_shares}
 use Rattle.played_round.proofs.played.gather.Given as goal
 
 abbrev pub invariant-loop-worker : goal.invariant-loop-worker

@@ -1,5 +1,5 @@
 use Rattle.std.proofs.Common.{◌≡◌, ◌+◌, replicate}
-use Rattle.round_core.specs.Pool.{idle}
+use Rattle.round_core.specs.state.Pool.{idle}
 use Rattle.played_round.proofs.played.idle_workers.Given as goal
 
 abbrev pub invariant-loop-count : goal.invariant-loop-count

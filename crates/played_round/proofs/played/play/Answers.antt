@@ -1,5 +1,5 @@
 use Rattle.std.proofs.Common.{sym, subst}
-use Rattle.played_round.specs.Playing.{Stands}
+use Rattle.played_round.specs.state.Playing.{Stands}
 use Rattle.played_round.proofs.Whole.{stands_at_first, whole_of}
 use Rattle.played_round.proofs.played.play.Goals as goal
 

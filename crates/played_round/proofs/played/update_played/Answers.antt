@@ -1,9 +1,9 @@
 use Rattle.std.proofs.Common.{List, sym, subst, ap, ◌∙◌, arith}
-use Rattle.pod_piece.specs.Piece.{Piece}
+use Rattle.pod_piece.specs.state.Piece.{Piece}
 use Rattle.event_book.specs.declared.totals.Totals.{Totals}
-use Rattle.event_book.specs.Totals.{plus, AreEntriesOf}
-use Rattle.event_book.specs.Shares.{ShareState}
-use Rattle.round_core.specs.Places.{sum_of_shares}
+use Rattle.event_book.specs.state.Totals.{plus, AreEntriesOf}
+use Rattle.event_book.specs.state.Shares.{ShareState}
+use Rattle.round_core.specs.state.Places.{sum_of_shares}
 use Rattle.played_round.proofs.played.update_played.Goals as goal
 
 pub close-requires-clause-parts : goal.close-requires-clause-parts

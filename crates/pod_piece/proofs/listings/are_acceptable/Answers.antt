@@ -1,9 +1,9 @@
 use Rattle.std.proofs.Common.{Option, refl, subst, arith}
 use Rattle.state_diff.specs.declared.seen.Seen.{Seen}
-use Rattle.containers.specs.Ticks.{listings}
-use Rattle.state_diff.specs.Instances.{IsAcceptable}
-use Rattle.pod_state.specs.Pods.{ticks_of}
-use Rattle.pod_piece.specs.Listings.{listed_in}
+use Rattle.containers.specs.rule.Ticks.{listings}
+use Rattle.state_diff.specs.state.Instances.{IsAcceptable}
+use Rattle.pod_state.specs.rule.Pods.{ticks_of}
+use Rattle.pod_piece.specs.state.Listings.{listed_in}
 use Rattle.pod_piece.proofs.ListingLemmas.{all_next, differ_at}
 use Rattle.pod_piece.proofs.listings.are_acceptable.Goals as goal
 

@@ -1,9 +1,9 @@
 use Rattle.std.proofs.Common.{ℕ, ◌<◌, List}
 use Rattle.manifest.specs.declared.pod.PodSpec.{PodSpec}
-use Rattle.containers.specs.Ticks.{listings}
-use Rattle.state_diff.specs.Instances.{IsAcceptable}
-use Rattle.pod_state.specs.Pods.{PodTick, ticks_of}
-use Rattle.pod_piece.specs.Listings.{listed_in, AreListed}
+use Rattle.containers.specs.rule.Ticks.{listings}
+use Rattle.state_diff.specs.state.Instances.{IsAcceptable}
+use Rattle.pod_state.specs.rule.Pods.{PodTick, ticks_of}
+use Rattle.pod_piece.specs.state.Listings.{listed_in, AreListed}
 use Rattle.pod_piece.proofs.listings.are_acceptable.Given as goal
 
 abbrev pub invariant-loop-number : goal.invariant-loop-number

@@ -1,12 +1,12 @@
 use Rattle.std.proofs.Common.{◌≡◌, ◌∙◌, ℕ, ◌<◌, ◌++◌, ◌∷◌, [], List, Option, length, slice_index_or, sym, subst, arith}
 use Rattle.std.proofs.lemmas.List.{length-set}
-use Rattle.histories.specs.Histories.{recorded}
+use Rattle.histories.specs.rule.Histories.{recorded}
 use Rattle.histories.proofs.Items.{any_default, set_each, set_rest}
 use Rattle.state_diff.specs.declared.differ.Differ.{Differ}
 use Rattle.state_diff.specs.declared.seen.Seen.{Seen}
-use Rattle.state_diff.specs.Differ.{IsStateOf}
-use Rattle.state_diff.specs.Instances.{Tick}
-use Rattle.pod_piece.specs.Listings.{listed_in}
+use Rattle.state_diff.specs.state.Differ.{IsStateOf}
+use Rattle.state_diff.specs.rule.Instances.{Tick}
+use Rattle.pod_piece.specs.state.Listings.{listed_in}
 use Rattle.pod_piece.proofs.ListingLemmas.{listed_more}
 use Rattle.pod_piece.proofs.listings.follow.Goals as goal
 

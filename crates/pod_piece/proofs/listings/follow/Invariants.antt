@@ -1,9 +1,9 @@
 use Rattle.std.proofs.Common.{◌≡◌, ℕ, ◌<◌, ◌≤◌, ◌∷◌, ◌++◌, [], List, length, slice_index_or}
-use Rattle.histories.specs.Histories.{recorded}
+use Rattle.histories.specs.rule.Histories.{recorded}
 use Rattle.state_diff.specs.declared.differ.Differ.{Differ}
-use Rattle.state_diff.specs.Instances.{Tick}
-use Rattle.state_diff.specs.Differ.{IsStateOf}
-use Rattle.pod_piece.specs.Listings.{listed_in}
+use Rattle.state_diff.specs.rule.Instances.{Tick}
+use Rattle.state_diff.specs.state.Differ.{IsStateOf}
+use Rattle.pod_piece.specs.state.Listings.{listed_in}
 use Rattle.pod_piece.proofs.listings.follow.Given as goal
 
 abbrev pub invariant-loop-number : goal.invariant-loop-number

@@ -1,9 +1,9 @@
 use Rattle.std.proofs.Common.{◌≡◌, [], length, None, true, false, rules, SFits, w32, refl, ap, sym, subst, arith}
 use Rattle.std.proofs.lemmas.Int.{ints}
 use Rattle.pod_state.specs.declared.lifecycle.Lifecycle.{Lifecycle}
-use Rattle.pod_state.specs.Lifecycles.{IsLifecycleOf}
+use Rattle.pod_state.specs.rule.Lifecycles.{IsLifecycleOf}
 use Rattle.pod_piece.specs.declared.status.NewestUsage.{NewestUsage}
-use Rattle.pod_piece.specs.Usage.{IsUsageOf}
+use Rattle.pod_piece.specs.rule.Usage.{IsUsageOf}
 use Rattle.pod_piece.proofs.PieceLemmas.{by_eviction, has_containers}
 use Rattle.pod_piece.proofs.UsageLemmas.{no_usage}
 use Rattle.pod_piece.proofs.piece.first_status.Goals as goal

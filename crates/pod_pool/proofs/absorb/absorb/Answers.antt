@@ -5,9 +5,9 @@ use mathlib.Core.Option.{some-injective}
 use Rattle.crossbeam_deque.specs.Handles.{view, worker_deque, worker_view}
 use Rattle.piece_deques.proofs.Lists.{map_here, map_set, sum_set}
 use Rattle.pod_pool.specs.declared.handle.StealHandle.{StealHandle}
-use Rattle.pod_pool.specs.Permits.{FilledDeque, permit_deque, taken_by}
+use Rattle.pod_pool.specs.state.Permits.{FilledDeque, permit_deque, taken_by}
 use Rattle.pod_pool.proofs.Room.{filled_same}
-use Rattle.pod_pool.specs.FinishedWorkers.{finished_deque, finished_parts, finished_taken}
+use Rattle.pod_pool.specs.state.FinishedWorkers.{finished_deque, finished_parts, finished_taken}
 use Rattle.pod_pool.proofs.FinishedWorkers.{last_place, others_stand}
 use Rattle.pod_pool.proofs.absorb.absorb.Goals as goal
 

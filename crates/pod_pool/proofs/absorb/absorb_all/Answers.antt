@@ -1,8 +1,8 @@
 use Rattle.std.proofs.Common.{◌≡◌, ◌+◌, ◌*◌, map, length, vec_len, sym, ap, ◌∙◌, arith}
 use Rattle.std.proofs.lemmas.List.{length-map}
 use Rattle.piece_deques.proofs.Lists.{front, last, more_rows, sum_grown}
-use Rattle.pod_pool.specs.Permits.{permit_deque, taken_by}
-use Rattle.pod_pool.specs.FinishedWorkers.{IsRow, finished_deque}
+use Rattle.pod_pool.specs.state.Permits.{permit_deque, taken_by}
+use Rattle.pod_pool.specs.state.FinishedWorkers.{IsRow, finished_deque}
 use Rattle.pod_pool.proofs.FinishedWorkers.{stands}
 use Rattle.pod_pool.proofs.absorb.absorb_all.Goals as goal
 

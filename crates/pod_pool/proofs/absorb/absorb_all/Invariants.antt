@@ -1,7 +1,7 @@
 use Rattle.std.proofs.Common.{◌≡◌, ◌+◌, ◌*◌, ℕ, All, map, vec_len}
 use Rattle.std.specs.List.{sum_by}
-use Rattle.pod_pool.specs.Permits.{taken_by}
-use Rattle.pod_pool.specs.FinishedWorkers.{IsRow, finished_deque, finished_parts, finished_taken}
+use Rattle.pod_pool.specs.state.Permits.{taken_by}
+use Rattle.pod_pool.specs.state.FinishedWorkers.{IsRow, finished_deque, finished_parts, finished_taken}
 use Rattle.pod_pool.proofs.absorb.absorb_all.Given as goal
 
 abbrev pub invariant-loop-row : goal.invariant-loop-row

@@ -1,6 +1,6 @@
 use Rattle.std.proofs.Common.{◌≤◌, ◌-◌, All, map, vec_len, vec_capacity}
 use Rattle.crossbeam_deque.specs.Handles.{worker_deque}
-use Rattle.pod_pool.specs.Slots.{IsSlot}
+use Rattle.pod_pool.specs.state.Slots.{IsSlot}
 use Rattle.pod_pool.proofs.buffers.make_slots.Given as goal
 
 abbrev pub invariant-made : goal.invariant-made

@@ -1,6 +1,6 @@
 use Rattle.std.proofs.Common.{◌≡◌, ◌≤◌, ◌-◌, ℕ, All, vec_len, vec_capacity}
 use Rattle.std.specs.List.{sum_by}
-use Rattle.piece_deques.specs.Ends.{IsOpen, pushed_weight}
+use Rattle.piece_deques.specs.state.Ends.{IsOpen, pushed_weight}
 use Rattle.pod_pool.proofs.buffers.open_all.Given as goal
 
 abbrev pub invariant-opened : goal.invariant-opened

@@ -3,8 +3,8 @@ use Rattle.std.proofs.Common.{vec_len}
 use Rattle.crossbeam_deque.specs.Handles.{worker_deque, stealer_deque}
 use Rattle.histories.proofs.Lists.{map_more}
 use Rattle.piece_deques.proofs.Lists.{grown, take_map_more}
-use Rattle.piece_deques.specs.Ends.{IsOwner}
-use Rattle.pod_pool.specs.Permits.{IsInOrder}
+use Rattle.piece_deques.specs.state.Ends.{IsOwner}
+use Rattle.pod_pool.specs.state.Permits.{IsInOrder}
 use Rattle.pod_pool.proofs.buffers.stealers.Goals as goal
 
 pub stealers-preserved : goal.stealers-preserved

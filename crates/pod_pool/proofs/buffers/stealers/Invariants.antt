@@ -1,6 +1,6 @@
 use Rattle.std.proofs.Common.{◌≡◌, ◌≤◌, ◌-◌, All, map, take, vec_len, vec_capacity}
 use Rattle.crossbeam_deque.specs.Handles.{worker_deque, stealer_deque}
-use Rattle.pod_pool.specs.Permits.{IsInOrder}
+use Rattle.pod_pool.specs.state.Permits.{IsInOrder}
 use Rattle.pod_pool.proofs.buffers.stealers.Given as goal
 
 abbrev pub invariant-stealers : goal.invariant-stealers

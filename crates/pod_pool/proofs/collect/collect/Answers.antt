@@ -1,6 +1,6 @@
 use Rattle.std.proofs.Common.{length, arith}
 use Rattle.piece_deques.proofs.Lists.{front, last, ones, sum_grown}
-use Rattle.pod_pool.specs.FinishedWorkers.{IsAway, finished_kept, finished_pushed, finished_taken}
+use Rattle.pod_pool.specs.state.FinishedWorkers.{IsAway, finished_kept, finished_pushed, finished_taken}
 use Rattle.pod_pool.proofs.FinishedWorkers.{few_taken}
 use Rattle.pod_pool.proofs.collect.collect.Goals as goal
 

@@ -1,8 +1,8 @@
 use Rattle.std.proofs.Common.{◌≡◌, ◌+◌, ◌≤◌, ℕ, None, All, length, vec_len, vec_capacity}
 use Rattle.std.specs.List.{sum_by}
-use Rattle.pod_pool.specs.Done.{weigh}
-use Rattle.pod_pool.specs.WorkerResults.{kept}
-use Rattle.pod_pool.specs.FinishedWorkers.{IsAway, finished_kept, finished_pushed, finished_taken}
+use Rattle.pod_pool.specs.state.Done.{weigh}
+use Rattle.pod_pool.specs.state.WorkerResults.{kept}
+use Rattle.pod_pool.specs.state.FinishedWorkers.{IsAway, finished_kept, finished_pushed, finished_taken}
 use Rattle.pod_pool.proofs.collect.collect.Given as goal
 
 abbrev pub invariant-joined : goal.invariant-joined

@@ -2,12 +2,12 @@ use Rattle.std.proofs.Common.{◌≡◌, ◌≤◌, List, All, map, length, vec_
 use Rattle.std.specs.List.{sum_by}
 use Rattle.std.proofs.lemmas.List.Elements.{All-weaker}
 use Rattle.crossbeam_deque.specs.Handles.{stealer_deque, worker_deque}
-use Rattle.piece_deques.specs.Ends.{IsOpen, pushed_weight}
+use Rattle.piece_deques.specs.state.Ends.{IsOpen, pushed_weight}
 use Rattle.piece_deques.proofs.Lists.{ones, sum_map}
-use Rattle.pod_pool.specs.Permits.{FilledDeque, owner_deque}
+use Rattle.pod_pool.specs.state.Permits.{FilledDeque, owner_deque}
 use Rattle.pod_pool.proofs.Dealing.{as_many, all_laid}
 use Rattle.pod_pool.proofs.Laid.{to_laid}
-use Rattle.pod_pool.specs.Slots.{IsHost, IsSlot, IsDealtSlot}
+use Rattle.pod_pool.specs.state.Slots.{IsHost, IsSlot, IsDealtSlot}
 use Rattle.pod_pool.proofs.FilledDeques.{same_pushed}
 use Rattle.pod_pool.proofs.contexts.lay_out.Goals as goal
 

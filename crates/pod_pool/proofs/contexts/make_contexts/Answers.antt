@@ -4,11 +4,11 @@ use Rattle.std.proofs.lemmas.List.{length-map}
 use Rattle.std.proofs.lemmas.List.Sorted.{All-permutation}
 use mathlib.Core.Option.{some}
 use lib.ListN.{get_elem?}
-use Rattle.piece_deques.specs.Ends.{pushed_weight}
+use Rattle.piece_deques.specs.state.Ends.{pushed_weight}
 use Rattle.piece_deques.proofs.Lists.{front, last, grown, moved, none_all, to_move}
-use Rattle.pod_pool.specs.Permits.{FilledDeque, owner_deque}
-use Rattle.pod_pool.specs.Contexts.{Tag, context_deque, context_tag, IsLaid}
-use Rattle.pod_pool.specs.Slots.{IsHost, IsDealtSlot}
+use Rattle.pod_pool.specs.state.Permits.{FilledDeque, owner_deque}
+use Rattle.pod_pool.specs.state.Contexts.{Tag, context_deque, context_tag, IsLaid}
+use Rattle.pod_pool.specs.state.Slots.{IsHost, IsDealtSlot}
 use Rattle.pod_pool.proofs.FilledDeques.{next_slot, row_pushed, owners_pushed, stands_next}
 use Rattle.pod_pool.proofs.contexts.make_contexts.Goals as goal
 

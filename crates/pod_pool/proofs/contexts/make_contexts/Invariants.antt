@@ -1,9 +1,9 @@
 use Rattle.std.proofs.Common.{◌≡◌, ◌+◌, ◌<◌, ◌≤◌, ◌++◌, All, map, reverse, vec_len, vec_capacity}
 use Rattle.std.specs.List.{sum_by}
-use Rattle.piece_deques.specs.Ends.{pushed_weight}
-use Rattle.pod_pool.specs.Permits.{owner_deque}
-use Rattle.pod_pool.specs.Contexts.{context_deque, context_tag, IsLaid}
-use Rattle.pod_pool.specs.Slots.{IsHost, IsDealtSlot}
+use Rattle.piece_deques.specs.state.Ends.{pushed_weight}
+use Rattle.pod_pool.specs.state.Permits.{owner_deque}
+use Rattle.pod_pool.specs.state.Contexts.{context_deque, context_tag, IsLaid}
+use Rattle.pod_pool.specs.state.Slots.{IsHost, IsDealtSlot}
 use Rattle.pod_pool.proofs.contexts.make_contexts.Given as goal
 
 abbrev pub invariant-loop-owner : goal.invariant-loop-owner

@@ -6,13 +6,13 @@ use Rattle.std.proofs.lemmas.List.Sums.{sum_by_push}
 use Rattle.std.proofs.lemmas.List.Elements.{All-set, All-weaker}
 use Rattle.std.proofs.lemmas.List.Sorted.{sum_by-IsPermutation}
 use Rattle.crossbeam_deque.specs.Handles.{worker_deque, worker_view}
-use Rattle.pod_piece.specs.Piece.{Piece}
-use Rattle.piece_deques.specs.Rule.{IsPieceDue}
-use Rattle.piece_deques.specs.Ends.{IsOpen, pushed_weight}
+use Rattle.pod_piece.specs.state.Piece.{Piece}
+use Rattle.piece_deques.specs.state.Rule.{IsPieceDue}
+use Rattle.piece_deques.specs.state.Ends.{IsOpen, pushed_weight}
 use Rattle.piece_deques.proofs.Lists.{front, map_set, sum_set}
-use Rattle.pod_pool.specs.Done.{weigh}
+use Rattle.pod_pool.specs.state.Done.{weigh}
 use Rattle.pod_pool.proofs.Numbers.{weigh_more}
-use Rattle.pod_pool.specs.Dealing.{pushed_of}
+use Rattle.pod_pool.specs.state.Dealing.{pushed_of}
 use Rattle.pod_pool.proofs.Dealing.{given_one, dealt_next, all_dealt}
 use Rattle.pod_pool.proofs.deal.deal.Goals as goal
 

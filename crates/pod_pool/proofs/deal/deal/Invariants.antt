@@ -1,10 +1,10 @@
 use Rattle.std.proofs.Common.{◌≡◌, ◌+◌, ◌-◌, ◌<◌, ◌≤◌, ℕ, All, map, reverse, vec_len}
 use Rattle.std.specs.List.{sum_by}
 use Rattle.crossbeam_deque.specs.Handles.{worker_deque}
-use Rattle.piece_deques.specs.Rule.{number_of, IsPieceDue}
-use Rattle.piece_deques.specs.Ends.{IsOpen, pushed_weight}
-use Rattle.pod_pool.specs.Done.{weigh}
-use Rattle.pod_pool.specs.Dealing.{deal, pushed_of}
+use Rattle.piece_deques.specs.state.Rule.{number_of, IsPieceDue}
+use Rattle.piece_deques.specs.state.Ends.{IsOpen, pushed_weight}
+use Rattle.pod_pool.specs.state.Done.{weigh}
+use Rattle.pod_pool.specs.state.Dealing.{deal, pushed_of}
 use Rattle.pod_pool.proofs.deal.deal.Given as goal
 
 abbrev pub invariant-loop-piece : goal.invariant-loop-piece

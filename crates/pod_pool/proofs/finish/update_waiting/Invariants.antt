@@ -1,5 +1,5 @@
 use Rattle.std.proofs.Common.{◌≡◌, ◌<◌, ◌≤◌}
-use Rattle.pod_pool.specs.Done.{with_waiting}
+use Rattle.pod_pool.specs.state.Done.{with_waiting}
 use Rattle.pod_pool.proofs.finish.update_waiting.Given as goal
 
 abbrev pub invariant-waiting : goal.invariant-waiting

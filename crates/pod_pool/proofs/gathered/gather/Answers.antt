@@ -2,13 +2,14 @@ use Rattle.std.proofs.Common.{◌≡◌, ◌+◌, ◌*◌, ◌≤◌, None, map,
 use Rattle.std.specs.List.{sum_by}
 use Rattle.std.proofs.lemmas.List.{length-map}
 use Rattle.std.proofs.lemmas.List.Elements.{All-weaker}
-use Rattle.piece_deques.specs.Rule.{all_parts}
+use Rattle.piece_deques.specs.state.Rule.{all_parts}
 use Rattle.piece_deques.proofs.Lists.{all_by, all_full, all_less, ones, sum_map, sum_same}
-use Rattle.pod_pool.specs.WorkerResults.{kept}
-use Rattle.pod_pool.specs.Permits.{FilledDeque, pushed_count, pushed_sum}
-use Rattle.pod_pool.specs.Contexts.{context_deque}
+use Rattle.pod_pool.specs.state.WorkerResults.{kept}
+use Rattle.pod_pool.specs.state.Permits.{FilledDeque, pushed_count, pushed_sum}
+use Rattle.pod_pool.specs.state.Contexts.{context_deque}
 use Rattle.pod_pool.proofs.Laid.{are_laid, laid_pushed}
-use Rattle.pod_pool.specs.FinishedWorkers.{IsAway, finished_deque, finished_parts, finished_kept, finished_pushed}
+use Rattle.pod_pool.specs.state.FinishedWorkers.{IsAway, finished_deque, finished_parts, finished_kept}
+use Rattle.pod_pool.specs.state.FinishedWorkers.{finished_pushed}
 use Rattle.pod_pool.proofs.FinishedWorkers.{filled_ones}
 use Rattle.pod_pool.proofs.gathered.gather.Goals as goal
 

@@ -1,6 +1,6 @@
 use Rattle.std.proofs.Common.{rules}
 use Rattle.std.proofs.lemmas.List.Sorted.{IsNonDecreasingBy-from_sort_by_key}
-use Rattle.piece_deques.specs.Rule.{number_of}
+use Rattle.piece_deques.specs.state.Rule.{number_of}
 use Rattle.pod_pool.proofs.InOrder.{placed_sorted}
 use Rattle.pod_pool.proofs.order.in_order.Goals as goal
 

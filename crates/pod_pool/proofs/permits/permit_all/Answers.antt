@@ -2,8 +2,8 @@ use Rattle.std.proofs.Common.{◌≡◌, ◌≤◌, All, map, vec_len, vec_capac
 use Rattle.std.proofs.lemmas.List.Elements.{All-weaker}
 use Rattle.crossbeam_deque.specs.Handles.{worker_deque, stealer_deque}
 use Rattle.piece_deques.proofs.Lists.{front, last, grown}
-use Rattle.pod_pool.specs.Permits.{owner_deque}
-use Rattle.pod_pool.specs.Slots.{IsHost, IsDealtSlot}
+use Rattle.pod_pool.specs.state.Permits.{owner_deque}
+use Rattle.pod_pool.specs.state.Slots.{IsHost, IsDealtSlot}
 use Rattle.pod_pool.proofs.FilledDeques.{same_deques}
 use Rattle.pod_pool.proofs.permits.permit_all.Goals as goal
 

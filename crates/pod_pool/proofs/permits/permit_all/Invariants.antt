@@ -1,8 +1,8 @@
 use Rattle.std.proofs.Common.{◌≡◌, ◌+◌, ◌≤◌, ℕ, All, map, vec_len, vec_capacity}
 use Rattle.crossbeam_deque.specs.Handles.{worker_deque, stealer_deque}
-use Rattle.event_book.specs.Limits.{most_workers}
-use Rattle.pod_pool.specs.Permits.{owner_deque}
-use Rattle.pod_pool.specs.Slots.{IsHost, IsDealtSlot}
+use Rattle.event_book.specs.rule.Limits.{most_workers}
+use Rattle.pod_pool.specs.state.Permits.{owner_deque}
+use Rattle.pod_pool.specs.state.Slots.{IsHost, IsDealtSlot}
 use Rattle.pod_pool.proofs.permits.permit_all.Given as goal
 
 abbrev pub invariant-loop-slot : goal.invariant-loop-slot

@@ -4,9 +4,9 @@ use Rattle.std.proofs.lemmas.List.Sorted.{sum_by-IsPermutation}
 use Rattle.crossbeam_deque.specs.Handles.{view, IsPassOf, worker_deque, stealer_deque, worker_view}
 use Rattle.piece_deques.proofs.Lists.{front, last, map_reverse, map_set, below_set, above_set, sum_grown}
 use Rattle.pod_pool.specs.declared.handle.StealHandle.{StealHandle}
-use Rattle.pod_pool.specs.Permits.{owner_deque, permit_deque, IsInOrder}
+use Rattle.pod_pool.specs.state.Permits.{owner_deque, permit_deque, IsInOrder}
 use Rattle.pod_pool.proofs.Room.{filled_same}
-use Rattle.pod_pool.specs.Slots.{IsHost, IsRich}
+use Rattle.pod_pool.specs.state.Slots.{IsHost, IsRich}
 use Rattle.pod_pool.proofs.FilledDeques.{paired, granted}
 use Rattle.pod_pool.proofs.permits.permit_slot.Goals as goal
 

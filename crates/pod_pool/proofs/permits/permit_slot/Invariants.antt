@@ -1,9 +1,9 @@
 use Rattle.std.proofs.Common.{◌≡◌, ◌+◌, ◌<◌, ◌≤◌, ℕ, All, map, reverse, take, drop, vec_len, vec_capacity}
 use Rattle.std.specs.List.{AllWithin}
 use Rattle.crossbeam_deque.specs.Handles.{worker_deque, stealer_deque}
-use Rattle.event_book.specs.Limits.{most_workers}
-use Rattle.pod_pool.specs.Permits.{owner_deque, permit_deque, taken_by, IsInOrder}
-use Rattle.pod_pool.specs.Slots.{IsHost, IsRich}
+use Rattle.event_book.specs.rule.Limits.{most_workers}
+use Rattle.pod_pool.specs.state.Permits.{owner_deque, permit_deque, taken_by, IsInOrder}
+use Rattle.pod_pool.specs.state.Slots.{IsHost, IsRich}
 use Rattle.pod_pool.proofs.permits.permit_slot.Given as goal
 
 abbrev pub invariant-loop-thief : goal.invariant-loop-thief

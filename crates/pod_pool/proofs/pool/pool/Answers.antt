@@ -1,7 +1,7 @@
 use Rattle.std.proofs.Common.{List, All, map, length, sym, ap, subst, arith}
-use Rattle.pod_piece.specs.Piece.{Piece}
-use Rattle.piece_deques.specs.Rule.{IsPieceDue, AreNumbered}
-use Rattle.pod_pool.specs.Contexts.{context_tag}
+use Rattle.pod_piece.specs.state.Piece.{Piece}
+use Rattle.piece_deques.specs.state.Rule.{IsPieceDue, AreNumbered}
+use Rattle.pod_pool.specs.state.Contexts.{context_tag}
 use Rattle.pod_pool.proofs.Due.{all_due}
 use Rattle.pod_pool.proofs.Returned.{returned, still_laid}
 use Rattle.pod_pool.proofs.pool.pool.Goals as goal

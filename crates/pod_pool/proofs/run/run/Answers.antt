@@ -1,6 +1,6 @@
 use Rattle.std.proofs.Common.{rules}
 use Rattle.piece_deques.proofs.Lists.{maps_same}
-use Rattle.pod_pool.specs.Contexts.{context_tag}
+use Rattle.pod_pool.specs.state.Contexts.{context_tag}
 use Rattle.pod_pool.proofs.run.run.Goals as goal
 
 pub returns-clause-same : goal.returns-clause-same

@@ -1,6 +1,6 @@
 use Rattle.std.proofs.Common.{List, take}
 use Rattle.event_book.specs.declared.totals.Totals.{Totals}
-use Rattle.event_book.specs.Rounds.{AreAdditionsOf}
+use Rattle.event_book.specs.state.Rounds.{AreAdditionsOf}
 use Rattle.pod_pool.proofs.settle.look_over.Given as goal
 
 abbrev pub invariant-loop-piece : goal.invariant-loop-piece

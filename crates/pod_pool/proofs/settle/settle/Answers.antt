@@ -1,11 +1,11 @@
 use Rattle.std.proofs.Common.{◌≤◌, Option, List, length, refl, ap, ◌∙◌, subst, arith}
 use Rattle.std.specs.Option.{option_to_list}
-use Rattle.observations.specs.Limits.{most_pods}
-use Rattle.pod_piece.specs.Piece.{Piece}
-use Rattle.event_book.specs.Totals.{plus}
-use Rattle.event_book.specs.Rounds.{AreAdditionsOf}
+use Rattle.observations.specs.rule.Limits.{most_pods}
+use Rattle.pod_piece.specs.state.Piece.{Piece}
+use Rattle.event_book.specs.state.Totals.{plus}
+use Rattle.event_book.specs.state.Rounds.{AreAdditionsOf}
 use Rattle.piece_deques.proofs.Lists.{front, last, grown, ones}
-use Rattle.pod_pool.specs.Done.{IsDone, weigh}
+use Rattle.pod_pool.specs.state.Done.{IsDone, weigh}
 use Rattle.pod_pool.proofs.Numbers.{weigh_more}
 use Rattle.pod_pool.proofs.Sums.{plus_assoc, sums_more}
 use Rattle.pod_pool.proofs.Additions.{settled, within_round}

@@ -1,7 +1,7 @@
 use Rattle.std.proofs.Common.{◌≡◌, ◌+◌, ◌≤◌, ℕ, All, length, vec_len, vec_capacity}
-use Rattle.event_book.specs.Shares.{most_parts}
-use Rattle.pod_pool.specs.Done.{IsDone, weigh}
-use Rattle.pod_pool.specs.Order.{AreAdded}
+use Rattle.event_book.specs.state.Shares.{most_parts}
+use Rattle.pod_pool.specs.state.Done.{IsDone, weigh}
+use Rattle.pod_pool.specs.state.Order.{AreAdded}
 use Rattle.pod_pool.proofs.settle.settle.Given as goal
 
 abbrev pub invariant-entered : goal.invariant-entered

@@ -4,12 +4,13 @@ use Rattle.std.proofs.lemmas.List.Sorted.{All-permutation}
 use Rattle.crossbeam_deque.specs.Handles.{worker_view}
 use Rattle.piece_deques.specs.declared.rule.Tally.{Tally}
 use Rattle.piece_deques.proofs.Lists.{front, last, grown, moved, none_all, sum_grown, to_move}
-use Rattle.pod_pool.specs.Permits.{permit_deque, owner_deque, pushed_count, taken_by}
-use Rattle.pod_pool.specs.Contexts.{context_deque, context_tag, IsLaid}
-use Rattle.pod_pool.specs.WorkerResults.{kept}
+use Rattle.pod_pool.specs.state.Permits.{permit_deque, owner_deque, pushed_count, taken_by}
+use Rattle.pod_pool.specs.state.Contexts.{context_deque, context_tag, IsLaid}
+use Rattle.pod_pool.specs.state.WorkerResults.{kept}
 use Rattle.pod_pool.proofs.FilledDeques.{row_pushed}
-use Rattle.pod_pool.specs.FinishedWorkers.{finished_deque, finished_parts, finished_kept, finished_taken, IsAway}
-use Rattle.pod_pool.specs.FinishedWorkers.{IsRow}
+use Rattle.pod_pool.specs.state.FinishedWorkers.{finished_deque, finished_parts, finished_kept, finished_taken}
+use Rattle.pod_pool.specs.state.FinishedWorkers.{IsAway}
+use Rattle.pod_pool.specs.state.FinishedWorkers.{IsRow}
 use Rattle.pod_pool.proofs.take_apart.take_all_apart.Goals as goal
 
 pub loop-context-init : goal.loop-context-init

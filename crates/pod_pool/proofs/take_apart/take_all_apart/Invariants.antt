@@ -1,8 +1,8 @@
 use Rattle.std.proofs.Common.{◌≡◌, ◌+◌, ◌≤◌, ◌++◌, ℕ, All, map, reverse, vec_len, vec_capacity}
 use Rattle.std.specs.List.{sum_by}
-use Rattle.pod_pool.specs.Permits.{pushed_count, taken_by}
-use Rattle.pod_pool.specs.Contexts.{context_deque, context_tag, IsLaid}
-use Rattle.pod_pool.specs.FinishedWorkers.{finished_deque, finished_kept, finished_taken, IsAway, IsRow}
+use Rattle.pod_pool.specs.state.Permits.{pushed_count, taken_by}
+use Rattle.pod_pool.specs.state.Contexts.{context_deque, context_tag, IsLaid}
+use Rattle.pod_pool.specs.state.FinishedWorkers.{finished_deque, finished_kept, finished_taken, IsAway, IsRow}
 use Rattle.pod_pool.proofs.take_apart.take_all_apart.Given as goal
 
 abbrev pub invariant-loop-context : goal.invariant-loop-context

@@ -1,8 +1,8 @@
 use Rattle.std.proofs.Common.{arith, ap, vec_capacity}
 use Rattle.crossbeam_deque.specs.Handles.{worker_view}
 use Rattle.piece_deques.proofs.Lists.{ones}
-use Rattle.pod_pool.specs.WorkerResults.{kept}
-use Rattle.pod_pool.specs.Permits.{owner_deque}
+use Rattle.pod_pool.specs.state.WorkerResults.{kept}
+use Rattle.pod_pool.specs.state.Permits.{owner_deque}
 use Rattle.pod_pool.proofs.Room.{no_more_of_others}
 use Rattle.pod_pool.proofs.take_apart.take_apart.Goals as goal
 

@@ -1,5 +1,5 @@
 use Rattle.std.proofs.Common.{◌∙◌, ◌++◌, ◌∷◌, [], Some, ap}
-use Rattle.pod_state.specs.Events.{events_at}
+use Rattle.pod_state.specs.rule.Events.{events_at}
 use Rattle.pod_state.proofs.PodEventLemmas.{place_more}
 use Rattle.pod_state.proofs.events.add_events.Goals as goal
 

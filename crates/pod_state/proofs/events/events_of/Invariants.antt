@@ -1,5 +1,5 @@
 use Rattle.std.proofs.Common.{◌≡◌, take}
-use Rattle.pod_state.specs.Events.{events_from}
+use Rattle.pod_state.specs.rule.Events.{events_from}
 use Rattle.pod_state.proofs.events.events_of.Given as goal
 
 abbrev pub invariant-loop-number : goal.invariant-loop-number

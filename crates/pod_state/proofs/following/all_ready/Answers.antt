@@ -1,8 +1,8 @@
 use Rattle.std.proofs.Common.{◌≡◌, ℕ, ◌<◌, length, slice_index_or, inl, inr, sym, subst, arith}
 use Rattle.std.proofs.lemmas.Bool.{cases_lt, iff_false}
 use Rattle.histories.proofs.Lists.{some_item}
-use Rattle.pod_state.specs.Pods.{Serves, IsReadyInPod}
-use Rattle.pod_state.specs.Containers.{IsContainerOf}
+use Rattle.pod_state.specs.rule.Pods.{Serves, IsReadyInPod}
+use Rattle.pod_state.specs.state.Containers.{IsContainerOf}
 use Rattle.pod_state.proofs.ContainerLemmas.{item_at, serving_ready, serving_within}
 use Rattle.pod_state.proofs.following.all_ready.Goals as goal
 

@@ -1,8 +1,8 @@
 use Rattle.std.proofs.Common.{ℕ, ◌<◌, List, slice_index_or}
 use Rattle.manifest.specs.declared.pod.PodSpec.{PodSpec}
 use Rattle.containers.specs.declared.container.Container.{Container}
-use Rattle.pod_state.specs.Pods.{PodTick, Serves, IsReadyInPod}
-use Rattle.pod_state.specs.Containers.{IsContainerOf}
+use Rattle.pod_state.specs.rule.Pods.{PodTick, Serves, IsReadyInPod}
+use Rattle.pod_state.specs.state.Containers.{IsContainerOf}
 use Rattle.pod_state.proofs.following.all_ready.Given as goal
 
 abbrev pub invariant-loop-container : goal.invariant-loop-container

@@ -2,7 +2,7 @@ use Rattle.std.proofs.Common.{◌≡◌, ◌+◌, ℕ, ◌<◌, List, [], length
 use Rattle.manifest.specs.declared.pod.PodSpec.{PodSpec}
 use Rattle.containers.specs.declared.container.Container.{Container}
 use Rattle.histories.proofs.Items.{pushed_each}
-use Rattle.pod_state.specs.Containers.{IsContainerOf}
+use Rattle.pod_state.specs.state.Containers.{IsContainerOf}
 use Rattle.pod_state.proofs.TickLemmas.{spec_at}
 use Rattle.pod_state.proofs.ContainerLemmas.{first_is}
 use Rattle.pod_state.proofs.following.first_containers.Goals as goal

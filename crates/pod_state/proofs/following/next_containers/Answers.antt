@@ -3,13 +3,13 @@ use Rattle.std.proofs.Common.{arith}
 use Rattle.std.specs.Prelude.{slice_get, unwrap_or}
 use Rattle.manifest.specs.declared.pod.PodSpec.{PodSpec}
 use Rattle.containers.specs.declared.container.Container.{Container}
-use Rattle.containers.specs.Container.{Accepts}
+use Rattle.containers.specs.state.Container.{Accepts}
 use Rattle.histories.proofs.Items.{pushed_each}
 use Rattle.histories.proofs.Lists.{some_item}
-use Rattle.pod_state.specs.Pods.{PodTick, pod_tick, unseen}
+use Rattle.pod_state.specs.rule.Pods.{PodTick, pod_tick, unseen}
 use Rattle.containers.specs.declared.events.ContainerEvents.{ContainerEvents}
-use Rattle.pod_state.specs.Containers.{IsContainerOf}
-use Rattle.pod_state.specs.Events.{IsMadeOf}
+use Rattle.pod_state.specs.state.Containers.{IsContainerOf}
+use Rattle.pod_state.specs.rule.Events.{IsMadeOf}
 use Rattle.pod_state.proofs.ContainerLemmas.{item_at_any}
 use Rattle.pod_state.proofs.following.next_containers.Goals as goal
 

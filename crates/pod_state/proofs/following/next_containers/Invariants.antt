@@ -1,10 +1,10 @@
 use Rattle.std.proofs.Common.{◌≡◌, ℕ, ◌<◌, List, [], ◌∷◌, ◌++◌, length, slice_index_or}
 use Rattle.manifest.specs.declared.pod.PodSpec.{PodSpec}
 use Rattle.containers.specs.declared.container.Container.{Container}
-use Rattle.pod_state.specs.Pods.{PodTick, pod_tick}
+use Rattle.pod_state.specs.rule.Pods.{PodTick, pod_tick}
 use Rattle.containers.specs.declared.events.ContainerEvents.{ContainerEvents}
-use Rattle.pod_state.specs.Containers.{IsContainerOf}
-use Rattle.pod_state.specs.Events.{IsMadeOf}
+use Rattle.pod_state.specs.state.Containers.{IsContainerOf}
+use Rattle.pod_state.specs.rule.Events.{IsMadeOf}
 use Rattle.pod_state.proofs.following.next_containers.Given as goal
 
 abbrev pub invariant-loop-number : goal.invariant-loop-number

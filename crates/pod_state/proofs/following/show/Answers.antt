@@ -6,8 +6,9 @@ use Rattle.containers.specs.declared.container.Container.{Container}
 use Rattle.std.proofs.lemmas.List.{length-set}
 use Rattle.histories.proofs.Items.{set_each}
 use Rattle.histories.proofs.Lists.{some_item}
-use Rattle.pod_state.specs.Pods.{PodTick}
-use Rattle.pod_state.specs.Containers.{IsContainerOf, IsShownOf}
+use Rattle.pod_state.specs.rule.Pods.{PodTick}
+use Rattle.pod_state.specs.rule.Containers.{IsShownOf}
+use Rattle.pod_state.specs.state.Containers.{IsContainerOf}
 use Rattle.pod_state.proofs.ContainerLemmas.{item_at_any, shown_is}
 use Rattle.pod_state.proofs.following.show.Goals as goal
 

@@ -3,8 +3,9 @@ use Rattle.std.specs.Prelude.{IsTrue}
 use Rattle.manifest.specs.declared.pod.PodSpec.{PodSpec}
 use Rattle.containers.specs.declared.container.Container.{Container}
 use Rattle.containers.specs.declared.status.ContainerStatus.{ContainerStatus}
-use Rattle.pod_state.specs.Pods.{PodTick}
-use Rattle.pod_state.specs.Containers.{IsContainerOf, IsShownOf}
+use Rattle.pod_state.specs.rule.Pods.{PodTick}
+use Rattle.pod_state.specs.rule.Containers.{IsShownOf}
+use Rattle.pod_state.specs.state.Containers.{IsContainerOf}
 use Rattle.pod_state.proofs.following.show.Given as goal
 
 abbrev pub invariant-loop-number : goal.invariant-loop-number

@@ -1,8 +1,8 @@
 use Rattle.std.proofs.Common.{◌∷◌, ◌++◌, ℕ, [], length, subst, sym}
-use Rattle.histories.specs.Histories.{recorded}
+use Rattle.histories.specs.rule.Histories.{recorded}
 use Rattle.observations.specs.declared.container.ContainerObs.{ContainerObs}
-use Rattle.containers.specs.Container.{Accepts, IsStateOf}
-use Rattle.containers.specs.Events.{AreEvents}
+use Rattle.containers.specs.state.Container.{Accepts, IsStateOf}
+use Rattle.containers.specs.rule.Events.{AreEvents}
 use Rattle.pod_state.proofs.ContainerLemmas.{next_is, made_is}
 use Rattle.pod_state.proofs.following.step.Goals as goal
 

@@ -4,8 +4,9 @@ use Rattle.phase.specs.declared.view.ContainerView.{ContainerView}
 use Rattle.containers.specs.declared.container.Container.{Container}
 use Rattle.histories.proofs.Items.{pushed_each}
 use Rattle.histories.proofs.Lists.{some_item}
-use Rattle.pod_state.specs.Pods.{PodTick, IsViewOf}
-use Rattle.pod_state.specs.Containers.{IsContainerOf}
+use Rattle.pod_state.specs.rule.Pods.{PodTick}
+use Rattle.pod_state.specs.state.Pods.{IsViewOf}
+use Rattle.pod_state.specs.state.Containers.{IsContainerOf}
 use Rattle.pod_state.proofs.ContainerLemmas.{item_at, view_is}
 use Rattle.pod_state.proofs.following.views_of.Goals as goal
 

@@ -2,8 +2,9 @@ use Rattle.std.proofs.Common.{◌≡◌, ℕ, ◌<◌, List, length, slice_index
 use Rattle.manifest.specs.declared.pod.PodSpec.{PodSpec}
 use Rattle.phase.specs.declared.view.ContainerView.{ContainerView}
 use Rattle.containers.specs.declared.container.Container.{Container}
-use Rattle.pod_state.specs.Pods.{PodTick, IsViewOf}
-use Rattle.pod_state.specs.Containers.{IsContainerOf}
+use Rattle.pod_state.specs.rule.Pods.{PodTick}
+use Rattle.pod_state.specs.state.Pods.{IsViewOf}
+use Rattle.pod_state.specs.state.Containers.{IsContainerOf}
 use Rattle.pod_state.proofs.following.views_of.Given as goal
 
 abbrev pub invariant-loop-container : goal.invariant-loop-container

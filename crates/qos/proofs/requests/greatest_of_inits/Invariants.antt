@@ -1,5 +1,5 @@
 use Rattle.std.proofs.Common.{◌≡◌, drop, max}
-use Rattle.qos.specs.Requests.{greatest_of_inits}
+use Rattle.qos.specs.rule.Requests.{greatest_of_inits}
 use Rattle.qos.proofs.requests.greatest_of_inits.Given as goal
 
 abbrev pub invariant-loop-container : goal.invariant-loop-container

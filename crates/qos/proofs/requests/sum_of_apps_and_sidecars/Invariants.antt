@@ -1,6 +1,6 @@
 use Rattle.std.proofs.Common.{◌≡◌, ◌≤◌, ◌+◌, ◌*◌, drop}
-use Rattle.quantity.specs.Quantity.{greatest_quantity}
-use Rattle.qos.specs.Requests.{sum_of_apps_and_sidecars}
+use Rattle.quantity.specs.rule.Quantity.{greatest_quantity}
+use Rattle.qos.specs.rule.Requests.{sum_of_apps_and_sidecars}
 use Rattle.qos.proofs.requests.sum_of_apps_and_sidecars.Given as goal
 
 abbrev pub invariant-loop-container : goal.invariant-loop-container

@@ -1,4 +1,4 @@
-use Rattle.quantity.specs.Duration.{HasSeconds}
+use Rattle.quantity.specs.state.Duration.{HasSeconds}
 use Rattle.quantity.proofs.DurationMeaning.{duration_complete}
 use Rattle.quantity.proofs.StepsPassed.{refused_of}
 use Rattle.quantity.proofs.duration.seconds_of.Goals as goal

@@ -1,7 +1,7 @@
 use Rattle.std.proofs.Common.{◌≡◌, ◌≤◌, ◌<◌, ◌+◌, arith, rules, sym, ◌∙◌, length, Ok, Err}
 use Rattle.std.proofs.lemmas.Bool.Decides.{nat_tests}
 use Rattle.std.proofs.lemmas.Result.{err_from_is_err_and}
-use Rattle.quantity.specs.Duration.{piece_seconds, end_of_time}
+use Rattle.quantity.specs.rule.Duration.{piece_seconds, end_of_time}
 use Rattle.quantity.proofs.Durations.{sum_next, sum_refused, sum_large}
 use Rattle.quantity.proofs.duration.sum_of_parts.Goals as goal
 

@@ -1,5 +1,5 @@
 use Rattle.std.proofs.Common.{◌≡◌, ◌<◌, length}
-use Rattle.quantity.specs.Duration.{sum_onto, pieces_of, end_of_time}
+use Rattle.quantity.specs.rule.Duration.{sum_onto, pieces_of, end_of_time}
 use Rattle.quantity.proofs.duration.sum_of_parts.Given as goal
 
 abbrev pub invariant-loop-rest : goal.invariant-loop-rest

@@ -1,5 +1,5 @@
 use Rattle.std.proofs.Common.{sym}
-use Rattle.quantity.specs.Printed.{form_count}
+use Rattle.quantity.specs.state.Printed.{form_count}
 use Rattle.quantity.proofs.FirstForm.{first_of_none, first_more_is_none, first_is_some}
 use Rattle.quantity.proofs.form.exact_form.Goals as goal
 

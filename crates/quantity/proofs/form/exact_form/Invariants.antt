@@ -1,5 +1,5 @@
 use Rattle.std.proofs.Common.{◌≡◌, None}
-use Rattle.quantity.specs.Printed.{first_form}
+use Rattle.quantity.specs.state.Printed.{first_form}
 use Rattle.quantity.proofs.form.exact_form.Given as goal
 
 abbrev pub invariant-loop-place : goal.invariant-loop-place

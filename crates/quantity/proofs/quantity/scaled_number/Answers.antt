@@ -1,7 +1,7 @@
 use Rattle.std.proofs.Common.{◌≡◌, ◌≤◌, ◌<◌, arith, rules, Some, None, sym}
-use Rattle.quantity.specs.Number.{after_number}
-use Rattle.quantity.specs.Suffix.{factor_of}
-use Rattle.quantity.specs.Quantity.{digit_count}
+use Rattle.quantity.specs.rule.Number.{after_number}
+use Rattle.quantity.specs.rule.Suffix.{factor_of}
+use Rattle.quantity.specs.rule.Quantity.{digit_count}
 use Rattle.quantity.proofs.Quantities.{scaled_number_none, scaled_number_some}
 use Rattle.quantity.proofs.quantity.scaled_number.Goals as goal
 

@@ -1,7 +1,7 @@
 use Rattle.std.proofs.Common.{List, [], sym, subst}
 use Rattle.manifest.specs.declared.pod.PodSpec.{PodSpec}
 use Rattle.observations.specs.declared.tick.TickObs.{TickObs}
-use Rattle.tick_round.specs.Node.{IsAfter, MayTakeAll}
+use Rattle.tick_round.specs.state.Node.{IsAfter, MayTakeAll}
 use Rattle.kubelet_replay.proofs.AllTicks.{may_take_all}
 use Rattle.kubelet_replay.proofs.Replayable.{are_replayable}
 use Rattle.refused_calls.proofs.several.node_and_ticks.Goals as goal

@@ -1,5 +1,5 @@
 use Rattle.std.proofs.Common.{◌≡◌, true, arith}
-use Rattle.histories.specs.Histories.{recorded}
+use Rattle.histories.specs.rule.Histories.{recorded}
 use Rattle.restarts.proofs.CountLemmas.{count_long, count_short, count_full}
 use Rattle.restarts.proofs.backoff.count_after.Goals as goal
 

@@ -1,6 +1,6 @@
 use Rattle.std.proofs.Common.{◌∙◌, ◌∷◌, ◌++◌, [], ℕ, List, Option, Some, string_bytes, ap, refl, sym, subst}
-use Rattle.lists.specs.Names.{place_of}
-use Rattle.roster.specs.Holders.{HasHeld}
+use Rattle.lists.specs.rule.Names.{place_of}
+use Rattle.roster.specs.state.Holders.{HasHeld}
 use Rattle.roster.proofs.Held.{held_new}
 use Rattle.roster.proofs.hold.hold.Goals as goal
 

@@ -1,5 +1,5 @@
 use Rattle.std.proofs.Common.{length}
-use Rattle.round_steps.specs.Steps.{lines_of}
+use Rattle.round_steps.specs.state.Steps.{lines_of}
 use Rattle.round_steps.proofs.ReadOn.{HasRead}
 use Rattle.round_steps.proofs.reading.read_lines.Given as goal
 

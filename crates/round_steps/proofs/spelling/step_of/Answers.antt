@@ -1,4 +1,4 @@
-use Rattle.round_steps.specs.Spelling.{spells_pop, spells_steal, spells_update, spells_enter}
+use Rattle.round_steps.specs.state.Spelling.{spells_pop, spells_steal, spells_update, spells_enter}
 use Rattle.round_steps.proofs.Words.{not_pop, not_steal, not_update, not_enter}
 use Rattle.round_steps.proofs.spelling.step_of.Goals as goal
 

@@ -1,5 +1,5 @@
 use Rattle.std.proofs.Common.{◌≡◌, map, drop}
-use Rattle.json_fields.specs.Reading.{each}
+use Rattle.json_fields.specs.rule.Reading.{each}
 use Rattle.json_fields.proofs.Each.{with_front}
 use Rattle.tick_lines.proofs.items.read_each.Given as goal
 

@@ -1,6 +1,6 @@
 use Rattle.std.proofs.Common.{length}
-use Rattle.json_fields.specs.Tape.{data_at}
-use Rattle.tick_lines.specs.Tape.{EntryRead}
+use Rattle.json_fields.specs.state.Tape.{data_at}
+use Rattle.tick_lines.specs.state.Tape.{EntryRead}
 use Rattle.tick_lines.proofs.tape.entry_text.Given as goal
 
 abbrev pub invariant-loop-field : goal.invariant-loop-field

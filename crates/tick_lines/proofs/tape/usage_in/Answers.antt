@@ -1,4 +1,4 @@
-use Rattle.json_fields.specs.Tape.{data_at}
+use Rattle.json_fields.specs.state.Tape.{data_at}
 use Rattle.tick_lines.proofs.Members.{usage_whole}
 use Rattle.tick_lines.proofs.tape.usage_in.Goals as goal
 

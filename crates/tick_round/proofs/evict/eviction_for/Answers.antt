@@ -1,6 +1,6 @@
 use Rattle.std.proofs.Common.{List, Some, subst}
-use Rattle.pod_piece.specs.Piece.{Piece}
-use Rattle.tick_round.specs.Evict.{IsEvictionAt}
+use Rattle.pod_piece.specs.state.Piece.{Piece}
+use Rattle.tick_round.specs.state.Evict.{IsEvictionAt}
 use Rattle.tick_round.proofs.evict.eviction_for.Goals as goal
 
 pub returns : goal.returns

@@ -1,6 +1,6 @@
 use Rattle.std.proofs.Common.{ap, ◌∙◌, refl}
 use Rattle.manifest.specs.declared.pod.PodSpec.{PodSpec}
-use Rattle.eviction.specs.Replay.{order_of}
+use Rattle.eviction.specs.rule.Replay.{order_of}
 use Rattle.tick_round.proofs.Evicts.{evicts_first, get_here}
 use Rattle.tick_round.proofs.evict.eviction_of.Goals as goal
 

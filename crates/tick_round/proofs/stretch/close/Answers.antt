@@ -1,8 +1,8 @@
 use Rattle.std.proofs.Common.{List, [], ◌∷◌, ◌++◌, Some, refl, sym, subst}
-use Rattle.pod_piece.specs.Piece.{Piece, pods_in}
+use Rattle.pod_piece.specs.state.Piece.{Piece, pods_in}
 use Rattle.event_list.specs.declared.tick.TickEvents.{TickEvents}
-use Rattle.event_list.specs.Tick.{AreOfTicks, MomentsRise}
-use Rattle.tick_round.specs.Node.{state}
+use Rattle.event_list.specs.state.Tick.{AreOfTicks, MomentsRise}
+use Rattle.tick_round.specs.state.Node.{state}
 use Rattle.tick_round.proofs.Candidates.{may_be_evicted}
 use Rattle.tick_round.proofs.Opens.{moments_rise, are_of_ticks, free_back, closes_as, closed_kept}
 use Rattle.tick_round.proofs.stretch.close.Goals as goal

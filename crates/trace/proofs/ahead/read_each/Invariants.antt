@@ -1,5 +1,5 @@
 use Rattle.std.proofs.Common.{take}
-use Rattle.trace.specs.Ahead.{AreAhead}
+use Rattle.trace.specs.state.Ahead.{AreAhead}
 use Rattle.trace.proofs.ahead.read_each.Given as goal
 
 abbrev pub invariant-loop-line : goal.invariant-loop-line

@@ -2,7 +2,7 @@ use Rattle.std.proofs.Common.{◌≡◌, ◌∙◌, ◌<◌, ◌+◌, List, Opti
 use Rattle.std.proofs.Common.{take}
 use Rattle.std.proofs.Math.ListN.{set}
 use Rattle.trace.specs.declared.placing.PlacedEntry.{PlacedEntry}
-use Rattle.trace.specs.ByPod.{AreFirst}
+use Rattle.trace.specs.state.ByPod.{AreFirst}
 use Rattle.trace.proofs.ByPod.{turn_notes, turn_repeats, written_over}
 use Rattle.trace.proofs.by_pod.entries_by_pod.Goals as goal
 

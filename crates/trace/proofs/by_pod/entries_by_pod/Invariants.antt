@@ -1,6 +1,6 @@
 use Rattle.std.proofs.Common.{◌≡◌, take}
-use Rattle.trace.specs.ByPod.{AreFirst}
-use Rattle.trace.specs.Placing.{has_twice, are_of_one_pod}
+use Rattle.trace.specs.state.ByPod.{AreFirst}
+use Rattle.trace.specs.rule.Placing.{has_twice, are_of_one_pod}
 use Rattle.trace.proofs.by_pod.entries_by_pod.Given as goal
 
 abbrev pub invariant-loop-place : goal.invariant-loop-place

@@ -1,5 +1,5 @@
 use Rattle.std.proofs.Common.{length}
-use Rattle.json_fields.specs.Tape.{items_in}
+use Rattle.json_fields.specs.state.Tape.{items_in}
 use Rattle.trace.proofs.NotedItems.{ListingsSoFar}
 use Rattle.trace.proofs.noted.has_noted_listings.Given as goal
 

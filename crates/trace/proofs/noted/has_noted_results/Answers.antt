@@ -1,5 +1,5 @@
 use Rattle.std.proofs.Common.{arith}
-use Rattle.json_fields.specs.Tape.{data_at, items_in}
+use Rattle.json_fields.specs.state.Tape.{data_at, items_in}
 use Rattle.trace.proofs.NotedItems.{result_within, results_more}
 use Rattle.trace.proofs.noted.has_noted_results.Goals as goal
 

@@ -1,7 +1,7 @@
 use Rattle.std.proofs.Common.{◌≡◌, [], List, length}
-use Rattle.json_fields.specs.Tape.{items_in}
+use Rattle.json_fields.specs.state.Tape.{items_in}
 use Rattle.trace.specs.declared.placing.PlacedListing.{PlacedListing}
-use Rattle.trace.specs.Observed.{containers_from}
+use Rattle.trace.specs.rule.Observed.{containers_from}
 use Rattle.trace.proofs.NotedItems.{ResultsSoFar}
 use Rattle.trace.proofs.noted.has_noted_results.Given as goal
 

@@ -1,6 +1,6 @@
 use Rattle.std.proofs.Common.{◌≡◌, drop}
 use Rattle.json_fields.proofs.Each.{with_front}
-use Rattle.trace.specs.Placing.{entries_of_pods}
+use Rattle.trace.specs.state.Placing.{entries_of_pods}
 use Rattle.trace.proofs.placing.entries_of_pods.Given as goal
 
 abbrev pub invariant-loop-place : goal.invariant-loop-place

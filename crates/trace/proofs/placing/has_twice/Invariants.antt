@@ -1,5 +1,5 @@
 use Rattle.std.proofs.Common.{◌≡◌, length}
-use Rattle.trace.specs.Placing.{has_twice}
+use Rattle.trace.specs.rule.Placing.{has_twice}
 use Rattle.trace.proofs.placing.has_twice.Given as goal
 
 abbrev pub invariant-loop-rest : goal.invariant-loop-rest

@@ -1,5 +1,5 @@
 use Rattle.std.proofs.Common.{◌≡◌, drop}
-use Rattle.json_fields.specs.Reading.{each}
+use Rattle.json_fields.specs.rule.Reading.{each}
 use Rattle.json_fields.proofs.Each.{with_front}
 use Rattle.trace.proofs.placing.place_each.Given as goal
 

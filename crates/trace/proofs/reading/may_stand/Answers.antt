@@ -1,5 +1,5 @@
 use Rattle.std.proofs.Common.{◌∙◌, sym, subst}
-use Rattle.following.specs.Followed.{EndBefore}
+use Rattle.following.specs.state.Followed.{EndBefore}
 use Rattle.trace.proofs.TakenAhead.{ahead_comes_next, moment_is, unless_refused}
 use Rattle.trace.proofs.reading.may_stand.Goals as goal
 

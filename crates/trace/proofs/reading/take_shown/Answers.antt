@@ -1,5 +1,5 @@
 use Rattle.std.proofs.Common.{sym, subst}
-use Rattle.trace.specs.GivesUnlessMemory.{GivesUnlessMemory}
+use Rattle.trace.specs.state.GivesUnlessMemory.{GivesUnlessMemory}
 use Rattle.trace.proofs.TakenAhead.{shown_stands, shown_refused}
 use Rattle.trace.proofs.reading.take_shown.Goals as goal
 

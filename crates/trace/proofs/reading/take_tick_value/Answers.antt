@@ -1,8 +1,8 @@
 use Rattle.std.proofs.Common.{Result, subst}
 use Rattle.serde_json.specs.View.{view}
 use Rattle.trace.specs.declared.fault.FaultKind.{FaultKind}
-use Rattle.trace.specs.GivesUnlessMemory.{GivesUnlessMemory}
-use Rattle.trace.specs.TraceSoFar.{TraceSoFar}
+use Rattle.trace.specs.state.GivesUnlessMemory.{GivesUnlessMemory}
+use Rattle.trace.specs.rule.TraceSoFar.{TraceSoFar}
 use Rattle.trace.proofs.Taken.{of_value}
 use Rattle.trace.proofs.reading.take_tick_value.Goals as goal
 

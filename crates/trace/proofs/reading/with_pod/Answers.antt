@@ -2,9 +2,9 @@ use Rattle.std.proofs.Common.{◌≡◌, ◌∙◌, List, ℕ, ◌∷◌, ◌++�
 use Rattle.std.proofs.lemmas.List.{map_push}
 use Rattle.manifest.specs.declared.pod.ContainerSpec.{ContainerSpec}
 use Rattle.manifest.specs.declared.pod.PodSpec.{PodSpec}
-use Rattle.following.specs.Followed.{HasFollowed}
-use Rattle.roster.specs.Roll.{Roll}
-use Rattle.trace.specs.Pod.{container_counts}
+use Rattle.following.specs.state.Followed.{HasFollowed}
+use Rattle.roster.specs.rule.Roll.{Roll}
+use Rattle.trace.specs.state.Pod.{container_counts}
 use Rattle.trace.proofs.reading.with_pod.Goals as goal
 
 pub invariant_of-result : goal.invariant_of-result

@@ -1,6 +1,6 @@
 use Rattle.std.proofs.Common.{◌≡◌, ◌++◌, drop, length, take}
-use Rattle.trace.specs.Noted.{AreUnknown}
-use Rattle.trace.specs.Slots.{with_others}
+use Rattle.trace.specs.state.Noted.{AreUnknown}
+use Rattle.trace.specs.state.Slots.{with_others}
 use Rattle.trace.proofs.slots.with_others.Given as goal
 
 abbrev pub invariant-loop-number : goal.invariant-loop-number

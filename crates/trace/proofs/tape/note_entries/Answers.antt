@@ -1,5 +1,5 @@
 use Rattle.std.proofs.Common.{◌∙◌, ◌++◌, ◌∷◌, [], ap, rules, sym}
-use Rattle.json_fields.specs.Tape.{data_at, items_in}
+use Rattle.json_fields.specs.state.Tape.{data_at, items_in}
 use Rattle.std.proofs.lemmas.List.{append_assoc}
 use Rattle.trace.proofs.OnTape.{noted_length}
 use Rattle.trace.proofs.tape.note_entries.Goals as goal

@@ -1,7 +1,7 @@
 use Rattle.std.proofs.Common.{◌≡◌, ◌++◌, List, length}
-use Rattle.json_fields.specs.Tape.{items_in}
+use Rattle.json_fields.specs.state.Tape.{items_in}
 use Rattle.serde_json.specs.Data.{Data}
-use Rattle.trace.specs.Tape.{EntriesNoted}
+use Rattle.trace.specs.state.Tape.{EntriesNoted}
 use Rattle.trace.proofs.tape.note_entries.Given as goal
 
 abbrev pub invariant-loop-value : goal.invariant-loop-value

@@ -1,5 +1,5 @@
 use Rattle.std.proofs.Common.{◌∙◌, [], ap, length, rules, sym}
-use Rattle.json_fields.specs.Tape.{data_at}
+use Rattle.json_fields.specs.state.Tape.{data_at}
 use Rattle.trace.proofs.NotedItems.{as_many_shown}
 use Rattle.trace.proofs.NotedPods.{found_present}
 use Rattle.trace.proofs.OnTape.{entry_noted, noted_length, not_false, written_over}

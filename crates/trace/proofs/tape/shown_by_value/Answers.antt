@@ -1,8 +1,8 @@
 use Rattle.std.proofs.Common.{refl, rules}
-use Rattle.json_fields.specs.Tape.{data_at}
-use Rattle.json_lines.specs.Ticks.{moment_at}
-use Rattle.tick_lines.specs.Tape.{left_in}
-use Rattle.trace.specs.Tape.{EntriesNoted}
+use Rattle.json_fields.specs.state.Tape.{data_at}
+use Rattle.json_lines.specs.state.Ticks.{moment_at}
+use Rattle.tick_lines.specs.state.Tape.{left_in}
+use Rattle.trace.specs.state.Tape.{EntriesNoted}
 use Rattle.trace.proofs.OnTape.{line_shown, noted_length}
 use Rattle.trace.proofs.tape.shown_by_value.Goals as goal
 

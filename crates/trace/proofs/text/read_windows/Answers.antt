@@ -1,6 +1,6 @@
 use Rattle.std.proofs.Common.{◌+◌, arith, rules}
 use Rattle.std.proofs.lemmas.Result.{err_from_is_err_and}
-use Rattle.json_lines.specs.Lines.{line_data}
+use Rattle.json_lines.specs.state.Lines.{line_data}
 use Rattle.trace.proofs.TakenAhead.{window_cut}
 use Rattle.trace.proofs.Taken.{leads_from_start, leads_behind_blanks, leads_on, stops}
 use Rattle.trace.proofs.text.read_windows.Goals as goal

@@ -1,7 +1,7 @@
 use Rattle.std.proofs.Common.{◌≡◌, ◌+◌, drop, map, IsTrue}
-use Rattle.json_lines.specs.Lines.{line_data}
-use Rattle.trace.specs.Ahead.{AreAhead}
-use Rattle.trace.specs.Taken.{lines_at}
+use Rattle.json_lines.specs.state.Lines.{line_data}
+use Rattle.trace.specs.state.Ahead.{AreAhead}
+use Rattle.trace.specs.state.Taken.{lines_at}
 use Rattle.trace.proofs.text.take_lines.Given as goal
 
 abbrev pub invariant-loop-line : goal.invariant-loop-line

@@ -1,5 +1,5 @@
 use Rattle.std.proofs.Common.{◌≡◌, ◌++◌, drop}
-use Rattle.trace.specs.Observed.{containers_from}
+use Rattle.trace.specs.rule.Observed.{containers_from}
 use Rattle.trace.proofs.tick.containers_observed.Given as goal
 
 abbrev pub invariant-loop-number : goal.invariant-loop-number

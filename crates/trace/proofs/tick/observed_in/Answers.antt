@@ -1,9 +1,9 @@
 use Rattle.std.proofs.Common.{◌≡◌, ◌∙◌, ap, sym, subst}
-use Rattle.following.specs.Followed.{ComesNext}
-use Rattle.roster.specs.Roll.{Roll}
-use Rattle.trace.specs.Observed.{observed}
-use Rattle.trace.specs.TraceSoFar.{TraceSoFar}
-use Rattle.trace.specs.Pod.{container_counts}
+use Rattle.following.specs.state.Followed.{ComesNext}
+use Rattle.roster.specs.rule.Roll.{Roll}
+use Rattle.trace.specs.rule.Observed.{observed}
+use Rattle.trace.specs.rule.TraceSoFar.{TraceSoFar}
+use Rattle.trace.specs.state.Pod.{container_counts}
 use Rattle.trace.proofs.Shown.{comes_next, went_on}
 use Rattle.trace.proofs.tick.observed_in.Goals as goal
 

@@ -1,5 +1,5 @@
 use Rattle.std.proofs.Common.{◌≡◌, drop}
-use Rattle.trace.specs.Observed.{outcome_in}
+use Rattle.trace.specs.rule.Observed.{outcome_in}
 use Rattle.trace.proofs.tick.outcome_in.Given as goal
 
 abbrev pub invariant-loop-placed : goal.invariant-loop-placed

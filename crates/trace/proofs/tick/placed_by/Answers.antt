@@ -1,5 +1,5 @@
 use Rattle.std.proofs.Common.{◌∙◌, List, ℕ, ap, length, refl}
-use Rattle.trace.specs.Placing.{number_in}
+use Rattle.trace.specs.rule.Placing.{number_in}
 use Rattle.trace.proofs.Placed.{as_many, by_names, known_pods}
 use Rattle.trace.proofs.tick.placed_by.Goals as goal
 

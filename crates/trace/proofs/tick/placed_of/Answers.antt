@@ -1,9 +1,9 @@
 use Rattle.std.proofs.Common.{◌<◌, All, IfOk, ap, length, subst}
-use Rattle.roster.specs.Roll.{Roll}
+use Rattle.roster.specs.rule.Roll.{Roll}
 use Rattle.trace.specs.declared.placing.PlacedEntry.{PlacedEntry}
-use Rattle.trace.specs.GivesUnlessMemory.{GivesUnlessMemory}
-use Rattle.trace.specs.TraceSoFar.{TraceSoFar}
-use Rattle.trace.specs.Placing.{placed_of}
+use Rattle.trace.specs.state.GivesUnlessMemory.{GivesUnlessMemory}
+use Rattle.trace.specs.rule.TraceSoFar.{TraceSoFar}
+use Rattle.trace.specs.rule.Placing.{placed_of}
 use Rattle.trace.proofs.tick.placed_of.Goals as goal
 
 pub returns-clause-gives : goal.returns-clause-gives

@@ -1,5 +1,5 @@
 use Rattle.std.proofs.Common.{◌≡◌, ◌++◌, drop}
-use Rattle.trace.specs.Observed.{pods_from}
+use Rattle.trace.specs.rule.Observed.{pods_from}
 use Rattle.trace.proofs.tick.pods_observed.Given as goal
 
 abbrev pub invariant-loop-number : goal.invariant-loop-number

@@ -1,5 +1,5 @@
 use Rattle.std.proofs.Common.{◌≡◌, drop}
-use Rattle.trace.specs.Observed.{seen_in}
+use Rattle.trace.specs.rule.Observed.{seen_in}
 use Rattle.trace.proofs.tick.seen_in.Given as goal
 
 abbrev pub invariant-loop-listing : goal.invariant-loop-listing

@@ -1,7 +1,7 @@
 use Rattle.std.proofs.Common.{◌≡◌, ◌+◌, ◌*◌, ◌/◌, ◌%◌, ◌<◌, min, length, arith, rules, sym}
 use Rattle.std.proofs.lemmas.Grind.{div_ceil_times}
-use Rattle.json_lines.specs.Lines.{line_data}
-use Rattle.trace.specs.Ahead.{IsAhead}
+use Rattle.json_lines.specs.state.Lines.{line_data}
+use Rattle.trace.specs.state.Ahead.{IsAhead}
 use Rattle.json_lines.proofs.ZippedParts.{shared_zipped}
 use Rattle.trace.proofs.windows.read_shared.Goals as goal
 

@@ -1,4 +1,4 @@
-use Rattle.histories.specs.Histories.{recorded}
+use Rattle.histories.specs.rule.Histories.{recorded}
 use Rattle.containers.proofs.CountLemmas.{counted_more}
 use Rattle.containers.proofs.container.Container.count_exits.Goals as goal
 

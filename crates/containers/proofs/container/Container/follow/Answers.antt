@@ -1,10 +1,10 @@
 use Rattle.std.proofs.Common.{List, ◌∷◌, [], ◌++◌, length, refl}
 use Rattle.std.specs.Prelude.{◌↔◌, IsTrue, ℕ}
-use Rattle.histories.specs.Histories.{recorded}
+use Rattle.histories.specs.rule.Histories.{recorded}
 use Rattle.manifest.specs.declared.pod.ContainerSpec.{ContainerSpec}
-use Rattle.state_diff.specs.Differ.{IsStateOf as IsDifferOf, AreChanges}
-use Rattle.containers.specs.Ticks.{ContainerTick, listings, BelongsTo}
-use Rattle.containers.specs.Container.{IsFollowing}
+use Rattle.state_diff.specs.state.Differ.{IsStateOf as IsDifferOf, AreChanges}
+use Rattle.containers.specs.rule.Ticks.{ContainerTick, listings, BelongsTo}
+use Rattle.containers.specs.state.Container.{IsFollowing}
 use Rattle.containers.proofs.TickLemmas.{onto, onto_at}
 use Rattle.containers.proofs.FollowLemmas.{IsBegun, takes_is, begun_is, follows_more, verdicts_are}
 use Rattle.containers.proofs.container.Container.follow.Goals as goal

@@ -1,11 +1,11 @@
 use Rattle.std.proofs.Common.{ℕ, List, ◌∷◌, [], ◌++◌, ◌∙◌, subst, sym}
-use Rattle.histories.specs.Histories.{recorded}
+use Rattle.histories.specs.rule.Histories.{recorded}
 use Rattle.manifest.specs.declared.pod.ContainerSpec.{ContainerSpec}
 use Rattle.restarts.specs.declared.backoff.Backoff.{Backoff}
-use Rattle.restarts.specs.Backoff.{IsStateOf as IsBackoffOf}
-use Rattle.containers.specs.Ticks.{ContainerTick}
-use Rattle.containers.specs.Container.{IsStateOf}
-use Rattle.containers.specs.Step.{AreCounted}
+use Rattle.restarts.specs.state.Backoff.{IsStateOf as IsBackoffOf}
+use Rattle.containers.specs.rule.Ticks.{ContainerTick}
+use Rattle.containers.specs.state.Container.{IsStateOf}
+use Rattle.containers.specs.state.Step.{AreCounted}
 use Rattle.containers.proofs.ProbedLemmas.{following}
 use Rattle.containers.proofs.EventLemmas.{gone_gives, died_gives, readiness_gives, backoff_gives, restart_gives}
 use Rattle.containers.proofs.StepLemmas.{last_listed, following_same, state_more, started_gives, passed_gives}

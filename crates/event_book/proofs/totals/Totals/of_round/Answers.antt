@@ -1,5 +1,5 @@
 use Rattle.std.proofs.Common.{◌≤◌, length, ap, arith}
-use Rattle.manifest.specs.Containers.{most_containers}
+use Rattle.manifest.specs.rule.Containers.{most_containers}
 use Rattle.event_book.specs.declared.totals.Entry.{Entry}
 use Rattle.event_book.proofs.Made.{few_earlier, few_in_round, round_addition, low_addition}
 use Rattle.event_book.proofs.totals.Totals.of_round.Goals as goal

@@ -2,7 +2,7 @@ use Rattle.std.proofs.Common.{List, length, subst}
 use Rattle.std.specs.Prelude.{◌↔◌, IsTrue, Vec}
 use Rattle.std.specs.Global.{Global}
 use Rattle.state_diff.specs.declared.differ.Differ.{Differ}
-use Rattle.following.specs.Steps.{PodsAreAccepted}
+use Rattle.following.specs.state.Steps.{PodsAreAccepted}
 use Rattle.following.proofs.Accepted.{tells}
 use Rattle.following.proofs.listing_order.ListingOrder.accepts.Goals as goal
 

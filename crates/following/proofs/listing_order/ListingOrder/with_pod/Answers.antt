@@ -1,5 +1,5 @@
 use Rattle.std.proofs.Common.{◌++◌, ◌∷◌, [], sym, subst}
-use Rattle.following.specs.Followed.{AreFollowed}
+use Rattle.following.specs.state.Followed.{AreFollowed}
 use Rattle.following.proofs.Followed.{pod_more}
 use Rattle.following.proofs.listing_order.ListingOrder.with_pod.Goals as goal
 

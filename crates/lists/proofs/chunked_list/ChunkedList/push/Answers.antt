@@ -1,5 +1,5 @@
 use Rattle.std.proofs.Common.{◌∙◌, ◌++◌, ◌∷◌, [], length, ap, sym, subst}
-use Rattle.lists.specs.Chunks.{joined, AreChunks}
+use Rattle.lists.specs.state.Chunks.{joined, AreChunks}
 use Rattle.lists.proofs.Joined.{joined_more, more_chunks}
 use Rattle.lists.proofs.chunked_list.ChunkedList.push.Goals as goal
 

@@ -1,5 +1,5 @@
 use Rattle.std.proofs.Common.{◌∙◌, ap}
-use Rattle.lists.specs.Names.{place_of}
+use Rattle.lists.specs.rule.Names.{place_of}
 use Rattle.lists.proofs.Places.{position-place}
 use Rattle.lists.proofs.name_list.NameList.number_of.Goals as goal
 

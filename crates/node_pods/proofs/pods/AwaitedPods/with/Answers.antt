@@ -1,6 +1,6 @@
 use Rattle.std.proofs.Common.{List, sym, subst}
-use Rattle.pod_piece.specs.Piece.{Piece}
-use Rattle.node_pods.specs.Pods.{pods_of, AreNumbered, Awaited, joined}
+use Rattle.pod_piece.specs.state.Piece.{Piece}
+use Rattle.node_pods.specs.state.Pods.{pods_of, AreNumbered, Awaited, joined}
 use Rattle.node_pods.proofs.pods.AwaitedPods.with.Goals as goal
 
 pub invariant_of-result : goal.invariant_of-result

@@ -1,5 +1,5 @@
 use Rattle.std.proofs.Common.{sym, subst}
-use Rattle.node_pods.specs.Pods.{Pods, IsEvictable}
+use Rattle.node_pods.specs.state.Pods.{Pods, IsEvictable}
 use Rattle.node_pods.proofs.Kept.{placed_evicted}
 use Rattle.node_pods.proofs.pods.NodePods.evict.Goals as goal
 

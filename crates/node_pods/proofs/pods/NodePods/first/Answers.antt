@@ -1,10 +1,10 @@
 use Rattle.std.proofs.Common.{◌∙◌, ap}
-use Rattle.ranking.specs.Index.{Ranks}
-use Rattle.node_pods.specs.Pods.{Pods}
+use Rattle.ranking.specs.state.Index.{Ranks}
+use Rattle.node_pods.specs.state.Pods.{Pods}
 use Rattle.node_pods.proofs.Candidates.{victim_of_all}
 use Rattle.std.proofs.Common.{sym, subst, List}
-use Rattle.pod_piece.specs.Piece.{Piece}
-use Rattle.node_pods.specs.Pods.{pods_of, ArePlaced}
+use Rattle.pod_piece.specs.state.Piece.{Piece}
+use Rattle.node_pods.specs.state.Pods.{pods_of, ArePlaced}
 use Rattle.node_pods.proofs.pods.NodePods.first.Goals as goal
 
 pub returns : goal.returns

@@ -1,5 +1,5 @@
 use Rattle.std.proofs.Common.{subst}
-use Rattle.node_pods.specs.Pods.{Pods, ArePlaced}
+use Rattle.node_pods.specs.state.Pods.{Pods, ArePlaced}
 use Rattle.node_pods.proofs.pods.NodePods.pieces.Goals as goal
 
 pub returns-clause-placed : goal.returns-clause-placed

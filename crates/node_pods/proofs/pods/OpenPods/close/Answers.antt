@@ -1,7 +1,7 @@
 use Rattle.std.proofs.Common.{List, sym, subst}
-use Rattle.pod_piece.specs.Piece.{Piece}
-use Rattle.node_pods.specs.Pods.{Pods, pods_of, ArePlaced}
-use Rattle.node_pods.specs.Steps.{AreFree}
+use Rattle.pod_piece.specs.state.Piece.{Piece}
+use Rattle.node_pods.specs.state.Pods.{Pods, pods_of, ArePlaced}
+use Rattle.node_pods.specs.state.Steps.{AreFree}
 use Rattle.node_pods.proofs.Kept.{placed_at_rest}
 use Rattle.node_pods.proofs.pods.OpenPods.close.Goals as goal
 

@@ -1,7 +1,8 @@
 use Rattle.std.proofs.Common.{List, subst}
 use Rattle.node_signals.specs.declared.event.NodeEvent.{NodeEvent}
-use Rattle.node_signals.specs.Keys.{serving_order}
-use Rattle.node_signals.specs.Events.{ChangesThreshold, Adds}
+use Rattle.node_signals.specs.rule.Keys.{serving_order}
+use Rattle.node_signals.specs.rule.Events.{ChangesThreshold}
+use Rattle.node_signals.specs.state.Events.{Adds}
 use Rattle.node_signals.proofs.EventLemmas.{all_events}
 use Rattle.node_signals.proofs.node.NodeSignals.events_since.Goals as goal
 

@@ -1,5 +1,5 @@
 use Rattle.std.proofs.Common.{true}
-use Rattle.histories.specs.Histories.{recorded}
+use Rattle.histories.specs.rule.Histories.{recorded}
 use Rattle.histories.proofs.Places.{project-append}
 use Rattle.phase.proofs.conditions.Conditions.advance.Goals as goal
 

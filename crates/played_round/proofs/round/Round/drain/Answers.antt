@@ -1,5 +1,5 @@
 use Rattle.std.proofs.Common.{◌<◌, length, ap, arith}
-use Rattle.played_round.specs.Round.{RoundState}
+use Rattle.played_round.specs.state.Round.{RoundState}
 use Rattle.played_round.proofs.Playing.{as_many_workers, plays_worker}
 use Rattle.played_round.proofs.round.Round.drain.Goals as goal
 

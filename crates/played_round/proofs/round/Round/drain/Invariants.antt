@@ -1,6 +1,6 @@
 use Rattle.std.proofs.Common.{take}
-use Rattle.round_core.specs.Pool.{drain_steps}
-use Rattle.played_round.specs.Playing.{Stands, Plays}
+use Rattle.round_core.specs.state.Pool.{drain_steps}
+use Rattle.played_round.specs.state.Playing.{Stands, Plays}
 use Rattle.played_round.proofs.round.Round.drain.Given as goal
 
 abbrev pub invariant-loop-w : goal.invariant-loop-w

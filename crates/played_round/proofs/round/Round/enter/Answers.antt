@@ -1,6 +1,6 @@
 use Rattle.std.proofs.Common.{◌<◌, ◌∙◌, sym, subst, length, arith}
-use Rattle.played_round.specs.Round.{RoundState}
-use Rattle.played_round.specs.Playing.{CanEnter}
+use Rattle.played_round.specs.state.Round.{RoundState}
+use Rattle.played_round.specs.state.Playing.{CanEnter}
 use Rattle.played_round.proofs.Keeping.{hand_read}
 use Rattle.played_round.proofs.round.Round.enter.Goals as goal
 

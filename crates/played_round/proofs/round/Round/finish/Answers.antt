@@ -1,7 +1,7 @@
 use Rattle.std.proofs.Common.{◌<◌, ◌∷◌, [], length, ap, arith}
 use Rattle.round_steps.specs.declared.step.Step.TheVariants.{Update, Enter}
-use Rattle.round_core.specs.Pool.{worker_at}
-use Rattle.played_round.specs.Round.{RoundState}
+use Rattle.round_core.specs.state.Pool.{worker_at}
+use Rattle.played_round.specs.state.Round.{RoundState}
 use Rattle.played_round.proofs.Keeping.{deque_len_read}
 use Rattle.played_round.proofs.Playing.{plays_then, plays_turn}
 use Rattle.played_round.proofs.round.Round.finish.Goals as goal

@@ -1,6 +1,6 @@
 use Rattle.std.proofs.Common.{take}
-use Rattle.round_core.specs.Pool.{worker_at, finishing_steps}
-use Rattle.played_round.specs.Playing.{Stands, Plays}
+use Rattle.round_core.specs.state.Pool.{worker_at, finishing_steps}
+use Rattle.played_round.specs.state.Playing.{Stands, Plays}
 use Rattle.played_round.proofs.round.Round.finish.Given as goal
 
 abbrev pub invariant-loop-turn : goal.invariant-loop-turn

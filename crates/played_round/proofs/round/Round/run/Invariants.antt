@@ -1,5 +1,5 @@
 use Rattle.std.proofs.Common.{take}
-use Rattle.played_round.specs.Playing.{Stands, Plays}
+use Rattle.played_round.specs.state.Playing.{Stands, Plays}
 use Rattle.played_round.proofs.round.Round.run.Given as goal
 
 abbrev pub invariant-loop-next : goal.invariant-loop-next

@@ -1,6 +1,6 @@
 use Rattle.std.proofs.Common.{◌<◌, ◌∙◌, sym, subst, length, arith}
-use Rattle.played_round.specs.Round.{RoundState}
-use Rattle.played_round.specs.Playing.{CanUpdate}
+use Rattle.played_round.specs.state.Round.{RoundState}
+use Rattle.played_round.specs.state.Playing.{CanUpdate}
 use Rattle.played_round.proofs.Keeping.{hand_read}
 use Rattle.played_round.proofs.round.Round.update.Goals as goal
 

@@ -1,10 +1,10 @@
 use Rattle.std.proofs.Common.{◌≡◌, ◌∙◌, List, length, map, ap, sym, subst, arith}
 use Rattle.std.specs.Prelude.{◌↔◌, IsTrue}
 use Rattle.state_diff.specs.declared.differ.Differ.{Differ}
-use Rattle.pod_state.specs.Pods.{PodTick, pod_tick}
-use Rattle.pod_piece.specs.Kept.{AreKept, piece_of}
-use Rattle.pod_piece.specs.Listings.{AreListed, MayComeNext}
-use Rattle.pod_piece.specs.Piece.{Piece}
+use Rattle.pod_state.specs.rule.Pods.{PodTick, pod_tick}
+use Rattle.pod_piece.specs.state.Kept.{AreKept, piece_of}
+use Rattle.pod_piece.specs.state.Listings.{AreListed, MayComeNext}
+use Rattle.pod_piece.specs.state.Piece.{Piece}
 use Rattle.pod_piece.proofs.Waiting.{ticks_free}
 use Rattle.pod_piece.proofs.piece.PodPiece.accepts.Goals as goal
 

@@ -1,12 +1,13 @@
 use Rattle.std.proofs.Common.{◌≡◌, ◌∙◌, ◌++◌, ◌∷◌, ◌-◌, [], ℕ, length, Some, true, refl, sym, subst, arith}
 use Rattle.std.proofs.lemmas.List.{length-map}
-use Rattle.histories.specs.Histories.{recorded}
+use Rattle.histories.specs.rule.Histories.{recorded}
 use Rattle.pod_state.specs.declared.lifecycle.Lifecycle.{Lifecycle}
-use Rattle.pod_state.specs.Pods.{pod_tick}
-use Rattle.pod_state.specs.Lifecycles.{IsLifecycleOf}
+use Rattle.pod_state.specs.rule.Pods.{pod_tick}
+use Rattle.pod_state.specs.rule.Lifecycles.{IsLifecycleOf}
 use Rattle.pod_piece.specs.declared.status.PodStatus.{PodStatus}
-use Rattle.pod_piece.specs.Kept.{IsKept, piece_of}
-use Rattle.pod_piece.specs.Piece.{piece, before_last, place_of}
+use Rattle.pod_piece.specs.state.Kept.{IsKept, piece_of}
+use Rattle.pod_piece.specs.rule.Piece.{place_of}
+use Rattle.pod_piece.specs.state.Piece.{piece, before_last}
 use Rattle.pod_piece.proofs.PieceLemmas.{goes_on, state_free, lives_free, may_self, has_containers, kept_evicted}
 use Rattle.pod_piece.proofs.PieceLemmas.{evicted_state, by_eviction, may_evict}
 use Rattle.pod_piece.proofs.UsageLemmas.{usage_evicted}

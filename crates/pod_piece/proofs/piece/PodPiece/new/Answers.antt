@@ -1,9 +1,9 @@
 use Rattle.std.proofs.Common.{List, [], length, ap, sym, subst, None}
-use Rattle.observations.specs.Pods.{PodObs}
+use Rattle.observations.specs.rule.Pods.{PodObs}
 use Rattle.pod_state.specs.declared.events.PodEvent.{PodEvent}
 use Rattle.pod_piece.specs.declared.made.MadeTick.{MadeTick}
-use Rattle.pod_piece.specs.Kept.{IsKept, AreKept}
-use Rattle.pod_piece.specs.Piece.{piece}
+use Rattle.pod_piece.specs.state.Kept.{IsKept, AreKept}
+use Rattle.pod_piece.specs.state.Piece.{piece}
 use Rattle.pod_piece.proofs.PieceLemmas.{kept_new}
 use Rattle.pod_piece.proofs.piece.PodPiece.new.Goals as goal
 

@@ -1,7 +1,7 @@
 use Rattle.std.proofs.Common.{◌≡◌, ◌∙◌, ap, sym, subst}
-use Rattle.pod_piece.specs.Piece.{piece}
+use Rattle.pod_piece.specs.state.Piece.{piece}
 use Rattle.pod_piece.proofs.PieceLemmas.{kept_numbered}
-use Rattle.pod_piece.specs.Kept.{AreKept, piece_of}
+use Rattle.pod_piece.specs.state.Kept.{AreKept, piece_of}
 use Rattle.pod_piece.proofs.piece.PodPiece.renumber.Goals as goal
 
 pub invariant_of-self : goal.invariant_of-self

@@ -1,7 +1,7 @@
 use Rattle.std.proofs.Common.{◌∙◌, ℕ, List, ap, sym, subst}
 use Rattle.pod_piece.specs.declared.made.MadeTick.{MadeTick}
-use Rattle.pod_piece.specs.Kept.{IsKept, AreKept, piece_of}
-use Rattle.pod_piece.specs.Piece.{piece, at_rest}
+use Rattle.pod_piece.specs.state.Kept.{IsKept, AreKept, piece_of}
+use Rattle.pod_piece.specs.state.Piece.{piece, at_rest}
 use Rattle.pod_piece.proofs.PieceLemmas.{kept_at_rest, come}
 use Rattle.pod_piece.proofs.piece.PodPiece.rest.Goals as goal
 

@@ -1,8 +1,8 @@
 use Rattle.std.proofs.Common.{◌∙◌, ◌-◌, map, ap, sym, subst, arith}
 use Rattle.std.proofs.lemmas.List.{length-map}
-use Rattle.pod_state.specs.Pods.{pod_tick}
-use Rattle.pod_piece.specs.Kept.{AreKept, piece_of}
-use Rattle.pod_piece.specs.Made.{round_length}
+use Rattle.pod_state.specs.rule.Pods.{pod_tick}
+use Rattle.pod_piece.specs.state.Kept.{AreKept, piece_of}
+use Rattle.pod_piece.specs.state.Made.{round_length}
 use Rattle.pod_piece.proofs.Waiting.{few_ticks}
 use Rattle.pod_piece.proofs.PieceLemmas.{come}
 use Rattle.pod_piece.proofs.piece.PodPiece.round_length.Goals as goal

@@ -4,15 +4,18 @@ use Rattle.std.proofs.lemmas.List.{length-map}
 use Rattle.observations.specs.declared.usage.Sampling.{Sampling}
 use Rattle.pod_state.specs.declared.events.PodEvent.{PodEvent}
 use Rattle.pod_state.specs.declared.lifecycle.Lifecycle.{Lifecycle}
-use Rattle.pod_state.specs.Pods.{pod_tick}
-use Rattle.pod_state.specs.Events.{AreEventsOf}
-use Rattle.pod_state.specs.Lifecycles.{IsLifecycleOf, IsProgressOf}
+use Rattle.pod_state.specs.rule.Pods.{pod_tick}
+use Rattle.pod_state.specs.rule.Events.{AreEventsOf}
+use Rattle.pod_state.specs.rule.Lifecycles.{IsLifecycleOf}
+use Rattle.pod_state.specs.state.Lifecycles.{IsProgressOf}
 use Rattle.pod_piece.specs.declared.made.MadeTick.{MadeTick}
 use Rattle.pod_piece.specs.declared.status.NewestUsage.{NewestUsage}
-use Rattle.pod_piece.specs.Usage.{IsUsageOf, newer}
-use Rattle.pod_piece.specs.Kept.{AreKept, piece_of}
-use Rattle.pod_piece.specs.Made.{made_of, made_at}
-use Rattle.pod_piece.specs.Piece.{piece, ticks, place_of}
+use Rattle.pod_piece.specs.rule.Usage.{IsUsageOf}
+use Rattle.pod_piece.specs.state.Usage.{newer}
+use Rattle.pod_piece.specs.state.Kept.{AreKept, piece_of}
+use Rattle.pod_piece.specs.state.Made.{made_of, made_at}
+use Rattle.pod_piece.specs.rule.Piece.{place_of}
+use Rattle.pod_piece.specs.state.Piece.{piece, ticks}
 use Rattle.pod_piece.proofs.NextTicks.{may_take, all_follow}
 use Rattle.pod_piece.proofs.PieceLemmas.{may_self, has_containers, kept_updated, by_eviction, end_is, moved_on}
 use Rattle.pod_piece.proofs.PieceLemmas.{flag_says, at_next}

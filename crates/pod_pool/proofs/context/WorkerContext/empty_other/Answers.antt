@@ -1,6 +1,6 @@
 use Rattle.std.proofs.Common.{◌∙◌, arith, rules, vec_capacity, refl}
 use Rattle.crossbeam_deque.specs.Handles.{worker_view}
-use Rattle.pod_pool.specs.Permits.{owner_deque}
+use Rattle.pod_pool.specs.state.Permits.{owner_deque}
 use Rattle.pod_pool.proofs.Room.{room, fewer, found_before, pushed_same, permit_tag, took_none, took_one}
 use Rattle.pod_pool.proofs.Room.{unused_still}
 use Rattle.pod_pool.proofs.context.WorkerContext.empty_other.Goals as goal

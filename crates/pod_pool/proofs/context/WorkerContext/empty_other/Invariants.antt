@@ -1,7 +1,7 @@
 use Rattle.std.proofs.Common.{◌≡◌, None}
 use Rattle.crossbeam_deque.specs.Handles.{worker_view}
-use Rattle.pod_pool.specs.Permits.{FoundAllEmpty}
-use Rattle.pod_pool.specs.Contexts.{IsSameWorker}
+use Rattle.pod_pool.specs.state.Permits.{FoundAllEmpty}
+use Rattle.pod_pool.specs.state.Contexts.{IsSameWorker}
 use Rattle.pod_pool.proofs.context.WorkerContext.empty_other.Given as goal
 
 abbrev pub invariant-other : goal.invariant-other

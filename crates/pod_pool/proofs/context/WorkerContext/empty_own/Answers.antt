@@ -2,7 +2,7 @@ use Rattle.std.proofs.Common.{arith, vec_capacity, ap, sym, subst}
 use Rattle.std.specs.List.{sum_by}
 use Rattle.std.proofs.lemmas.List.Sums.{sum_by_push}
 use Rattle.crossbeam_deque.specs.Handles.{worker_deque, worker_view}
-use Rattle.pod_pool.specs.Permits.{FilledDeque, owner_deque, IsUnused}
+use Rattle.pod_pool.specs.state.Permits.{FilledDeque, owner_deque, IsUnused}
 use Rattle.pod_pool.proofs.Room.{more_left, no_more_of_others, filled_same, room, still_owner}
 use Rattle.pod_pool.proofs.context.WorkerContext.empty_own.Goals as goal
 

@@ -1,5 +1,5 @@
 use Rattle.std.proofs.Common.{◌≡◌, None}
-use Rattle.pod_pool.specs.Contexts.{IsSameWorker}
+use Rattle.pod_pool.specs.state.Contexts.{IsSameWorker}
 use Rattle.pod_pool.proofs.context.WorkerContext.empty_own.Given as goal
 
 abbrev pub invariant-own : goal.invariant-own

@@ -1,8 +1,8 @@
 use Rattle.std.proofs.Common.{◌≡◌, None, vec_len}
 use Rattle.crossbeam_deque.specs.Handles.{worker_view}
-use Rattle.piece_deques.specs.Rule.{FoundEmpty}
-use Rattle.pod_pool.specs.Permits.{FoundAllEmpty}
-use Rattle.pod_pool.specs.Contexts.{context_tag}
+use Rattle.piece_deques.specs.state.Rule.{FoundEmpty}
+use Rattle.pod_pool.specs.state.Permits.{FoundAllEmpty}
+use Rattle.pod_pool.specs.state.Contexts.{context_tag}
 use Rattle.pod_pool.proofs.context.WorkerContext.work.Given as goal
 
 abbrev pub invariant-others : goal.invariant-others

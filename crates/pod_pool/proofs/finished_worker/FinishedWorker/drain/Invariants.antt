@@ -1,8 +1,8 @@
 use Rattle.std.proofs.Common.{◌≡◌, ◌+◌, ℕ, None, vec_capacity}
 use Rattle.std.specs.List.{sum_by}
 use Rattle.crossbeam_deque.specs.Handles.{worker_view}
-use Rattle.piece_deques.specs.Rule.{all_parts}
-use Rattle.pod_pool.specs.WorkerResults.{kept}
+use Rattle.piece_deques.specs.state.Rule.{all_parts}
+use Rattle.pod_pool.specs.state.WorkerResults.{kept}
 use Rattle.pod_pool.proofs.finished_worker.FinishedWorker.drain.Given as goal
 
 abbrev pub invariant-loop : goal.invariant-loop

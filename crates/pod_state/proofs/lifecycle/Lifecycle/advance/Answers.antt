@@ -1,6 +1,6 @@
-use Rattle.histories.specs.Histories.{recorded}
+use Rattle.histories.specs.rule.Histories.{recorded}
 use Rattle.std.proofs.Common.{◌++◌, ◌∷◌, []}
-use Rattle.pod_state.specs.Pods.{IsPhase}
+use Rattle.pod_state.specs.rule.Pods.{IsPhase}
 use Rattle.pod_state.proofs.LifecycleLemmas as lemmas
 use Rattle.pod_state.proofs.lifecycle.Lifecycle.advance.Goals as goal
 

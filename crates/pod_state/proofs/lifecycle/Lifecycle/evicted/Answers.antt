@@ -1,4 +1,4 @@
-use Rattle.histories.specs.Histories.{recorded}
+use Rattle.histories.specs.rule.Histories.{recorded}
 use Rattle.pod_state.proofs.LifecycleLemmas.{progress_evicted}
 use Rattle.pod_state.proofs.lifecycle.Lifecycle.evicted.Goals as goal
 

@@ -1,4 +1,4 @@
-use Rattle.histories.specs.Histories.{recorded}
+use Rattle.histories.specs.rule.Histories.{recorded}
 use Rattle.std.proofs.lemmas.Bool.{iff_false}
 use Rattle.pod_state.proofs.EndLemmas as ends
 use Rattle.pod_state.proofs.ViewLemmas.{raw_after}

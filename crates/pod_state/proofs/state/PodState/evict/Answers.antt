@@ -1,5 +1,5 @@
 use Rattle.std.proofs.Common.{refl}
-use Rattle.histories.specs.Histories.{recorded}
+use Rattle.histories.specs.rule.Histories.{recorded}
 use Rattle.pod_state.proofs.StateLemmas.{when_evicted, ends_evicted}
 use Rattle.pod_state.proofs.state.PodState.evict.Goals as goal
 

@@ -1,9 +1,9 @@
 use Rattle.std.proofs.Common.{ℕ, List, [], Option, sym, subst}
 use Rattle.phase.specs.declared.view.ContainerView.{ContainerView}
 use Rattle.containers.specs.declared.container.Container.{Container}
-use Rattle.pod_state.specs.Pods.{AreViewsOf}
-use Rattle.pod_state.specs.Containers.{AreContainersOf}
-use Rattle.pod_state.specs.Lifecycles.{IsProgressOf}
+use Rattle.pod_state.specs.state.Pods.{AreViewsOf}
+use Rattle.pod_state.specs.state.Containers.{AreContainersOf}
+use Rattle.pod_state.specs.state.Lifecycles.{IsProgressOf}
 use Rattle.pod_state.proofs.EndLemmas.{kept_none}
 use Rattle.pod_state.proofs.state.PodState.new.Goals as goal
 

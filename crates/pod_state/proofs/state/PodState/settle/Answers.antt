@@ -1,9 +1,9 @@
 use Rattle.std.proofs.Common.{◌≡◌, ◌++◌, ◌∷◌, [], ℕ, List, length, Option, Some, false, subst}
 use Rattle.manifest.specs.declared.pod.PodSpec.{PodSpec}
-use Rattle.pod_state.specs.Pods.{PodTick, pod_tick}
-use Rattle.pod_state.specs.Lifecycles.{IsNext, IsProgressOf}
-use Rattle.pod_state.specs.Containers.{AreContainersOf}
-use Rattle.pod_state.specs.States.{IsStateOf}
+use Rattle.pod_state.specs.rule.Pods.{PodTick, pod_tick}
+use Rattle.pod_state.specs.state.Lifecycles.{IsNext, IsProgressOf}
+use Rattle.pod_state.specs.state.Containers.{AreContainersOf}
+use Rattle.pod_state.specs.state.States.{IsStateOf}
 use Rattle.pod_state.proofs.StateLemmas.{not_evicted, before_end, events_lives}
 use Rattle.pod_state.proofs.state.PodState.settle.Goals as goal
 

@@ -1,6 +1,6 @@
 use Rattle.std.proofs.Common.{List, IsTrue, sym, subst}
 use Rattle.containers.specs.declared.container.Container.{Container}
-use Rattle.pod_state.specs.Containers.{AreContainersOf}
+use Rattle.pod_state.specs.state.Containers.{AreContainersOf}
 use Rattle.pod_state.proofs.ContainerLemmas.{statuses_are}
 use Rattle.pod_state.proofs.state.PodState.show.Goals as goal
 

@@ -3,11 +3,12 @@ use Rattle.std.proofs.lemmas.Bool.{iff_false}
 use Rattle.phase.specs.declared.view.ContainerView.{ContainerView}
 use Rattle.containers.specs.declared.container.Container.{Container}
 use Rattle.containers.specs.declared.events.ContainerEvents.{ContainerEvents}
-use Rattle.pod_state.specs.Pods.{pod_tick, AreViewsOf}
-use Rattle.pod_state.specs.Lifecycles.{IsNext}
-use Rattle.pod_state.specs.Events.{AreMade}
-use Rattle.pod_state.specs.Containers.{AreContainersOf}
-use Rattle.pod_state.specs.States.{AllAccept}
+use Rattle.pod_state.specs.rule.Pods.{pod_tick}
+use Rattle.pod_state.specs.state.Pods.{AreViewsOf}
+use Rattle.pod_state.specs.state.Lifecycles.{IsNext}
+use Rattle.pod_state.specs.rule.Events.{AreMade}
+use Rattle.pod_state.specs.state.Containers.{AreContainersOf}
+use Rattle.pod_state.specs.state.States.{AllAccept}
 use Rattle.pod_state.proofs.ContainerLemmas.{view_is}
 use Rattle.pod_state.proofs.FewLemmas.{one_next, one_made, one_view, two_next, two_made, two_views}
 use Rattle.pod_state.proofs.StateLemmas.{not_evicted, after_end, events_ended}

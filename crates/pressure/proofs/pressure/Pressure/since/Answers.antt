@@ -1,5 +1,5 @@
 use Rattle.std.proofs.Common.{ℕ, subst, sym}
-use Rattle.pressure.specs.Pressures.{IsSince}
+use Rattle.pressure.specs.rule.Pressures.{IsSince}
 use Rattle.pressure.proofs.Since.{since_is}
 use Rattle.pressure.proofs.pressure.Pressure.since.Goals as goal
 

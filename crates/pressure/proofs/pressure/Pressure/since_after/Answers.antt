@@ -1,6 +1,6 @@
 use Rattle.std.proofs.lemmas.Bool.{iff_false}
-use Rattle.histories.specs.Histories.{recorded}
-use Rattle.pressure.specs.Pressures.{IsUnderPressure}
+use Rattle.histories.specs.rule.Histories.{recorded}
+use Rattle.pressure.specs.rule.Pressures.{IsUnderPressure}
 use Rattle.pressure.proofs.Since.{since_changed, since_unchanged}
 use Rattle.pressure.proofs.pressure.Pressure.since_after.Goals as goal
 

@@ -1,6 +1,6 @@
 use Rattle.std.proofs.Common.{refl, ◌++◌, ◌∷◌, []}
-use Rattle.probes.specs.Ticks.{tick}
-use Rattle.probes.specs.ProbeSet.{IsStateOf}
+use Rattle.probes.specs.rule.Ticks.{tick}
+use Rattle.probes.specs.state.ProbeSet.{IsStateOf}
 use Rattle.probes.proofs.States as states
 use Rattle.probes.proofs.probe_set.ProbeSet.take.Goals as goal
 

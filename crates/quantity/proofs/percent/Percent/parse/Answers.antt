@@ -1,5 +1,5 @@
 use Rattle.std.proofs.Common.{arith}
-use Rattle.quantity.specs.Percent.{HasHundredths}
+use Rattle.quantity.specs.state.Percent.{HasHundredths}
 use Rattle.quantity.proofs.PercentFaults.{percent_fault}
 use Rattle.quantity.proofs.PercentMeaning.{percent_complete}
 use Rattle.quantity.proofs.StepsPassed.{refused_of}

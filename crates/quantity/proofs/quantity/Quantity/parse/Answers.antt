@@ -1,5 +1,5 @@
 use Rattle.std.proofs.Common.{arith}
-use Rattle.quantity.specs.Quantity.{HasThousandths}
+use Rattle.quantity.specs.state.Quantity.{HasThousandths}
 use Rattle.quantity.proofs.QuantityFaults.{quantity_fault}
 use Rattle.quantity.proofs.QuantityMeaning.{quantity_complete}
 use Rattle.quantity.proofs.StepsPassed.{refused_of}

@@ -1,6 +1,6 @@
 use Rattle.std.proofs.Common.{◌≡◌, true, false}
 use Rattle.std.specs.BTreeSet.{contains}
-use Rattle.ranking.specs.Keys.{rank_cmp}
+use Rattle.ranking.specs.state.Keys.{rank_cmp}
 use Rattle.ranking.proofs.Held.{some_first, none_first, empty_any}
 use Rattle.ranking.proofs.index.RankIndex.first.Goals as goal
 

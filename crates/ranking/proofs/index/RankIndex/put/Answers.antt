@@ -2,7 +2,7 @@ use Rattle.std.proofs.Common.{sym, ◌∙◌, refl}
 use Rattle.std.specs.BTreeSet.{contains}
 use Rattle.std.specs.BTreeMap.{get}
 use Rattle.std.specs.Ordering.{nat_cmp}
-use Rattle.ranking.specs.Keys.{rank_cmp}
+use Rattle.ranking.specs.state.Keys.{rank_cmp}
 use Rattle.ranking.proofs.Changes.{put_new, put_changed, put_back, was_new}
 use Rattle.ranking.proofs.index.RankIndex.put.Goals as goal
 

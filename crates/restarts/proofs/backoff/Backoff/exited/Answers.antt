@@ -1,5 +1,5 @@
 use Rattle.std.proofs.Common.{[], refl}
-use Rattle.histories.specs.Histories.{recorded}
+use Rattle.histories.specs.rule.Histories.{recorded}
 use Rattle.restarts.proofs.Places.{last_moment-after}
 use Rattle.restarts.proofs.DelayLemmas.{IsDelay-of_count}
 use Rattle.restarts.proofs.backoff.Backoff.exited.Goals as goal

@@ -1,5 +1,5 @@
 use Rattle.std.proofs.Common.{◌≡◌, ◌∙◌, Some, ap, arith}
-use Rattle.roster.specs.Roll.{Roll, number_in, number_of, present_keys}
+use Rattle.roster.specs.rule.Roll.{Roll, number_in, number_of, present_keys}
 use Rattle.roster.proofs.Kept.{kept_without, number_within}
 use Rattle.roster.proofs.roster.Roster.leave.Goals as goal
 

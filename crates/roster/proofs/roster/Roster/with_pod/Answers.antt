@@ -1,8 +1,8 @@
 use Rattle.std.proofs.Common.{◌≡◌, ◌∙◌, ◌++◌, ◌∷◌, [], List, ℕ, Option, None, string_bytes, length, ap, sym}
 use Rattle.std.proofs.Common.{subst}
 use Rattle.manifest.specs.declared.pod.PodSpec.{PodSpec}
-use Rattle.roster.specs.Roll.{Roll, number_in, number_of, present_keys}
-use Rattle.roster.specs.Holders.{IsKept}
+use Rattle.roster.specs.rule.Roll.{Roll, number_in, number_of, present_keys}
+use Rattle.roster.specs.state.Holders.{IsKept}
 use Rattle.roster.proofs.Kept.{kept_with}
 use Rattle.roster.proofs.roster.Roster.with_pod.Goals as goal
 

@@ -1,4 +1,4 @@
-use Rattle.thresholds.specs.Samples.{sample}
+use Rattle.thresholds.specs.rule.Samples.{sample}
 use Rattle.thresholds.proofs.Since.{since_after_by, due_after}
 use Rattle.thresholds.proofs.watch.Watch.sample.Goals as goal
 

@@ -2,7 +2,7 @@ use Rattle.std.proofs.Common.{[], ◌∷◌}
 use Rattle.tick_round.proofs.Opens.{can_end, may_end, fit_one}
 use Rattle.tick_round.proofs.Out.{may_update}
 use Rattle.tick_round.proofs.Rounds.{are_numbered}
-use Rattle.tick_round.specs.Stretch.{handed_all}
+use Rattle.tick_round.specs.state.Stretch.{handed_all}
 use Rattle.tick_round.proofs.running.Running.after.Goals as goal
 
 pub update_by_workers-requires-clause-may : goal.update_by_workers-requires-clause-may

@@ -1,6 +1,6 @@
 use Rattle.std.proofs.Common.{◌∷◌, List, length, ap, arith, sym, subst}
 use Rattle.observations.specs.declared.tick.TickObs.{TickObs}
-use Rattle.tick_round.specs.Stretch.{HasTakenSome}
+use Rattle.tick_round.specs.state.Stretch.{HasTakenSome}
 use Rattle.tick_round.proofs.Rest.{none_taken, some_more, all_taken}
 use Rattle.tick_round.proofs.running.Running.after_all.Goals as goal
 

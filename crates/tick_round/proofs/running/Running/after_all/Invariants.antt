@@ -1,5 +1,5 @@
 use Rattle.std.proofs.Common.{◌+◌, ◌≤◌, length}
-use Rattle.tick_round.specs.Stretch.{HasTakenSome}
+use Rattle.tick_round.specs.state.Stretch.{HasTakenSome}
 use Rattle.tick_round.proofs.running.Running.after_all.Given as goal
 
 abbrev pub invariant-loop : goal.invariant-loop

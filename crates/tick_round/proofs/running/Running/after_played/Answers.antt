@@ -1,10 +1,10 @@
 use Rattle.std.proofs.Common.{◌≡◌, ℕ, [], ◌∷◌, map, subst}
-use Rattle.tick_round.specs.Played.{AreFinished}
+use Rattle.tick_round.specs.state.Played.{AreFinished}
 use Rattle.tick_round.proofs.Opens.{can_end, may_end, fit_one}
 use Rattle.tick_round.proofs.Out.{may_update}
 use Rattle.tick_round.proofs.Rounds.{all_by}
 use Rattle.tick_round.proofs.Single.{one_waits, one_added, one_each}
-use Rattle.pod_piece.specs.Piece.{Piece}
+use Rattle.pod_piece.specs.state.Piece.{Piece}
 use Rattle.tick_round.proofs.running.Running.after_played.Goals as goal
 
 pub update_by_steps-requires-clause-may : goal.update_by_steps-requires-clause-may

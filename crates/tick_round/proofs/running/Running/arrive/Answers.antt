@@ -1,5 +1,5 @@
 use Rattle.std.proofs.Common.{sym}
-use Rattle.tick_round.specs.Node.{state}
+use Rattle.tick_round.specs.state.Node.{state}
 use Rattle.tick_round.proofs.Arrives.{arrives_as, arrived_kept}
 use Rattle.tick_round.proofs.running.Running.arrive.Goals as goal
 

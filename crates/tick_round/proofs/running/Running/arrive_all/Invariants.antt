@@ -1,5 +1,5 @@
 use Rattle.std.proofs.Common.{◌≡◌, ◌++◌, []}
-use Rattle.tick_round.specs.Node.{HasTaken}
+use Rattle.tick_round.specs.state.Node.{HasTaken}
 use Rattle.tick_round.proofs.running.Running.arrive_all.Given as goal
 
 abbrev pub invariant-loop-pod : goal.invariant-loop-pod

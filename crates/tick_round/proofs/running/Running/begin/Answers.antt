@@ -1,6 +1,6 @@
 use Rattle.std.proofs.Common.{[], refl, subst}
-use Rattle.tick_round.specs.Node.{State, state}
-use Rattle.tick_round.specs.Stretch.{IsOpen}
+use Rattle.tick_round.specs.state.Node.{State, state}
+use Rattle.tick_round.specs.state.Stretch.{IsOpen}
 use Rattle.tick_round.proofs.Opens.{first_open}
 use Rattle.tick_round.proofs.running.Running.begin.Goals as goal
 

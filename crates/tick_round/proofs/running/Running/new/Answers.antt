@@ -1,5 +1,5 @@
 use Rattle.std.proofs.Common.{None}
-use Rattle.tick_round.specs.Node.{state}
+use Rattle.tick_round.specs.state.Node.{state}
 use Rattle.tick_round.proofs.GoesOn.{starts_as, starts_kept}
 use Rattle.tick_round.proofs.running.Running.new.Goals as goal
 

@@ -1,4 +1,4 @@
-use Rattle.tick_round.specs.Node.{state}
+use Rattle.tick_round.specs.state.Node.{state}
 use Rattle.tick_round.proofs.Summaries.{shows_as, summarizes}
 use Rattle.tick_round.proofs.running.Running.summary.Goals as goal
 

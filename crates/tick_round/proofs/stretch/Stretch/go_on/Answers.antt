@@ -1,6 +1,6 @@
 use Rattle.std.proofs.Common.{List, subst}
 use Rattle.observations.specs.declared.tick.TickObs.{TickObs}
-use Rattle.tick_round.specs.Stretch.{MayGoOn, GoesOnWith}
+use Rattle.tick_round.specs.state.Stretch.{MayGoOn, GoesOnWith}
 use Rattle.tick_round.proofs.Opens.{may_more, goes_more, may_hand_more}
 use Rattle.tick_round.proofs.stretch.Stretch.go_on.Goals as goal
 

@@ -1,7 +1,7 @@
 use Rattle.std.proofs.Common.{List}
 use Rattle.observations.specs.declared.tick.TickObs.{TickObs}
-use Rattle.tick_round.specs.Node.{State}
-use Rattle.tick_round.specs.Stretch.{IsOpen, MayGoOn, GoesOnWith}
+use Rattle.tick_round.specs.state.Node.{State}
+use Rattle.tick_round.specs.state.Stretch.{IsOpen, MayGoOn, GoesOnWith}
 use Rattle.tick_round.proofs.stretch.Stretch.go_on.Given as goal
 
 abbrev pub invariant-loop : goal.invariant-loop

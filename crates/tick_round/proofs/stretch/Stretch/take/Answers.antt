@@ -1,9 +1,9 @@
 use Rattle.std.proofs.Common.{◌∙◌, List, [], Option, refl, ap}
 use Rattle.std.proofs.lemmas.Result.{on_ok_weaker}
-use Rattle.observations.specs.Pods.{PodObs}
-use Rattle.eviction.specs.Pausing.{Kept}
-use Rattle.eviction.specs.Replay.{pauses, unless_paused}
-use Rattle.node_pods.specs.Pods.{pods_of, handed_each}
+use Rattle.observations.specs.rule.Pods.{PodObs}
+use Rattle.eviction.specs.state.Pausing.{Kept}
+use Rattle.eviction.specs.rule.Replay.{pauses, unless_paused}
+use Rattle.node_pods.specs.state.Pods.{pods_of, handed_each}
 use Rattle.tick_round.proofs.stretch.Stretch.take.Goals as goal
 
 pub returns : goal.returns

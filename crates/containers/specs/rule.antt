@@ -1,0 +1,5 @@
+pub mod Ticks
+pub mod Probed
+pub mod Exits
+pub mod Events
+pub mod Shown

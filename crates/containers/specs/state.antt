@@ -1,0 +1,4 @@
+pub mod Shown
+pub mod Container
+pub mod Step
+pub mod Laws

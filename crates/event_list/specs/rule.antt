@@ -1,0 +1,3 @@
+pub mod Events
+pub mod Totals
+pub mod Text

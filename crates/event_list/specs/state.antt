@@ -1,0 +1,4 @@
+pub mod Tick
+pub mod Text
+pub mod Names
+pub mod Laws

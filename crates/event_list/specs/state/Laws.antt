@@ -1,0 +1,38 @@
+-- The statements of the laws.
+use Rattle.std.specs.Prelude.{◌≡◌, ◌≤◌, List, length, All, Option}
+use Rattle.manifest.specs.declared.pod.PodSpec.{PodSpec}
+use Rattle.node_config.specs.declared.node.NodeConfig.{NodeConfig}
+use Rattle.observations.specs.declared.tick.TickObs.{TickObs}
+use Rattle.probes.specs.state.Container.{AreInRange}
+use Rattle.eviction.specs.declared.eviction.Eviction.{Eviction}
+use Rattle.event_list.specs.declared.event.Event.{Event}
+use Rattle.event_list.specs.rule.Events.{AreEvents}
+
+-- the tick shows none but the pods that there are
+abbrev pub ShowsKnownPods : List PodSpec → TickObs → Type 0
+ShowsKnownPods pods tick = length tick.pods ≤ length pods
+
+-- the numbers of the probes of each of the pod's containers are in their ranges
+abbrev pub HasProbesInRange : PodSpec → Type 0
+HasProbesInRange pod = All (λ spec. AreInRange spec.probes) pod.containers
+
+-- each of these pods has the numbers of its probes in their ranges
+abbrev pub HaveProbesInRange : List PodSpec → Type 0
+HaveProbesInRange pods = All HasProbesInRange pods
+
+-- ticks with an eviction or none for each have a list of events, where each shows none but the pods that
+-- there are, and the numbers of the probes of each container are in their ranges
+abbrev pub SomeListOfEvents : Type 0
+SomeListOfEvents =
+    (config : NodeConfig) (pods : List PodSpec) (ticks : List TickObs) (evictions : List (Option Eviction))
+    → length evictions ≡ length ticks → All (ShowsKnownPods pods) ticks → HaveProbesInRange pods
+    → (events : List Event) × AreEvents config pods ticks evictions events
+
+-- ticks with an eviction or none for each have at most one list of events
+abbrev pub OneListOfEvents : Type 0
+OneListOfEvents =
+    (config : NodeConfig) (pods : List PodSpec) (ticks : List TickObs) (evictions : List (Option Eviction))
+    (events others : List Event)
+    → length evictions ≡ length ticks
+    → AreEvents config pods ticks evictions events → AreEvents config pods ticks evictions others
+    → events ≡ others

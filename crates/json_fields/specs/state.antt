@@ -1,0 +1,4 @@
+pub mod Borrowed
+pub mod Reading
+pub mod Strangers
+pub mod Tape

@@ -1,0 +1,4 @@
+pub mod Ticks
+pub mod Fault
+pub mod Run
+pub mod Laws

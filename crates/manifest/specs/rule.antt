@@ -1,0 +1,7 @@
+pub mod Names
+pub mod Probe
+pub mod Resources
+pub mod Containers
+pub mod Policy
+pub mod ProbeKinds
+pub mod RestartDelay

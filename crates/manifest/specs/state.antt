@@ -1,0 +1,3 @@
+pub mod Probe
+pub mod Resources
+pub mod Containers

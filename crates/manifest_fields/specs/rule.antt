@@ -1,0 +1,4 @@
+pub mod Fault
+pub mod Fields
+pub mod ProbeFields
+pub mod ResourceFields

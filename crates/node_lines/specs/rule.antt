@@ -1,0 +1,4 @@
+pub mod Limits
+pub mod Maps
+pub mod Node
+pub mod Thresholds

@@ -1,0 +1,4 @@
+pub mod GivesUnlessMemory
+pub mod Laws
+pub mod Limits
+pub mod Thresholds

@@ -1,0 +1,4 @@
+pub mod Pods
+pub mod Steps
+pub mod Ranked
+pub mod Laws

@@ -1,0 +1,4 @@
+pub mod Keys
+pub mod Thresholds
+pub mod Conditions
+pub mod Events

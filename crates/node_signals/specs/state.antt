@@ -1,0 +1,3 @@
+pub mod Events
+pub mod Node
+pub mod Laws

@@ -1,0 +1,3 @@
+pub mod Observations
+pub mod Pods
+pub mod Limits

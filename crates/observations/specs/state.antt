@@ -1,0 +1,4 @@
+pub mod PackedContainer
+pub mod Observations
+pub mod Pods
+pub mod Whole

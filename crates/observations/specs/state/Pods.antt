@@ -1,0 +1,41 @@
+-- What a tick shows of one pod, as it is kept in a block.
+use Rattle.std.specs.Prelude.{ℕ, List, [], ◌∷◌}
+use Rattle.observations.specs.declared.container.ContainerObs.{ContainerObs}
+use Rattle.observations.specs.declared.containers.Containers.{Containers}
+use Rattle.observations.specs.declared.containers.Containers.TheVariants as containers
+use Rattle.observations.specs.declared.packed_container.PackedContainer.{PackedContainer}
+use Rattle.observations.specs.declared.packed_containers.PackedContainers.{PackedContainers}
+use Rattle.observations.specs.declared.packed_containers.PackedContainers.TheVariants as shown
+use Rattle.observations.specs.declared.usage.Sampling.{Sampling}
+use Rattle.observations.specs.declared.usage.Sampling.TheVariants.{Unsaid, Unsampled, Sampled}
+use Rattle.observations.specs.state.Whole.{memory_as, usage_as}
+use Rattle.observations.specs.rule.Pods.{PodObs}
+
+abbrev pub pod_obs : ℕ → List ContainerObs → Sampling → PodObs
+pod_obs at containers sampling = record { at = at; containers = containers; sampling = sampling }
+
+-- what is kept of containers in a block
+abbrev pub containers_in : Containers → List PackedContainer
+containers_in (containers.One one) = one ∷ []
+containers_in (containers.Two one two) = one ∷ two ∷ []
+containers_in (containers.More more) = more.items
+
+-- what is kept of the containers
+abbrev pub kept_in : PackedContainers → List PackedContainer
+kept_in (shown.One one) = one ∷ []
+kept_in (shown.Two one two) = one ∷ two ∷ []
+kept_in (shown.OneWithMemory one memory) = one ∷ []
+kept_in (shown.TwoWithMemory one two memory) = one ∷ two ∷ []
+kept_in (shown.Unused containers) = containers.items
+kept_in (shown.Unsampled containers) = containers_in containers.value
+kept_in (shown.Whole whole) = containers_in whole.value.containers
+kept_in (shown.Used used) = containers_in used.value.containers
+
+-- what the tick says of the pod's samples, as its packed containers keep it
+abbrev pub sampling_in : PackedContainers → Sampling
+sampling_in (shown.Unsampled containers) = Unsampled
+sampling_in (shown.OneWithMemory one memory) = Sampled (memory_as memory)
+sampling_in (shown.TwoWithMemory one two memory) = Sampled (memory_as memory)
+sampling_in (shown.Whole whole) = Sampled (usage_as whole.value.usage)
+sampling_in (shown.Used used) = Sampled used.value.usage
+sampling_in s = Unsaid

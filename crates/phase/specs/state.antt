@@ -1,0 +1,4 @@
+pub mod Facts
+pub mod Conditions
+pub mod Views
+pub mod Laws

@@ -1,0 +1,3 @@
+pub mod Usage
+pub mod Piece
+pub mod Status

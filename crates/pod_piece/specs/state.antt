@@ -1,0 +1,6 @@
+pub mod Usage
+pub mod Listings
+pub mod Piece
+pub mod Status
+pub mod Made
+pub mod Kept

@@ -1,0 +1,10 @@
+pub mod Done
+pub mod WorkerResults
+pub mod Dealing
+pub mod Permits
+pub mod Contexts
+pub mod Slots
+pub mod Order
+pub mod FinishedWorkers
+pub mod Rooms
+pub mod Faults

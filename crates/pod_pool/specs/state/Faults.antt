@@ -1,0 +1,13 @@
+-- What comes back where a round was not made.
+use Rattle.std.specs.Prelude.{◌≡◌, Vec}
+use Rattle.std.specs.Global.{Global}
+use Rattle.pod_piece.specs.state.Piece.{Piece}
+use Rattle.event_book.specs.state.Shares.{ShareState}
+use Rattle.pod_pool.specs.declared.fault.PoolFault.{PoolFault}
+use Rattle.pod_pool.specs.declared.fault.PoolFault.TheVariants as fault
+use Rattle.pod_pool.specs.state.Done.{IsLeftOf}
+
+-- the pieces and the share as they were handed in, or one of the pieces, whose updates did not all come
+abbrev pub GivesBack : {U E O : Type 0} → Vec Piece Global → ShareState → PoolFault U E O → Type 0
+GivesBack pieces share (fault.NoRoom p s) = (p ≡ pieces) × (s ≡ share)
+GivesBack pieces share (fault.Update p) = IsLeftOf pieces.items p

@@ -1,0 +1,4 @@
+pub mod Pods
+pub mod Containers
+pub mod Lifecycles
+pub mod Events

@@ -1,0 +1,9 @@
+pub mod Digits
+pub mod Duration
+pub mod Laws
+pub mod Limit
+pub mod Number
+pub mod Percent
+pub mod Printed
+pub mod Quantity
+pub mod Suffix

@@ -1,0 +1,48 @@
+-- What an index of ranks holds.
+use Rattle.std.specs.Prelude.{◌≡◌, ◌≢◌, ℕ, List, Bool, Option, Some, None, IsTrue, option_map}
+use Rattle.std.specs.Map.{lookup}
+use Rattle.std.specs.Ordering.{nat_cmp}
+use Rattle.std.specs.BTreeMap.{is_at}
+use Rattle.signals.specs.declared.signal.Signal.{Signal}
+use Rattle.phase.specs.rule.RawPhase.{IsTerminal}
+use Rattle.pod_piece.specs.declared.status.PodStatus.{PodStatus}
+use Rattle.ranking.specs.declared.key.RankKey.{RankKey}
+use Rattle.ranking.specs.state.Keys.{key_of}
+
+-- the keys of the pods that are held, by their numbers
+pub record Ranks : Type 0 where
+  pub signal : Signal
+  pub has_dedicated_imagefs : Bool
+  pub keys : List (ℕ × RankKey)
+
+-- the ranks by a signal, with these keys
+abbrev pub ranks : Signal → Bool → List (ℕ × RankKey) → Ranks
+ranks signal has_dedicated_imagefs keys =
+    record { signal = signal; has_dedicated_imagefs = has_dedicated_imagefs; keys = keys }
+
+-- the key under a number, if there is one
+abbrev pub key_at : List (ℕ × RankKey) → ℕ → Option RankKey
+key_at keys number = lookup (is_at (nat_cmp number)) keys
+
+-- a set of keys has exactly the keys that pods have, each pod's under its number
+pub record Matches (has : RankKey → Bool) (keys : ℕ → Option RankKey) : Type 0 where
+  pub sound : (k : RankKey) → IsTrue (has k) → keys k.number ≡ Some k
+  pub complete : (n : ℕ) (k : RankKey) → keys n ≡ Some k → IsTrue (has k)
+  pub numbered : (n : ℕ) (k : RankKey) → keys n ≡ Some k → k.number ≡ n
+
+-- the index holds exactly these pods, each under its number, with the key of its last status
+pub record IsIndexOf (held : ℕ → Option PodStatus) (ranks : Ranks) : Type 0 where
+  pub numbered : (n : ℕ) (p : PodStatus) → held n ≡ Some p → p.number ≡ n
+  pub keyed : (n : ℕ) → key_at ranks.keys n ≡ option_map (key_of ranks.signal ranks.has_dedicated_imagefs) (held n)
+
+-- after this the same pods are held, but for the one with this number
+pub record AreHeldWithout (held : ℕ → Option PodStatus) (number : ℕ) (after : ℕ → Option PodStatus) : Type 0 where
+  pub gone : after number ≡ None
+  pub others : (n : ℕ) → n ≢ number → after n ≡ held n
+
+-- after this the same pods are held, and the pod of this status with it; if that has ended, it isn't held
+pub record AreHeldAfter (held : ℕ → Option PodStatus) (status : PodStatus)
+    (after : ℕ → Option PodStatus) : Type 0 where
+  pub ended : IsTerminal status.phase → after status.number ≡ None
+  pub lives : (IsTerminal status.phase → ⊥) → after status.number ≡ Some status
+  pub others : (n : ℕ) → n ≢ status.number → after n ≡ held n

@@ -1,0 +1,3 @@
+pub mod Backoff
+pub mod Counts
+pub mod Laws

@@ -1,0 +1,2 @@
+pub mod Pool
+pub mod Places

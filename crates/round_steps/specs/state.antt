@@ -1,0 +1,4 @@
+pub mod Spelling
+pub mod Steps
+pub mod Fault
+pub mod Laws

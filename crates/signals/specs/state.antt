@@ -1,0 +1,2 @@
+pub mod BySignal
+pub mod Laws

@@ -1,0 +1,4 @@
+pub mod Instances
+pub mod Instance
+pub mod Differ
+pub mod Laws

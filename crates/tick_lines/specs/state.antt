@@ -1,0 +1,5 @@
+pub mod GivesUnlessMemory
+pub mod Entries
+pub mod Samples
+pub mod Laws
+pub mod Tape

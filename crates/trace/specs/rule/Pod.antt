@@ -1,0 +1,42 @@
+-- What a pod line says.
+use Rattle.std.specs.Prelude.{ℕ, ⊤, nat_le, Bool, List, length, Option, option_and_then, is_some, Result}
+use Rattle.std.specs.Prelude.{Ok, Err}
+use Rattle.observations.specs.rule.Limits.{most_pods}
+use Rattle.serde_json.specs.Data.{Data}
+use Rattle.manifest_fields.specs.declared.fault.ManifestFault.{ManifestFault}
+use Rattle.manifest_fields.specs.declared.fault.ManifestFault.TheVariants.{Missing}
+use Rattle.manifest_fields.specs.declared.fault.Field.TheVariants as fields
+use Rattle.manifest.specs.declared.pod.PodSpec.{PodSpec}
+use Rattle.manifest_reader.specs.rule.Manifest.{pod_at}
+use Rattle.json_fields.specs.rule.Reading.{◌>>=◌, refused_if, some_or}
+use Rattle.roster.specs.rule.Roll.{Roll, key_of_pod, number_of}
+use Rattle.trace.specs.declared.fault.FaultKind.{FaultKind}
+use Rattle.trace.specs.declared.fault.FaultKind.TheVariants.{Manifest, DuplicatePod, TooMany}
+
+-- there is room for one pod more
+abbrev pub room_for_pod : List PodSpec → Result ⊤ FaultKind
+room_for_pod pods = refused_if (nat_le most_pods (length pods)) TooMany
+
+-- a pod that is present has this key
+abbrev pub has_key : Roll → List ℕ → Bool
+has_key roll key = is_some (number_of roll key)
+
+-- no pod that is present has this pod's key
+abbrev pub new_key : Roll → PodSpec → Result ⊤ FaultKind
+new_key roll pod = refused_if (has_key roll (key_of_pod pod)) DuplicatePod
+
+-- the number of the pod that a line names, if one of that key is present
+abbrev pub named_in : Roll → Option (List ℕ) → Option ℕ
+named_in roll key = option_and_then (number_of roll) key
+
+abbrev pub of_manifest : {A : Type 0} → Result A ManifestFault → Result A FaultKind
+of_manifest (Ok x) = Ok x
+of_manifest (Err fault) = Err (Manifest fault)
+
+-- the line's manifest
+abbrev pub manifest_of : Option Data → Result Data FaultKind
+manifest_of found = some_or (Manifest (Missing fields.Pod)) found
+
+-- the pod that it describes
+abbrev pub pod_from : Option Data → Result PodSpec FaultKind
+pod_from found = manifest_of found >>= λ d. of_manifest (pod_at d)

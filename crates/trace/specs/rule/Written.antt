@@ -1,0 +1,63 @@
+-- What a node line and a tick line say by themselves, with the fault as the kind of a line's.
+use Rattle.std.specs.Prelude.{ℕ, ◌==◌, ◌&&◌, option_and_then, Bool, true, false, List, Option, Some, None, Result, Ok}
+use Rattle.std.specs.Prelude.{Err, codes}
+use Rattle.std.specs.List.{list_any}
+use Rattle.serde_json.specs.Data.{Data}
+use Rattle.json_fields.specs.rule.Fields.{field_at}
+use Rattle.json_fields.specs.rule.Reading.{◌>>=◌, refused_if}
+use Rattle.node_config.specs.declared.node.Format.{Format}
+use Rattle.node_config.specs.declared.node.Format.TheVariants.{Standard, Extended}
+use Rattle.node_config.specs.declared.node.NodeConfig.{NodeConfig}
+use Rattle.node_lines.specs.declared.fault.NodeFault.{NodeFault}
+use Rattle.node_lines.specs.rule.Node.{whole_number, node_of}
+use Rattle.tick_lines.specs.declared.entry.TickEntry.{TickEntry}
+use Rattle.tick_lines.specs.declared.fault.TickLineFault.{TickLineFault}
+use Rattle.tick_lines.specs.declared.line.TickLine.{TickLine}
+use Rattle.tick_lines.specs.declared.usage.UnsampledMember.{UnsampledMember}
+use Rattle.tick_lines.specs.declared.usage.UnsampledMember.TheVariants.{No, Yes, OfOtherKind}
+use Rattle.tick_lines.specs.rule.Line.{tick_line_of}
+use Rattle.trace.specs.declared.fault.FaultKind.{FaultKind}
+use Rattle.trace.specs.declared.fault.FaultKind.TheVariants.{Config, Usage}
+use Rattle.trace.specs.rule.Faults.{kind_of_node_fault, kind_of_tick_fault}
+
+abbrev pub of_node_line : {A : Type 0} → Result A NodeFault → Result A FaultKind
+of_node_line (Ok x) = Ok x
+of_node_line (Err fault) = Err (kind_of_node_fault fault)
+
+abbrev pub of_tick_line : {A : Type 0} → Result A TickLineFault → Result A FaultKind
+of_tick_line (Ok x) = Ok x
+of_tick_line (Err fault) = Err (kind_of_tick_fault fault)
+
+abbrev pub is_three : Option ℕ → Bool
+is_three None = false
+is_three (Some n) = n == 3
+
+-- the line says version 3, which the standard format does not have
+abbrev pub is_foreign : Format → Data → Bool
+is_foreign Standard d = is_three (option_and_then whole_number (field_at (codes "version") d))
+is_foreign Extended d = false
+
+-- the node that a node line says
+abbrev pub node_in : Format → Data → Result NodeConfig FaultKind
+node_in format d = refused_if (is_foreign format d) Config >>= λ known. of_node_line (node_of d)
+
+abbrev pub is_of_other_kind : UnsampledMember → Bool
+is_of_other_kind No = false
+is_of_other_kind Yes = false
+is_of_other_kind OfOtherKind = true
+
+-- an entry has a member `unsampled` of another kind than a truth value
+abbrev pub has_other_kind : List TickEntry → Bool
+has_other_kind entries = list_any (λ e. is_of_other_kind e.unsampled) entries
+
+-- where the version heeds these members, one of another kind is refused, once the whole line is read
+abbrev pub heeded : Bool → TickLine → Result TickLine FaultKind
+heeded heeds written = refused_if (heeds && has_other_kind written.entries) Usage >>= λ known. Ok written
+
+-- what a tick line says beside its moment, by what it says by itself
+abbrev pub written_in : Bool → Result TickLine TickLineFault → Result TickLine FaultKind
+written_in heeds said = of_tick_line said >>= heeded heeds
+
+-- what a tick line says beside its moment
+abbrev pub tick_line_in : Bool → Data → Result TickLine FaultKind
+tick_line_in heeds d = written_in heeds (tick_line_of d)

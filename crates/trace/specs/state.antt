@@ -1,0 +1,14 @@
+pub mod Faults
+pub mod GivesUnlessMemory
+pub mod Pod
+pub mod Placing
+pub mod ByPod
+pub mod Slots
+pub mod Tick
+pub mod Taken
+pub mod Ahead
+pub mod Windows
+pub mod Sound
+pub mod Laws
+pub mod Tape
+pub mod Noted
