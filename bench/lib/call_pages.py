@@ -130,7 +130,7 @@ class Lists:
             left = [made for made in all_made if made.key not in self.stated]
             if left:
                 said = f": {beginning(comment)}" if comment else ""
-                lines.append(wrapped(f"`{module}`{said}", "- ", "  "))
+                lines.append(wrapped(f"`{bare(module)}`{said}", "- ", "  "))
             for made in left:
                 lines.append(entries.definition_line(made, page, self.citing(made),
                                                      self.examples.get(".".join(made.key), "")))
@@ -169,11 +169,12 @@ def parts_of(storey, sections):
              storey + f", part {number}" * (len(parts) > 1), part) for number, part in enumerate(parts, 1)]
 
 
-def faults_of(lists, reached):
-    """Public calls without a doc comment, and examples of what is no definition."""
-    faults = [f"{item.path}:{item.line}: the public call {item.whole_name} has no doc comment"
-              for listed in lists.crates for item in listed.shown.items
-              if item.kind == "fn" and not item.comment and " as " not in item.owner]
+def faults_of(lists, reached, texts):
+    """Pages that are too long, public calls without a doc comment, and examples of what is no definition."""
+    faults = [f"docs/{name} has more than {MOST} lines" for name, text in texts.items() if text.count("\n") > MOST]
+    faults += [f"{item.path}:{item.line}: the public call {item.whole_name} has no doc comment"
+               for listed in lists.crates for item in listed.shown.items
+               if item.kind == "fn" and not item.comment and " as " not in item.owner]
     known = {".".join(key) for key in (*reached, *lists.defined)}
     return faults + [f"docs/examples.tsv: there is no definition {name}" for name in lists.examples
                      if name and name not in known]

@@ -106,7 +106,7 @@ def items_in(text, path):
 
 class Shown(NamedTuple):
     comment: str     # of the crate, line by line
-    items: list      # in the order of lib.rt; behind each type its calls
+    items: list      # those of lib.rt, and in its order those of its modules; behind each type its calls
     handed_on: dict  # of other crates: what is handed on of them
 
 
@@ -126,7 +126,9 @@ def shown_by(repository, crate):
         return Shown("", [], {})
     text = repository.text(f"{folder}/lib.rt")
     files = {path: items_in(repository.text(path), path) for path in repository.sources(crate)}
-    modules, items, handed_on = {found[2]: bool(found[1]) for found in MODULE.finditer(text)}, [], {}
+    modules, handed_on = {found[2]: bool(found[1]) for found in MODULE.finditer(text)}, {}
+    own = files[f"{folder}/lib.rt"]
+    items = [found for item in own if not item.owner for found in with_calls(item.name, own, files)]
     for path, listed, name in USE.findall(text):
         root = path.split("::")[0]
         for name in names_in(listed or name):

@@ -1,5 +1,5 @@
-"""Pages below docs/ that a script writes: they are written anew, or it is said which are not as they would be. Some may
-fill a folder of their own, which has no others then."""
+"""Pages below docs/ that a script writes: they are written anew, or it is said which are not as they would be. Some fill
+a folder of their own, which has no others then."""
 import glob
 import os
 
@@ -16,15 +16,16 @@ def text_at(path):
 
 
 def superfluous(top, texts, folder):
-    """The pages of the folder that are none any more, named from docs/ as the texts are."""
+    """The pages of the folder, if there is one, that are none any more; named from docs/ as the texts are."""
     docs = os.path.join(top, "docs")
-    return [name for name in sorted(glob.glob(f"{folder}**/*.md", root_dir=docs, recursive=True)) if name not in texts]
+    there = sorted(glob.glob(f"{folder}**/*.md", root_dir=docs, recursive=True)) if folder else ()
+    return [name for name in there if name not in texts]
 
 
-def write_anew(top, texts, folder):
+def write_anew(top, texts, folder=None):
     """Writes the pages that are stale or missing, and removes those that are none any more."""
     docs = os.path.join(top, "docs")
-    os.makedirs(os.path.join(docs, folder), exist_ok=True)
+    os.makedirs(os.path.join(docs, folder or ""), exist_ok=True)
     for name, text in texts.items():
         if text_at(os.path.join(docs, name)) != text:
             script.write(os.path.join(docs, name), text)
@@ -32,8 +33,8 @@ def write_anew(top, texts, folder):
         os.remove(os.path.join(docs, name))
 
 
-def differences(top, texts, folder, command, what):
-    """What writing anew would change. Each page of the folder has some of what the command writes."""
+def differences(top, texts, command, folder=None, what=None):
+    """What writing anew by the command would change. Each page of the folder has some of what it is for."""
     there = {name: text_at(os.path.join(top, "docs", name)) for name in texts}
     return [*(f"docs/{name} is {'missing' if there[name] is None else 'stale'}: run {command}"
               for name, text in texts.items() if there[name] != text),

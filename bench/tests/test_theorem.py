@@ -12,7 +12,7 @@ import pages
 
 FAULTS = os.path.join(TESTS, "theorem/faults")
 NAMING = ("rules.md", "formats.md", "extended.md", "report.md", "quantities.md")
-CRATES = ("kubelet_replay", "workers", "grading", "text", "marks")
+CRATES = ("kubelet_replay", "grading", "text", "marks")
 PAGES = ("theorem.md", *(f"theorem/{crate}.md" for crate in CRATES), *NAMING)
 GRADE = "crates/grading/specs/rule/Grade.antt"
 
