@@ -77,7 +77,7 @@ def error_of(head):
 
 def needs(clauses):
     """What a call asks of its caller: each condition, or its name where it is long."""
-    shown = [code(clause.term) if len(clause.term) <= SHORT else code(clause.name) if clause.name else "its condition"
+    shown = [code(clause.term) if len(clause.term) <= SHORT else code(clause.name) if clause.name else "a condition"
              for clause in clauses if clause.kind == "requires"]
     return f"Needs {', '.join(shown)}." if shown else ""
 

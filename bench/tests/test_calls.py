@@ -98,7 +98,7 @@ class Shown(Case):
     def test_what_a_call_needs(self):
         long = Clause("requires", "low", " ≤ ".join("a" * 30))
         self.assertEqual(call_entries.needs([Clause("requires", "", "0 < a"), long, long._replace(name="")]),
-                         "Needs `0\0<\0a`, `low`, its condition.")
+                         "Needs `0\0<\0a`, `low`, a condition.")
         self.assertEqual(call_entries.needs([Clause("ensures", "", "a")]), "")
 
     def test_comments(self):
