@@ -3,6 +3,7 @@ import os
 import tempfile
 
 from common import SMALL, Case, lay_over, read, run, write
+import antt
 import call_entries
 import call_pages
 import public
@@ -81,6 +82,29 @@ class Reading(Case):
         items = public.items_in("/// It is so.\npub fn law()\n    ensures { laws.ItIsSo }\n{}\n", "laws.rt")
         self.assertEqual([(item.name, item.clauses) for item in items], [
             ("law", [Clause("ensures", "", "laws.ItIsSo")])])
+
+
+    def test_definitions_below_a_line_of_their_own(self):
+        read = antt.read_module("""\
+-- Trees.
+use Rattle.std.specs.Prelude.{ℕ}
+
+-- how many leaves
+abbrev mutual
+  pub leaves : Tree → ℕ
+  leaves (node trees) = all_leaves trees
+
+  pub all_leaves : Trees → ℕ
+  all_leaves none = 0
+
+module _ {A : Type 0} where
+  -- of a list
+  abbrev pub first : List A → Option A
+  first items = head items
+""", lambda scope, word: False)
+        self.assertEqual([(found.name, found.comment, found.line) for found in read.definitions], [
+            ("leaves", "how many leaves", 6), ("all_leaves", "", 9), ("first", "of a list", 14)])
+        self.assertEqual(read.comment, "Trees.")
 
 
 class Shown(Case):
