@@ -7,6 +7,8 @@ from typing import NamedTuple
 from terms import Walk, tokens_of
 
 HEAD = re.compile(r"(?:unfoldable |abbrev |pub )+(record |data )?(?:pub )?(\S+)")
+# definitions that stand below a line of their own
+GROUP = re.compile(r"(?:abbrev )?mutual$|module _\b.*\bwhere$")
 IMPORT = re.compile(r"(?:pub )?(?:ghost )?use ([\w.]+)(?:\.\{([^}]*)\}| as (\w+))?;?$")
 
 
@@ -109,16 +111,20 @@ def read_module(text, is_constructor):
 
 
 def without_head(number, block, scope, comment):
-    """A block without the comments and imports that it begins with. The first comment before an import is the module's;
-    the lines of another are the block's own."""
-    notes, block = [], textwrap.dedent("\n".join(block)).split("\n")
-    while block and (block[0].startswith(("--", "infix")) or imports_in(block[0], scope)):
+    """A block without the comments, imports and heads of groups that it begins with. The first comment before an import
+    is the module's; the lines of another are the block's own."""
+    notes, block = [], dedented(block)
+    while block and (block[0].startswith(("--", "infix")) or GROUP.match(block[0]) or imports_in(block[0], scope)):
         if block[0].startswith("--"):
             notes.append(block[0])
-        elif notes and not comment:
+        elif notes and not comment and not GROUP.match(block[0]):
             comment, notes = comment_of(notes), []
-        block, number = block[1:], number + 1
+        block, number = dedented(block[1:]), number + 1
     return number, comment, notes, block
+
+
+def dedented(block):
+    return textwrap.dedent("\n".join(block)).split("\n") if block else []
 
 
 def definitions_of(raw, is_constructor):

@@ -34,13 +34,16 @@ def exampled_twice(repository):
     return [name for name, count in counts.items() if count > 1]
 
 
-def examples_in(repository):
-    """Of each definition by its whole name its example, with the cases that show it."""
+def examples_in(repository, of=""):
+    """Of each definition by its whole name its example, with the cases that show it. With a word the definition is
+    named, behind that word."""
     found = {}
     for name, _, rest in example_lines(repository):
         example, _, cases = rest.partition("\t")
+        what = f" {of} `{name.rpartition('.')[2]}`" if of else ""
         shown = ", ".join(f"`{case}`" for case in cases.split())
-        parts = [f"Example: {example}"] * bool(example) + [f"Shown by {shown}"] * bool(shown)
+        parts = [f"Example{what}: {example}"] * bool(example)
+        parts += [f"{'Shown' if example or not of else what[len(of) + 2:] + ' is shown'} by {shown}"] * bool(shown)
         found[name] = ". ".join(parts) + "."
     return found
 

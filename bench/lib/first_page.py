@@ -6,10 +6,10 @@ from sections import TITLE_OF_TYPES, Section, shown
 NAME = "theorem.md"
 HEAD = ("""
 `bench/theorem` writes this page and those of the folder `theorem`; no line is by hand. They have the contracts of
-{functions}, and behind them each definition that they reach: {definitions} in {files} files of `specs/`, and {types}
-declared types. The promises of the program are made of these and of [the words of the
+{functions}, and behind them each definition that they reach: {definitions} in {files} files, which are those of the
+folders `specs/rule`, and {types} declared types. The promises of the program are made of these and of [the words of the
 library](#the-words-of-the-library), and of nothing else. No thread, deque, pool or share of a book occurs in them;
-`bench/theorem --check` fails where one does.
+`bench/theorem --check` fails where one does, or where `specs/rule` has anything else.
 """, """
 This page has the contracts, [what is trusted](#what-is-trusted) and [the list of the pages](#the-pages) with the
 definitions. These read from the report to the rules and on to the format: a crate stands before those that it names,
@@ -51,7 +51,7 @@ def item(page, repository, anchors):
     """A page in the list: a link to it, and what it has. `anchors` are those of the page."""
     modules = list(dict.fromkeys(map(module_of, page.keys)))
     if len(page.owner) > 1:
-        comment = TITLE_OF_TYPES if modules[0][1] == TYPES else repository.modules[modules[0]].comment
+        comment = TITLE_OF_TYPES if modules[0][1] == TYPES else repository.comment_of(*modules[0])
         return wrapped(": ".join(filter(None, [f"[{page.title}]({page.name})", beginning(comment)])), "- ", "  ")
     links = ", ".join(f"[{module[1]}]({page.name}#{anchors[module]})" for module in modules)
     return wrapped(f"[{page.title}]({page.name}), {repository.crates[page.owner[0]].words}: {links}", "- ", "  ")

@@ -9,10 +9,24 @@ import rt
 from crates import read_crates
 
 LIBRARY = "library"
+# the folders of specs/: what the contracts of a replay reach, and all else
+RULE, STATE = "rule", "state"
+
+
+def bare(module):
+    """The name of a module, as `Order` of `rule.Order`: pages and keys leave out which folder it stands in."""
+    folder, _, name = module.partition(".")
+    return name if name and folder in (RULE, STATE) else module
+
+
+def whole_names(module):
+    """The names that a module may have by its folder, where its bare name is this."""
+    return f"{RULE}.{module}", f"{STATE}.{module}", module
 
 
 class Node(NamedTuple):
-    """Something reached. Its place is its crate with its module, as `ranking`, `Order`, or a file of src/."""
+    """Something reached. Its place is its crate with its module, as `ranking`, `Order`, or a file of src/; the folder
+    of specs/ that the module stands in is no part of it."""
     kind: str      # contract, trait, type or definition
     crate: str
     module: str
@@ -28,6 +42,10 @@ class Node(NamedTuple):
         return self.crate, self.module, self.name
 
 
+def path_of_module(crate, name):
+    return f"crates/{crate}/specs/{name.replace('.', '/')}.antt"
+
+
 class Repository:
     """Reads files once each, and looks words up."""
 
@@ -41,11 +59,17 @@ class Repository:
             return file.read()
 
     def module(self, crate, name):
-        path = f"crates/{crate}/specs/{name.replace('.', '/')}.antt"
+        """The module of a crate with this whole name, as `rule.Order`; nothing where there is none."""
+        path = path_of_module(crate, name)
         if (crate, name) not in self.modules:
             there = os.path.exists(os.path.join(self.top, path))
             self.modules[crate, name] = antt.read_module(self.text(path), self.is_constructor) if there else None
         return self.modules[crate, name]
+
+    def comment_of(self, crate, module):
+        """The comment of a module with this bare name."""
+        found = (self.module(crate, name) for name in whole_names(module))
+        return next((read.comment for read in found if read), "")
 
     def file(self, path):
         if path not in self.files:
@@ -99,11 +123,11 @@ class Repository:
         said = self.module(crate, module) or antt.Module("", {}, [])
         for definition in said.definitions:
             if name in (definition.name, *definition.constructors):
-                return crate, module, definition.name
+                return crate, bare(module), definition.name
         handed_on = antt.parts_of(name)[0]
         if handed_on in said.scope:
             return self.meaning(said.scope, handed_on)
-        raise ValueError(f"crates/{crate}/specs/{module}.antt defines no {name}")
+        raise ValueError(f"{path_of_module(crate, module)} defines no {name}")
 
     def keys(self, scope, words):
         found = (self.meaning(scope, word) for word in words)
@@ -114,13 +138,22 @@ class Repository:
         crate, module, name = key
         if module.endswith(".rt"):
             return self.declared(crate, name)
-        read = self.module(crate, module)
-        own = {word: (f"Rattle.{crate}.specs.{module}", name) for found in read.definitions
+        whole, read, found = self.defined(key)
+        own = {word: (f"Rattle.{crate}.specs.{whole}", name) for found in read.definitions
                for name in (found.name, *found.constructors) for word in antt.parts_of(name)}
-        found = next(found for found in read.definitions if found.name == name)
-        below = [key for key in self.keys({**read.scope, **own}, found.names) if key != (crate, module, name)]
-        path = f"crates/{crate}/specs/{module.replace('.', '/')}.antt"
+        below = [other for other in self.keys({**read.scope, **own}, found.names) if other != key]
+        path = path_of_module(crate, whole)
         return Node("definition", crate, module, name, found.comment, found.text, path, found.line, below)
+
+    def defined(self, key):
+        """The module that has the definition of a key, with its whole name, and the definition."""
+        crate, module, name = key
+        for whole in whole_names(module):
+            read = self.module(crate, whole)
+            for found in read.definitions if read else ():
+                if found.name == name:
+                    return whole, read, found
+        return None
 
     def declared(self, crate, name):
         """A declared type or a trait."""

@@ -65,14 +65,19 @@ def contract_of(text, name):
     return Item(name, comment, whole, first + 1, words, types)
 
 
+def braced_at(text, at):
+    """What stands between the brace at a place and the one that ends it."""
+    first, depth = at + 1, 1
+    while depth and at + 1 < len(text):
+        at += 1
+        depth += {"{": 1, "}": -1}.get(text[at], 0)
+    return text[first:at]
+
+
 def braced(text, before):
     """What stands in the braces behind each match of a pattern."""
-    for found in re.finditer(before + r"\{", text):
-        depth, at = 1, found.end()
-        while depth and at < len(text):
-            depth += {"{": 1, "}": -1}.get(text[at], 0)
-            at += 1
-        yield text[found.end():at - 1]
+    for found in re.finditer(before + r"(?=\{)", text):
+        yield braced_at(text, found.end())
 
 
 def trait_of(text, name):

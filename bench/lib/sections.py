@@ -42,7 +42,7 @@ def module_section(repository, module):
     """The heading of a module, with its comment."""
     if module[1] == TYPES:
         return Section(2, TITLE_OF_TYPES, key=module)
-    comment = repository.modules[module].comment
+    comment = repository.comment_of(*module)
     return Section(2, module[1], [wrapped(prose(comment)), ""] if comment else [], module)
 
 

@@ -5,6 +5,8 @@ from mentions import slug
 from pages import Page, grouped, modules_of, pages_of_crate
 from sections import anchors_of, sections_of, text_of
 
+# of these the contracts are shown, with all that they reach
+CRATE, FUNCTIONS = "kubelet_replay", ("replay", "replay_play", "check")
 PARTS = {
     "The report": ("Program", "Node", "Threads"),
     "The rules": ("Rules",),

@@ -12,9 +12,9 @@ import pages
 
 FAULTS = os.path.join(TESTS, "theorem/faults")
 NAMING = ("rules.md", "formats.md", "extended.md", "report.md", "quantities.md")
-CRATES = ("kubelet_replay", "event_book", "grading", "text", "marks")
+CRATES = ("kubelet_replay", "grading", "text", "marks")
 PAGES = ("theorem.md", *(f"theorem/{crate}.md" for crate in CRATES), *NAMING)
-GRADE = "crates/grading/specs/Grade.antt"
+GRADE = "crates/grading/specs/rule/Grade.antt"
 
 
 def keys_of(crate, **counts):
@@ -111,8 +111,8 @@ class Theorem(Case):
         write("".join(["-- Many.\n", "use Rattle.std.specs.Prelude.{ℕ, List, ◌∷◌, []}\n\n",
                        *(f"abbrev pub {name} : ℕ\n{name} = 0\n\n" for name in names),
                        f"abbrev pub all_marks : List ℕ\nall_marks = {' ∷ '.join(names)} ∷ []\n"]),
-              self.top, "crates/grading/specs/Many.antt")
-        grade = read(self.top, GRADE).replace("\n\n", "\nuse Rattle.grading.specs.Many.{all_marks}\n\n", 1)
+              self.top, "crates/grading/specs/rule/Many.antt")
+        grade = read(self.top, GRADE).replace("\n\n", "\nuse Rattle.grading.specs.rule.Many.{all_marks}\n\n", 1)
         write(grade + "  pub all : p ≡ length all_marks\n", self.top, GRADE)
         self.assertEqual(run("theorem", "--top", self.top), (0, "", ""))
         self.assertEqual(run("theorem", "--check", "--top", self.top)[::2], (0, ""))

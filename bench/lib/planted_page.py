@@ -1,0 +1,55 @@
+"""The page docs/planted.md, of bench/planted.tsv: what `rt plant` was run over, and what of it was proved all the same."""
+import csv
+import io
+
+from paragraphs import wrapped
+
+COLUMNS = ("crate", "what", "refused", "proved", "not judged", "not writable", "since", "date",
+           "why what is proved is right")
+COUNTS = COLUMNS[2:6]
+HEAD = ("""
+`bench/planted` writes this page from `bench/planted.tsv`. `rt plant`, run by hand, puts mistakes into the bodies of a
+crate's functions, one after the other, and checks each: it is refused, or proved, or could not be judged; some it could
+not write. It plants none in definitions, in laws, or inside a loop. What is proved needs a reason that it is right.
+""", """
+In all {refused} were refused, {proved} proved, {not judged} not judged, and {not writable} could not be written. Where
+functions of a crate have another form since, these were not planted anew; a crate that is missing was not planted as it
+stands. The date is the day on which the figure was written down.
+""")
+
+
+def rows_in(text):
+    """The rows of the table, each by its columns. Another head, or a count that is none, is a ValueError."""
+    found = list(csv.reader(io.StringIO(text), delimiter="\t", quoting=csv.QUOTE_NONE))
+    if tuple(found[0]) != COLUMNS:
+        raise ValueError(f"bench/planted.tsv: the columns are not {', '.join(COLUMNS)}")
+    rows = []
+    for number, cells in enumerate(found[1:], 2):
+        if len(cells) != len(COLUMNS):
+            raise ValueError(f"bench/planted.tsv:{number}: {len(cells)} cells, not {len(COLUMNS)}")
+        row = dict(zip(COLUMNS, cells))
+        for column in COUNTS:
+            if row[column] and not row[column].isdigit():
+                raise ValueError(f"bench/planted.tsv:{number}: {row[column]} is no number of {column}")
+        if int(row["proved"] or 0) and not row[COLUMNS[-1]]:
+            raise ValueError(f"bench/planted.tsv:{number}: what is proved of {row['crate']} has no reason that it is right")
+        rows.append(row)
+    return rows
+
+
+def line_of(cells):
+    return f"| {' | '.join(cells)} |"
+
+
+def page_of(rows):
+    """The text of the page."""
+    sums = {column: sum(int(row[column] or 0) for row in rows) for column in COUNTS}
+    head = [wrapped(paragraph.format(**sums)) for paragraph in HEAD]
+    titles = [column.capitalize() for column in COLUMNS[:-1]]
+    table = [line_of(titles), line_of(["---"] * len(titles))]
+    table += [line_of([", ".join(f"`{crate}`" for crate in row["crate"].split()),
+                       *(row[column] for column in COLUMNS[1:-1])]) for row in rows]
+    reasons = [wrapped(f"`{row['crate']}`, {row['what']}: {row[COLUMNS[-1]]}.", "- ", "  ") for row in rows
+               if row[COLUMNS[-1]]]
+    parts = ["# What was planted", *head, "\n".join(table), "What was proved all the same:", "\n".join(reasons)]
+    return "\n\n".join(parts) + "\n"

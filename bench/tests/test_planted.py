@@ -1,0 +1,37 @@
+"""Tests of bench/planted."""
+import os
+import tempfile
+
+from common import Case, read, run, write
+import planted_page
+
+HEAD = "\t".join(planted_page.COLUMNS)
+ROW = "a b\tall\t3\t1\t\t2\t\t2026-11-27\tit is slower"
+
+
+class Planted(Case):
+    def setUp(self):
+        self.top = self.enterContext(tempfile.TemporaryDirectory())
+        os.makedirs(f"{self.top}/bench")
+
+    def planted(self, *lines, words=()):
+        write("".join(f"{line}\n" for line in lines), self.top, "bench/planted.tsv")
+        return run("planted", *words, "--top", self.top)
+
+    def test_the_page(self):
+        self.assertEqual(self.planted(HEAD, ROW), (0, "", ""))
+        text = read(self.top, "docs/planted.md")
+        self.assertIn("| `a`, `b` | all | 3 | 1 |  | 2 |  | 2026-11-27 |\n", text)
+        self.assertIn("In all 3 were refused, 1 proved, 0 not judged, and 2 could not be written.", text)
+        self.assertIn("- `a b`, all: it is slower.\n", text)
+        self.assertEqual(self.planted(HEAD, ROW, words=["--check"]), (0, "", ""))
+        self.assertEqual(self.planted(HEAD, ROW, ROW, words=["--check"]), (
+            1, "", "bench/planted: docs/planted.md is stale: run bench/planted\n"))
+
+    def test_faults(self):
+        for lines, said in ((["crate"], f": the columns are not {', '.join(planted_page.COLUMNS)}"),
+                            ([HEAD, "a\tall"], ":2: 2 cells, not 9"),
+                            ([HEAD, ROW.replace("3", "some")], ":2: some is no number of refused"),
+                            ([HEAD, ROW.replace("it is slower", "")],
+                             ":2: what is proved of a b has no reason that it is right")):
+            self.assertEqual(self.planted(*lines), (1, "", f"bench/planted: bench/planted.tsv{said}\n"))
