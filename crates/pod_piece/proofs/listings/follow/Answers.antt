@@ -23,17 +23,17 @@ loop-number-preserved c =
     let lt : i < length c.loop-number.differs.items = omega (arith, so_far.as_many, below) in
     let same : (e : Differ) → slice_index_or old i e ≡ x = λ e. any_default old i e x below
     ∙ sym (so_far.rest i x (omega arith)) ∙ sym c.index.ensures in
-    let here : P i c.differ_after.result = λ e h is.
-    subst (λ (o : Option Seen). IsStateOf (h ++ recorded c.args.observed.now.at o ∷ []) c.differ_after.result)
+    let here : P i c.after.result = λ e h is.
+    subst (λ (o : Option Seen). IsStateOf (h ++ recorded c.args.observed.now.at o ∷ []) c.after.result)
     c.listed_in-seen.ensures
-    (subst (λ (m : ℕ). IsStateOf (h ++ recorded m c.listed_in-seen.result ∷ []) c.differ_after.result) c.at-at.ensures
-    (c.differ_after.ensures h (subst (λ (d : Differ). IsStateOf h d) (same e) is))) in
-    let all = set_each P c.loop-number.differs.items c.differ_after.result i lt
+    (subst (λ (m : ℕ). IsStateOf (h ++ recorded m c.listed_in-seen.result ∷ []) c.after.result) c.at-at.ensures
+    (c.after.ensures h (subst (λ (d : Differ). IsStateOf h d) (same e) is))) in
+    let all = set_each P c.loop-number.differs.items c.after.result i lt
     (λ n d below e h is. so_far.each n d e below h is) here in
     record {
-      as_many = length-set c.loop-number.differs.items i c.differ_after.result ∙ so_far.as_many;
+      as_many = length-set c.loop-number.differs.items i c.after.result ∙ so_far.as_many;
       each = λ n d e below h is. all n d below e h is;
-      rest = λ n d above. set_rest c.loop-number.differs.items c.differ_after.result i n d above
+      rest = λ n d above. set_rest c.loop-number.differs.items c.after.result i n d above
           ∙ so_far.rest n d (omega (arith, above));
     }
 
