@@ -1,10 +1,10 @@
 //! What a line says by itself.
 
-ghost use Rattle.std.specs.Prelude.{◌≡◌, IfOk, MatchOption, OnOk, OnErr, option_map};
+ghost use Rattle.std.specs.Prelude.{◌≡◌, true, false, IfNone, IfOk, IsOk, MatchOption, OnOk, OnErr, option_map};
 ghost use Rattle.serde_json.specs.Errors.{IsMemory};
 ghost use Rattle.serde_json.specs.View.{view};
 ghost use Rattle.json_lines.specs.rule.Lines.{json_in};
-ghost use Rattle.json_lines.specs.state.Lines.{said_by, said_in, line_data, data_of};
+ghost use Rattle.json_lines.specs.state.Lines.{said_by, said_in, is_unread, line_data, data_of};
 
 use crate::lines::is_blank;
 use crate::plain::{LineBuffers, plain_tick};
@@ -89,7 +89,9 @@ fn said_in(alloc: Global, line: &[u8], buffers: &mut LineBuffers) -> Result<Text
 
 /// What a line says that is not read: one of blanks alone, or one that is too long.
 fn unread(line: &[u8]) -> Option<TextLine>
-    ensures { MatchOption result (line_data line.now ≡ said_in line.now) (λ read. data_of read ≡ line_data line.now) }
+    ensures says { MatchOption result (line_data line.now ≡ said_in line.now)
+        (λ read. data_of read ≡ line_data line.now) }
+    ensures none { IfNone result (is_unread line.now ≡ false) }
 {
     if is_blank(line) {
         return Some(TextLine::Blank);
@@ -100,25 +102,28 @@ fn unread(line: &[u8]) -> Option<TextLine>
     None
 }
 
-/// What a line says by itself, whatever the lines beside it are. An `Err` says that memory was refused, and nothing of
-/// the line.
+/// What a line says by itself, whatever the lines beside it are. One that is not read takes no memory. An `Err` says
+/// that memory was refused, and nothing of the line.
 pub fn text_line(
     alloc: Global,
     line: &[u8],
     buffers: &mut LineBuffers,
 ) -> Result<TextLine, AllocError>
-    ensures { IfOk result (λ read. data_of read ≡ line_data line.now) }
+    ensures says { IfOk result (λ read. data_of read ≡ line_data line.now) }
+    ensures unread { is_unread line.now ≡ true → IsOk result }
 {
     match unread(line) {
-        Some(read) => Ok(read),
+        Some(said) => Ok(said),
         None => said_in(alloc, line, buffers),
     }
 }
 
 /// What a line says, as [`text_line`] reads it, of which [`tick_tape`](crate::tick_tape) made no tape: it has another
-/// shape than the common one, so that `serde_json` alone can read it. An `Err` says that memory was refused.
+/// shape than the common one, so that `serde_json` alone can read it. One that is not read takes no memory. An `Err` says
+/// that memory was refused.
 pub fn other_line(alloc: Global, line: &[u8]) -> Result<TextLine, AllocError>
-    ensures { IfOk result (λ read. data_of read ≡ line_data line.now) }
+    ensures says { IfOk result (λ read. data_of read ≡ line_data line.now) }
+    ensures unread { is_unread line.now ≡ true → IsOk result }
 {
     match unread(line) {
         Some(read) => Ok(read),

@@ -1,6 +1,7 @@
 //! A tick line, read by itself.
 
-ghost use Rattle.std.specs.Prelude.{◌≡◌, IfOk, option_map};
+ghost use Rattle.std.specs.Prelude.{◌≡◌, Err, IfOk, IsOk, option_map};
+ghost use Rattle.tick_lines.specs.declared.fault.TickLineFault.TheVariants.{Usage};
 ghost use Rattle.tick_lines.specs.rule.Line.{tick_line_of};
 ghost use Rattle.json_lines.specs.state.Ticks.{is_tick, moment_written, moment_at};
 
@@ -31,10 +32,12 @@ pub(crate) fn moment_written<V: Json>(found: Option<&V>) -> Option<u64>
     found?.unsigned()
 }
 
-/// What a tick line says of its moment, and beside it. An `Err` says that memory was refused.
+/// What a tick line says of its moment, and beside it. An `Err` says that memory was refused, and comes only where the
+/// line has no fault.
 pub fn tick_record<V: TickValue>(alloc: Global, line: &V) -> Result<TickRecord, AllocError>
     ensures at { IfOk result (λ tick. tick.at ≡ moment_at (V.data line.now)) }
     ensures written { IfOk result (λ tick. tick.written ≡ tick_line_of (V.data line.now)) }
+    ensures faults { tick_line_of (V.data line.now) ≡ Err Usage → IsOk result }
 {
     let at = moment_written(field(line, "at"));
     match tick_line_of(alloc, line) {

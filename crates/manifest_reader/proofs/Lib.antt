@@ -5,3 +5,5 @@ pub mod FoundRows
 pub mod RowLemmas
 pub mod FirstCheck
 pub mod NeverMemory
+pub mod Doubled
+pub mod CheckedSteps

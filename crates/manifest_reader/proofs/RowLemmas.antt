@@ -365,6 +365,16 @@ named_in : (xs ys : List Data) → map name_in (xs ++ ys) ≡ map name_in xs ++ 
 named_in [] ys = refl
 named_in (x ∷ xs) ys = ap (λ (names : List (List ℕ)). name_in x ∷ names) (named_in xs ys)
 
+-- two of the containers have one name where two of the items have
+pub doubled : (init_items items : List Data) (init apps : List ContainerSpec)
+    → each (container_of InitContainers) init_items ≡ Ok init → each (container_of Containers) items ≡ Ok apps
+    → has_twice (init ++ apps) ≡ has_double (map name_in (init_items ++ items))
+doubled init_items items init apps f g =
+    twice_double (init ++ apps)
+    ∙ ap has_double (names_joined init apps
+    ∙ (rw (names_given InitContainers init_items init f, names_given Containers items apps g) refl)
+    ∙ sym (named_in init_items items))
+
 containers_read : (init_items items : List Data) → Reads (containers_of init_items items)
     (containers_rows init_items items)
 unfolding containers_of containers_rows
@@ -378,16 +388,7 @@ containers_read init_items items =
     (each_rows (container_of Containers) (container_rows Containers) (container_read Containers) items) (λ apps g.
     step_row (refused_if (has_twice (init ++ apps)) DuplicateContainer) _ _ _
     (refused (has_twice (init ++ apps)) DuplicateContainer ∙ ap (λ (b : Bool). fails_if b DuplicateContainer)
-    (doubled init apps f g)) (λ v h. read _))))
-  where
-    doubled : (init apps : List ContainerSpec) → each (container_of InitContainers) init_items ≡ Ok init
-        → each (container_of Containers) items ≡ Ok apps
-        → has_twice (init ++ apps) ≡ has_double (map name_in (init_items ++ items))
-    doubled init apps f g =
-        twice_double (init ++ apps)
-        ∙ ap has_double (names_joined init apps
-        ∙ (rw (names_given InitContainers init_items init f, names_given Containers items apps g) refl)
-        ∙ sym (named_in init_items items))
+    (doubled init_items items init apps f g)) (λ v h. read _))))
 
 -- a pod
 metadata_read : (found : Option Data) → Reads (metadata_of found) (metadata_rows found)

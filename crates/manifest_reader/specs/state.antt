@@ -1,3 +1,4 @@
 pub mod Found
 pub mod Table
 pub mod Laws
+pub mod Checks

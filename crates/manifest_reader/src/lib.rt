@@ -1,6 +1,7 @@
 //! Reading a manifest: the pod that it describes, or its first fault in the order of its fields.
 #![tactic(auto)]
 
+mod checks;
 pub mod laws;
 mod reading;
 

@@ -1,6 +1,7 @@
 //! Reading a manifest, with the first fault in the order of the fields.
 
-ghost use Rattle.std.specs.Prelude.{◌≡◌, ◌≤◌, ◌<◌, ◌+◌, ◌++◌, false, length, map, option_map, bytes_eq, IfOk, OnOk};
+ghost use Rattle.std.specs.Prelude.{◌≡◌, ◌≤◌, ◌<◌, ◌+◌, ◌++◌, false, length, map, option_map, bytes_eq};
+ghost use Rattle.std.specs.Prelude.{IfErr, IfOk, IsErrOf, OnOk};
 ghost use Rattle.std.specs.List.{list_any};
 ghost use Rattle.serde_json.specs.View.{view};
 ghost use Rattle.json_fields.specs.rule.Reading.{each};
@@ -15,6 +16,7 @@ ghost use Rattle.manifest_reader.specs.rule.Manifest.{few};
 ghost use Rattle.manifest_reader.specs.rule.Manifest.{apart, containers_of, app_items_of, containers_in, metadata_of};
 ghost use Rattle.manifest_reader.specs.rule.Manifest.{settings_in, pod_at};
 
+use crate::checks::check_pod;
 use json_fields::field;
 use manifest::{
     ContainerList, ContainerSpec, GracePeriod, MOST_CONTAINERS, Place, PodSpec, Policy, Role, Text,
@@ -75,7 +77,7 @@ fn grace_period_of(found: Option<&Value>) -> Result<GracePeriod, ManifestFault>
     }
 }
 
-fn field_of(place: Place) -> Field
+pub(crate) fn field_of(place: Place) -> Field
     ensures { result ≡ field_of place }
 {
     match place {
@@ -97,7 +99,7 @@ fn sidecar_from(own_policy: Option<&str>) -> Result<Role, ManifestFault>
 }
 
 /// What a container is to its pod, by where it is written and by its own restart policy.
-fn role_of(place: Place, own_policy: Option<&Value>) -> Result<Role, ManifestFault>
+pub(crate) fn role_of(place: Place, own_policy: Option<&Value>) -> Result<Role, ManifestFault>
     ensures gives { GivesExactly (λ r. r) result (role_of place (option_map (λ v. view v.now) own_policy.entry)) }
     ensures may_have { IfOk result (MayHave place) }
 {
@@ -166,7 +168,7 @@ fn has_twice(containers: &[ContainerSpec]) -> bool
     false
 }
 
-fn few(init: &[Value], apps: &[Value]) -> Result<(), ManifestFault>
+pub(crate) fn few(init: &[Value], apps: &[Value]) -> Result<(), ManifestFault>
     ensures gives { GivesExactly (λ t. t) result (few (map view init.now) (map view apps.now)) }
     ensures within { OnOk result (length init.now + length apps.now ≤ most_containers) }
 {
@@ -218,7 +220,7 @@ fn containers_of(
 
 /// The items of an array of app containers, of which there is at least one.
 #[tactic(auto, unfolding(crate::specs::rule::Manifest::app_items_of))]
-fn app_items_of(found: Option<&Value>) -> Result<&[Value], ManifestFault>
+pub(crate) fn app_items_of(found: Option<&Value>) -> Result<&[Value], ManifestFault>
     ensures gives { GivesExactly (λ v. map view v.now) result
         (app_items_of (option_map (λ v. view v.now) found.entry)) }
     ensures some { IfOk result (λ v. 0 < length v.now) }
@@ -261,14 +263,14 @@ fn metadata_of(alloc: Global, found: Option<&Value>) -> Result<Metadata, Manifes
 
 /// What a pod's `spec` says of the pod as a whole.
 #[derive(Clone, Copy)]
-struct Settings {
+pub(crate) struct Settings {
     policy: Policy,
     priority: i32,
     grace_period_seconds: GracePeriod,
 }
 
 #[tactic(auto, unfolding(crate::specs::rule::Manifest::settings_in))]
-fn settings_in(spec: &Value) -> Result<Settings, ManifestFault>
+pub(crate) fn settings_in(spec: &Value) -> Result<Settings, ManifestFault>
     ensures { GivesExactly (λ s. s) result (settings_in (view spec.now)) }
 {
     Ok(Settings {
@@ -278,12 +280,8 @@ fn settings_in(spec: &Value) -> Result<Settings, ManifestFault>
     })
 }
 
-/// The pod that a manifest describes, or the manifest's first fault in the order of its fields
-/// (`metadata`, its `name` and `namespace`, `spec`, its `restartPolicy`, `priority`,
-/// `terminationGracePeriodSeconds`, `initContainers` and `containers`; then each container);
-/// `OutOfMemory` where there is no memory for its texts. A pod keeps each range of the format by its types.
 #[tactic(auto, unfolding(crate::specs::rule::Manifest::pod_at, crate::specs::rule::Manifest::spec_of))]
-pub fn read_pod(alloc: Global, value: &Value) -> Result<PodSpec, ManifestFault>
+fn pod_of(alloc: Global, value: &Value) -> Result<PodSpec, ManifestFault>
     ensures { GivesUnlessMemory (λ p. p) result (pod_at (view value.now)) }
 {
     let pod = object(Field::Pod, Some(value))?;
@@ -299,4 +297,21 @@ pub fn read_pod(alloc: Global, value: &Value) -> Result<PodSpec, ManifestFault>
         grace_period_seconds: settings.grace_period_seconds,
         containers,
     })
+}
+
+/// The pod that a manifest describes, or the manifest's first fault in the order of its fields
+/// (`metadata`, its `name` and `namespace`, `spec`, its `restartPolicy`, `priority`,
+/// `terminationGracePeriodSeconds`, `initContainers` and `containers`; then each container).
+/// `OutOfMemory` only where there is no fault: one that the reading did not come to is looked for.
+pub fn read_pod(alloc: Global, value: &Value) -> Result<PodSpec, ManifestFault>
+    ensures gives { GivesUnlessMemory (λ p. p) result (pod_at (view value.now)) }
+    ensures faults { IfErr (pod_at (view value.now)) (IsErrOf result) }
+{
+    match pod_of(alloc, value) {
+        Ok(pod) => Ok(pod),
+        Err(_) => {
+            check_pod(value)?;
+            Err(ManifestFault::OutOfMemory)
+        }
+    }
 }

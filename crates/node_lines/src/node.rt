@@ -1,6 +1,6 @@
 //! Node lines.
 
-ghost use Rattle.std.specs.Prelude.{◌≡◌, option_map};
+ghost use Rattle.std.specs.Prelude.{◌≡◌, option_map, IfErr, IsErrOf};
 ghost use Rattle.serde_json.specs.View.{view};
 ghost use Rattle.json_fields.specs.state.Reading.{GivesExactly};
 ghost use Rattle.node_lines.specs.state.GivesUnlessMemory.{GivesUnlessMemory};
@@ -51,16 +51,6 @@ fn name_from(found: Option<&str>) -> Result<&str, NodeFault>
     match found {
         Some(name) if is_name(name.as_bytes()) => Ok(name),
         _ => Err(NodeFault::Config),
-    }
-}
-
-fn node_name(alloc: Global, found: Option<&str>) -> Result<Text, NodeFault>
-    ensures { GivesUnlessMemory (λ t. t) result (name_from (option_map (λ s. s.now) found.entry)) }
-{
-    let name = name_from(found)?;
-    match String::from_str(alloc, name) {
-        Ok(name) => Ok(Text::new(name)),
-        Err(_) => Err(NodeFault::OutOfMemory),
     }
 }
 
@@ -152,18 +142,22 @@ fn settings_in(node: &Value) -> Result<Settings, NodeFault>
 
 /// The configuration that a node line gives. The fault is `Config` where any field is refused, and
 /// `SoftWithoutGrace` where none is and a soft threshold has no grace period; `OutOfMemory` where
-/// there is no memory for the name. (Kubernetes, "Node-pressure Eviction"; "Kubelet
-/// Configuration".)
+/// neither is and there is no memory for the name, which is copied behind every check. (Kubernetes,
+/// "Node-pressure Eviction"; "Kubelet Configuration".)
 #[tactic(auto, unfolding(crate::specs::rule::Node::node_of))]
 pub fn node_of(alloc: Global, node: &Value) -> Result<NodeConfig, NodeFault>
-    ensures { GivesUnlessMemory (λ n. n) result (node_of (view node.now)) }
+    ensures gives { GivesUnlessMemory (λ n. n) result (node_of (view node.now)) }
+    ensures faults { IfErr (node_of (view node.now)) (IsErrOf result) }
 {
-    let name = node_name(alloc, text_at(node, "name"))?;
+    let name = name_from(text_at(node, "name"))?;
     let settings = settings_in(node)?;
     let written = written_in(node)?;
     let eviction = eviction_from(&written)?;
+    let Ok(name) = String::from_str(alloc, name) else {
+        return Err(NodeFault::OutOfMemory);
+    };
     Ok(NodeConfig {
-        name,
+        name: Text::new(name),
         version: settings.version,
         max_restart_delay: settings.max_restart_delay,
         has_dedicated_imagefs: settings.has_dedicated_imagefs,

@@ -1,4 +1,5 @@
 pub mod GivesUnlessMemory
+pub mod Fields
 pub mod Entries
 pub mod Samples
 pub mod Laws

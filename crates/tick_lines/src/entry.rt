@@ -1,11 +1,13 @@
 //! The entries of a tick line, as they are written.
 
 ghost use Rattle.tick_lines.specs.state.GivesUnlessMemory.{GivesUnlessMemory};
+ghost use Rattle.std.specs.Prelude.{◌≡◌};
 ghost use Rattle.tick_lines.specs.rule.Entries.{entry_of};
+ghost use Rattle.tick_lines.specs.state.Fields.{checked};
 
 use crate::fault::TickLineFault;
-use crate::fields::text_of;
-use crate::items::{ReadItem, read_items};
+use crate::fields::{text_of, written_text};
+use crate::items::{ReadItem, check_items, read_items};
 use crate::listing::Listing;
 use crate::probing::ProbeResult;
 use crate::usage::{UnsampledMember, unsampled_of, usage_of};
@@ -44,10 +46,26 @@ fn entry_of<V: TickValue>(alloc: Global, value: &V) -> Result<TickEntry, TickLin
     })
 }
 
+/// Whether an entry can be read, or its first fault.
+#[tactic(auto, unfolding(crate::specs::rule::Entries::entry_of))]
+fn check_entry<V: TickValue>(value: &V) -> Result<(), TickLineFault>
+    ensures { result ≡ checked (entry_of (V.data value.now)) }
+{
+    written_text(text_at(value, "pod"))?;
+    check_items::<Listing, V>(field(value, "containers"))?;
+    check_items::<ProbeResult, V>(field(value, "probes"))?;
+    usage_of(field(value, "usage"))?;
+    Ok(())
+}
+
 impl ReadItem for TickEntry {
     ghost read_of = { entry_of };
 
     fn read<V: TickValue>(alloc: Global, item: &V) -> Result<TickEntry, TickLineFault> {
         entry_of(alloc, item)
+    }
+
+    fn check<V: TickValue>(item: &V) -> Result<(), TickLineFault> {
+        check_entry(item)
     }
 }

@@ -13,7 +13,8 @@ use manifest::Text;
 use quantity::Quantity;
 use std::alloc::Global;
 
-fn written_text(found: Option<&str>) -> Result<&str, TickLineFault>
+/// A text that has to be there.
+pub(crate) fn written_text(found: Option<&str>) -> Result<&str, TickLineFault>
     ensures { GivesExactly (λ s. s.now) result (some_or Usage (option_map (λ s. s.now) found.entry)) }
 {
     match found {

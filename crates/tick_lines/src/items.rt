@@ -1,8 +1,9 @@
 //! The items of an array, each of which is read in the same way.
 
-ghost use Rattle.std.specs.Prelude.{map, option_map};
+ghost use Rattle.std.specs.Prelude.{◌≡◌, map, option_map};
 ghost use Rattle.json_fields.specs.rule.Reading.{each};
 ghost use Rattle.tick_lines.specs.rule.Fields.{each_item};
+ghost use Rattle.tick_lines.specs.state.Fields.{checked};
 ghost use Rattle.tick_lines.specs.state.GivesUnlessMemory.{GivesUnlessMemory};
 
 use crate::fault::TickLineFault;
@@ -13,8 +14,9 @@ use std::alloc::Global;
 
 /// How an item is read.
 pub(crate) trait ReadItem: Drop + Sized {
-    ghost use Rattle.std.specs.Prelude.{Result};
+    ghost use Rattle.std.specs.Prelude.{◌≡◌, Result};
     ghost use Rattle.serde_json.specs.Data.{Data};
+    ghost use Rattle.tick_lines.specs.state.Fields.{checked};
     ghost use Rattle.tick_lines.specs.state.GivesUnlessMemory.{GivesUnlessMemory};
     ghost use Rattle.tick_lines.specs.declared.fault.TickLineFault.{TickLineFault};
 
@@ -24,6 +26,10 @@ pub(crate) trait ReadItem: Drop + Sized {
     /// Reads the item.
     fn read<V: TickValue>(alloc: Global, item: &V) -> Result<Self, TickLineFault>
         ensures { GivesUnlessMemory (λ r. r) result (read_of (V.data item.now)) };
+
+    /// Whether an item can be read, or its fault. It takes no memory.
+    fn check<V: TickValue>(item: &V) -> Result<(), TickLineFault>
+        ensures { result ≡ checked (read_of (V.data item.now)) };
 }
 
 fn read_each<R: ReadItem, V: TickValue>(
@@ -48,4 +54,20 @@ pub(crate) fn read_items<R: ReadItem, V: TickValue>(
     ensures { GivesUnlessMemory (λ s. s) result (each_item R.read_of (option_map (λ v. V.data v.now) found.entry)) }
 {
     read_each::<R, V>(alloc, items_of(found)?)
+}
+
+fn check_each<R: ReadItem, V: TickValue>(values: &[V]) -> Result<(), TickLineFault>
+    ensures { result ≡ checked (each R.read_of (map V.data values.now)) }
+{
+    for value in values {
+        R::check(value)?;
+    }
+    Ok(())
+}
+
+/// Whether the items of an array that may be left out can be read, or their first fault. It takes no memory.
+pub(crate) fn check_items<R: ReadItem, V: TickValue>(found: Option<&V>) -> Result<(), TickLineFault>
+    ensures { result ≡ checked (each_item R.read_of (option_map (λ v. V.data v.now) found.entry)) }
+{
+    check_each::<R, V>(items_of(found)?)
 }

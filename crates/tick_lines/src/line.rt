@@ -1,14 +1,15 @@
 //! A tick line, as it is written.
 
-ghost use Rattle.std.specs.Prelude.{codes};
+ghost use Rattle.std.specs.Prelude.{◌≡◌, IfErr, IsErrOf, codes};
 ghost use Rattle.json_fields.specs.rule.Fields.{field_at};
 ghost use Rattle.tick_lines.specs.rule.Entries.{entries_of};
 ghost use Rattle.tick_lines.specs.state.GivesUnlessMemory.{GivesUnlessMemory};
+ghost use Rattle.tick_lines.specs.state.Fields.{checked};
 ghost use Rattle.tick_lines.specs.rule.Line.{tick_line_of};
 
 use crate::entry::TickEntry;
 use crate::fault::TickLineFault;
-use crate::items::read_items;
+use crate::items::{check_items, read_items};
 use crate::samples::samples_of;
 use crate::value::TickValue;
 use json_fields::{Scope, field};
@@ -41,15 +42,8 @@ pub fn entries_of<V: TickValue>(
     read_items::<TickEntry, V>(alloc, field(line, "pods"))
 }
 
-/// Reads a tick line, all but its moment. A field with the value null counts as absent, and a field
-/// of another name is ignored, but for a name that is no signal's where signals are named. Exit
-/// codes are read as far as they are codes, and never refused.
-///
-/// `Usage` where a field that has to be there is missing, or one has a value of another kind or out
-/// of its range, a faulty quantity, or a signal that it may not name; `OutOfMemory` where there is no memory for what
-/// it says.
 #[tactic(auto, unfolding(crate::specs::rule::Line::tick_line_of))]
-pub fn tick_line_of<V: TickValue>(alloc: Global, line: &V) -> Result<TickLine, TickLineFault>
+fn read_line<V: TickValue>(alloc: Global, line: &V) -> Result<TickLine, TickLineFault>
     ensures { GivesUnlessMemory (λ t. t) result (tick_line_of (V.data line.now)) }
 {
     Ok(TickLine {
@@ -57,4 +51,35 @@ pub fn tick_line_of<V: TickValue>(alloc: Global, line: &V) -> Result<TickLine, T
         signals: samples_of(Scope::Node, field(line, "signals"))?,
         after_reclaim: samples_of(Scope::FileSystems, field(line, "afterReclaim"))?,
     })
+}
+
+/// Whether a tick line can be read, or its first fault. It takes no memory.
+#[tactic(auto, unfolding(crate::specs::rule::Line::tick_line_of))]
+fn check_line<V: TickValue>(line: &V) -> Result<(), TickLineFault>
+    ensures { result ≡ checked (tick_line_of (V.data line.now)) }
+{
+    check_items::<TickEntry, V>(field(line, "pods"))?;
+    samples_of(Scope::Node, field(line, "signals"))?;
+    samples_of(Scope::FileSystems, field(line, "afterReclaim"))?;
+    Ok(())
+}
+
+/// Reads a tick line, all but its moment. A field with the value null counts as absent, and a field
+/// of another name is ignored, but for a name that is no signal's where signals are named. Exit
+/// codes are read as far as they are codes, and never refused.
+///
+/// `Usage` where a field that has to be there is missing, or one has a value of another kind or out
+/// of its range, a faulty quantity, or a signal that it may not name; so too where memory ran out before the reading
+/// came to it. `OutOfMemory` only where there is no such fault.
+pub fn tick_line_of<V: TickValue>(alloc: Global, line: &V) -> Result<TickLine, TickLineFault>
+    ensures gives { GivesUnlessMemory (λ t. t) result (tick_line_of (V.data line.now)) }
+    ensures faults { IfErr (tick_line_of (V.data line.now)) (IsErrOf result) }
+{
+    match read_line(alloc, line) {
+        Ok(read) => Ok(read),
+        Err(_) => {
+            check_line(line)?;
+            Err(TickLineFault::OutOfMemory)
+        }
+    }
 }

@@ -5,9 +5,10 @@ ghost use Rattle.json_fields.specs.state.Reading.{GivesExactly};
 ghost use Rattle.tick_lines.specs.state.GivesUnlessMemory.{GivesUnlessMemory};
 ghost use Rattle.tick_lines.specs.rule.Listings.{attempt_of, state_named, state_numbered, state_of, code_of};
 ghost use Rattle.tick_lines.specs.rule.Listings.{instance_of, listing_of};
+ghost use Rattle.tick_lines.specs.state.Fields.{checked};
 
 use crate::fault::TickLineFault;
-use crate::fields::text_of;
+use crate::fields::{text_of, written_text};
 use crate::items::ReadItem;
 use crate::value::TickValue;
 use json_fields::{Json, field, text_at};
@@ -112,10 +113,24 @@ fn listing_of<V: Json>(alloc: Global, value: &V) -> Result<Listing, TickLineFaul
     })
 }
 
+/// Whether a listing can be read, or its fault.
+#[tactic(auto, unfolding(crate::specs::rule::Listings::listing_of))]
+fn check_listing<V: Json>(value: &V) -> Result<(), TickLineFault>
+    ensures { result ≡ checked (listing_of (V.data value.now)) }
+{
+    written_text(text_at(value, "name"))?;
+    instance_of(value)?;
+    Ok(())
+}
+
 impl ReadItem for Listing {
     ghost read_of = { listing_of };
 
     fn read<V: TickValue>(alloc: Global, item: &V) -> Result<Listing, TickLineFault> {
         listing_of(alloc, item)
+    }
+
+    fn check<V: TickValue>(item: &V) -> Result<(), TickLineFault> {
+        check_listing(item)
     }
 }

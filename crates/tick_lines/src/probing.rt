@@ -1,12 +1,13 @@
 //! The results of probes in an entry, as they are written.
 
-ghost use Rattle.std.specs.Prelude.{option_map};
+ghost use Rattle.std.specs.Prelude.{◌≡◌, option_map};
 ghost use Rattle.json_fields.specs.state.Reading.{GivesExactly};
 ghost use Rattle.tick_lines.specs.state.GivesUnlessMemory.{GivesUnlessMemory};
+ghost use Rattle.tick_lines.specs.state.Fields.{checked};
 ghost use Rattle.tick_lines.specs.rule.Results.{probe_named, outcome_named, result_of};
 
 use crate::fault::TickLineFault;
-use crate::fields::text_of;
+use crate::fields::{text_of, written_text};
 use crate::items::ReadItem;
 use crate::value::TickValue;
 use json_fields::{Json, text_at};
@@ -63,10 +64,25 @@ fn result_of<V: Json>(alloc: Global, value: &V) -> Result<ProbeResult, TickLineF
     })
 }
 
+/// Whether a result can be read, or its fault.
+#[tactic(auto, unfolding(crate::specs::rule::Results::result_of))]
+fn check_result<V: Json>(value: &V) -> Result<(), TickLineFault>
+    ensures { result ≡ checked (result_of (V.data value.now)) }
+{
+    written_text(text_at(value, "container"))?;
+    probe_named(text_at(value, "probe"))?;
+    outcome_named(text_at(value, "result"))?;
+    Ok(())
+}
+
 impl ReadItem for ProbeResult {
     ghost read_of = { result_of };
 
     fn read<V: TickValue>(alloc: Global, item: &V) -> Result<ProbeResult, TickLineFault> {
         result_of(alloc, item)
+    }
+
+    fn check<V: TickValue>(item: &V) -> Result<(), TickLineFault> {
+        check_result(item)
     }
 }

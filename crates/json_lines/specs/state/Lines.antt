@@ -1,5 +1,5 @@
 -- What a line says by itself, whatever the lines before it say.
-use Rattle.std.specs.Prelude.{◌≡◌, ℕ, List, length, nat_lt, Option, Some, None, Result}
+use Rattle.std.specs.Prelude.{◌≡◌, ℕ, ◌||◌, Bool, List, length, nat_lt, Option, Some, None, Result}
 use Rattle.std.specs.Prelude.{option_and_then}
 use Rattle.std.specs.Prelude.{if◌then◌else◌}
 use Rattle.json.specs.Json.{Json as JsonTree, value, if_last}
@@ -46,6 +46,10 @@ abbrev pub line_data : List ℕ → LineData
 line_data line =
     if is_blank line then Blank
     else (if nat_lt longest_line (length line) then TooLong else said_in line)
+
+-- a line that is not read: one of blanks alone, or one that is too long
+abbrev pub is_unread : List ℕ → Bool
+is_unread line = is_blank line || nat_lt longest_line (length line)
 
 -- a line says the tick that is on this tape
 abbrev pub SaysTickOn : LineData → List Token → Type 0

@@ -1,0 +1,12 @@
+use Rattle.std.proofs.Common.{◌≡◌, length}
+use Rattle.serde_json.specs.View.{view}
+use Rattle.manifest_reader.specs.state.Found.{name_in}
+use Rattle.manifest_reader.specs.state.Checks.{is_name_twice}
+use Rattle.manifest_reader.proofs.checks.is_name_twice.Given as goal
+
+abbrev pub invariant-loop-rest : goal.invariant-loop-rest
+invariant-loop-rest l =
+    is_name_twice (λ v. name_in (view v)) l.rest ≡ is_name_twice (λ v. name_in (view v)) l.fn.values
+
+abbrev pub decreases-loop-rest : goal.decreases-loop-rest
+decreases-loop-rest l = length l.rest
