@@ -119,8 +119,8 @@ pub fn text_line(
 }
 
 /// What a line says, as [`text_line`] reads it, of which [`tick_tape`](crate::tick_tape) made no tape: it has another
-/// shape than the common one, so that `serde_json` alone can read it. One that is not read takes no memory. An `Err` says
-/// that memory was refused.
+/// shape than the common one, so that `serde_json` alone can read it. One that is not read takes no memory. An `Err`
+/// says that memory was refused.
 pub fn other_line(alloc: Global, line: &[u8]) -> Result<TextLine, AllocError>
     ensures says { IfOk result (λ read. data_of read ≡ line_data line.now) }
     ensures unread { is_unread line.now ≡ true → IsOk result }

@@ -1,3 +1,3 @@
 pub mod Fault
-pub mod GivesUnlessMemory
+pub mod Memory
 pub mod Grammar

@@ -2,8 +2,8 @@
 
 ghost use Rattle.std.specs.Prelude.{◌≡◌, ◌<◌, length, map, option_map, IfOk};
 ghost use Rattle.serde_json.specs.View.{view};
-ghost use Rattle.json_fields.specs.state.Reading.{GivesExactly};
-ghost use Rattle.manifest_fields.specs.state.GivesUnlessMemory.{GivesUnlessMemory};
+ghost use Rattle.json_fields.specs.state.Reading.{GivesExactly, GivesUnless};
+ghost use Rattle.manifest_fields.specs.state.Memory.{is_memory};
 ghost use Rattle.manifest_fields.specs.rule.Fields.{object_of, array_of, array_or_none, some_items, text_of};
 ghost use Rattle.manifest_fields.specs.rule.Fields.{required_text, text_or, absent};
 ghost use Rattle.manifest_fields.specs.state.Grammar.{passes};
@@ -86,7 +86,7 @@ fn passes(grammar: Grammar, text: &[u8]) -> bool
 }
 
 fn text(alloc: Global, grammar: Grammar, field: Field, value: &Value) -> Result<Text, ManifestFault>
-    ensures { GivesUnlessMemory (λ t. t) result (text_of (passes grammar) field (view value.now)) }
+    ensures { GivesUnless is_memory (λ t. t) result (text_of (passes grammar) field (view value.now)) }
 {
     match value.as_str() {
         Some(text) if passes(grammar, text.as_bytes()) => {
@@ -104,7 +104,7 @@ pub fn required_text(
     field: Field,
     found: Option<&Value>,
 ) -> Result<Text, ManifestFault>
-    ensures { GivesUnlessMemory (λ t. t) result
+    ensures { GivesUnless is_memory (λ t. t) result
         (required_text (passes grammar) field (option_map (λ v. view v.now) found.entry)) }
 {
     match found {
@@ -122,7 +122,7 @@ pub fn text_or(
     field: Field,
     found: Option<&Value>,
 ) -> Result<Text, ManifestFault>
-    ensures { GivesUnlessMemory (λ t. t) result
+    ensures { GivesUnless is_memory (λ t. t) result
         (text_or default.now (passes grammar) field (option_map (λ v. view v.now) found.entry)) }
 {
     match found {

@@ -5,9 +5,9 @@ ghost use Rattle.std.specs.Prelude.{IfErr, IfOk, IsErrOf, OnOk};
 ghost use Rattle.std.specs.List.{list_any};
 ghost use Rattle.serde_json.specs.View.{view};
 ghost use Rattle.json_fields.specs.rule.Reading.{each};
-ghost use Rattle.json_fields.specs.state.Reading.{GivesExactly};
+ghost use Rattle.json_fields.specs.state.Reading.{GivesExactly, GivesUnless};
 ghost use Rattle.manifest.specs.declared.pod.Role.TheVariants.{Sidecar};
-ghost use Rattle.manifest_fields.specs.state.GivesUnlessMemory.{GivesUnlessMemory};
+ghost use Rattle.manifest_fields.specs.state.Memory.{is_memory};
 ghost use Rattle.manifest.specs.rule.Containers.{has_twice, most_containers};
 ghost use Rattle.manifest.specs.state.Containers.{MayHave, IsOf, AllOf};
 ghost use Rattle.manifest_reader.specs.rule.Manifest.{policy_of, priority_from, priority_of, grace_period_from};
@@ -113,7 +113,7 @@ pub(crate) fn role_of(place: Place, own_policy: Option<&Value>) -> Result<Role, 
 
 #[tactic(auto, unfolding(crate::specs::rule::Manifest::container_of))]
 fn container_of(alloc: Global, place: Place, value: &Value) -> Result<ContainerSpec, ManifestFault>
-    ensures gives { GivesUnlessMemory (λ c. c) result (container_of place (view value.now)) }
+    ensures gives { GivesUnless is_memory (λ c. c) result (container_of place (view value.now)) }
     ensures of { IfOk result (IsOf place) }
 {
     let object = object(field_of(place), Some(value))?;
@@ -135,7 +135,7 @@ fn containers(
     place: Place,
     values: &[Value],
 ) -> Result<Vec<ContainerSpec>, ManifestFault>
-    ensures gives { GivesUnlessMemory (λ cs. cs.items) result (each (container_of place) (map view values.now)) }
+    ensures gives { GivesUnless is_memory (λ cs. cs.items) result (each (container_of place) (map view values.now)) }
     ensures as_many { IfOk result (λ cs. length cs.items ≡ length values.now) }
     ensures of { IfOk result (λ cs. AllOf place cs.items) }
 {
@@ -208,7 +208,7 @@ fn containers_of(
     items: &[Value],
 ) -> Result<ContainerList, ManifestFault>
     requires { 0 < length items.now }
-    ensures { GivesUnlessMemory (λ cs. cs) result (containers_of (map view init_items.now) (map view items.now)) }
+    ensures { GivesUnless is_memory (λ cs. cs) result (containers_of (map view init_items.now) (map view items.now)) }
 {
     few(init_items, items)?;
     let init = containers(alloc, Place::InitContainers, init_items)?;
@@ -231,7 +231,7 @@ pub(crate) fn app_items_of(found: Option<&Value>) -> Result<&[Value], ManifestFa
 
 #[tactic(auto, unfolding(crate::specs::rule::Manifest::containers_in))]
 fn containers_in(alloc: Global, spec: &Value) -> Result<ContainerList, ManifestFault>
-    ensures { GivesUnlessMemory (λ cs. cs) result (containers_in (view spec.now)) }
+    ensures { GivesUnless is_memory (λ cs. cs) result (containers_in (view spec.now)) }
 {
     let init_items = array_or_none(Field::InitContainers, field(spec, "initContainers"))?;
     let items = app_items_of(field(spec, "containers"))?;
@@ -247,7 +247,7 @@ struct Metadata {
 
 #[tactic(auto, unfolding(crate::specs::rule::Manifest::metadata_of))]
 fn metadata_of(alloc: Global, found: Option<&Value>) -> Result<Metadata, ManifestFault>
-    ensures { GivesUnlessMemory (λ m. m) result (metadata_of (option_map (λ v. view v.now) found.entry)) }
+    ensures { GivesUnless is_memory (λ m. m) result (metadata_of (option_map (λ v. view v.now) found.entry)) }
 {
     let metadata = object(Field::Metadata, found)?;
     let name = required_text(alloc, Grammar::Name, Field::Name, field(metadata, "name"))?;
@@ -282,7 +282,7 @@ pub(crate) fn settings_in(spec: &Value) -> Result<Settings, ManifestFault>
 
 #[tactic(auto, unfolding(crate::specs::rule::Manifest::pod_at, crate::specs::rule::Manifest::spec_of))]
 fn pod_of(alloc: Global, value: &Value) -> Result<PodSpec, ManifestFault>
-    ensures { GivesUnlessMemory (λ p. p) result (pod_at (view value.now)) }
+    ensures { GivesUnless is_memory (λ p. p) result (pod_at (view value.now)) }
 {
     let pod = object(Field::Pod, Some(value))?;
     let metadata = metadata_of(alloc, field(pod, "metadata"))?;
@@ -304,7 +304,7 @@ fn pod_of(alloc: Global, value: &Value) -> Result<PodSpec, ManifestFault>
 /// `terminationGracePeriodSeconds`, `initContainers` and `containers`; then each container).
 /// `OutOfMemory` only where there is no fault: one that the reading did not come to is looked for.
 pub fn read_pod(alloc: Global, value: &Value) -> Result<PodSpec, ManifestFault>
-    ensures gives { GivesUnlessMemory (λ p. p) result (pod_at (view value.now)) }
+    ensures gives { GivesUnless is_memory (λ p. p) result (pod_at (view value.now)) }
     ensures faults { IfErr (pod_at (view value.now)) (IsErrOf result) }
 {
     match pod_of(alloc, value) {

@@ -1,4 +1,4 @@
-pub mod GivesUnlessMemory
+pub mod Memory
 pub mod Laws
 pub mod Limits
 pub mod Thresholds

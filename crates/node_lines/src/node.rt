@@ -2,8 +2,8 @@
 
 ghost use Rattle.std.specs.Prelude.{◌≡◌, option_map, IfErr, IsErrOf};
 ghost use Rattle.serde_json.specs.View.{view};
-ghost use Rattle.json_fields.specs.state.Reading.{GivesExactly};
-ghost use Rattle.node_lines.specs.state.GivesUnlessMemory.{GivesUnlessMemory};
+ghost use Rattle.json_fields.specs.state.Reading.{GivesExactly, GivesUnless};
+ghost use Rattle.node_lines.specs.state.Memory.{is_memory};
 ghost use Rattle.node_lines.specs.rule.Node.{version_of, name_from, restart_delay_of, flag_of, seconds_of};
 ghost use Rattle.node_lines.specs.rule.Node.{or_default, pause_of, until_gone_of, settings_in, node_of};
 
@@ -146,7 +146,7 @@ fn settings_in(node: &Value) -> Result<Settings, NodeFault>
 /// "Node-pressure Eviction"; "Kubelet Configuration".)
 #[tactic(auto, unfolding(crate::specs::rule::Node::node_of))]
 pub fn node_of(alloc: Global, node: &Value) -> Result<NodeConfig, NodeFault>
-    ensures gives { GivesUnlessMemory (λ n. n) result (node_of (view node.now)) }
+    ensures gives { GivesUnless is_memory (λ n. n) result (node_of (view node.now)) }
     ensures faults { IfErr (node_of (view node.now)) (IsErrOf result) }
 {
     let name = name_from(text_at(node, "name"))?;

@@ -1,4 +1,4 @@
-pub mod GivesUnlessMemory
+pub mod Memory
 pub mod Fields
 pub mod Entries
 pub mod Samples

@@ -1,6 +1,7 @@
 //! The entries of a tick line, as they are written.
 
-ghost use Rattle.tick_lines.specs.state.GivesUnlessMemory.{GivesUnlessMemory};
+ghost use Rattle.json_fields.specs.state.Reading.{GivesUnless};
+ghost use Rattle.tick_lines.specs.state.Memory.{is_memory};
 ghost use Rattle.std.specs.Prelude.{◌≡◌};
 ghost use Rattle.tick_lines.specs.rule.Entries.{entry_of};
 ghost use Rattle.tick_lines.specs.state.Fields.{checked};
@@ -35,7 +36,7 @@ pub struct TickEntry {
 
 #[tactic(auto, unfolding(crate::specs::rule::Entries::entry_of))]
 fn entry_of<V: TickValue>(alloc: Global, value: &V) -> Result<TickEntry, TickLineFault>
-    ensures { GivesUnlessMemory (λ e. e) result (entry_of (V.data value.now)) }
+    ensures { GivesUnless is_memory (λ e. e) result (entry_of (V.data value.now)) }
 {
     Ok(TickEntry {
         key: text_of(alloc, text_at(value, "pod"))?,

@@ -3,8 +3,8 @@
 ghost use Rattle.std.specs.Prelude.{map, option_map};
 ghost use Rattle.tick_lines.specs.declared.fault.TickLineFault.TheVariants.{Usage};
 ghost use Rattle.json_fields.specs.rule.Reading.{some_or};
-ghost use Rattle.json_fields.specs.state.Reading.{GivesExactly};
-ghost use Rattle.tick_lines.specs.state.GivesUnlessMemory.{GivesUnlessMemory};
+ghost use Rattle.json_fields.specs.state.Reading.{GivesExactly, GivesUnless};
+ghost use Rattle.tick_lines.specs.state.Memory.{is_memory};
 ghost use Rattle.tick_lines.specs.rule.Fields.{items_of, only_object, quantity_at};
 
 use crate::fault::TickLineFault;
@@ -25,7 +25,7 @@ pub(crate) fn written_text(found: Option<&str>) -> Result<&str, TickLineFault>
 
 /// The text of a field that has to be there.
 pub(crate) fn text_of(alloc: Global, found: Option<&str>) -> Result<Text, TickLineFault>
-    ensures { GivesUnlessMemory (λ t. t) result (some_or Usage (option_map (λ s. s.now) found.entry)) }
+    ensures { GivesUnless is_memory (λ t. t) result (some_or Usage (option_map (λ s. s.now) found.entry)) }
 {
     let text = written_text(found)?;
     Ok(Text::new(String::from_str(alloc, text)?))

@@ -4,7 +4,8 @@ ghost use Rattle.std.specs.Prelude.{◌≡◌, map, option_map};
 ghost use Rattle.json_fields.specs.rule.Reading.{each};
 ghost use Rattle.tick_lines.specs.rule.Fields.{each_item};
 ghost use Rattle.tick_lines.specs.state.Fields.{checked};
-ghost use Rattle.tick_lines.specs.state.GivesUnlessMemory.{GivesUnlessMemory};
+ghost use Rattle.json_fields.specs.state.Reading.{GivesUnless};
+ghost use Rattle.tick_lines.specs.state.Memory.{is_memory};
 
 use crate::fault::TickLineFault;
 use crate::fields::items_of;
@@ -17,7 +18,8 @@ pub(crate) trait ReadItem: Drop + Sized {
     ghost use Rattle.std.specs.Prelude.{◌≡◌, Result};
     ghost use Rattle.serde_json.specs.Data.{Data};
     ghost use Rattle.tick_lines.specs.state.Fields.{checked};
-    ghost use Rattle.tick_lines.specs.state.GivesUnlessMemory.{GivesUnlessMemory};
+    ghost use Rattle.json_fields.specs.state.Reading.{GivesUnless};
+    ghost use Rattle.tick_lines.specs.state.Memory.{is_memory};
     ghost use Rattle.tick_lines.specs.declared.fault.TickLineFault.{TickLineFault};
 
     /// What is read of an item, in the definition's words.
@@ -25,7 +27,7 @@ pub(crate) trait ReadItem: Drop + Sized {
 
     /// Reads the item.
     fn read<V: TickValue>(alloc: Global, item: &V) -> Result<Self, TickLineFault>
-        ensures { GivesUnlessMemory (λ r. r) result (read_of (V.data item.now)) };
+        ensures { GivesUnless is_memory (λ r. r) result (read_of (V.data item.now)) };
 
     /// Whether an item can be read, or its fault. It takes no memory.
     fn check<V: TickValue>(item: &V) -> Result<(), TickLineFault>
@@ -36,7 +38,7 @@ fn read_each<R: ReadItem, V: TickValue>(
     alloc: Global,
     values: &[V],
 ) -> Result<Sequence<R>, TickLineFault>
-    ensures { GivesUnlessMemory (λ s. s) result (each R.read_of (map V.data values.now)) }
+    ensures { GivesUnless is_memory (λ s. s) result (each R.read_of (map V.data values.now)) }
 {
     let mut all = Sequence::from_vec(Vec::with_capacity(alloc, values.len())?);
     for value in values {
@@ -51,7 +53,7 @@ pub(crate) fn read_items<R: ReadItem, V: TickValue>(
     alloc: Global,
     found: Option<&V>,
 ) -> Result<Sequence<R>, TickLineFault>
-    ensures { GivesUnlessMemory (λ s. s) result (each_item R.read_of (option_map (λ v. V.data v.now) found.entry)) }
+    ensures { GivesUnless is_memory (λ s. s) result (each_item R.read_of (option_map (λ v. V.data v.now) found.entry)) }
 {
     read_each::<R, V>(alloc, items_of(found)?)
 }

@@ -3,7 +3,8 @@
 ghost use Rattle.std.specs.Prelude.{◌≡◌, IfErr, IsErrOf, codes};
 ghost use Rattle.json_fields.specs.rule.Fields.{field_at};
 ghost use Rattle.tick_lines.specs.rule.Entries.{entries_of};
-ghost use Rattle.tick_lines.specs.state.GivesUnlessMemory.{GivesUnlessMemory};
+ghost use Rattle.json_fields.specs.state.Reading.{GivesUnless};
+ghost use Rattle.tick_lines.specs.state.Memory.{is_memory};
 ghost use Rattle.tick_lines.specs.state.Fields.{checked};
 ghost use Rattle.tick_lines.specs.rule.Line.{tick_line_of};
 
@@ -37,14 +38,14 @@ pub fn entries_of<V: TickValue>(
     alloc: Global,
     line: &V,
 ) -> Result<Sequence<TickEntry>, TickLineFault>
-    ensures { GivesUnlessMemory (λ s. s) result (entries_of (field_at (codes "pods") (V.data line.now))) }
+    ensures { GivesUnless is_memory (λ s. s) result (entries_of (field_at (codes "pods") (V.data line.now))) }
 {
     read_items::<TickEntry, V>(alloc, field(line, "pods"))
 }
 
 #[tactic(auto, unfolding(crate::specs::rule::Line::tick_line_of))]
 fn read_line<V: TickValue>(alloc: Global, line: &V) -> Result<TickLine, TickLineFault>
-    ensures { GivesUnlessMemory (λ t. t) result (tick_line_of (V.data line.now)) }
+    ensures { GivesUnless is_memory (λ t. t) result (tick_line_of (V.data line.now)) }
 {
     Ok(TickLine {
         entries: entries_of(alloc, line)?,
@@ -72,7 +73,7 @@ fn check_line<V: TickValue>(line: &V) -> Result<(), TickLineFault>
 /// of its range, a faulty quantity, or a signal that it may not name; so too where memory ran out before the reading
 /// came to it. `OutOfMemory` only where there is no such fault.
 pub fn tick_line_of<V: TickValue>(alloc: Global, line: &V) -> Result<TickLine, TickLineFault>
-    ensures gives { GivesUnlessMemory (λ t. t) result (tick_line_of (V.data line.now)) }
+    ensures gives { GivesUnless is_memory (λ t. t) result (tick_line_of (V.data line.now)) }
     ensures faults { IfErr (tick_line_of (V.data line.now)) (IsErrOf result) }
 {
     match read_line(alloc, line) {

@@ -1,8 +1,8 @@
 //! The listings of an entry, as they are written.
 
 ghost use Rattle.std.specs.Prelude.{◌≡◌, option_map};
-ghost use Rattle.json_fields.specs.state.Reading.{GivesExactly};
-ghost use Rattle.tick_lines.specs.state.GivesUnlessMemory.{GivesUnlessMemory};
+ghost use Rattle.json_fields.specs.state.Reading.{GivesExactly, GivesUnless};
+ghost use Rattle.tick_lines.specs.state.Memory.{is_memory};
 ghost use Rattle.tick_lines.specs.rule.Listings.{attempt_of, state_named, state_numbered, state_of, code_of};
 ghost use Rattle.tick_lines.specs.rule.Listings.{instance_of, listing_of};
 ghost use Rattle.tick_lines.specs.state.Fields.{checked};
@@ -105,7 +105,7 @@ fn instance_of<V: Json>(value: &V) -> Result<ListedInstance, TickLineFault>
 
 #[tactic(auto, unfolding(crate::specs::rule::Listings::listing_of))]
 fn listing_of<V: Json>(alloc: Global, value: &V) -> Result<Listing, TickLineFault>
-    ensures { GivesUnlessMemory (λ l. l) result (listing_of (V.data value.now)) }
+    ensures { GivesUnless is_memory (λ l. l) result (listing_of (V.data value.now)) }
 {
     Ok(Listing {
         name: text_of(alloc, text_at(value, "name"))?,

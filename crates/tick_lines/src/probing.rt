@@ -1,8 +1,8 @@
 //! The results of probes in an entry, as they are written.
 
 ghost use Rattle.std.specs.Prelude.{◌≡◌, option_map};
-ghost use Rattle.json_fields.specs.state.Reading.{GivesExactly};
-ghost use Rattle.tick_lines.specs.state.GivesUnlessMemory.{GivesUnlessMemory};
+ghost use Rattle.json_fields.specs.state.Reading.{GivesExactly, GivesUnless};
+ghost use Rattle.tick_lines.specs.state.Memory.{is_memory};
 ghost use Rattle.tick_lines.specs.state.Fields.{checked};
 ghost use Rattle.tick_lines.specs.rule.Results.{probe_named, outcome_named, result_of};
 
@@ -55,7 +55,7 @@ pub(crate) fn outcome_named(found: Option<&str>) -> Result<Outcome, TickLineFaul
 
 #[tactic(auto, unfolding(crate::specs::rule::Results::result_of))]
 fn result_of<V: Json>(alloc: Global, value: &V) -> Result<ProbeResult, TickLineFault>
-    ensures { GivesUnlessMemory (λ r. r) result (result_of (V.data value.now)) }
+    ensures { GivesUnless is_memory (λ r. r) result (result_of (V.data value.now)) }
 {
     Ok(ProbeResult {
         container: text_of(alloc, text_at(value, "container"))?,

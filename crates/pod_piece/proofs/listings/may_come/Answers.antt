@@ -6,8 +6,8 @@ use Rattle.pod_piece.proofs.listings.may_come.Goals as goal
 
 pub accepts-requires : goal.accepts-requires
 accepts-requires c = λ term.
-    let w = c.has_ended.ensures.terminal.1 (subst (λ (l : Lifecycle). IsTerminal l.phase) (sym c.lifecycle.ensures) term)
-    in absurd (cc)
+    let ended = subst (λ (l : Lifecycle). IsTerminal l.phase) (sym c.lifecycle.ensures) term in
+    let w = c.has_ended.ensures.terminal.1 ended in absurd (cc)
 
 pub returns-then-has_ended : goal.returns-then-has_ended
 returns-then-has_ended c = λ pod max_restart_delay evicted h is listed.

@@ -1,0 +1,8 @@
+-- Which fault of a manifest says that memory ran out.
+use Rattle.std.specs.Prelude.{Bool, true, false}
+use Rattle.manifest_fields.specs.declared.fault.ManifestFault.{ManifestFault}
+use Rattle.manifest_fields.specs.declared.fault.ManifestFault.TheVariants.{OutOfMemory}
+
+abbrev pub is_memory : ManifestFault → Bool
+is_memory OutOfMemory = true
+is_memory fault = false
