@@ -1,8 +1,9 @@
 //! Reading a steps file.
 
-ghost use Rattle.std.specs.Prelude.{◌<◌, ◌≤◌, ◌↔◌, ◌∷◌, ◌++◌, [], ℕ, List, IsTrue, IfOk, IfErr, OnOk, length};
+ghost use Rattle.std.specs.Prelude.{◌<◌, ◌≤◌, ◌↔◌, ◌∷◌, ◌++◌, [], ℕ, List, IsTrue, IfOk, IfErr, IsErrOf, OnOk, length};
 ghost use Rattle.round_steps.specs.state.Steps.{lines_of, longest_steps_file, most_steps, AreSteps, SaysBehind};
-ghost use Rattle.round_steps.specs.state.Steps.{IsWithin, IsFaultOf, IsFirstFaultBy, Refuses};
+ghost use Rattle.round_steps.specs.state.Steps.{IsWithin, IsFaultOf, IsFaultyBehind, IsFirstFaultBy, Refuses};
+ghost use Rattle.round_steps.specs.declared.fault.StepsFault.TheVariants.{Line};
 
 use crate::fault::StepsFault;
 use crate::lines::first_line;
@@ -38,11 +39,12 @@ fn said_by(steps: usize, number: u64, line: &[u8]) -> Result<Option<Step>, Steps
     }
 }
 
-/// Adds what a line says behind the steps.
+/// Adds what a line says behind the steps. A faulty line is named before memory is taken.
 fn take_line(steps: &mut Sequence<Step>, number: u64, line: &[u8]) -> Result<(), StepsFault>
     ensures ok { OnOk result ((lines : List (List ℕ)) → AreSteps lines steps.old
         → AreSteps (lines ++ line.now ∷ []) steps.new) }
     ensures err { IfErr result (IsFaultOf number line.now steps.old) }
+    ensures faulty { IsFaultyBehind (length steps.old) line.now → IsErrOf result (Line number) }
 {
     let Some(step) = said_by(steps.as_slice().len(), number, line)? else {
         return Ok(());

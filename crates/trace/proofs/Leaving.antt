@@ -10,7 +10,7 @@ use Rattle.node_config.specs.declared.node.Version.TheVariants.{One, Two, Three}
 use Rattle.trace.specs.declared.fault.LineFault.{LineFault}
 use Rattle.trace.specs.declared.trace_so_far.LineKind.TheVariants as kinds
 use Rattle.trace.specs.declared.trace_so_far.Trace.{Trace}
-use Rattle.trace.specs.state.GivesUnlessMemory.{GivesAt}
+use Rattle.trace.specs.state.Memory.{GivesAt}
 use Rattle.trace.specs.state.Laws.{Says, says_node, says_pod, says_gone, says_tick}
 use Rattle.trace.specs.state.Sound.{LeaveInThree}
 use Rattle.trace.specs.rule.Trace.{gone_in, kind_from, trace_of}

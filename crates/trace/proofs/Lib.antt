@@ -20,3 +20,4 @@ pub mod NamedContainers
 pub mod NotedContainers
 pub mod NotedItems
 pub mod Twice
+pub mod Manifests

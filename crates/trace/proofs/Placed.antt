@@ -14,7 +14,8 @@ use Rattle.trace.specs.declared.fault.FaultKind.{FaultKind}
 use Rattle.trace.specs.declared.placing.PlacedListing.{PlacedListing}
 use Rattle.trace.specs.declared.placing.PlacedResult.{PlacedResult}
 use Rattle.trace.specs.declared.placing.PlacedEntry.{PlacedEntry}
-use Rattle.trace.specs.state.GivesUnlessMemory.{GivesUnlessMemory}
+use Rattle.json_fields.specs.state.Reading.{GivesUnless}
+use Rattle.trace.specs.state.Memory.{is_memory}
 use Rattle.roster.specs.rule.Roll.{Roll}
 use Rattle.trace.specs.rule.Placing.{number_in, pod_numbered, placed_listing, placed_result}
 use Rattle.trace.specs.rule.Placing.{sampling_of, entry_of_pod, placed_entry, placed_of}
@@ -124,8 +125,8 @@ all_known heeds pods (n ∷ ns) (x ∷ xs) placed is =
 pub by_names : {X : Type 0} (heeds : Bool) (view : X → List PlacedEntry) (r : Result X FaultKind) (roll past : Roll)
     (pods : List PodSpec) (ns numbers : List ℕ) (es entries : List TickEntry) → pods ≡ past.pods → roll ≡ past
     → ns ≡ numbers → es ≡ entries → each (number_in roll) es ≡ Ok numbers
-    → GivesUnlessMemory view r (entries_of_pods heeds pods ns es)
-    → GivesUnlessMemory view r (placed_of heeds past entries)
+    → GivesUnless is_memory view r (entries_of_pods heeds pods ns es)
+    → GivesUnless is_memory view r (placed_of heeds past entries)
 unfolding placed_of
 by_names heeds view r roll past pods ns numbers es entries pods_are is ns_are es_are e gives =
     let known : each (number_in past) es ≡ Ok numbers = ap (λ (l : Roll). each (number_in l) es) (sym is) ∙ e in
@@ -133,13 +134,13 @@ by_names heeds view r roll past pods ns numbers es entries pods_are is ns_are es
     λ xs. each (number_in past) xs >>= λ _. each (placed_entry heeds past) xs in
     let whole : names es ≡ each (placed_entry heeds past) es =
     then_ok (each (number_in past) es) (λ _. each (placed_entry heeds past) es) numbers known in
-    subst (GivesUnlessMemory view r) (ap (λ (ps : List PodSpec). entries_of_pods heeds ps ns es) pods_are
+    subst (GivesUnless is_memory view r) (ap (λ (ps : List PodSpec). entries_of_pods heeds ps ns es) pods_are
     ∙ ap (λ (ms : List ℕ). entries_of_pods heeds past.pods ms es) ns_are
     ∙ sym (whole ∙ by_numbers heeds past es numbers known) ∙ ap names es_are) gives
 
 pub known_pods : {X : Type 0} (heeds : Bool) (view : X → List PlacedEntry) (r : Result X FaultKind)
     (pods past : List PodSpec) (ns : List ℕ) (es : List TickEntry) → pods ≡ past
-    → GivesUnlessMemory view r (entries_of_pods heeds pods ns es)
+    → GivesUnless is_memory view r (entries_of_pods heeds pods ns es)
     → IfOk r (λ v. All (λ (e : PlacedEntry). e.pod < length past) (view v))
 known_pods heeds view (Ok x) pods past ns es same gives =
     subst (λ (ps : List PodSpec). All (λ (e : PlacedEntry). e.pod < length ps) (view x)) same

@@ -16,7 +16,7 @@ use Rattle.trace.specs.declared.fault.LineFault.{LineFault}
 use Rattle.trace.specs.declared.trace_so_far.Trace.{Trace}
 use Rattle.tick_lines.specs.declared.line.TickLine.{TickLine}
 use Rattle.trace.specs.declared.placing.PlacedEntry.{PlacedEntry}
-use Rattle.trace.specs.state.GivesUnlessMemory.{GivesAt}
+use Rattle.trace.specs.state.Memory.{GivesAt}
 use Rattle.trace.specs.state.Laws.{HasKey, Says, says_node, says_pod, says_gone, says_tick}
 use Rattle.trace.specs.rule.Observed.{observed}
 use Rattle.trace.specs.rule.TraceSoFar.{TraceSoFar, with_pod, without}

@@ -19,7 +19,7 @@ use Rattle.node_config.specs.declared.node.Format.{Format}
 use Rattle.trace.specs.declared.fault.LineFault.{LineFault}
 use Rattle.trace.specs.declared.trace_so_far.Trace.{Trace}
 use Rattle.following.specs.rule.Backwards.{is_backwards}
-use Rattle.trace.specs.state.GivesUnlessMemory.{GivesAt}
+use Rattle.trace.specs.state.Memory.{GivesAt}
 use Rattle.trace.specs.state.Laws.{Says, says_node, says_pod, says_gone, says_tick}
 use Rattle.trace.specs.rule.Observed.{observed}
 use Rattle.trace.specs.rule.TraceSoFar.{TraceSoFar}

@@ -23,7 +23,7 @@ use Rattle.trace.specs.declared.fault.FaultKind.TheVariants.{UnknownKind}
 use Rattle.trace.specs.declared.fault.LineFault.{LineFault}
 use Rattle.trace.specs.declared.trace_so_far.LineKind.{LineKind}
 use Rattle.trace.specs.declared.trace_so_far.Trace.{Trace}
-use Rattle.trace.specs.state.GivesUnlessMemory.{is_memory}
+use Rattle.trace.specs.state.Memory.{is_memory}
 use Rattle.trace.specs.rule.TraceSoFar.{TraceSoFar, version_in}
 use Rattle.trace.specs.declared.trace_so_far.LineKind.TheVariants as line_kinds
 use Rattle.trace.specs.state.Taken.{tick_of, tick_after, value_at, any_line_at, lines_at}

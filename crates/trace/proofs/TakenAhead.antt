@@ -28,7 +28,7 @@ use Rattle.trace.specs.declared.trace_so_far.Turn.{Turn}
 use Rattle.trace.specs.declared.placing.PlacedEntry.{PlacedEntry}
 use Rattle.trace.specs.declared.ahead.LineAhead.{LineAhead}
 use Rattle.trace.specs.state.Ahead.{IsShown, IsAhead, AreAhead, IsReadAhead, KeepsPods, may_stand}
-use Rattle.trace.specs.state.GivesUnlessMemory.{is_memory}
+use Rattle.trace.specs.state.Memory.{is_memory}
 use Rattle.trace.specs.rule.Observed.{observed, some_code_missing}
 use Rattle.trace.specs.rule.TraceSoFar.{TraceSoFar, version_in, heeds, with_tick}
 use Rattle.trace.specs.rule.Placing.{placed_of, is_doubled, has_twice, are_of_one_pod, repeats}

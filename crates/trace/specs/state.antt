@@ -1,5 +1,5 @@
 pub mod Faults
-pub mod GivesUnlessMemory
+pub mod Memory
 pub mod Pod
 pub mod Placing
 pub mod ByPod

@@ -2,12 +2,13 @@
 
 ghost use Rattle.std.specs.Prelude.{◌≡◌, ◌==◌, length};
 ghost use Rattle.json_fields.specs.rule.Reading.{each};
-ghost use Rattle.json_fields.specs.state.Reading.{GivesExactly};
-ghost use Rattle.trace.specs.state.GivesUnlessMemory.{GivesUnlessMemory};
+ghost use Rattle.json_fields.specs.state.Reading.{GivesExactly, GivesUnless};
+ghost use Rattle.trace.specs.state.Memory.{is_memory, checked};
 ghost use Rattle.trace.specs.rule.Placing.{number_in, container_number, placed_listing, placed_result, pod_numbered};
 ghost use Rattle.trace.specs.rule.Placing.{entry_of_pod, has_twice, are_of_one_container, is_of_probe};
 ghost use Rattle.trace.specs.state.Placing.{entries_of_pods, speaks, some_speaks};
-ghost use Rattle.trace.specs.rule.Placing.{are_of_one_probe, repeats, sampled_or, without_sample, sampling_of};
+ghost use Rattle.trace.specs.rule.Placing.{are_of_one_probe, repeats, sampled_or, without_sample};
+ghost use Rattle.trace.specs.rule.Placing.{sampling_of, placed_entry, placed_of};
 ghost use Rattle.std.specs.List.{list_any};
 
 use crate::fault::FaultKind;
@@ -63,7 +64,7 @@ pub(crate) fn place_each<T, P: Place<T>>(
     places: &P,
     written: &[T],
 ) -> Result<Sequence<P::Placed>, FaultKind>
-    ensures { GivesUnlessMemory (λ s. s) result (each (P.placed_by places.now) written.now) }
+    ensures { GivesUnless is_memory (λ s. s) result (each (P.placed_by places.now) written.now) }
 {
     let mut all = Sequence::new(alloc);
     for one in written {
@@ -175,7 +176,7 @@ fn entry_of_pod(
     number: usize,
     entry: &TickEntry,
 ) -> Result<PlacedEntry, FaultKind>
-    ensures { GivesUnlessMemory (λ e. e) result (entry_of_pod heeds pods.now number entry.now) }
+    ensures { GivesUnless is_memory (λ e. e) result (entry_of_pod heeds pods.now number entry.now) }
 {
     let pod = pod_numbered(pods, number)?;
     Ok(PlacedEntry {
@@ -195,7 +196,7 @@ pub(crate) fn entries_of_pods(
     entries: &[TickEntry],
 ) -> Result<Vec<PlacedEntry>, FaultKind>
     requires { length numbers.now ≡ length entries.now }
-    ensures { GivesUnlessMemory (λ v. v.items) result (entries_of_pods heeds pods.now numbers.now entries.now) }
+    ensures { GivesUnless is_memory (λ v. v.items) result (entries_of_pods heeds pods.now numbers.now entries.now) }
 {
     let mut all = Vec::with_capacity(alloc, entries.len())?;
     for (place, entry) in entries.iter().enumerate() {
@@ -203,6 +204,48 @@ pub(crate) fn entries_of_pods(
         all.push(placed).map_err(|_| FaultKind::OutOfMemory)?;
     }
     Ok(all)
+}
+
+fn check_each<T, P: Place<T>>(places: &P, written: &[T]) -> Result<(), FaultKind>
+    ensures { result ≡ checked (each (P.placed_by places.now) written.now) }
+{
+    for one in written {
+        places.place(one)?;
+    }
+    Ok(())
+}
+
+#[tactic(auto, unfolding(crate::specs::rule::Placing::placed_entry, crate::specs::rule::Placing::entry_of_pod))]
+fn check_entry(heeds: bool, roster: &Roster, entry: &TickEntry) -> Result<(), FaultKind>
+    ensures { result ≡ checked (placed_entry heeds roster.now entry.now) }
+{
+    let number = roster.place(entry)?;
+    let pod = pod_numbered(roster.pods(), number)?;
+    check_each(pod, entry.listings.as_slice())?;
+    check_each(pod, entry.results.as_slice())?;
+    Ok(())
+}
+
+fn check_entries(heeds: bool, roster: &Roster, entries: &[TickEntry]) -> Result<(), FaultKind>
+    ensures { result ≡ checked (each (placed_entry heeds roster.now) entries.now) }
+{
+    for entry in entries {
+        check_entry(heeds, roster, entry)?;
+    }
+    Ok(())
+}
+
+/// Whether every pod of a tick line's entries is known, and every container, or the first fault. It takes no memory.
+#[tactic(auto, unfolding(crate::specs::rule::Placing::placed_of))]
+pub(crate) fn check_placed(
+    heeds: bool,
+    roster: &Roster,
+    entries: &[TickEntry],
+) -> Result<(), FaultKind>
+    ensures { result ≡ checked (placed_of heeds roster.now entries.now) }
+{
+    check_each(roster, entries)?;
+    check_entries(heeds, roster, entries)
 }
 
 /// Whether the result is of this probe of the container with the number.

@@ -1,10 +1,12 @@
 //! Pod lines.
 
-ghost use Rattle.std.specs.Prelude.{◌≡◌, option_map, None, IfOk, string_bytes};
+ghost use Rattle.std.specs.Prelude.{◌≡◌, option_map, None, IfErr, IfOk, IsErrOf, string_bytes};
 ghost use Rattle.serde_json.specs.View.{view};
-ghost use Rattle.json_fields.specs.state.Reading.{GivesExactly};
+ghost use Rattle.json_fields.specs.rule.Reading.{refused_if};
+ghost use Rattle.json_fields.specs.state.Reading.{GivesExactly, GivesUnless};
 ghost use Rattle.roster.specs.rule.Roll.{key_of_pod, number_of};
-ghost use Rattle.trace.specs.state.GivesUnlessMemory.{GivesUnlessMemory};
+ghost use Rattle.trace.specs.state.Memory.{is_memory};
+ghost use Rattle.trace.specs.declared.fault.FaultKind.TheVariants.{DuplicatePod};
 ghost use Rattle.trace.specs.rule.Pod.{has_key, new_key, room_for_pod, manifest_of, pod_from};
 
 use crate::fault::{FaultKind, refused_if};
@@ -23,9 +25,11 @@ fn manifest_of(found: Option<&Value>) -> Result<&Value, FaultKind>
     found.ok_or(FaultKind::Manifest(ManifestFault::Missing(Field::Pod)))
 }
 
-/// The pod that a pod line's manifest describes.
+/// The pod that a pod line's manifest describes. Out of memory only where the manifest has no fault.
+#[tactic(auto, using(crate::proofs::Manifests::manifest_fault))]
 pub(crate) fn pod_from(alloc: Global, found: Option<&Value>) -> Result<PodSpec, FaultKind>
-    ensures { GivesUnlessMemory (λ p. p) result (pod_from (option_map (λ v. view v.now) found.entry)) }
+    ensures gives { GivesUnless is_memory (λ p. p) result (pod_from (option_map (λ v. view v.now) found.entry)) }
+    ensures faults { IfErr (pod_from (option_map (λ v. view v.now) found.entry)) (IsErrOf result) }
 {
     let manifest = manifest_of(found)?;
     Ok(read_pod(alloc, manifest)?)
@@ -53,20 +57,24 @@ fn has_key(roster: &Roster, key: &str) -> bool
     roster.number_of(key).is_some()
 }
 
+/// No pod that is present has this key. It takes no memory.
+fn unused(roster: &Roster, key: &str) -> Result<(), FaultKind>
+    ensures { GivesExactly (λ t. t) result (refused_if (has_key roster.now key.now) DuplicatePod) }
+{
+    refused_if(has_key(roster, key), FaultKind::DuplicatePod)
+}
+
 /// The key of a pod, if no pod that is present has it.
 pub(crate) fn new_key(
     alloc: Global,
     so_far: &TraceSoFar,
     pod: &PodSpec,
 ) -> Result<String, FaultKind>
-    ensures gives { GivesUnlessMemory (λ _. tt) result (new_key so_far.now.roll pod.now) }
+    ensures gives { GivesUnless is_memory (λ _. tt) result (new_key so_far.now.roll pod.now) }
     ensures key { IfOk result (λ s. string_bytes s ≡ key_of_pod pod.now) }
     ensures new { IfOk result (λ s. number_of so_far.now.roll (string_bytes s) ≡ None) }
 {
     let key = key_text(alloc, pod)?;
-    refused_if(
-        has_key(&so_far.roster, key.as_str()),
-        FaultKind::DuplicatePod,
-    )?;
+    unused(&so_far.roster, key.as_str())?;
     Ok(key)
 }

@@ -1,18 +1,18 @@
 //! A line, behind what the lines before it say.
 
-ghost use Rattle.std.specs.Prelude.{◌≡◌, option_map, option_and_then, None, Ok, OnOk, string_bytes};
+ghost use Rattle.std.specs.Prelude.{◌≡◌, option_map, option_and_then, None, Ok, IfErr, IsErrOf, OnOk, string_bytes};
 ghost use Rattle.json_fields.specs.rule.Fields.{field_at};
 ghost use Rattle.node_lines.specs.rule.Node.{whole_number};
 ghost use Rattle.serde_json.specs.View.{view};
-ghost use Rattle.json_fields.specs.state.Reading.{GivesExactly};
+ghost use Rattle.json_fields.specs.state.Reading.{GivesExactly, GivesUnless};
 ghost use Rattle.json_lines.specs.state.Lines.{LineData, data_of};
 ghost use Rattle.trace.specs.state.Ahead.{IsReadAhead, IsShown, may_stand};
-ghost use Rattle.trace.specs.state.GivesUnlessMemory.{GivesUnlessMemory};
+ghost use Rattle.trace.specs.state.Memory.{is_memory};
 ghost use Rattle.roster.specs.rule.Roll.{key_of_pod, number_of};
 ghost use Rattle.trace.specs.rule.Written.{is_foreign, node_in};
 ghost use Rattle.trace.specs.rule.TraceSoFar.{version_in, with_pod, without};
 ghost use Rattle.trace.specs.rule.Pod.{named_in};
-ghost use Rattle.trace.specs.state.Taken.{tick_line_at, value_at, any_line_at};
+ghost use Rattle.trace.specs.state.Taken.{tick_line_at, value_at, any_line_at, said_at};
 ghost use Rattle.trace.specs.rule.Trace.{gone_in, kind_from, kind_of_line, with_node, with_new_pod, is_late, pod_in};
 ghost use Rattle.trace.specs.rule.Trace.{pod_line_at, gone_line_at, turn_of, in_order};
 ghost use Rattle.trace.specs.rule.Tick.{tick_at};
@@ -78,9 +78,10 @@ fn is_foreign(format: Format, line: &Value) -> bool
     }
 }
 
-/// The configuration that a node line says.
+/// The configuration that a node line says. Out of memory only where the line has no fault.
 fn node_in(alloc: Global, format: Format, line: &Value) -> Result<NodeConfig, FaultKind>
-    ensures { GivesUnlessMemory (λ n. n) result (node_in format (view line.now)) }
+    ensures gives { GivesUnless is_memory (λ n. n) result (node_in format (view line.now)) }
+    ensures faults { IfErr (node_in format (view line.now)) (IsErrOf result) }
 {
     refused_if(is_foreign(format, line), FaultKind::Config)?;
     Ok(node_of(alloc, line)?)
@@ -89,7 +90,8 @@ fn node_in(alloc: Global, format: Format, line: &Value) -> Result<NodeConfig, Fa
 /// Takes a node line.
 #[tactic(auto, unfolding(crate::specs::rule::Trace::with_node))]
 fn take_node(alloc: Global, so_far: TraceSoFar, line: &Value) -> Result<TraceSoFar, FaultKind>
-    ensures { GivesUnlessMemory (λ r. r) result (with_node so_far (view line.now)) }
+    ensures gives { GivesUnless is_memory (λ r. r) result (with_node so_far (view line.now)) }
+    ensures faults { IfErr (with_node so_far (view line.now)) (IsErrOf result) }
 {
     let node = match node_in(alloc, so_far.format, line) {
         Ok(node) => node,
@@ -123,7 +125,7 @@ fn with_pod(
 ) -> Result<TraceSoFar, FaultKind>
     requires key { string_bytes key ≡ key_of_pod pod }
     requires new { number_of so_far.roll (string_bytes key) ≡ None }
-    ensures { GivesUnlessMemory (λ r. r) result (Ok (with_pod so_far pod)) }
+    ensures { GivesUnless is_memory (λ r. r) result (Ok (with_pod so_far pod)) }
 {
     let TraceSoFar {
         format,
@@ -145,7 +147,7 @@ fn with_pod(
 
 /// Adds a pod, if no pod that is present has its key.
 fn with_new_pod(alloc: Global, so_far: TraceSoFar, pod: PodSpec) -> Result<TraceSoFar, FaultKind>
-    ensures { GivesUnlessMemory (λ r. r) result (with_new_pod so_far pod) }
+    ensures { GivesUnless is_memory (λ r. r) result (with_new_pod so_far pod) }
 {
     match new_key(alloc, &so_far, &pod) {
         Ok(key) => with_pod(alloc, so_far, pod, key),
@@ -166,7 +168,7 @@ fn is_late(version: Version, so_far: &TraceSoFar) -> bool
     }
 }
 
-/// The pod that a pod line says, whatever its key.
+/// The pod that a pod line says, whatever its key. Out of memory only where it has no other fault.
 #[tactic(auto, unfolding(crate::specs::rule::Trace::pod_in))]
 fn pod_in(
     alloc: Global,
@@ -174,7 +176,8 @@ fn pod_in(
     so_far: &TraceSoFar,
     line: &Value,
 ) -> Result<PodSpec, FaultKind>
-    ensures { GivesUnlessMemory (λ p. p) result (pod_in version so_far.now (view line.now)) }
+    ensures gives { GivesUnless is_memory (λ p. p) result (pod_in version so_far.now (view line.now)) }
+    ensures faults { IfErr (pod_in version so_far.now (view line.now)) (IsErrOf result) }
 {
     refused_if(is_late(version, so_far), FaultKind::Order)?;
     room_for_pod(so_far)?;
@@ -189,7 +192,8 @@ fn take_pod(
     so_far: TraceSoFar,
     line: &Value,
 ) -> Result<TraceSoFar, FaultKind>
-    ensures { GivesUnlessMemory (λ r. r) result (pod_line_at version so_far (view line.now)) }
+    ensures gives { GivesUnless is_memory (λ r. r) result (pod_line_at version so_far (view line.now)) }
+    ensures faults { IfErr (pod_in version so_far (view line.now)) (IsErrOf result) }
 {
     match pod_in(alloc, version, &so_far, line) {
         Ok(pod) => with_new_pod(alloc, so_far, pod),
@@ -269,7 +273,7 @@ fn turn_of(version: Option<Version>, line_kind: LineKind) -> Result<Turn, FaultK
 
 /// Takes the JSON value of a tick line.
 fn take_tick_value(alloc: Global, so_far: TraceSoFar, line: &Value) -> Result<TraceSoFar, FaultKind>
-    ensures { GivesUnlessMemory (λ r. r) result (tick_at so_far (view line.now)) }
+    ensures { GivesUnless is_memory (λ r. r) result (tick_at so_far (view line.now)) }
 {
     match tick_record(alloc, line) {
         Ok(tick) => take_tick(alloc, so_far, &tick),
@@ -286,7 +290,7 @@ fn take_in_order(
     line_kind: LineKind,
     line: &Value,
 ) -> Result<TraceSoFar, FaultKind>
-    ensures { GivesUnlessMemory (λ r. r) result (in_order (version_in so_far) so_far line_kind (view line.now)) }
+    ensures { GivesUnless is_memory (λ r. r) result (in_order (version_in so_far) so_far line_kind (view line.now)) }
 {
     match turn_of(version_in(&so_far), line_kind) {
         Ok(Turn::Node) => take_node(alloc, so_far, line),
@@ -303,7 +307,7 @@ fn take_in_order(
 /// Takes a line of JSON.
 #[tactic(auto, unfolding(crate::specs::state::Taken::value_at))]
 fn take_value(alloc: Global, so_far: TraceSoFar, line: &Value) -> Result<TraceSoFar, FaultKind>
-    ensures { GivesUnlessMemory (λ r. r) result (value_at so_far (view line.now)) }
+    ensures { GivesUnless is_memory (λ r. r) result (value_at so_far (view line.now)) }
 {
     match kind_of_line(version_in(&so_far), line) {
         Ok(line_kind) => take_in_order(alloc, so_far, line_kind, line),
@@ -320,7 +324,7 @@ fn take_tick_line(
     so_far: TraceSoFar,
     line: &TickRecord,
 ) -> Result<TraceSoFar, FaultKind>
-    ensures { GivesUnlessMemory (λ r. r) result (tick_line_at so_far line.now.at line.now.written) }
+    ensures { GivesUnless is_memory (λ r. r) result (tick_line_at so_far line.now.at line.now.written) }
 {
     match turn_of(version_in(&so_far), LineKind::Tick) {
         Ok(_) => take_tick(alloc, so_far, line),
@@ -348,7 +352,7 @@ fn may_stand(so_far: &TraceSoFar, tick: &TickObs) -> Result<(), FaultKind>
 pub(crate) fn take_shown(so_far: TraceSoFar, tick: TickObs) -> Result<TraceSoFar, FaultKind>
     requires { IsReadAhead so_far.roll tick }
     ensures { (said : LineData) → IsShown so_far.roll said tick
-        → GivesUnlessMemory (λ r. r) result (any_line_at so_far said) }
+        → GivesUnless is_memory (λ r. r) result (any_line_at so_far said) }
 {
     match may_stand(&so_far, &tick) {
         Ok(()) => with_tick(so_far, tick),
@@ -359,13 +363,14 @@ pub(crate) fn take_shown(so_far: TraceSoFar, tick: TickObs) -> Result<TraceSoFar
     }
 }
 
-/// Takes a line.
+/// Takes a line. One that is no JSON, or too long, takes no memory.
 pub(crate) fn take_line(
     alloc: Global,
     so_far: TraceSoFar,
     line: &TextLine,
 ) -> Result<TraceSoFar, FaultKind>
-    ensures { GivesUnlessMemory (λ r. r) result (any_line_at so_far (data_of line.now)) }
+    ensures gives { GivesUnless is_memory (λ r. r) result (any_line_at so_far (data_of line.now)) }
+    ensures faults { IfErr (said_at (data_of line.now)) (IsErrOf result) }
 {
     let kind = match line {
         TextLine::Blank => return Ok(so_far),

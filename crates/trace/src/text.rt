@@ -3,12 +3,12 @@
 ghost use Rattle.std.specs.Prelude.{◌≡◌, ◌<◌, ◌≤◌, ◌+◌, ◌^◌, ◌∷◌, [], drop, length, map, IfNone, IfOk, IfSome, IsTrue};
 ghost use Rattle.std.specs.List.{prefix_len};
 ghost use Rattle.std.specs.Vec.Iter.{into_iter_items};
-ghost use Rattle.json_fields.specs.state.Reading.{GivesExactly};
+ghost use Rattle.json_fields.specs.state.Reading.{GivesExactly, GivesUnless};
 ghost use Rattle.json_lines.specs.rule.Lines.{is_blank, lines_of};
 ghost use Rattle.json_lines.specs.state.Lines.{Blank, LineData, line_data};
 ghost use Rattle.roster.specs.rule.Roll.{Roll};
 ghost use Rattle.trace.specs.state.Ahead.{AreAhead, IsAhead, KeepsPods};
-ghost use Rattle.trace.specs.state.GivesUnlessMemory.{is_memory, GivesUnlessMemory, GivesAt};
+ghost use Rattle.trace.specs.state.Memory.{is_memory, GivesAt};
 ghost use Rattle.trace.specs.state.Sound.{AreAcceptable, AreRising, HasShape, LeaveInThree};
 ghost use Rattle.trace.specs.state.Taken.{any_line_at, lines_at};
 ghost use Rattle.trace.specs.rule.Trace.{at_line, finished, nothing, trace_of};
@@ -44,7 +44,7 @@ fn nothing(alloc: Global, format: Format) -> TraceSoFar
 
 /// Takes a line whose turn has come, where the pods are no longer those beside which it was read.
 fn take_anew(alloc: Global, so_far: TraceSoFar, line: &[u8]) -> Result<TraceSoFar, FaultKind>
-    ensures { GivesUnlessMemory (λ r. r) result (any_line_at so_far (line_data line.now)) }
+    ensures { GivesUnless is_memory (λ r. r) result (any_line_at so_far (line_data line.now)) }
 {
     let mut buffers = LineBuffers::new(alloc);
     match line_ahead(alloc, &so_far.roster, line, &mut buffers) {
@@ -66,7 +66,7 @@ fn take_ahead(
     is_fresh: bool,
 ) -> Result<TraceSoFar, FaultKind>
     requires { (roll : Roll) × IsAhead roll (line_data line.now) read × (IsTrue is_fresh → so_far.roll ≡ roll) }
-    ensures { GivesUnlessMemory (λ r. r) result (any_line_at so_far (line_data line.now)) }
+    ensures { GivesUnless is_memory (λ r. r) result (any_line_at so_far (line_data line.now)) }
 {
     match read {
         LineAhead::Shown(tick) if is_fresh => take_shown(so_far, tick),

@@ -2,19 +2,21 @@
 
 ghost use Rattle.std.specs.Prelude.{◌≡◌, ◌<◌, All, length, option_map, Some, None, if◌then◌else◌, Ok, IfOk};
 ghost use Rattle.std.specs.List.{list_any};
+ghost use Rattle.std.specs.Prelude.{◌||◌, false, IfErr, IsErrOf, OnOk};
 ghost use Rattle.json_fields.specs.rule.Reading.{refused_if};
-ghost use Rattle.json_fields.specs.state.Reading.{GivesExactly};
-ghost use Rattle.trace.specs.state.GivesUnlessMemory.{GivesUnlessMemory};
+ghost use Rattle.json_fields.specs.state.Reading.{GivesExactly, GivesUnless};
+ghost use Rattle.trace.specs.state.Memory.{is_memory};
 ghost use Rattle.trace.specs.rule.TraceSoFar.{with_tick};
 ghost use Rattle.trace.specs.state.ByPod.{AreFirst};
-ghost use Rattle.trace.specs.rule.Placing.{placed_of, is_doubled};
+ghost use Rattle.trace.specs.rule.Placing.{placed_of, is_doubled, repeats};
+ghost use Rattle.trace.specs.declared.fault.FaultKind.TheVariants.{Backwards, Doubled, ExitCode};
 ghost use Rattle.trace.specs.rule.Observed.{seen_in, outcome_in, results_in, listings_of, results_of, sampling_from};
 ghost use Rattle.trace.specs.rule.Observed.{seen_listed, containers_from, pod_observed, pods_from, observed};
 ghost use Rattle.trace.specs.rule.Observed.{lacks_code, some_code_missing};
 ghost use Rattle.following.specs.rule.Backwards.{is_backwards};
 ghost use Rattle.following.specs.state.Followed.{EndBefore, ComesNext};
 ghost use Rattle.trace.specs.state.Pod.{container_counts};
-ghost use Rattle.trace.specs.state.Taken.{tick_of, tick_after};
+ghost use Rattle.trace.specs.state.Taken.{placed_at, tick_of, tick_after};
 ghost use Rattle.trace.specs.rule.Tick.{moment_from, room_for_tick, observed_in};
 ghost use Rattle.trace.specs.state.Tick.{MayStandBehind};
 ghost use Rattle.trace.specs.rule.Written.{is_of_other_kind, has_other_kind, heeded, written_in};
@@ -22,8 +24,8 @@ ghost use Rattle.trace.specs.rule.Written.{is_of_other_kind, has_other_kind, hee
 use crate::by_pod::{EntriesByPod, entries_by_pod, entry_for};
 use crate::fault::{FaultKind, refused_if};
 use crate::placing::{
-    PlacedEntry, PlacedListing, PlacedResult, entries_of_pods, is_of_probe, place_each,
-    some_entry_repeats,
+    PlacedEntry, PlacedListing, PlacedResult, check_placed, entries_of_pods, is_of_probe,
+    place_each, some_entry_repeats,
 };
 use crate::trace_so_far::{TraceSoFar, heeds_unsampled};
 use json_lines::TickRecord;
@@ -285,18 +287,38 @@ pub(crate) fn moment_in(so_far: &TraceSoFar, written: Option<u64>) -> Result<u64
 
 /// The entries with numbers in the place of names: first all pods, then all containers.
 #[tactic(auto, unfolding(crate::specs::rule::Placing::placed_of))]
+fn placed_entries(
+    alloc: Global,
+    heeds: bool,
+    roster: &Roster,
+    written: &TickLine,
+) -> Result<Vec<PlacedEntry>, FaultKind>
+    ensures gives { GivesUnless is_memory (λ v. v.items) result (placed_of heeds roster.now written.now.entries) }
+    ensures known { IfOk result (λ v. All (λ e. e.pod < length roster.now.pods) v.items) }
+{
+    let entries = written.entries.as_slice();
+    let numbers = place_each(alloc, roster, entries)?;
+    entries_of_pods(alloc, heeds, roster.pods(), numbers.as_slice(), entries)
+}
+
+/// The entries by the numbers of their pods. Out of memory only where every pod and every container is known.
 pub(crate) fn placed_by(
     alloc: Global,
     heeds: bool,
     roster: &Roster,
     written: &TickLine,
 ) -> Result<Vec<PlacedEntry>, FaultKind>
-    ensures gives { GivesUnlessMemory (λ v. v.items) result (placed_of heeds roster.now written.now.entries) }
+    ensures gives { GivesUnless is_memory (λ v. v.items) result (placed_of heeds roster.now written.now.entries) }
+    ensures faults { IfErr (placed_of heeds roster.now written.now.entries) (IsErrOf result) }
     ensures known { IfOk result (λ v. All (λ e. e.pod < length roster.now.pods) v.items) }
 {
-    let entries = written.entries.as_slice();
-    let numbers = place_each(alloc, roster, entries)?;
-    entries_of_pods(alloc, heeds, roster.pods(), numbers.as_slice(), entries)
+    match placed_entries(alloc, heeds, roster, written) {
+        Err(FaultKind::OutOfMemory) => {
+            check_placed(heeds, roster, written.entries.as_slice())?;
+            Err(FaultKind::OutOfMemory)
+        }
+        placed => placed,
+    }
 }
 
 /// The entries with numbers in the place of names, by the pods so far.
@@ -306,10 +328,21 @@ fn placed_of(
     so_far: &TraceSoFar,
     written: &TickLine,
 ) -> Result<Vec<PlacedEntry>, FaultKind>
-    ensures gives { GivesUnlessMemory (λ v. v.items) result (placed_of heeds so_far.now.roll written.now.entries) }
+    ensures gives { GivesUnless is_memory (λ v. v.items) result (placed_of heeds so_far.now.roll written.now.entries) }
+    ensures faults { IfErr (placed_of heeds so_far.now.roll written.now.entries) (IsErrOf result) }
     ensures known { IfOk result (λ v. All (λ e. e.pod < length so_far.now.roll.pods) v.items) }
 {
     placed_by(alloc, heeds, &so_far.roster, written)
+}
+
+/// No pod has two entries, and no entry repeats a container or a probe. It takes no memory.
+fn listed_once(has_pod_twice: bool, placed: &[PlacedEntry]) -> Result<(), FaultKind>
+    ensures { GivesExactly (λ t. t) result (refused_if (has_pod_twice || list_any repeats placed.now) Doubled) }
+{
+    refused_if(
+        has_pod_twice || some_entry_repeats(placed),
+        FaultKind::Doubled,
+    )
 }
 
 /// Where the entries of each pod so far stand.
@@ -319,14 +352,11 @@ fn by_pod(
     placed: &[PlacedEntry],
 ) -> Result<EntriesByPod, FaultKind>
     requires { All (λ e. e.pod < length so_far.now.roll.pods) placed.now }
-    ensures apart { GivesUnlessMemory (λ _. tt) result (refused_if (is_doubled placed.now) FaultKind.Doubled) }
+    ensures apart { GivesUnless is_memory (λ _. tt) result (refused_if (is_doubled placed.now) Doubled) }
     ensures first { IfOk result (λ found. AreFirst placed.now (length so_far.now.roll.pods) found.first.items) }
 {
     let found = entries_by_pod(alloc, placed, so_far.roster.pods().len())?;
-    refused_if(
-        found.has_pod_twice || some_entry_repeats(placed),
-        FaultKind::Doubled,
-    )?;
+    listed_once(found.has_pod_twice, placed)?;
     Ok(found)
 }
 
@@ -336,6 +366,22 @@ pub(crate) fn is_backwards(so_far: &TraceSoFar, tick: &TickObs) -> bool
     ensures { result ≡ is_backwards so_far.now.ticks tick.now }
 {
     !so_far.following.accepts(tick)
+}
+
+/// No listing of the tick goes back. It takes no memory.
+fn forwards(so_far: &TraceSoFar, tick: &TickObs) -> Result<(), FaultKind>
+    requires { ComesNext so_far.now.ticks (container_counts so_far.now.roll.pods) tick.now }
+    ensures gives { GivesExactly (λ t. t) result (refused_if (is_backwards so_far.now.ticks tick.now) Backwards) }
+    ensures on { OnOk result (is_backwards so_far.now.ticks tick.now ≡ false) }
+{
+    refused_if(is_backwards(so_far, tick), FaultKind::Backwards)
+}
+
+/// Each listing of an exited container has its code. It takes no memory.
+fn coded(placed: &[PlacedEntry]) -> Result<(), FaultKind>
+    ensures { GivesExactly (λ t. t) result (refused_if (some_code_missing placed.now) ExitCode) }
+{
+    refused_if(some_code_missing(placed), FaultKind::ExitCode)
 }
 
 /// The tick, checked against the earlier ticks.
@@ -349,19 +395,19 @@ fn observed_in(
 ) -> Result<TickObs, FaultKind>
     requires later { EndBefore so_far.now.ticks at }
     requires known { All (λ e. e.pod < length so_far.now.roll.pods) placed.now }
-    ensures gives { GivesUnlessMemory (λ t. t) result (observed_in so_far.now at written.now placed.now) }
+    ensures gives { GivesUnless is_memory (λ t. t) result (observed_in so_far.now at written.now placed.now) }
     ensures follows { IfOk result (MayStandBehind so_far.now) }
 {
     let by_pod = by_pod(alloc, so_far, placed)?;
     let tick = observed(alloc, at, written, placed, &by_pod.first, &so_far.roster)?;
-    refused_if(is_backwards(so_far, &tick), FaultKind::Backwards)?;
-    refused_if(some_code_missing(placed), FaultKind::ExitCode)?;
+    forwards(so_far, &tick)?;
+    coded(placed)?;
     Ok(tick)
 }
 
 pub(crate) fn with_tick(so_far: TraceSoFar, tick: TickObs) -> Result<TraceSoFar, FaultKind>
     requires { MayStandBehind so_far tick }
-    ensures { GivesUnlessMemory (λ r. r) result (Ok (with_tick so_far tick)) }
+    ensures { GivesUnless is_memory (λ r. r) result (Ok (with_tick so_far tick)) }
 {
     let TraceSoFar {
         format,
@@ -382,9 +428,10 @@ pub(crate) fn with_tick(so_far: TraceSoFar, tick: TickObs) -> Result<TraceSoFar,
 }
 
 /// The tick that a tick line says.
-#[tactic(auto, unfolding(crate::specs::state::Taken::tick_of))]
+#[tactic(auto, unfolding(crate::specs::state::Taken::tick_of, crate::specs::state::Taken::placed_at))]
 fn tick_of(alloc: Global, so_far: &TraceSoFar, line: &TickRecord) -> Result<TickObs, FaultKind>
-    ensures gives { GivesUnlessMemory (λ t. t) result (tick_of so_far.now line.now.at line.now.written) }
+    ensures gives { GivesUnless is_memory (λ t. t) result (tick_of so_far.now line.now.at line.now.written) }
+    ensures faults { IfErr (placed_at so_far.now line.now.at line.now.written) (IsErrOf result) }
     ensures follows { IfOk result (MayStandBehind so_far.now) }
 {
     room(so_far)?;
@@ -402,7 +449,7 @@ pub(crate) fn take_tick(
     so_far: TraceSoFar,
     line: &TickRecord,
 ) -> Result<TraceSoFar, FaultKind>
-    ensures { GivesUnlessMemory (λ r. r) result (tick_after so_far line.now.at line.now.written) }
+    ensures { GivesUnless is_memory (λ r. r) result (tick_after so_far line.now.at line.now.written) }
 {
     match tick_of(alloc, &so_far, line) {
         Ok(tick) => with_tick(so_far, tick),

@@ -1,5 +1,5 @@
 -- What lines say behind what is past, by what each says by itself.
-use Rattle.std.specs.Prelude.{ℕ, ◌+◌, List, [], ◌∷◌, Option, Result, Ok, Err}
+use Rattle.std.specs.Prelude.{ℕ, ⊤, ◌+◌, List, [], ◌∷◌, Option, Result, Ok, Err}
 use Rattle.serde_json.specs.Data.{Data}
 use Rattle.json_fields.specs.rule.Reading.{◌>>=◌}
 use Rattle.json_lines.specs.state.Lines.{LineData, Blank, TooLong, NotJson, Tick, Json}
@@ -11,6 +11,7 @@ use Rattle.trace.specs.declared.fault.FaultKind.TheVariants as kinds
 use Rattle.trace.specs.declared.fault.LineFault.{LineFault}
 use Rattle.trace.specs.declared.trace_so_far.LineKind.TheVariants as line_kinds
 use Rattle.trace.specs.rule.TraceSoFar.{TraceSoFar, version_in, heeds, with_tick}
+use Rattle.trace.specs.declared.placing.PlacedEntry.{PlacedEntry}
 use Rattle.trace.specs.rule.Placing.{placed_of}
 use Rattle.trace.specs.rule.Tick.{moment_from, room_for_tick, observed_in}
 use Rattle.trace.specs.rule.Trace.{kind_of_line, turn_of, in_order, at_line}
@@ -19,6 +20,14 @@ use Rattle.trace.specs.rule.Written.{written_in}
 -- a JSON value after those that say what is past
 unfoldable pub value_at : TraceSoFar → Data → Result TraceSoFar FaultKind
 value_at past d = kind_of_line (version_in past) d >>= λ line_kind. in_order (version_in past) past line_kind d
+
+-- the entries of such a tick line, of known pods and containers
+unfoldable pub placed_at : TraceSoFar → Option ℕ → Result TickLine TickLineFault → Result (List PlacedEntry) FaultKind
+placed_at past moment said = do
+  room ← room_for_tick past.ticks
+  at ← moment_from past.ticks moment
+  written ← written_in (heeds past) said
+  placed_of (heeds past) past.roll written.entries
 
 -- the tick of a line with this moment that says this beside it, after those that say what is past
 unfoldable pub tick_of : TraceSoFar → Option ℕ → Result TickLine TickLineFault → Result TickObs FaultKind
@@ -46,6 +55,14 @@ any_line_at past TooLong = Err kinds.TooLong
 any_line_at past NotJson = Err kinds.NotJson
 any_line_at past (Tick moment said) = tick_line_at past moment said
 any_line_at past (Json d) = value_at past d
+
+-- a line says something, whatever is past
+abbrev pub said_at : LineData → Result ⊤ FaultKind
+said_at Blank = Ok tt
+said_at TooLong = Err kinds.TooLong
+said_at NotJson = Err kinds.NotJson
+said_at (Tick moment said) = Ok tt
+said_at (Json d) = Ok tt
 
 -- lines after those that say what is past, the first of which has this number
 abbrev pub lines_at : ℕ → TraceSoFar → List LineData → Result TraceSoFar LineFault

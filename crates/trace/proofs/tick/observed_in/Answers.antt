@@ -1,14 +1,14 @@
-use Rattle.std.proofs.Common.{◌≡◌, ◌∙◌, ap, sym, subst}
+use Rattle.std.proofs.Common.{◌≡◌, ap, sym, subst}
 use Rattle.following.specs.state.Followed.{ComesNext}
 use Rattle.roster.specs.rule.Roll.{Roll}
 use Rattle.trace.specs.rule.Observed.{observed}
 use Rattle.trace.specs.rule.TraceSoFar.{TraceSoFar}
 use Rattle.trace.specs.state.Pod.{container_counts}
-use Rattle.trace.proofs.Shown.{comes_next, went_on}
+use Rattle.trace.proofs.Shown.{comes_next}
 use Rattle.trace.proofs.tick.observed_in.Goals as goal
 
-pub is_backwards-requires : goal.is_backwards-requires
-is_backwards-requires c =
+pub forwards-requires : goal.forwards-requires
+forwards-requires c =
     let past = c.args.so_far.now in
     let same : c.so_far.inside.roster ≡ past.roll = ap (λ (p : TraceSoFar). p.roll) c.so_far.view_is in
     let comes = subst (λ (r : Roll). ComesNext past.ticks (container_counts past.roll.pods)
@@ -25,5 +25,5 @@ returns-clause-follows c =
     (comes_next past.ticks c.args.at c.args.written.now c.args.placed.now past.roll c.requires.later) in
     record {
       comes_next = subst (ComesNext past.ticks (container_counts past.roll.pods)) (sym c.in_ok-tick.ensures) comes;
-      forwards = sym c.is_backwards.ensures ∙ went_on c.is_backwards.result _ _ c.in_ok-refused_if.ensures;
+      forwards = c.in_ok-forwards.ensures.on;
     }

@@ -1,7 +1,7 @@
 use Rattle.std.proofs.Common.{◌∙◌, List, ℕ, ap, length, refl}
 use Rattle.trace.specs.rule.Placing.{number_in}
 use Rattle.trace.proofs.Placed.{as_many, by_names, known_pods}
-use Rattle.trace.proofs.tick.placed_by.Goals as goal
+use Rattle.trace.proofs.tick.placed_entries.Goals as goal
 
 pub entries_of_pods-requires : goal.entries_of_pods-requires
 entries_of_pods-requires c = ap (λ (ns : List ℕ). length ns) c.as_slice.ensures
