@@ -12,7 +12,8 @@ use Rattle.manifest_fields.specs.rule.Fields.{object_of}
 use Rattle.manifest_fields.specs.declared.fault.Field.TheVariants as fields
 use Rattle.manifest_fields.specs.declared.fault.ManifestFault.{ManifestFault}
 use Rattle.manifest_fields.specs.declared.fault.ManifestFault.TheVariants.{DuplicateContainer}
-use Rattle.manifest_reader.specs.state.Checks.{checked, apart_at}
+use Rattle.json_fields.specs.state.Reading.{checked}
+use Rattle.manifest_reader.specs.state.Checks.{apart_at}
 use Rattle.manifest_reader.specs.state.Found.{name_in, has_double}
 use Rattle.manifest_reader.specs.rule.Manifest.{container_of, few, apart, containers_of, containers_in, metadata_of}
 use Rattle.manifest_reader.specs.rule.Manifest.{Spec, settings_in, spec_of, pod_at}

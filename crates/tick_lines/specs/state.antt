@@ -1,5 +1,4 @@
 pub mod Memory
-pub mod Fields
 pub mod Entries
 pub mod Samples
 pub mod Laws

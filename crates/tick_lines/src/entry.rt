@@ -1,10 +1,9 @@
 //! The entries of a tick line, as they are written.
 
-ghost use Rattle.json_fields.specs.state.Reading.{GivesUnless};
+ghost use Rattle.json_fields.specs.state.Reading.{GivesUnless, checked};
 ghost use Rattle.tick_lines.specs.state.Memory.{is_memory};
 ghost use Rattle.std.specs.Prelude.{◌≡◌};
 ghost use Rattle.tick_lines.specs.rule.Entries.{entry_of};
-ghost use Rattle.tick_lines.specs.state.Fields.{checked};
 
 use crate::fault::TickLineFault;
 use crate::fields::{text_of, written_text};

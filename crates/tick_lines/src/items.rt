@@ -3,8 +3,7 @@
 ghost use Rattle.std.specs.Prelude.{◌≡◌, map, option_map};
 ghost use Rattle.json_fields.specs.rule.Reading.{each};
 ghost use Rattle.tick_lines.specs.rule.Fields.{each_item};
-ghost use Rattle.tick_lines.specs.state.Fields.{checked};
-ghost use Rattle.json_fields.specs.state.Reading.{GivesUnless};
+ghost use Rattle.json_fields.specs.state.Reading.{checked, GivesUnless};
 ghost use Rattle.tick_lines.specs.state.Memory.{is_memory};
 
 use crate::fault::TickLineFault;
@@ -17,7 +16,7 @@ use std::alloc::Global;
 pub(crate) trait ReadItem: Drop + Sized {
     ghost use Rattle.std.specs.Prelude.{◌≡◌, Result};
     ghost use Rattle.serde_json.specs.Data.{Data};
-    ghost use Rattle.tick_lines.specs.state.Fields.{checked};
+    ghost use Rattle.json_fields.specs.state.Reading.{checked};
     ghost use Rattle.json_fields.specs.state.Reading.{GivesUnless};
     ghost use Rattle.tick_lines.specs.state.Memory.{is_memory};
     ghost use Rattle.tick_lines.specs.declared.fault.TickLineFault.{TickLineFault};

@@ -3,9 +3,8 @@
 ghost use Rattle.std.specs.Prelude.{◌≡◌, IfErr, IsErrOf, codes};
 ghost use Rattle.json_fields.specs.rule.Fields.{field_at};
 ghost use Rattle.tick_lines.specs.rule.Entries.{entries_of};
-ghost use Rattle.json_fields.specs.state.Reading.{GivesUnless};
+ghost use Rattle.json_fields.specs.state.Reading.{GivesUnless, checked};
 ghost use Rattle.tick_lines.specs.state.Memory.{is_memory};
-ghost use Rattle.tick_lines.specs.state.Fields.{checked};
 ghost use Rattle.tick_lines.specs.rule.Line.{tick_line_of};
 
 use crate::entry::TickEntry;

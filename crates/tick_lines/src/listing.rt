@@ -1,11 +1,10 @@
 //! The listings of an entry, as they are written.
 
 ghost use Rattle.std.specs.Prelude.{◌≡◌, option_map};
-ghost use Rattle.json_fields.specs.state.Reading.{GivesExactly, GivesUnless};
+ghost use Rattle.json_fields.specs.state.Reading.{GivesExactly, GivesUnless, checked};
 ghost use Rattle.tick_lines.specs.state.Memory.{is_memory};
 ghost use Rattle.tick_lines.specs.rule.Listings.{attempt_of, state_named, state_numbered, state_of, code_of};
 ghost use Rattle.tick_lines.specs.rule.Listings.{instance_of, listing_of};
-ghost use Rattle.tick_lines.specs.state.Fields.{checked};
 
 use crate::fault::TickLineFault;
 use crate::fields::{text_of, written_text};

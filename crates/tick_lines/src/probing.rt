@@ -1,9 +1,8 @@
 //! The results of probes in an entry, as they are written.
 
 ghost use Rattle.std.specs.Prelude.{◌≡◌, option_map};
-ghost use Rattle.json_fields.specs.state.Reading.{GivesExactly, GivesUnless};
+ghost use Rattle.json_fields.specs.state.Reading.{GivesExactly, GivesUnless, checked};
 ghost use Rattle.tick_lines.specs.state.Memory.{is_memory};
-ghost use Rattle.tick_lines.specs.state.Fields.{checked};
 ghost use Rattle.tick_lines.specs.rule.Results.{probe_named, outcome_named, result_of};
 
 use crate::fault::TickLineFault;

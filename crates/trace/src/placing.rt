@@ -2,8 +2,8 @@
 
 ghost use Rattle.std.specs.Prelude.{◌≡◌, ◌==◌, length};
 ghost use Rattle.json_fields.specs.rule.Reading.{each};
-ghost use Rattle.json_fields.specs.state.Reading.{GivesExactly, GivesUnless};
-ghost use Rattle.trace.specs.state.Memory.{is_memory, checked};
+ghost use Rattle.json_fields.specs.state.Reading.{GivesExactly, GivesUnless, checked};
+ghost use Rattle.trace.specs.state.Memory.{is_memory};
 ghost use Rattle.trace.specs.rule.Placing.{number_in, container_number, placed_listing, placed_result, pod_numbered};
 ghost use Rattle.trace.specs.rule.Placing.{entry_of_pod, has_twice, are_of_one_container, is_of_probe};
 ghost use Rattle.trace.specs.state.Placing.{entries_of_pods, speaks, some_speaks};

@@ -1,5 +1,5 @@
 -- What a call that reads answers, beside the definition of what it reads.
-use Rattle.std.specs.Prelude.{◌≡◌, Bool, false, MatchBool, Result, Ok, Err}
+use Rattle.std.specs.Prelude.{◌≡◌, ⊤, Bool, false, MatchBool, Result, Ok, Err}
 
 -- What a call answered, seen by view, is what the definition gives; a fault because memory ran out
 -- aside, which no definition gives.
@@ -10,3 +10,8 @@ GivesUnless is_memory view (Err e) given = MatchBool (is_memory e) (Unit {0}) (g
 -- of a call that takes no memory
 abbrev pub GivesExactly : {X Y E : Type 0} → (X → Y) → Result X E → Result Y E → Type 0
 GivesExactly view result given = GivesUnless (λ fault. false) view result given
+
+-- whether something is given, or the fault that is there in its place
+abbrev pub checked : {A E : Type 0} → Result A E → Result ⊤ E
+checked (Ok x) = Ok tt
+checked (Err fault) = Err fault

@@ -1,16 +1,11 @@
 -- Whether a manifest can be read.
-use Rattle.std.specs.Prelude.{ℕ, ◌||◌, ⊤, Bool, false, List, [], ◌∷◌, ◌++◌, map, Result, Ok, Err, bytes_eq}
+use Rattle.std.specs.Prelude.{ℕ, ◌||◌, ⊤, Bool, false, List, [], ◌∷◌, ◌++◌, map, Result, bytes_eq}
 use Rattle.std.specs.List.{list_any}
 use Rattle.serde_json.specs.Data.{Data}
 use Rattle.json_fields.specs.rule.Reading.{refused_if}
 use Rattle.manifest_fields.specs.declared.fault.ManifestFault.{ManifestFault}
 use Rattle.manifest_fields.specs.declared.fault.ManifestFault.TheVariants.{DuplicateContainer}
 use Rattle.manifest_reader.specs.state.Found.{name_in, has_double}
-
--- whether something is read, or the fault that is there in its place
-abbrev pub checked : {A : Type 0} → Result A ManifestFault → Result ⊤ ManifestFault
-checked (Ok x) = Ok tt
-checked (Err fault) = Err fault
 
 -- two of the values have one name
 abbrev pub is_name_twice : {V : Type 0} → (V → List ℕ) → List V → Bool

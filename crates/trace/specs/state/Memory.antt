@@ -1,5 +1,5 @@
 -- Which fault of a line says that memory ran out.
-use Rattle.std.specs.Prelude.{⊤, Bool, true, false, Result, Ok, Err}
+use Rattle.std.specs.Prelude.{Bool, true, false, Result}
 use Rattle.json_fields.specs.state.Reading.{GivesUnless}
 use Rattle.trace.specs.declared.fault.FaultKind.{FaultKind}
 use Rattle.trace.specs.declared.fault.FaultKind.TheVariants.{OutOfMemory}
@@ -12,8 +12,3 @@ is_memory kind = false
 -- a call that takes memory answers what the definition gives, with the line of a fault, or that memory ran out
 abbrev pub GivesAt : {X Y : Type 0} → (X → Y) → Result X LineFault → Result Y LineFault → Type 0
 GivesAt view result given = GivesUnless (λ fault. is_memory fault.kind) view result given
-
--- whether something is given, or the fault that is there in its place
-abbrev pub checked : {A : Type 0} → Result A FaultKind → Result ⊤ FaultKind
-checked (Ok x) = Ok tt
-checked (Err fault) = Err fault

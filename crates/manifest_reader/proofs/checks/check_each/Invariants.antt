@@ -2,7 +2,7 @@ use Rattle.std.proofs.Common.{◌≡◌, map, drop}
 use Rattle.serde_json.specs.View.{view}
 use Rattle.json_fields.specs.rule.Reading.{each}
 use Rattle.manifest_reader.specs.rule.Manifest.{container_of}
-use Rattle.manifest_reader.specs.state.Checks.{checked}
+use Rattle.json_fields.specs.state.Reading.{checked}
 use Rattle.manifest_reader.proofs.checks.check_each.Given as goal
 
 abbrev pub invariant-loop-value : goal.invariant-loop-value

@@ -1,6 +1,6 @@
 use Rattle.std.proofs.Common.{◌≡◌, map, drop}
 use Rattle.json_fields.specs.rule.Reading.{each}
-use Rattle.tick_lines.specs.state.Fields.{checked}
+use Rattle.json_fields.specs.state.Reading.{checked}
 use Rattle.tick_lines.proofs.items.check_each.Given as goal
 
 abbrev pub invariant-loop-value : goal.invariant-loop-value

@@ -1,6 +1,6 @@
 use Rattle.std.proofs.Common.{◌≡◌, drop}
 use Rattle.json_fields.specs.rule.Reading.{each}
-use Rattle.trace.specs.state.Memory.{checked}
+use Rattle.json_fields.specs.state.Reading.{checked}
 use Rattle.trace.proofs.placing.check_each.Given as goal
 
 abbrev pub invariant-loop-one : goal.invariant-loop-one

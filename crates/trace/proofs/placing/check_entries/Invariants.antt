@@ -1,6 +1,6 @@
 use Rattle.std.proofs.Common.{◌≡◌, drop}
 use Rattle.json_fields.specs.rule.Reading.{each}
-use Rattle.trace.specs.state.Memory.{checked}
+use Rattle.json_fields.specs.state.Reading.{checked}
 use Rattle.trace.specs.rule.Placing.{placed_entry}
 use Rattle.trace.proofs.placing.check_entries.Given as goal
 
