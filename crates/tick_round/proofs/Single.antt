@@ -9,6 +9,7 @@ use Rattle.std.proofs.lemmas.Option.{slice_get_within, slice_get-map}
 use Rattle.histories.proofs.Lists.{given_at}
 use Rattle.observations.specs.declared.tick.TickObs.{TickObs}
 use Rattle.observations.specs.rule.Observations.{all_shown}
+use Rattle.piece_deques.proofs.Lists.{sum_map}
 use Rattle.pod_piece.specs.state.Piece.{Piece, updated, all_updated, pods_in}
 use Rattle.pod_piece.specs.state.Made.{round_length}
 use Rattle.eviction.specs.rule.Replay.{pod_ticks}
@@ -36,7 +37,7 @@ single_sums entries =
     (sum_by (λ (t : Totals). t.events) (map one_update entries))
     (sum_by (λ (t : Totals). t.orders) (map one_update entries)) (length entries)
     (sum_by (λ (e : Entry). e.events) entries) (sum_by (λ (e : Entry). e.orders) entries) (ones entries)
-    (all_events entries) (all_orders entries)
+    (sum_map one_update (λ (t : Totals). t.events) entries) (sum_map one_update (λ (t : Totals). t.orders) entries)
   where
     ones : (entries : List Entry) → sum_by (λ (t : Totals). t.updates) (map one_update entries) ≡ length entries
     ones [] = refl
@@ -46,20 +47,6 @@ single_sums entries =
         sum_by-cons u (one_update e) (map one_update entries) in
         let rest : sum_by u (map one_update entries) ≡ length entries = ones entries in
         omega (arith, one, rest)
-
-    all_events : (entries : List Entry)
-        → sum_by (λ (t : Totals). t.events) (map one_update entries) ≡ sum_by (λ (e : Entry). e.events) entries
-    all_events [] = refl
-    all_events (e ∷ entries) =
-        sum_by-cons (λ (t : Totals). t.events) (one_update e) (map one_update entries)
-        ∙ ap (λ n. e.events + n) (all_events entries) ∙ sym (sum_by-cons (λ (x : Entry). x.events) e entries)
-
-    all_orders : (entries : List Entry)
-        → sum_by (λ (t : Totals). t.orders) (map one_update entries) ≡ sum_by (λ (e : Entry). e.orders) entries
-    all_orders [] = refl
-    all_orders (e ∷ entries) =
-        sum_by-cons (λ (t : Totals). t.orders) (one_update e) (map one_update entries)
-        ∙ ap (λ n. e.orders + n) (all_orders entries) ∙ sym (sum_by-cons (λ (x : Entry). x.orders) e entries)
 
 -- the entries of rounds of one tick are what they add
 pub entered_added : (pieces : List Piece) (old new : Totals)
