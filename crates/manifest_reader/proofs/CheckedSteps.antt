@@ -1,5 +1,5 @@
 -- The steps of reading a manifest, of which only the first fault is looked for.
-use Rattle.std.proofs.Common.{◌≡◌, ◌∙◌, Bool, true, false, List, ◌++◌, map, Result, Ok, Err, refl, ap}
+use Rattle.std.proofs.Common.{◌≡◌, ◌∙◌, Bool, true, false, List, ◌++◌, Result, Ok, Err, refl, ap}
 use Rattle.std.specs.Prelude.{⊤, Option, Some, codes}
 use Rattle.serde_json.specs.Data.{Data}
 use Rattle.json_fields.specs.rule.Fields.{field_at}
@@ -14,7 +14,6 @@ use Rattle.manifest_fields.specs.declared.fault.ManifestFault.{ManifestFault}
 use Rattle.manifest_fields.specs.declared.fault.ManifestFault.TheVariants.{DuplicateContainer}
 use Rattle.json_fields.specs.state.Reading.{checked}
 use Rattle.manifest_reader.specs.state.Checks.{apart_at}
-use Rattle.manifest_reader.specs.state.Found.{name_in, has_double}
 use Rattle.manifest_reader.specs.rule.Manifest.{container_of, few, apart, containers_of, containers_in, metadata_of}
 use Rattle.manifest_reader.specs.rule.Manifest.{Spec, settings_in, spec_of, pod_at}
 use Rattle.manifest_reader.specs.declared.reading.Metadata.{Metadata}
