@@ -7,7 +7,6 @@ ghost use Rattle.round_core.specs.state.Pool.{idle, with_piece, with_deque, hold
 ghost use Rattle.round_core.specs.state.Pool.{marked, finished_with};
 
 use event_book::{EventBook, Shares};
-
 use round_core::Hand;
 use std::alloc::{AllocError, Global};
 use std::collections::VecDeque;
