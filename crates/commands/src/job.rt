@@ -1,7 +1,8 @@
 //! A job, from the program's words.
 
 ghost use Rattle.std.specs.Prelude.{◌≡◌, ◌≤◌, ◌↔◌, ℕ, IsTrue, IfOk, IfErr, MatchOption, map, option_map};
-ghost use Rattle.clap.specs.Words.{found_of, rows_of, subcommand_rows_of};
+ghost use Rattle.clap.specs.Words.{found_of, kind_of, rows_of, subcommand_rows_of};
+ghost use Rattle.clap.specs.declared.error.kind.ErrorKind.TheVariants.{ValueValidation};
 ghost use Rattle.commands.specs.declared.job.Job.{Job};
 ghost use Rattle.worker_count.specs.rule.Limit.{most_workers};
 ghost use Rattle.commands.specs.state.Jobs.{HasWorkers, format_asked, format_of, IsJobFor, IsJobOf, IsAskedBy};
@@ -12,7 +13,7 @@ use crate::program::program;
 use clap::error::ErrorKind;
 use clap::{ArgMatches, Error};
 use node_config::Format;
-use std::alloc::Global;
+use std::alloc::{AllocError, Global};
 use std::convert::AsStr;
 use worker_count::MOST_WORKERS;
 
@@ -137,6 +138,13 @@ fn job_as<'a>(found: Result<Job<'a>, Error>) -> Result<Job<'a>, UsageFault>
     }
 }
 
+/// The error of words that ask for no job. Its kind is not that of refused memory.
+fn no_job(alloc: Global) -> Result<Error, AllocError>
+    ensures { IfOk result (λ error. kind_of error ≡ ValueValidation) }
+{
+    program(alloc)?.error(ErrorKind::ValueValidation, "--workers is from 1 to 64")
+}
+
 /// The job that the words ask for, or clap's error where they ask for none.
 fn asked_job<'a, S: AsStr>(alloc: Global, words: &'a [S]) -> Result<Job<'a>, Error>
     ensures ok { IfOk result (IsAskedBy (map S.text words.entry.now)) }
@@ -145,10 +153,7 @@ fn asked_job<'a, S: AsStr>(alloc: Global, words: &'a [S]) -> Result<Job<'a>, Err
     let matches = program(alloc)?.try_get_matches_from(words)?;
     match job_in(&matches) {
         Some(job) => Ok(job),
-        None => Err(program(alloc)?.error(
-            ErrorKind::ValueValidation,
-            "--workers is from 1 to 64",
-        )?),
+        None => Err(no_job(alloc)?),
     }
 }
 

@@ -1,6 +1,7 @@
 //! Why a replay was refused.
 
-ghost use Rattle.std.specs.Prelude.{◌≡◌, Some, IfOk, string_bytes};
+ghost use Rattle.std.specs.Prelude.{◌≡◌, Some, IfOk, MatchResult, string_bytes};
+ghost use Rattle.kubelet_replay.specs.declared.fault.RunFault.TheVariants.{Line};
 ghost use Rattle.kubelet_replay.specs.state.Fault.{status, reason_of, line_text, with_reason, line_of_kind, line_of};
 
 use std::alloc::{AllocError, Global};
@@ -70,15 +71,25 @@ fn line_of_kind(alloc: Global, line: u64, kind: FaultKind) -> Result<String, All
     }
 }
 
+/// The fault of a line of the input; else the words of any other fault, which take no memory.
+fn named_line(fault: &RunFault) -> Result<LineFault, &'static str>
+    ensures { MatchResult result (λ named. fault.now ≡ Line named) (λ words. line_of fault.now ≡ words.now) }
+{
+    match fault {
+        RunFault::Read => Err("read failed"),
+        RunFault::TooLong => Err("input too long"),
+        RunFault::Line(fault) => Ok(*fault),
+        RunFault::OutOfMemory => Err("out of memory"),
+        RunFault::Write => Err("write failed"),
+    }
+}
+
 /// The line that the program writes on standard error, without its newline.
 pub fn fault_line(alloc: Global, fault: &RunFault) -> Result<String, AllocError>
     ensures { IfOk result (λ text. string_bytes text ≡ line_of fault.now) }
 {
-    match fault {
-        RunFault::Read => String::from_str(alloc, "read failed"),
-        RunFault::TooLong => String::from_str(alloc, "input too long"),
-        RunFault::Line(fault) => line_of_kind(alloc, fault.line, fault.kind),
-        RunFault::OutOfMemory => String::from_str(alloc, "out of memory"),
-        RunFault::Write => String::from_str(alloc, "write failed"),
+    match named_line(fault) {
+        Ok(fault) => line_of_kind(alloc, fault.line, fault.kind),
+        Err(words) => String::from_str(alloc, words),
     }
 }

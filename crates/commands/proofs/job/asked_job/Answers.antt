@@ -12,8 +12,8 @@ returns-clause-err g c = λ other.
     inr (asks_none (map g.S.AsStr.text c.args.words.now) _ c.in_ok-matches.matches
     c.in_ok-program.ensures.described c.in_ok-matches.ensures.matches c.in-None.ensures)
 
-pub returns-in_err-error-in-None-clause-err : goal.returns-in_err-error-in-None-clause-err
-returns-in_err-error-in-None-clause-err g c =
+pub returns-in_err-no_job-in-None-clause-err : goal.returns-in_err-no_job-in-None-clause-err
+returns-in_err-no_job-in-None-clause-err g c =
     refuted_by_any (map g.S.AsStr.text c.args.words.now) _
     (asks_none (map g.S.AsStr.text c.args.words.now) _ c.in_ok-matches.matches
     c.in_ok-program.ensures.described c.in_ok-matches.ensures.matches c.in-None.ensures)
