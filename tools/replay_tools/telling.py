@@ -1,0 +1,92 @@
+"""How tables and events are told in words."""
+
+from __future__ import annotations
+
+import re
+
+from replay_tools import reasons
+
+DATE = re.compile(r"\d{4}-\d\d-\d\d (?=\d\d:\d\d:\d\dZ)")
+# a cell that is a moment, or several of them
+MOMENTS = re.compile(rf"({DATE.pattern})[\d:]{{8}}Z(?:, .*)?", re.ASCII)
+
+
+def table(title, heads, rows):
+    """Lines of a table; a column of numbers, some of them missing, is aligned to the right."""
+    if not rows:
+        return [title, "  none", ""]
+    rows = dated_once(rows)
+    columns = list(zip(heads, *rows))
+    widths = [max(map(len, column)) for column in columns]
+    numbers = [set(column[1:]) != {"-"} and all(cell == "-" or cell.lstrip("-").isdigit() for cell in column[1:])
+               for column in columns]
+    lines = [title]
+    for row in (heads, *rows):
+        cells = (cell.rjust(width) if number else cell.ljust(width)
+                 for cell, width, number in zip(row, widths, numbers))
+        lines.append(("  " + "  ".join(cells)).rstrip())
+    return [*lines, ""]
+
+
+def dated_once(rows):
+    """Rows in which the date of a moment is left out where it is that of the row above, or of the moment that a text
+    stands beside."""
+    above = {}
+
+    def told(place, cell, own):
+        first = MOMENTS.fullmatch(cell)
+        if not first:
+            return DATE.sub(lambda found: "" if found[0] == own else found[0], cell)
+        date, rest = first[1], cell[first.end(1) :]
+        shown = " " * len(date) if above.get(place) == date else date
+        above[place] = date
+        return shown + rest.replace(date, "")
+
+    dates = [next((found[1] for found in map(MOMENTS.fullmatch, row) if found), None) for row in rows]
+    return [[told(place, cell, own) for place, cell in enumerate(row)] for row, own in zip(rows, dates)]
+
+
+def event_words(event, is_beside=False, trace=None, is_whole=True):
+    """An event's attempt, if it has one, and what happened; an eviction in other words where it stands beside what the
+    kubelet did, and a death with why, as far as the trace says it, and the whole with its message."""
+    rest = event.rest
+    evicts = "the rules evict it: " if is_beside else "evicted by "
+    said = {
+        "started": lambda: (rest[0], "started"),
+        "died": lambda: (rest[0], reasons.died_words(event, trace, is_whole)),
+        "startup-passed": lambda: (rest[0], "startup passed"),
+        "kill": lambda: (rest[0], f"kill order: {rest[1]}"),
+        "ready": lambda: ("", "ready"),
+        "unready": lambda: ("", "unready"),
+        "backoff": lambda: ("", f"restart backed off by {rest[0]} s"),
+        "restart": lambda: (rest[0], "restart"),
+        "phase": lambda: ("", f"phase {rest[0]}"),
+        "evicted": lambda: ("", f"{evicts}{rest[1]} {rest[2]}, grace {rest[3]} s"),
+    }
+    return said[event.word]()
+
+
+# what goes by what a trace counts anew from its begin on
+ANEW = {"backoff": "exits counted anew since", "restart": "exits counted anew since",
+        **dict.fromkeys(("kill", "ready", "unready"), "results counted anew since"),
+        "evicted": "the rules begin anew at", "phase": "there again, as on the node, at"}
+
+
+def beside_words(pod, event, show):
+    """What is not known of an event of several traces: it happened in a gap, or it is counted anew in a trace."""
+    if event.was_so:
+        return " (so before this trace)"
+    since = next((since for since, until in pod.gaps if until == event.at), None)
+    if since is not None:
+        return f" (by then, in the gap since {show(since)})"
+    if event.anew is not None and event.word in ANEW:
+        return f" ({ANEW[event.word]} {show(event.anew)})"
+    return ""
+
+
+def containers_title(pod, ended):
+    """The title of a pod's containers; where some still ran as it ended or went, that they stand as they were seen."""
+    is_over = ended is not None or pod.left is not None
+    if is_over and any(container.state == "Running" for container in pod.containers):
+        return "Containers, each in the last state that was recorded"
+    return "Containers"
