@@ -6,7 +6,7 @@ from __future__ import annotations
 import re
 from dataclasses import dataclass, field
 
-from replay_tools import amounts, report as reports, traces, why
+from replay_tools import amounts, events, report as reports, traces, why
 
 # what is no further apart is one eviction, in seconds
 NEAR = 2
@@ -222,6 +222,11 @@ def amount_of(text):
         return amounts.amount_text(amounts.quantity(text), True)
     except ValueError:
         return text
+
+
+def event_words(decision):
+    """What the kubelet did, as an event is told."""
+    return events.filled(events.decision_sentence(), {"decision": decision.kind, "why": why_words(decision)})
 
 
 def did_words(decision, show):

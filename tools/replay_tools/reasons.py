@@ -112,14 +112,8 @@ def text_at(found, name):
 # --- in words ---
 
 
-def died_words(event, trace=None, is_whole=True):
-    """That an instance died, with its code and why, as far as it is known; the whole with its message."""
-    code = int(event.rest[1])
-    why = cause_words(event, code, trace, is_whole)
-    return f"died with code {code}: {why}" if why else f"died with code {code}"
-
-
 def cause_words(event, code, trace, is_whole):
+    """Why an instance died, as far as it is known; the whole with its message."""
     end = trace.reasons.end_of(event) if trace is not None else None
     if end is not None and end.reason:
         return reason_words(event, end, trace, is_whole)

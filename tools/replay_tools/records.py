@@ -3,13 +3,11 @@ seconds of the trace. What a record does not have is left out of it; what is the
 
 from __future__ import annotations
 
-from replay_tools import kubelet as kubelets, reasons, report as reports
+from replay_tools import events, kubelet as kubelets, reasons, report as reports
 
 
 # a moment before all others
 NEVER = -1
-# events that go by what a trace counts anew from its begin on
-COUNTED = ("backoff", "restart", "evicted", "kill", "ready", "unready")
 
 
 def records_of(report, kubelet=None, trace=None, span=None, known=NEVER):
@@ -95,9 +93,10 @@ def event_record(report, number, event):
         record["container"] = event.container
     if event.was_so:
         record["so_before"] = True
-    if event.anew is not None and event.word in COUNTED:
+    kind = events.kinds()[event.word]
+    if event.anew is not None and kind.is_counted:
         record["counted_anew_since"] = event.anew
-    return record | WORDS[event.word](event.rest)
+    return record | kind.values(event.rest)
 
 
 def reason_fields(event, trace):
@@ -107,23 +106,6 @@ def reason_fields(event, trace):
     end = trace.reasons.end_of(event)
     return {"code_is_known": reasons.is_known(event, trace), "reason": end.reason if end else None,
             "message": end.message if end else None}
-
-
-WORDS = {
-    "started": lambda rest: {"attempt": int(rest[0])},
-    "died": lambda rest: {"attempt": int(rest[0]), "code": int(rest[1])},
-    "startup-passed": lambda rest: {"attempt": int(rest[0])},
-    "kill": lambda rest: {"attempt": int(rest[0]), "probe": rest[1]},
-    "ready": lambda rest: {},
-    "unready": lambda rest: {},
-    "backoff": lambda rest: {"delay_seconds": int(rest[0])},
-    "restart": lambda rest: {"attempt": int(rest[0])},
-    "phase": lambda rest: {"phase": rest[0]},
-    "threshold": lambda rest: {"signal": rest[0], "kind": rest[1], "active": rest[2] == "active"},
-    "pressure": lambda rest: {"condition": rest[0], "value": rest[1] == "True"},
-    "reclaim": lambda rest: {"signal": rest[0], "kind": rest[1]},
-    "evicted": lambda rest: {"signal": rest[1], "kind": rest[2], "grace_seconds": int(rest[3])},
-}
 
 
 def pod_record(report, pod, last, known=NEVER):

@@ -2,9 +2,12 @@
 
 from __future__ import annotations
 
+import functools
 import re
 from dataclasses import dataclass, field
 from datetime import datetime, timezone
+
+from replay_tools import events
 
 CONDITIONS = ("MemoryPressure", "DiskPressure", "PIDPressure")
 POD_CONDITIONS = ("PodScheduled", "Initialized", "ContainersReady", "Ready")
@@ -136,11 +139,11 @@ class Span:
     note: str = ""
 
 
+# of events the words that they may have stand in their table
 FORMS = {
     "node": r"node (\S+) pods=(\d+) ticks=(\d+)",
-    "node event": r"event (\d+) node (threshold|pressure|reclaim|evicted) (\S.*)",
-    "event": r"event (\d+) (\S+/\S+) (\S+) "
-             r"(started|died|startup-passed|kill|ready|unready|backoff|restart|phase)((?: \S+)*)",
+    "node event": r"event (\d+) node ({node}) (\S.*)",
+    "event": r"event (\d+) (\S+/\S+) (\S+) ({pod})((?: \S+)*)",
     "pod": r"pod (\d+) (\S+/\S+) phase=(Pending|Running|Succeeded|Failed) reason=(\S+) "
            r"qos=(Guaranteed|Burstable|BestEffort)",
     "condition": r"condition (\d+) (\S+) (True|False) (\d+)(?: (\S+))?",
@@ -150,19 +153,21 @@ FORMS = {
     "eviction": r"eviction (\d+) (\S+/\S+) (\S+) (hard|soft) (\d+)",
     "totals": r"totals updates=(\d+) events=(\d+) orders=(\d+)",
 }
-RESTS = {
-    "started": r"\d+", "died": r"\d+ -?\d+", "startup-passed": r"\d+", "kill": r"\d+ (?:startup|liveness)",
-    "ready": "", "unready": "", "backoff": r"\d+", "restart": r"\d+",
-    "phase": "Pending|Running|Succeeded|Failed", "threshold": r"\S+ (?:hard|soft) (?:active|cleared)",
-    "pressure": r"\S+ (?:True|False)", "reclaim": r"\S+ (?:hard|soft)", "evicted": r"\S+/\S+ \S+ (?:hard|soft) \d+",
-}
-FORMS = {kind: re.compile(form, re.ASCII) for kind, form in FORMS.items()}
-RESTS = {word: re.compile(form, re.ASCII) for word, form in RESTS.items()}
+
+
+@functools.cache
+def forms():
+    """The form of each kind of line."""
+    kinds = events.kinds().values()
+    words = {"node": [kind.word for kind in kinds if kind.subject == "node"],
+             "pod": [kind.word for kind in kinds if kind.subject != "node"]}
+    return {name: re.compile(form.replace("{node}", "|".join(words["node"])).replace("{pod}", "|".join(words["pod"])),
+                             re.ASCII) for name, form in FORMS.items()}
 
 
 def parts_of(line):
     """What kind of line it is, with its parts."""
-    for kind, form in FORMS.items():
+    for kind, form in forms().items():
         found = form.fullmatch(line)
         if found:
             return kind, found.groups()
@@ -279,7 +284,7 @@ def add_line(report, kind, parts):
 
 
 def checked(event):
-    if not RESTS[event.word].fullmatch(" ".join(event.rest)):
+    if not events.kinds()[event.word].form.fullmatch(" ".join(event.rest)):
         raise ValueError
     return event
 

@@ -4,7 +4,7 @@ from __future__ import annotations
 
 import re
 
-from replay_tools import reasons
+from replay_tools import events, reasons
 
 DATE = re.compile(r"\d{4}-\d\d-\d\d (?=\d\d:\d\d:\d\dZ)")
 # a cell that is a moment, or several of them
@@ -49,27 +49,9 @@ def dated_once(rows):
 def event_words(event, is_beside=False, trace=None, is_whole=True):
     """An event's attempt, if it has one, and what happened; an eviction in other words where it stands beside what the
     kubelet did, and a death with why, as far as the trace says it, and the whole with its message."""
-    rest = event.rest
-    evicts = "the rules evict it: " if is_beside else "evicted by "
-    said = {
-        "started": lambda: (rest[0], "started"),
-        "died": lambda: (rest[0], reasons.died_words(event, trace, is_whole)),
-        "startup-passed": lambda: (rest[0], "startup passed"),
-        "kill": lambda: (rest[0], f"kill order: {rest[1]}"),
-        "ready": lambda: ("", "ready"),
-        "unready": lambda: ("", "unready"),
-        "backoff": lambda: ("", f"restart backed off by {rest[0]} s"),
-        "restart": lambda: (rest[0], "restart"),
-        "phase": lambda: ("", f"phase {rest[0]}"),
-        "evicted": lambda: ("", f"{evicts}{rest[1]} {rest[2]}, grace {rest[3]} s"),
-    }
-    return said[event.word]()
-
-
-# what goes by what a trace counts anew from its begin on
-ANEW = {"backoff": "exits counted anew since", "restart": "exits counted anew since",
-        **dict.fromkeys(("kill", "ready", "unready"), "results counted anew since"),
-        "evicted": "the rules begin anew at", "phase": "there again, as on the node, at"}
+    why = reasons.cause_words(event, int(event.rest[1]), trace, is_whole) if event.word == "died" else ""
+    kind = events.kinds()[event.word]
+    return kind.attempt(event.rest), kind.told(event.rest, why, is_beside)
 
 
 def beside_words(pod, event, show):
@@ -79,8 +61,9 @@ def beside_words(pod, event, show):
     since = next((since for since, until in pod.gaps if until == event.at), None)
     if since is not None:
         return f" (by then, in the gap since {show(since)})"
-    if event.anew is not None and event.word in ANEW:
-        return f" ({ANEW[event.word]} {show(event.anew)})"
+    anew = events.kinds()[event.word].anew
+    if event.anew is not None and anew is not None:
+        return f" ({anew} {show(event.anew)})"
     return ""
 
 

@@ -2,7 +2,7 @@
 
 from __future__ import annotations
 
-from replay_tools import entry, kubelet as kubelets, reasons, traces, why
+from replay_tools import entry, events, kubelet as kubelets, reasons, traces, why
 from replay_tools.amounts import amount_text
 from replay_tools.telling import beside_words, event_words, table
 
@@ -48,7 +48,7 @@ def kubelet_parts(trace, report, pod, show, kubelet):
     fact = kubelet and kubelet.fact(pod.number)
     if not fact:
         return []
-    head = f"{show(fact.decision.at)}  the kubelet evicted it: {kubelets.why_words(fact.decision)}"
+    head = f"{show(fact.decision.at)}  {kubelets.event_words(fact.decision)}"
     lines = [kubelets.rules_words(fact, show)]
     is_over = fact.eviction is not None and fact.eviction.at <= fact.decision.at + kubelets.NEAR
     around = None if is_over else kubelets.around(trace, report, fact.decision)
@@ -66,8 +66,8 @@ def wait_parts(trace, pod, show):
 
 def heading(event, show, kubelet=None, trace=None):
     attempt, what = event_words(event, kubelet is not None, trace)
-    said = " ".join(filter(None, [event.container, what, f"(attempt {attempt})" if attempt else ""]))
-    return f"{show(event.at)}  {said}"
+    said = " ".join(filter(None, [event.container, what]))
+    return f"{show(event.at)}  {said}{events.attempt_words(attempt)}"
 
 
 def told(trace, pod, around, show):

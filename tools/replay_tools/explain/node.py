@@ -3,7 +3,8 @@
 from __future__ import annotations
 
 from replay_tools.record import formats
-from replay_tools.record.node import RECLAIMS, SIGNALS
+from replay_tools.record.node import RECLAIMS
+from replay_tools.traces import SIGNALS
 
 from .found import Found, at, is_, nearest, shown
 

@@ -3,7 +3,7 @@
 from __future__ import annotations
 
 from replay_tools.record import formats
-from replay_tools.record.node import SIGNALS
+from replay_tools.traces import SIGNALS
 
 from . import before as earlier
 from .found import at, is_, nearest, shown

@@ -3,9 +3,8 @@ are differences, so that a page of many events stays small. `decode.js` reads it
 
 from __future__ import annotations
 
-from replay_tools import kubelet as kubelets, reasons, records, report as reports, telling, traces, why, why_text
+from replay_tools import events, kubelet as kubelets, reasons, records, report as reports, telling, traces, why, why_text
 
-WORDS = ("started", "died", "startup-passed", "kill", "ready", "unready", "backoff", "restart", "phase", "evicted")
 STATES = ("Waiting", "Running", "Terminated")
 RESULTS = ("success", "failure", "unknown")
 # what a page leaves out above these, and says so
@@ -44,7 +43,7 @@ def data_of(report, trace, ticks, utc):
     budget, words = Budget(MOST_RUNS), Words(trace)
     data = {
         "node": report.node, "utc": utc, "first": span.first, "last": span.of(span.last), "hasTrace": bool(trace),
-        "words": WORDS, "states": STATES, "results": RESULTS, "pods": report.pod_count, "ticks": report.tick_count,
+        **table_of_words(trace), "states": STATES, "results": RESULTS, "pods": report.pod_count, "ticks": report.tick_count,
         "tickSteps": repeated(differences([span.of(tick.at) for tick in trace.ticks])) if trace else [],
         "signals": signals_of(trace), "active": active_of(report, span), "pressure": pressure_of(report, span),
         "gaps": [[span.of(since), span.of(at)] for since, at in report.gaps],
@@ -76,6 +75,15 @@ def not_known(report, utc):
                     "counted anew from there"] if anew else [])
 
 
+def table_of_words(trace):
+    """The words of events, and of each the fields that it has and the sentence in which it is told."""
+    is_beside = trace is not None and trace.tells()
+    told = {kind.word: [[field.name for field in kind.fields], kind.sentence_beside if is_beside else kind.sentence]
+            for kind in events.kinds().values() if kind.is_of_pod}
+    return {"words": list(told), "told": told | {"kubelet": [["decision", "why"], events.decision_sentence()]},
+            "toldAttempt": events.attempt_sentence()}
+
+
 class Budget:
     """How many runs of results still go into the page, and how often there was no room."""
 
@@ -95,6 +103,7 @@ class Words:
 
     def __init__(self, trace):
         self.trace, self.causes, self.waits, self.places = trace, [], [], {}
+        self.kinds = [kind.word for kind in events.kinds().values() if kind.is_of_pod]
 
     def cause(self, event):
         """A list of the place of what is known of why an instance died, with what it means; empty where its code says
@@ -298,7 +307,7 @@ def events_of(span, pod, words):
             why.add_exit(of_it, event, starts.get(event.container))
             rest += [of_it[-1].number, of_it[-1].run, *words.cause(event)]
         place = names.index(event.container) if event.container in names else -1
-        found.append([span.of(event.at) - before, place, WORDS.index(event.word), *rest])
+        found.append([span.of(event.at) - before, place, words.kinds.index(event.word), *rest])
         before = span.of(event.at)
     return found
 

@@ -35,7 +35,7 @@ function eventsOf(pod) {
     return {at, place: event[1], word: data.words[event[2]], rest: event.slice(3), number, pod};
   });
   if (!pod.fact) return events;
-  const did = {at: pod.fact.at, place: -1, word: 'kubelet', rest: [pod.fact.why], number: events.length, pod};
+  const did = {at: pod.fact.at, place: -1, word: 'kubelet', rest: [pod.fact.kind, pod.fact.why], number: events.length, pod};
   return [...events, did].sort((a, b) => a.at - b.at);
 }
 
@@ -188,21 +188,11 @@ function told(event) {
   return toldOf(event) + ((event.pod.notes || {})[event.number] || '');
 }
 
+// Its kind's sentence, of the table that all tools read, with the values of its fields; and its attempt, if it has one.
 function toldOf(event) {
-  const rest = event.rest;
-  switch (event.word) {
-    case 'started': return `started, attempt ${rest[0]}`;
-    case 'died': return `died with code ${rest[1]}${causeWords(event)}, attempt ${rest[0]}`;
-    case 'startup-passed': return `startup passed, attempt ${rest[0]}`;
-    case 'kill': return `kill order by ${rest[1]}, attempt ${rest[0]}`;
-    case 'backoff': return `restart backed off by ${rest[0]} s`;
-    case 'restart': return `restart of attempt ${rest[0]}`;
-    case 'phase': return `phase ${rest[0]}`;
-    case 'evicted': {
-      const evicts = data.kubelet ? 'the rules evict it:' : 'evicted by';
-      return `${evicts} ${rest[1]} ${rest[2]}, grace ${rest[3]} s`;
-    }
-    case 'kubelet': return `the kubelet evicted it: ${rest[0]}`;
-    default: return event.word;
-  }
+  const [fields, sentence] = data.told[event.word];
+  const values = {why: causeWords(event)};
+  fields.forEach((name, place) => { values[name] = event.rest[place]; });
+  const filled = (words) => words.replace(/\{(\w+)\}/g, (_, name) => values[name]);
+  return filled(sentence) + ('attempt' in values ? filled(data.toldAttempt) : '');
 }

@@ -6,12 +6,12 @@ import struct
 from dataclasses import dataclass
 from fractions import Fraction
 
+from replay_tools.traces import SIGNALS
+
 from .formats import (at_place, duration_fault, first_fault, is_percentage, limit_fault, name_fault, percentage_fault,
                       seconds_of, whole_fault, without_nones)
 from .sources import Failed, read_json, reads
 
-SIGNALS = ("memory.available", "nodefs.available", "imagefs.available", "nodefs.inodesFree", "imagefs.inodesFree",
-           "pid.available")
 GRACES = "evictionSoftGracePeriod"
 RECLAIMS = "evictionMinimumReclaim"
 # what the formats don't read: the ticks say what the kubelet did, so where they say nothing it evicted none
