@@ -9,10 +9,6 @@ from replay_tools import entry, kubelet as kubelets, naming, report as reports, 
 from replay_tools.joined import asked, join, known
 
 
-# words of a tool that takes several traces in place of a report
-VALUED, REPEATED = ("--trace", *asked.VALUED), asked.REPEATED
-
-
 @dataclass
 class Given:
     """What a tool is given: a report, with its trace where one is named, or those of several."""
@@ -31,6 +27,12 @@ class Given:
         return self.several is None or self.several.is_span_near(span)
 
 
+def add_words(words):
+    """Adds the words of a tool that takes several traces in place of a report."""
+    words.valued("--trace")
+    asked.add_words(words)
+
+
 def given(found, gather=None):
     """What the words of a tool name: the traces of --traces, or the report of standard input with the trace of
     --trace. `gather` makes of the report what takes the ticks of the trace (why.Ticks)."""
@@ -39,7 +41,7 @@ def given(found, gather=None):
     report = entry.read_report() if several is None else several.report
     ticks = gather and gather(report)
     if several is None:
-        trace = trace_of(report, found["--trace"], ticks and ticks.take_last) if "--trace" in found else None
+        trace = None if found.trace is None else trace_of(report, found.trace, ticks and ticks.take_last)
     else:
         trace = several.trace
     if several is not None and trace is not None:
@@ -51,7 +53,7 @@ def given(found, gather=None):
 
 def is_utc(found, given_to):
     """Whether moments are written as times: that was asked for, or a time was given."""
-    return "--utc" in found or given_to.several is not None and given_to.several.is_utc
+    return found.utc or given_to.several is not None and given_to.several.is_utc
 
 
 def key_named(report, name, kubelet=None):

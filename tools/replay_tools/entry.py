@@ -1,7 +1,9 @@
-"""What the entries of the tools have in common: reading standard input, one line of a fault, writing an answer."""
+"""What the entries of the tools have in common: their words, reading standard input, one line of a fault, writing an
+answer."""
 
 from __future__ import annotations
 
+import argparse
 import io
 import os
 import sys
@@ -19,6 +21,76 @@ class Fault(Exception):
     def __init__(self, said, status=2, means=None):
         super().__init__(said)
         self.status, self.means = status, means
+
+
+class Help(Exception):
+    """The help was asked for, which is the text."""
+
+
+class Words(argparse.ArgumentParser):
+    """Takes the words of a tool. Its help is a text of its own, and what is mistaken is a fault of one line."""
+
+    def __init__(self, text):
+        super().__init__(usage="", add_help=False, allow_abbrev=False, exit_on_error=False)
+        self.add_argument("-h", "--help", action=ShowHelp, text=text)
+
+    def flag(self, *names):
+        """Words without a value."""
+        for name in names:
+            self.add_argument(name, action="store_true")
+
+    def valued(self, *names):
+        """Words with a value, of which the last one counts; without it None."""
+        for name in names:
+            self.add_argument(name)
+
+    def taken(self, words):
+        """The values of the words, in whatever order they stand. Raises Fault and Help."""
+        try:
+            found, left = self.parse_known_intermixed_args(words)
+        except argparse.ArgumentError as fault:
+            raise Fault(f"{fault.argument_name} {said_of(fault.message)}") from None
+        if left:
+            raise Fault(f"{left[0]} is no word of it (--help says more)")
+        return found
+
+
+def said_of(message):
+    """What is said of a word that argparse refuses; what a kind of value says of one that is none stays."""
+    if message.startswith("expected one argument"):
+        return "wants a value (--help says more)"
+    if message.startswith("ignored explicit argument"):
+        return "takes no value (--help says more)"
+    return message
+
+
+class ShowHelp(argparse.Action):
+    """Ends the reading of words by the help."""
+
+    def __init__(self, option_strings, dest, text):
+        super().__init__(option_strings, argparse.SUPPRESS, nargs=0, default=argparse.SUPPRESS)
+        self.text = text
+
+    def __call__(self, *_):
+        raise Help(self.text)
+
+
+def whole_number(most):
+    """The kind of a word whose value is a whole number from 1 to a greatest one."""
+    def number(text):
+        if not (text.isascii() and text.isdigit() and len(text) < 8 and 1 <= int(text) <= most):
+            raise argparse.ArgumentTypeError(f"takes a whole number from 1 to {most}, not '{text}'")
+        return int(text)
+    return number
+
+
+def one_of(choices):
+    """The kind of a word whose value is one of some texts."""
+    def choice(text):
+        if text not in choices:
+            raise argparse.ArgumentTypeError(f"takes {', '.join(choices)}, not '{text}'")
+        return text
+    return choice
 
 
 def say(text):
@@ -82,7 +154,7 @@ def run(tool, main):
         return 1
     sys.stdout = standard_output()
     try:
-        status = version(tool) if is_version(sys.argv[1:]) else main(with_help(sys.argv[1:]))
+        status = version(tool) if is_version(sys.argv[1:]) else answered(main, sys.argv[1:])
         sys.stdout.flush()
         return status
     except Fault as fault:
@@ -102,6 +174,15 @@ def run(tool, main):
         return 130
 
 
+def answered(main, words):
+    """The status of a tool, with the answer or the help written."""
+    try:
+        return main(words)
+    except Help as text:
+        sys.stdout.write(str(text))
+        return 0
+
+
 def is_version(words):
     return words in (["--version"], ["-V"])
 
@@ -114,11 +195,6 @@ def version(tool):
     return 0
 
 
-def with_help(words):
-    """The words, with --help in place of its short form."""
-    return ["--help" if word == "-h" else word for word in words]
-
-
 def visible(text):
     """A text as one line that a terminal only shows, whatever names are in it: what can't be printed, as an escape byte
     or the end of a line, is written as Python writes it."""
@@ -129,31 +205,3 @@ def counted(count, what):
     """A number of things, in words: 1 pod, 2 pods, 2 copies."""
     several = f"{what[:-1]}ies" if what.endswith("y") else f"{what}s"
     return f"{count} {what if count == 1 else several}"
-
-
-def words_with(words, flags=(), valued=(), repeated=()):
-    """The words apart: those that are none of the flags and valued words, and a dict of those that are, which has a
-    list for one that may be repeated."""
-    plain, found, waiting = [], {}, None
-
-    def take(name, value):
-        found[name] = [*found.get(name, ()), value] if name in repeated else value
-
-    for word in words:
-        name, equals, value = word.partition("=")
-        if waiting:
-            take(waiting, word)
-            waiting = None
-        elif word in flags:
-            found[word] = True
-        elif word in (*valued, *repeated):
-            waiting = word
-        elif equals and name in (*valued, *repeated):
-            take(name, value)
-        elif word.startswith("-") and word != "-":
-            raise Fault(f"{word} is no word of it (--help says more)")
-        else:
-            plain.append(word)
-    if waiting:
-        raise Fault(f"{waiting} wants a value (--help says more)")
-    return plain, found

@@ -17,8 +17,6 @@ FOLDER = "/var/lib/kubelet-replay"
 # kubectl says so behind what the command itself said
 ENDED = "command terminated with exit code"
 SECONDS, SECONDS_OF_COPY = 60, 600
-# words of a tool that asks them
-VALUED = ("--context", "--recorders")
 
 
 class NoAnswer(Exception):
@@ -125,9 +123,15 @@ def recorder_of(item):
                     item.get("status", {}).get("phase", "Unknown"), bool(ready) and all(ready))
 
 
+def add_words(words):
+    """Adds the words of a tool that asks them."""
+    words.valued("--context")
+    words.add_argument("--recorders", default=NAMESPACE)
+
+
 def cluster_of(found):
     """The cluster that the words of a tool name."""
-    return Cluster(found.get("--context"), found.get("--recorders", NAMESPACE))
+    return Cluster(found.context, found.recorders)
 
 
 def on_nodes(recorders, nodes):

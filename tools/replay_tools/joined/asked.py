@@ -10,7 +10,7 @@ from dataclasses import dataclass
 from replay_tools import entry
 
 # words of a tool that takes several traces
-REPEATED = ("--traces",)
+TRACES = "--traces"
 VALUED = ("--node", "--since", "--at")
 # what led to it lies before a moment, what came of it behind
 SECONDS_BEFORE, SECONDS_BEHIND = 3600, 600
@@ -42,31 +42,36 @@ class Asked:
         return None if self.at is None else self.at + SECONDS_BEHIND
 
 
+def add_words(words):
+    """Adds the words of several traces to those of a tool."""
+    words.add_argument(TRACES, action="append")
+    words.valued(*VALUED)
+
+
 def asked_of(found):
     """What the words of a tool ask for; None where they name no traces."""
-    if "--traces" not in found:
+    if found.traces is None:
         for word in VALUED:
-            if word in found:
+            if getattr(found, word[2:]) is not None:
                 raise entry.Fault(f"{word} wants --traces too, which says where traces are (--help says more)")
         return None
-    if "--trace" in found:
+    if found.trace is not None:
         raise entry.Fault("--trace and --traces exclude each other (--help says more)")
-    return asked_at(found, time.time())
+    return asked_at(found.traces, found.node, found.since, found.at, time.time())
 
 
-def asked_at(found, now):
-    """What words ask for, of which --since may count from now."""
-    if "--since" in found and "--at" in found:
+def asked_at(named, node, since, at, now):
+    """What is asked for, by the values of words, of which that of --since may count from now."""
+    if since is not None and at is not None:
         raise entry.Fault("--since and --at exclude each other (--help says more)")
-    since = since_of(found["--since"], now) if "--since" in found else None
-    at = moment_of(found["--at"], "--at", now) if "--at" in found else None
-    is_utc = any(not found[word].isdigit() for word in ("--since", "--at") if word in found)
-    return Asked(found.get("--traces", []), found.get("--node"), since, at, is_utc)
+    is_utc = any(text is not None and not text.isdigit() for text in (since, at))
+    return Asked(named, node, None if since is None else since_of(since, now),
+                 None if at is None else moment_of(at, "--at", now), is_utc)
 
 
-def span_of(found, now):
-    """The first and the last moment that words ask for; None for each that they leave open."""
-    wanted = asked_at(found, now)
+def span_of(since, at, now):
+    """The first and the last moment that the values of --since and --at ask for; None for each that they leave open."""
+    wanted = asked_at([], None, since, at, now)
     return wanted.first, wanted.last
 
 

@@ -31,15 +31,15 @@ def run(name, command, found, tool):
         pods = [f"{found.namespace}/"]
     rest = [*found.rest, *(["--without-why"] if name == "story" and pods and not pods[0].endswith("/")
                            and "--without-why" not in found.rest else [])]
-    named = [word for file in found.files for word in (asked.REPEATED[0], file)]
-    if named or asked.REPEATED[0] in found.rest:
+    named = [word for file in found.files for word in (asked.TRACES, file)]
+    if named or asked.TRACES in found.rest:
         if words.RECORDERS in found.rest:
             raise entry.Fault(f"{words.RECORDERS} is for the traces of a cluster, and files are named")
         files.run_on(tool, [*rest, *pods, *named])
     node = found.value("--node")
     if node is None:
         raise entry.Fault("it wants -f FILE or FOLDER for traces that are here, or --node NODE for those of a cluster")
-    return run_fetched(found, node, lambda folder: [tool, *without(rest, words.RECORDERS), *pods, asked.REPEATED[0],
+    return run_fetched(found, node, lambda folder: [tool, *without(rest, words.RECORDERS), *pods, asked.TRACES,
                                                     folder])
 
 
@@ -52,7 +52,7 @@ def without(rest, name):
 def run_fetched(found, node, words_for):
     """Fetches the traces of a node into a folder that goes again, and runs a tool on them; its status."""
     cluster = recorders.Cluster(found.context, found.value(words.RECORDERS) or recorders.NAMESPACE)
-    first, last = asked.span_of({name: found.value(name) for name in asked.VALUED if found.value(name)}, fetching.now())
+    first, last = asked.span_of(found.value("--since"), found.value("--at"), fetching.now())
     [recorder] = recorders.on_nodes(cluster.recorders(), [node])
     try:
         folder = tempfile.TemporaryDirectory(prefix="kubelet-replay-")

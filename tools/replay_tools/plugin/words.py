@@ -32,7 +32,7 @@ class Command:
 
 
 RECORDERS = "--recorders"
-SEVERAL = (*asked.REPEATED, *asked.VALUED, RECORDERS)
+SEVERAL = (asked.TRACES, *asked.VALUED, RECORDERS)
 RECORDER_VALUED = ("--node", "--every", "--look", "--ticks", "--for", "--kubelet", "--curl", "--node-line",
                    "--crictl", "--eviction-pause", "--into", "--each", "--keep", "--most")
 RECORDER_FLAGS = ("--check", "--standard", "--extended")
