@@ -16,7 +16,7 @@ DURATION = re.compile(r"0|(?:\d+[hms])+", re.ASCII)
 SECONDS = {"h": 3600, "m": 60, "s": 1}
 
 
-def quantity(value):
+def quantity(value: int | str) -> int:
     """The thousandths of a unit of a quantity, a text or a whole number of units. Raises ValueError."""
     if isinstance(value, int) and not isinstance(value, bool):
         return min(1000 * value, GREATEST)
@@ -26,7 +26,7 @@ def quantity(value):
 
 
 @functools.lru_cache(1 << 12)
-def quantity_of_text(text):
+def quantity_of_text(text: str) -> int:
     found = QUANTITY.fullmatch(text)
     if not found:
         raise ValueError
@@ -35,26 +35,26 @@ def quantity_of_text(text):
     return min(-(-Fraction(number.rstrip(".")) * factor * 1000 // 1), GREATEST)
 
 
-def limit(value, capacity):
+def limit(value: int | str, capacity: int | None) -> int | None:
     """The thousandths of a limit, a quantity or a percentage of a capacity; None where that is not known."""
     if not (isinstance(value, str) and value.endswith("%")):
         return quantity(value)
     return None if capacity is None else capacity * hundredths(value) // 10000
 
 
-def hundredths(value):
+def hundredths(value: str) -> int:
     """The hundredths of a percent of a text that ends with %."""
     return int(Fraction(value[:-1]) * 100)
 
 
-def duration(value):
+def duration(value: str) -> int:
     """The seconds of a duration. Raises ValueError."""
     if not isinstance(value, str) or not DURATION.fullmatch(value):
         raise ValueError
     return sum(int(number) * SECONDS[unit] for number, unit in re.findall(r"(\d+)([hms])", value))
 
 
-def amount_text(thousandths, of_bytes):
+def amount_text(thousandths: int | None, of_bytes: bool) -> str:
     """An amount as a person reads it: bytes with a binary suffix and at most two digits behind the point."""
     if thousandths is None:
         return "-"

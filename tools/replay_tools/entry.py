@@ -7,6 +7,8 @@ import argparse
 import io
 import os
 import sys
+from collections.abc import Callable, Iterable
+from typing import Any, BinaryIO, TextIO
 
 from replay_tools import first_bytes, report as reports
 
@@ -18,7 +20,7 @@ TOOL = ["kubelet-replay"]
 class Fault(Exception):
     """What is said in one line on standard error, in one more what it means where that is known, and the status."""
 
-    def __init__(self, said, status=2, means=None):
+    def __init__(self, said: str, status: int = 2, means: str | None = None) -> None:
         super().__init__(said)
         self.status, self.means = status, means
 
@@ -30,21 +32,21 @@ class Help(Exception):
 class Words(argparse.ArgumentParser):
     """Takes the words of a tool. Its help is a text of its own, and what is mistaken is a fault of one line."""
 
-    def __init__(self, text):
+    def __init__(self, text: str) -> None:
         super().__init__(usage="", add_help=False, allow_abbrev=False, exit_on_error=False)
         self.add_argument("-h", "--help", action=ShowHelp, text=text)
 
-    def flag(self, *names):
+    def flag(self, *names: Any) -> None:
         """Words without a value."""
         for name in names:
             self.add_argument(name, action="store_true")
 
-    def valued(self, *names):
+    def valued(self, *names: Any) -> None:
         """Words with a value, of which the last one counts; without it None."""
         for name in names:
             self.add_argument(name)
 
-    def taken(self, words):
+    def taken(self, words: list[str]) -> argparse.Namespace:
         """The values of the words, in whatever order they stand. Raises Fault and Help."""
         try:
             found, left = self.parse_known_intermixed_args(words)
@@ -55,7 +57,7 @@ class Words(argparse.ArgumentParser):
         return found
 
 
-def said_of(message):
+def said_of(message: str) -> str:
     """What is said of a word that argparse refuses; what a kind of value says of one that is none stays."""
     if message.startswith("expected one argument"):
         return "wants a value (--help says more)"
@@ -67,45 +69,45 @@ def said_of(message):
 class ShowHelp(argparse.Action):
     """Ends the reading of words by the help."""
 
-    def __init__(self, option_strings, dest, text):
+    def __init__(self, option_strings: list[str], dest: str, text: str) -> None:
         super().__init__(option_strings, argparse.SUPPRESS, nargs=0, default=argparse.SUPPRESS)
         self.text = text
 
-    def __call__(self, *_):
+    def __call__(self, *_: object) -> None:
         raise Help(self.text)
 
 
-def whole_number(most):
+def whole_number(most: int) -> Callable[[str], int]:
     """The kind of a word whose value is a whole number from 1 to a greatest one."""
-    def number(text):
+    def number(text: str) -> int:
         if not (text.isascii() and text.isdigit() and len(text) < 8 and 1 <= int(text) <= most):
             raise argparse.ArgumentTypeError(f"takes a whole number from 1 to {most}, not '{text}'")
         return int(text)
     return number
 
 
-def one_of(choices):
+def one_of(choices: Iterable[str]) -> Callable[[str], str]:
     """The kind of a word whose value is one of some texts."""
-    def choice(text):
+    def choice(text: str) -> str:
         if text not in choices:
             raise argparse.ArgumentTypeError(f"takes {', '.join(choices)}, not '{text}'")
         return text
     return choice
 
 
-def say(text):
+def say(text: str) -> None:
     """A line on standard error that is no fault."""
     print(f"{TOOL[0]}: {visible(text)}", file=sys.stderr)
 
 
-def standard_input():
+def standard_input() -> BinaryIO:
     """Standard input as bytes, where the shell has not closed it."""
     if sys.stdin is None:
         raise Fault("standard input is closed")
     return sys.stdin.buffer
 
 
-def read_report():
+def read_report() -> reports.Report:
     """The report of standard input."""
     text, given = b"", standard_input()
     if given.isatty():
@@ -126,7 +128,7 @@ class OutputFault(OSError):
 class Output(io.FileIO):
     """Standard output, with faults that can be told from those of other files."""
 
-    def write(self, data):
+    def write(self, data: Any) -> int:
         try:
             return super().write(data)
         except BrokenPipeError:
@@ -135,7 +137,7 @@ class Output(io.FileIO):
             raise OutputFault(fault.errno, fault.strerror) from None
 
 
-def standard_output():
+def standard_output() -> TextIO:
     """Standard output with a buffer also where PYTHONUNBUFFERED takes it away: without one a write that is cut short,
     as on a full disk, would be no fault."""
     plain = sys.stdout
@@ -143,7 +145,7 @@ def standard_output():
     return io.TextIOWrapper(buffer, plain.encoding, plain.errors, line_buffering=plain.isatty())
 
 
-def run(tool, main):
+def run(tool: str, main: Callable[[list[str]], int]) -> int:
     """The status of a tool: that of main, or of a fault, 1 where standard output takes no more or the system refuses
     something that no tool expects."""
     TOOL[0] = tool
@@ -174,7 +176,7 @@ def run(tool, main):
         return 130
 
 
-def answered(main, words):
+def answered(main: Callable[[list[str]], int], words: list[str]) -> int:
     """The status of a tool, with the answer or the help written."""
     try:
         return main(words)
@@ -183,11 +185,11 @@ def answered(main, words):
         return 0
 
 
-def is_version(words):
+def is_version(words: list[str]) -> bool:
     return words in (["--version"], ["-V"])
 
 
-def version(tool):
+def version(tool: str) -> int:
     """Writes the version of the release, or of the checkout, that the tool is of; the status."""
     top = os.path.dirname(os.path.dirname(os.path.dirname(os.path.realpath(__file__))))
     with open(os.path.join(top, "VERSION"), encoding="utf-8") as file:
@@ -195,13 +197,13 @@ def version(tool):
     return 0
 
 
-def visible(text):
+def visible(text: str) -> str:
     """A text as one line that a terminal only shows, whatever names are in it: what can't be printed, as an escape byte
     or the end of a line, is written as Python writes it."""
     return "".join(each if each.isprintable() else each.encode("unicode_escape").decode("ascii") for each in text)
 
 
-def counted(count, what):
+def counted(count: int, what: str) -> str:
     """A number of things, in words: 1 pod, 2 pods, 2 copies."""
     several = f"{what[:-1]}ies" if what.endswith("y") else f"{what}s"
     return f"{count} {what if count == 1 else several}"

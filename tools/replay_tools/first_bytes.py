@@ -24,7 +24,7 @@ OTHERS = {
 KIND = re.compile(rb'"kind"\s*:\s*"(\w+)"')
 
 
-def kind_of(head):
+def kind_of(head: bytes) -> str | None:
     """What a file is that begins with these bytes; None where they say nothing of it."""
     head = head[:LOOKED_AT]
     if not head:
@@ -46,7 +46,7 @@ def kind_of(head):
     return kind_of_json(head.lstrip(b" \t\r\n"))
 
 
-def kind_of_json(head):
+def kind_of_json(head: bytes) -> str | None:
     if head[:1] == b"[":
         return MANIFESTS if b'"metadata"' in head else None
     if head[:1] != b"{":
@@ -59,12 +59,12 @@ def kind_of_json(head):
     return kinds.get(found[1]) if found else None
 
 
-def unpacked_by(kind):
+def unpacked_by(kind: str | None) -> str | None:
     """The command that unpacks a file of this kind; None where it is not packed."""
     return next((command for said, command in PACKED.values() if said == kind), None)
 
 
-def instead_of_report(head, what="standard input"):
+def instead_of_report(head: bytes, what: str = "standard input") -> str | None:
     """What to say where a report is wanted, and these bytes begin what is there; None where that begins as one, or
     says nothing."""
     kind = kind_of(head)
@@ -81,7 +81,7 @@ def instead_of_report(head, what="standard input"):
     return f"{what} is {kind}, and it wants a report{how_to_unpack(kind)}"
 
 
-def instead_of_trace(head, what):
+def instead_of_trace(head: bytes, what: str) -> str | None:
     """The same where a trace is wanted."""
     kind = kind_of(head)
     if kind in (None, TRACE):
@@ -93,6 +93,6 @@ def instead_of_trace(head, what):
     return f"{what} is {kind}, and it wants a trace{how_to_unpack(kind)}"
 
 
-def how_to_unpack(kind):
+def how_to_unpack(kind: str | None) -> str:
     command = unpacked_by(kind)
     return f": unpack it first, as in: {command} FILE | .." if command else ""

@@ -4,6 +4,7 @@ the rules evict over the samples that were recorded in its report."""
 from __future__ import annotations
 
 import re
+from collections.abc import Callable
 from dataclasses import dataclass, field
 
 from replay_tools import amounts, events, report as reports, traces, why
@@ -30,7 +31,7 @@ class Fact:
     """why they differ, as far as the trace shows: each as its parts, texts and moments as numbers"""
 
     @property
-    def agrees(self):
+    def agrees(self) -> bool:
         return self.eviction is not None and abs(self.eviction.at - self.decision.at) <= NEAR
 
 
@@ -50,26 +51,26 @@ class Kubelet:
     refused: list[traces.Decision] = field(default_factory=list)
     alone: list[Alone] = field(default_factory=list)
 
-    def decisions(self):
+    def decisions(self) -> list[tuple[traces.Decision, Fact | None]]:
         """Each decision with its fact, or None where it is no eviction, in order."""
         all_of = [(fact.decision, fact) for fact in self.evicted] + [(each, None) for each in self.refused]
         return sorted(all_of, key=lambda pair: pair[0].at)
 
-    def fact(self, number):
+    def fact(self, number: int) -> Fact | None:
         """The kubelet's eviction of a pod, or None."""
         found = (fact for fact in self.evicted if number is not None and fact.decision.number == number)
         return next(found, None)
 
-    def by_rules_alone(self, number):
+    def by_rules_alone(self, number: int) -> Alone | None:
         return next((each for each in self.alone if each.eviction.number == number), None)
 
-    def of_no_line(self, key):
+    def of_no_line(self, key: str) -> list[traces.Decision]:
         """What the kubelet did to pods of a key that have no line in the trace."""
         return [each for each in [*(fact.decision for fact in self.evicted), *self.refused]
                 if each.number is None and each.pod == key]
 
 
-def beside(trace, report):
+def beside(trace: traces.Trace, report: reports.Report) -> Kubelet | None:
     """What the kubelet did beside the report; None where the trace does not say what it did."""
     if not trace.tells():
         return None
@@ -88,7 +89,7 @@ def beside(trace, report):
     return found
 
 
-def then(facts, eviction):
+def then(facts: list[Fact], eviction: reports.Eviction) -> str:
     """Whom the kubelet evicted when the rules did."""
     near = [fact.decision for fact in facts if abs(fact.decision.at - eviction.at) <= NEAR]
     return f"the kubelet evicted {near[0].pod} then" if near else "the kubelet evicted no pod then"
@@ -97,7 +98,7 @@ def then(facts, eviction):
 # --- why they differ ---
 
 
-def add_causes(trace, report, facts):
+def add_causes(trace: traces.Trace, report: reports.Report, facts: list[Fact]) -> None:
     others = [fact for fact in facts if not fact.agrees and trace.ticks]
     usages = why.usages_at(trace, {place_of(trace, fact) for fact in others})
     for fact in others:
@@ -109,13 +110,14 @@ def add_causes(trace, report, facts):
             fact.causes = causes_of(trace, report, fact.decision, usages[place_of(trace, fact)])
 
 
-def place_of(trace, fact):
+def place_of(trace: traces.Trace, fact: Fact) -> int:
     """The place of the last tick that is near a decision; the first one where all are later."""
     latest = fact.decision.at + NEAR
     return max((place for place, tick in enumerate(trace.ticks) if tick.at <= latest), default=0)
 
 
-def causes_of(trace, report, decision, usages):
+def causes_of(trace: traces.Trace, report: reports.Report, decision: traces.Decision,
+              usages: dict[int, dict[str, int]]) -> list[list[str | int]]:
     """Why the rules do not evict a pod when the kubelet did: each cause as its parts, of which numbers are moments."""
     gone = trace.pods[decision.number].gone
     if gone is not None and gone < len(trace.ticks) and trace.ticks[gone].at <= decision.at:
@@ -141,20 +143,21 @@ def causes_of(trace, report, decision, usages):
     return other_causes(trace, report, decision, served, usages)
 
 
-def ticks_near(trace, at):
+def ticks_near(trace: traces.Trace, at: int) -> list[traces.Tick]:
     """The ticks near a moment, or the last one before it, or the first."""
     near = [tick for tick in trace.ticks if abs(tick.at - at) <= NEAR]
     return near or [tick for tick in trace.ticks if tick.at < at][-1:] or trace.ticks[:1]
 
 
-def other_causes(trace, report, decision, limit, usages):
+def other_causes(trace: traces.Trace, report: reports.Report, decision: traces.Decision, limit: traces.Threshold,
+                 usages: dict[int, dict[str, int]]) -> list[list[str | int]]:
     """The causes where a threshold was due."""
     place = max(place for place, tick in enumerate(trace.ticks) if tick.at <= decision.at + NEAR)
     before = [eviction for eviction in report.evictions if eviction.at <= trace.ticks[place].at]
     candidates = why.candidates_of(trace, report, place, limit.signal, decision.number, usages)
     ours = next((each for each in candidates if each.victim), None)
     counts = ours is not None and ours.usage is None and ours.unsampled_at is None
-    found = [["the pod had no sample, which counts as 0"]] if counts else []
+    found: list[list[str | int]] = [["the pod had no sample, which counts as 0"]] if counts else []
     if before and before[-1].at >= decision.at - NEAR:
         return [*found, [f"they evict {before[-1].pod} in its place, at", before[-1].at]]
     if trace.pause() and before and trace.pause_end(before[-1]) > decision.at - NEAR:
@@ -166,7 +169,7 @@ def other_causes(trace, report, decision, limit, usages):
     return found
 
 
-def no_sample_below(limits, near):
+def no_sample_below(limits: list[traces.Threshold], near: list[traces.Tick]) -> list[str | int]:
     """That no sample of some ticks was below its threshold, with the least of them."""
     found = []
     for limit in limits:
@@ -177,7 +180,7 @@ def no_sample_below(limits, near):
     return [f"no sample below the threshold was recorded ({'; '.join(found)})"]
 
 
-def around(trace, report, decision):
+def around(trace: traces.Trace, report: reports.Report, decision: traces.Decision) -> why.Evicted:
     """What the trace holds around the kubelet's eviction of a pod, as that around one by the rules, with the samples of
     some seconds; None where no threshold is known that it was for."""
     limits = [limit for limit in trace.thresholds if limit.signal in SIGNALS.get(resource_of(decision), ())]
@@ -199,12 +202,12 @@ def around(trace, report, decision):
 # --- in words ---
 
 
-def resource_of(decision):
+def resource_of(decision: traces.Decision) -> str | None:
     found = RESOURCE.search(decision.message)
-    return found and found[1]
+    return None if found is None else found[1]
 
 
-def why_words(decision):
+def why_words(decision: traces.Decision) -> str:
     """Why the kubelet did it, in its own words, shortened where their form is known."""
     if decision.kind == "refused":
         found = CONDITION.search(decision.message)
@@ -217,31 +220,31 @@ def why_words(decision):
     return ", ".join([f"low on {resource}", *using])
 
 
-def amount_of(text):
+def amount_of(text: str) -> str:
     try:
         return amounts.amount_text(amounts.quantity(text), True)
     except ValueError:
         return text
 
 
-def event_words(decision):
+def event_words(decision: traces.Decision) -> str:
     """What the kubelet did, as an event is told."""
     return events.filled(events.decision_sentence(), {"decision": decision.kind, "why": why_words(decision)})
 
 
-def did_words(decision, show):
+def did_words(decision: traces.Decision, show: Callable[[int], str]) -> str:
     """What the kubelet did, as a fact."""
     never = "; it never ran" if decision.kind == "refused" else ""
     return f"the kubelet {decision.kind} it at {show(decision.at)}: {why_words(decision)}{never}"
 
 
-def causes_text(causes, show):
+def causes_text(causes: list[list[int | str]], show: Callable[[int], str]) -> str:
     """The causes behind a semicolon each."""
     told = (" ".join(show(part) if isinstance(part, int) else part for part in cause) for cause in causes)
     return "".join(f"; {cause}" for cause in told)
 
 
-def rules_words(fact, show):
+def rules_words(fact: Fact, show: Callable[[int], str]) -> str:
     """What the rules do to the pod beside what the kubelet did."""
     if fact.eviction is None:
         return "the rules, over the recorded samples, differ: they do not evict it" + causes_text(fact.causes, show)
@@ -252,13 +255,13 @@ def rules_words(fact, show):
             + causes_text(fact.causes, show))
 
 
-def alone_words(alone, show):
+def alone_words(alone: Alone, show: Callable[[int], str]) -> str:
     """That the rules alone evict a pod."""
     return (f"the kubelet did not evict it; the rules, over the recorded samples, evict it at "
             f"{show(alone.eviction.at)}" + causes_text(alone.causes, show))
 
 
-def lines_of(kubelet, number, show):
+def lines_of(kubelet: Kubelet | None, number: int, show: Callable[[int], str]) -> list[str]:
     """What the kubelet did to a pod of the trace, and what the rules do; none where neither did anything."""
     if kubelet is None:
         return []
@@ -269,7 +272,7 @@ def lines_of(kubelet, number, show):
     return [*refused, *([alone_words(alone, show)] if alone is not None else [])]
 
 
-def no_line_text(key, decisions, show):
+def no_line_text(key: str, decisions: list[traces.Decision], show: Callable[[int], str]) -> str:
     """What is told of pods that have no line in the trace."""
     return "".join(f"{key}: {did_words(each, show)}. It has no line in the trace: it is no candidate, and no eviction "
                    "of the rules.\n" for each in decisions)

@@ -7,7 +7,7 @@ from replay_tools import entry
 MOST_LISTED = 10
 
 
-def only_key(name, keys):
+def only_key(name: str, keys: list[str]) -> str | None:
     """The one key that a name fits; None where it fits none. Raises Fault where it fits several."""
     found = fitting(name, keys)
     if len(found) > 1:
@@ -16,7 +16,7 @@ def only_key(name, keys):
     return found[0] if found else None
 
 
-def fitting(name, keys):
+def fitting(name: str, keys: list[str]) -> list[str]:
     """The keys that a name fits: it is one of them, else it is the name of some, else some begin with it."""
     whole = [key for key in keys if key == name] or [key for key in keys if key.partition("/")[2] == name]
     if whole or not name:

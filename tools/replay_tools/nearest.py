@@ -3,13 +3,15 @@
     nearest.py NAME < NAMES
 """
 
+from __future__ import annotations
+
 import difflib
 import sys
 
 MOST = 10
 
 
-def main(name):
+def main(name: str) -> str:
     names = sys.stdin.read().split("\n")[:-1]
     near = difflib.get_close_matches(name, names, 3)
     if near:

@@ -6,6 +6,7 @@ import hashlib
 import json
 import os
 import subprocess
+from typing import Any
 
 from replay_tools import entry
 
@@ -15,12 +16,12 @@ BUILT = "crates/replay_program/out/replay_program"
 SMALLEST = b'{"kind":"node","name":"n1"}\n'
 
 
-def path():
+def path() -> str:
     """The absolute path of the program: KUBELET_REPLAY, or ./kubelet_replay beside the tools."""
     return os.path.abspath(os.environ.get("KUBELET_REPLAY") or os.path.join(TOP, "kubelet_replay"))
 
 
-def checked_path():
+def checked_path() -> str:
     """The path of a program that writes reports. In a checkout this builds it where that is due, once and before
     many processes ask for it; so what it says is not held back. What is given is then the built program itself, whose
     sum is another one where it is another program."""
@@ -35,7 +36,7 @@ def checked_path():
     return built if found == os.path.join(TOP, "kubelet_replay") and os.access(built, os.X_OK) else found
 
 
-def format_words(lines):
+def format_words(lines: Any) -> list[str]:
     """The words for the format of a trace, of which the lines are given as bytes: --extended where its node line says
     version 3. Whatever else it says, the program has to say why it is refused."""
     node_line = next((line for line in lines if line.strip(b" \t\r\n")), b"")
@@ -46,7 +47,7 @@ def format_words(lines):
     return ["--extended"] if isinstance(node, dict) and node.get("version") == 3 else []
 
 
-def sum_of(found):
+def sum_of(found: str) -> str:
     """The SHA-256 of the program's file, in hexadecimal digits."""
     with open(found, "rb") as file:
         return hashlib.sha256(file.read()).hexdigest()

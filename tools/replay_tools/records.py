@@ -3,14 +3,21 @@ seconds of the trace. What a record does not have is left out of it; what is the
 
 from __future__ import annotations
 
+from collections.abc import Iterator
+from typing import Any, TYPE_CHECKING
+
 from replay_tools import events, kubelet as kubelets, reasons, report as reports
+
+if TYPE_CHECKING:
+    from replay_tools import traces
 
 
 # a moment before all others
 NEVER = -1
 
 
-def records_of(report, kubelet=None, trace=None, span=None, known=NEVER):
+def records_of(report: reports.Report, kubelet: kubelets.Kubelet | None = None, trace: traces.Trace | None = None,
+               span: tuple[int, int] | None = None, known: int = NEVER) -> Iterator[dict[str, Any]]:
     """Each record of a report: the node, its events, its pods with their containers and conditions, its own
     conditions, and the evictions; then what the kubelet did, and why instances died and containers waited, where a
     trace said so. The span are the moments of the trace's first and last tick, where they are known. What is by the
@@ -41,19 +48,19 @@ def records_of(report, kubelet=None, trace=None, span=None, known=NEVER):
         yield from cause_records(report, trace, last or 0, known)
 
 
-def first_moment(report):
+def first_moment(report: reports.Report) -> int:
     """The first moment that the report names, which is that of the first tick; None without a tick."""
     named = [event.at for event in report.events] + [condition.at for condition in report.conditions]
     named += [reports.first_tick(pod) for pod in report.pods if reports.has_ticks(report, pod)]
     return min(named) if report.tick_count else None
 
 
-def last_moment(report):
+def last_moment(report: reports.Report) -> int:
     """The last moment that the report names, which is no later than that of the last tick; None without a tick."""
     return max(reports.moments(report)) if report.tick_count else None
 
 
-def node_record(report, first, last, known=NEVER):
+def node_record(report: reports.Report, first: int, last: int, known: int = NEVER) -> dict[str, Any]:
     updates, events, orders = report.totals
     return {
         "record": "node", "node": report.node, "pods": report.pod_count, "ticks": report.tick_count,
@@ -68,24 +75,24 @@ PRESSURES = {"MemoryPressure": "memory_pressure_seconds", "DiskPressure": "disk_
              "PIDPressure": "pid_pressure_seconds"}
 
 
-def pressure_seconds(report, kind, last, known=NEVER):
+def pressure_seconds(report: reports.Report, kind: str, last: int, known: int = NEVER) -> int:
     """For how long a condition of the node was True, until the last moment."""
     return seconds_of(reports.pressure_spans(report, kind), last, known)
 
 
-def seconds_of(spans, last, known):
+def seconds_of(spans: list[reports.Span], last: int, known: int) -> int:
     """The seconds of spans behind a moment, of those that are open to the last one."""
     ends = [(span, last if span.until is None else min(span.until, last)) for span in spans]
     return sum(max(end - max(span.since, known), 0) for span, end in ends)
 
 
-def border_record(report, number, border):
+def border_record(report: reports.Report, number: int, border: reports.Border) -> dict[str, Any]:
     """Where the next of several traces begins."""
     return {"record": "border", "node": report.node, "number": number, "since": border.since, "at": border.at,
             "is_gap": border.is_gap, "trace": border.name, "missing": border.missing}
 
 
-def event_record(report, number, event):
+def event_record(report: reports.Report, number: int, event: reports.Event) -> dict[str, Any]:
     record = {"record": "event", "node": report.node, "number": number, "at": event.at, "event": event.word}
     if event.pod is not None:
         record.update(pod=event.pod, pod_number=event.number)
@@ -99,7 +106,7 @@ def event_record(report, number, event):
     return record | kind.values(event.rest)
 
 
-def reason_fields(event, trace):
+def reason_fields(event: reports.Event, trace: traces.Trace | None) -> dict[str, Any]:
     """Of a death why, as a trace says it: whether the code is the instance's own, the reason, the message."""
     if event.word != "died" or trace is None:
         return {}
@@ -108,7 +115,7 @@ def reason_fields(event, trace):
             "message": end.message if end else None}
 
 
-def pod_record(report, pod, last, known=NEVER):
+def pod_record(report: reports.Report, pod: reports.Pod, last: int, known: int = NEVER) -> dict[str, Any]:
     """A pod, with what its events come to."""
     namespace, _, name = pod.key.partition("/")
     ended, ready, seen = reports.end_of(pod), pod.condition("Ready"), reports.has_ticks(report, pod)
@@ -128,14 +135,14 @@ def pod_record(report, pod, last, known=NEVER):
     }
 
 
-def became_unready(pod, known=NEVER):
+def became_unready(pod: reports.Pod, known: int = NEVER) -> int:
     """How often Ready went from True to False, the pod's end included."""
     spans = reports.ready_spans(pod)
     return sum(before.value == "True" and after.value == "False" and after.since > known
                for before, after in zip(spans, spans[1:]))
 
 
-def unready_seconds(pod, last, known=NEVER):
+def unready_seconds(pod: reports.Pod, last: int, known: int = NEVER) -> int:
     """For how long the pod was not Ready, from its first tick until its end, or until it was gone, or else until the
     last moment."""
     end = reports.end_of_spans(pod)
@@ -143,21 +150,22 @@ def unready_seconds(pod, last, known=NEVER):
     return seconds_of(spans, last if end is None else end, known)
 
 
-def count(pod, word, name=None, known=NEVER):
+def count(pod: reports.Pod, word: str, name: str | None = None, known: int = NEVER) -> int:
     return sum(event.word == word and name in (None, event.container) and event.at > known for event in pod.events)
 
 
-def came_again(pod, name):
+def came_again(pod: reports.Pod, name: str) -> int:
     """How many instances of a container came after another one, as far as they were recorded."""
     seen = {event.rest[0] for event in pod.events if event.container == name and event.word in ("started", "died")}
     return max(len(seen) - 1, 0)
 
 
-def none_of(text):
+def none_of(text: str) -> str | None:
     return None if text == "-" else text
 
 
-def container_record(report, pod, container, known=NEVER):
+def container_record(report: reports.Report, pod: reports.Pod, container: reports.Container,
+                     known: int = NEVER) -> dict[str, Any]:
     """A container, with how often each event was of it."""
     return {
         "record": "container", "node": report.node, "pod": pod.key, "pod_number": pod.number, "name": container.name,
@@ -169,7 +177,7 @@ def container_record(report, pod, container, known=NEVER):
     }
 
 
-def condition_record(report, condition, pod):
+def condition_record(report: reports.Report, condition: reports.Condition, pod: reports.Pod | None) -> dict[str, Any]:
     return {
         "record": "condition", "node": report.node, "pod": pod.key if pod else None,
         "pod_number": pod.number if pod else None, "condition": condition.kind, "value": condition.value == "True",
@@ -177,7 +185,8 @@ def condition_record(report, condition, pod):
     }
 
 
-def cause_records(report, trace, last, known=NEVER):
+def cause_records(report: reports.Report, trace: traces.Trace, last: int,
+                  known: int = NEVER) -> Iterator[dict[str, Any]]:
     """Of each container why its instances died and why it waited: a record for each reason and code, and for each
     reason of waiting."""
     for pod in report.pods:
@@ -198,7 +207,8 @@ def cause_records(report, trace, last, known=NEVER):
                    "cause": cause, "reason": reason, "code": code} | rest
 
 
-def add_cause(found, key, at, seconds, message, begins=True):
+def add_cause(found: dict[Any, Any], key: tuple[Any, ...], at: int, seconds: int | None, message: str | None,
+              begins: bool = True) -> None:
     """Counts one more death or wait of a cause, or the seconds alone of a wait that did not begin there; of the
     messages the last one is kept."""
     rest = found.setdefault(key, {"times": 0, "seconds": None, "first_at": at, "last_at": at, "message": None})
@@ -208,7 +218,8 @@ def add_cause(found, key, at, seconds, message, begins=True):
     rest["message"] = message or rest["message"]
 
 
-def eviction_record(report, number, eviction, kubelet):
+def eviction_record(report: reports.Report, number: int, eviction: reports.Eviction,
+                    kubelet: kubelets.Kubelet | None) -> dict[str, Any]:
     record = {
         "record": "eviction", "node": report.node, "number": number, "at": eviction.at, "pod": eviction.pod,
         "pod_number": eviction.number, "signal": eviction.signal, "kind": eviction.kind,
@@ -220,7 +231,8 @@ def eviction_record(report, number, eviction, kubelet):
     return record | {"kubelet_at": fact.decision.at if fact else None}
 
 
-def decision_record(report, number, decision, fact):
+def decision_record(report: reports.Report, number: int, decision: traces.Decision,
+                    fact: kubelets.Fact | None) -> dict[str, Any]:
     """What the kubelet did to a pod, and whether the rules agree; a refused pod is none that they evict."""
     record = {"record": "decision", "node": report.node, "number": number, "at": decision.at, "pod": decision.pod,
               "pod_number": decision.number, "decision": decision.kind, "reason": decision.reason,

@@ -6,6 +6,7 @@ import functools
 import re
 from dataclasses import dataclass, field
 from datetime import datetime, timezone
+from typing import Any
 
 from replay_tools import events
 
@@ -70,10 +71,10 @@ class Pod:
     anew: int = 0
     """the place of the event from which on it is told anew, since only the rules had ended it before"""
 
-    def condition(self, kind):
+    def condition(self, kind: str) -> Condition:
         return next((found for found in self.conditions if found.kind == kind), None)
 
-    def own_gaps(self):
+    def own_gaps(self) -> list[Any]:
         """The gaps that begin before it was gone."""
         return [(since, until) for since, until in self.gaps if self.left is None or since < self.left]
 
@@ -105,7 +106,7 @@ class Border:
     """the trace that lies between, where it is not there"""
 
     @property
-    def is_gap(self):
+    def is_gap(self) -> bool:
         return self.since < self.at
 
 
@@ -124,7 +125,7 @@ class Report:
     """of one that is joined of several"""
 
     @property
-    def gaps(self):
+    def gaps(self) -> list[Any]:
         """The spans of moments in which nothing was recorded."""
         return [(border.since, border.at) for border in self.borders if border.is_gap]
 
@@ -156,7 +157,7 @@ FORMS = {
 
 
 @functools.cache
-def forms():
+def forms() -> dict[str, re.Pattern[str]]:
     """The form of each kind of line."""
     kinds = events.kinds().values()
     words = {"node": [kind.word for kind in kinds if kind.subject == "node"],
@@ -165,7 +166,7 @@ def forms():
                              re.ASCII) for name, form in FORMS.items()}
 
 
-def parts_of(line):
+def parts_of(line: str) -> tuple[str | None, tuple[Any, ...]]:
     """What kind of line it is, with its parts."""
     for kind, form in forms().items():
         found = form.fullmatch(line)
@@ -174,14 +175,15 @@ def parts_of(line):
     return None, ()
 
 
-def read_report(text):
+def read_report(text: str) -> Report:
     """The report of a text. Raises ReportFault."""
     lines = text.split("\n")
     if lines.pop() != "" or not lines:
         raise ReportFault("standard input has no whole report: its last line is cut or missing")
     if lines[0].startswith("pod "):
         raise ReportFault("standard input has the pod lines of a report alone, without its events")
-    report, ended = None, False
+    report: Report | None = None
+    ended = False
     for number, line in enumerate(lines, 1):
         kind, parts = parts_of(line)
         if kind is None or ended or (report is None) != (kind == "node"):
@@ -204,16 +206,17 @@ def read_report(text):
     return report
 
 
-def tell_pods(report, named):
+def tell_pods(report: Report, named: dict[str, list[Pod]]) -> None:
     """Gives each event and each eviction the pod that it is of, and each pod its events."""
-    for said in (*report.events, *report.evictions):
+    both: list[Event | Eviction] = [*report.events, *report.evictions]
+    for said in both:
         pod = pod_at(named.get(said.pod, ()), said.at)
         said.number = pod.number if pod else None
         if pod and isinstance(said, Event):
             pod.events.append(said)
 
 
-def pods_by_key(report):
+def pods_by_key(report: Report) -> dict[str, list[Pod]]:
     """The pods of each key, one after the other."""
     named = {}
     for pod in report.pods:
@@ -221,7 +224,7 @@ def pods_by_key(report):
     return named
 
 
-def tell_left(named):
+def tell_left(named: dict[str, list[Pod]]) -> None:
     """Of pods of one key, one after the other, each has left by the first tick of the next one."""
     for pods in named.values():
         following = None
@@ -230,25 +233,25 @@ def tell_left(named):
             following = first_tick(pod) or following
 
 
-def pod_at(pods, at):
+def pod_at(pods: list[Pod] | tuple[Any, ...], at: int) -> Pod | None:
     """Of pods of one key, one after the other, that which was there at the moment of an event: the last whose first
     tick was by then. A pod without ticks has the moment 0 as its first, and its lines say that nothing happened."""
     begun = [pod for pod in pods if first_tick(pod) <= at]
     return max(begun, key=lambda pod: (first_tick(pod), was_seen(pod), -pod.number), default=None)
 
 
-def was_seen(pod):
+def was_seen(pod: Pod) -> bool:
     """Whether a pod's own lines show that something happened in it."""
     ran = any(container.state != "Waiting" or container.restarts != "0" for container in pod.containers)
     return ran or (pod.phase, pod.reason) != ("Pending", "-")
 
 
-def number_words(report, pod):
+def number_words(report: Report, pod: Pod) -> str:
     """What tells a pod from the others of its key, where there are others."""
     return f", number {pod.number}" if sum(other.key == pod.key for other in report.pods) > 1 else ""
 
 
-def check_whole(report):
+def check_whole(report: Report) -> None:
     """Raises ReportFault where something is missing that each report has."""
     if [condition.kind for condition in report.conditions] != list(CONDITIONS):
         raise ReportFault("standard input has no whole report: a condition of the node is missing")
@@ -260,7 +263,7 @@ def check_whole(report):
             raise ReportFault(f"standard input has no whole report: a condition of {pod.key} is missing")
 
 
-def add_line(report, kind, parts):
+def add_line(report: Report, kind: str, parts: tuple[Any, ...]) -> None:
     """Adds what a line says. Raises IndexError or ValueError where it is none of this report."""
     if kind == "event":
         at, pod, container, word, rest = parts
@@ -280,28 +283,29 @@ def add_line(report, kind, parts):
     elif kind == "node condition":
         report.conditions.append(Condition(parts[0], parts[1], int(parts[2]), None))
     else:
-        report.evictions.append(Eviction(int(parts[0]), *parts[1:4], int(parts[4])))
+        at, pod, signal, kind, grace = parts
+        report.evictions.append(Eviction(int(at), pod, signal, kind, int(grace)))
 
 
-def checked(event):
+def checked(event: Event) -> Event:
     if not events.kinds()[event.word].form.fullmatch(" ".join(event.rest)):
         raise ValueError
     return event
 
 
-def moment_text(at, utc):
+def moment_text(at: int, utc: bool) -> str:
     """A moment as its seconds, or as a UTC time, which says so, where that was asked for and there is one."""
     if not utc or at > LAST_DATE:
         return str(at)
     return datetime.fromtimestamp(at, timezone.utc).strftime("%Y-%m-%d %H:%M:%SZ")
 
 
-def first_tick(pod):
+def first_tick(pod: Pod) -> int:
     """The moment of a pod's first tick, since which it is scheduled."""
     return pod.condition("PodScheduled").at
 
 
-def has_ticks(report, pod):
+def has_ticks(report: Report, pod: Pod) -> bool:
     """Whether some tick came after the pod's line, as far as the report tells: a pod without one has the moment 0. Pods
     come in the order of their lines, so one with 0 behind one with more has none, and so has one beside whose key
     another began at 0."""
@@ -314,7 +318,7 @@ def has_ticks(report, pod):
     return report.tick_count > 0 and begun == 0 and all(first_tick(other) == 0 for other in report.pods[: pod.number])
 
 
-def end_of(pod):
+def end_of(pod: Pod) -> tuple[int, str] | None:
     """The moment at which a pod ended, and as what; None where it did not."""
     for event in pod.events[pod.anew :]:
         if event.word == "evicted":
@@ -325,7 +329,7 @@ def end_of(pod):
     return None
 
 
-def spans_of(changes, first, value):
+def spans_of(changes: list[tuple[int, str]], first: int, value: str) -> list[Span]:
     """Spans of a value from its first moment on, by (moment, value) in order; of one moment the last counts."""
     spans = [Span(value, first, None)]
     for at, value in changes:
@@ -343,14 +347,14 @@ def spans_of(changes, first, value):
     return spans
 
 
-def without_gaps(spans, gaps):
+def without_gaps(spans: list[Span], gaps: list[Any]) -> list[Span]:
     """The same spans without what lies in gaps, of which nothing is known."""
     for since, until in gaps:
         spans = [piece for span in spans for piece in beside_gap(span, since, until)]
     return spans
 
 
-def beside_gap(span, since, until):
+def beside_gap(span: Span, since: int, until: int) -> Any:
     """A span as what of it lies before a gap and behind it."""
     begun = until if span.since is None else span.since
     if begun >= until or (span.until is not None and span.until <= since):
@@ -360,13 +364,13 @@ def beside_gap(span, since, until):
     return before + ([Span(span.value, until, span.until, span.note)] if is_longer else [])
 
 
-def end_of_spans(pod):
+def end_of_spans(pod: Pod) -> int | None:
     """Until when a pod's last states lasted: it ended, or it was gone by then; None where neither is known."""
     end = end_of(pod)
     return end[0] if end else pod.left
 
 
-def ready_spans(pod):
+def ready_spans(pod: Pod) -> list[Span]:
     """The spans of Ready, which is ContainersReady here."""
     final, spans = pod.condition("Ready"), changes_of_ready(pod)
     if (spans[-1].value, spans[-1].since) != (final.value, final.at):
@@ -374,7 +378,7 @@ def ready_spans(pod):
     return without_gaps(spans, pod.own_gaps())
 
 
-def changes_of_ready(pod):
+def changes_of_ready(pod: Pod) -> list[Span]:
     """The spans of Ready by the pod's events. Containers that are never ready are init containers, or the pod was never
     ready; which of both the condition's own line says."""
     first, end = first_tick(pod), end_of(pod)
@@ -392,7 +396,7 @@ def changes_of_ready(pod):
     return spans_of(changes, first, "False")
 
 
-def condition_spans(pod, condition):
+def condition_spans(pod: Pod, condition: Condition) -> list[Span]:
     """The spans of a condition as far as the report tells them."""
     if condition.kind in ("Ready", "ContainersReady"):
         return ready_spans(pod)
@@ -403,7 +407,7 @@ def condition_spans(pod, condition):
     return without_gaps([last], pod.own_gaps())
 
 
-def state_spans(pod, name):
+def state_spans(pod: Pod, name: str) -> list[Span]:
     """The spans of a container's state. An instance that is only created makes no event, so it is seen as a state
     only where it is the first one."""
     changes = []
@@ -419,7 +423,7 @@ def state_spans(pod, name):
     return without_gaps(spans, pod.own_gaps())
 
 
-def pressure_spans(report, kind):
+def pressure_spans(report: Report, kind: str) -> list[Span]:
     """The spans in which a condition of the node was True."""
     changes = [(event.at, event.rest[1]) for event in report.events
                if event.word == "pressure" and event.rest[0] == kind]
@@ -429,11 +433,11 @@ def pressure_spans(report, kind):
 class Thresholds:
     """The thresholds that are active after the tick of a moment, of moments that rise."""
 
-    def __init__(self, report):
+    def __init__(self, report: Report) -> None:
         self.later = [event for event in reversed(report.events) if event.word == "threshold"]
         self.active = {}
 
-    def at(self, moment):
+    def at(self, moment: int) -> dict[tuple[str, str], int]:
         """Each with the moment since which it is active, by signal and kind."""
         while self.later and self.later[-1].at <= moment:
             event = self.later.pop()
@@ -445,7 +449,7 @@ class Thresholds:
         return self.active
 
 
-def moments(report):
+def moments(report: Report) -> list[int]:
     """Every moment that a report names."""
     named = [event.at for event in report.events] + [condition.at for condition in report.conditions]
     return named + [condition.at for pod in report.pods for condition in pod.conditions]

@@ -6,6 +6,8 @@ from __future__ import annotations
 import os
 import sqlite3
 import tempfile
+from collections.abc import Callable
+from typing import Any
 
 TABLES = {
     "node": ("nodes", "node TEXT, pods INTEGER, ticks INTEGER, first_moment INTEGER, last_moment INTEGER, "
@@ -39,17 +41,17 @@ TABLES = {
 }
 
 
-def columns(kind):
+def columns(kind: str) -> list[str]:
     """The names of the columns of a kind of record, but for the number of the report."""
     return [column.split()[0] for column in TABLES[kind][1].split(", ")]
 
 
-def create_tables(connection, kinds=tuple(TABLES)):
+def create_tables(connection: sqlite3.Connection, kinds: tuple[str, ...] = tuple(TABLES)) -> None:
     for name, written in map(TABLES.get, kinds):
         connection.execute(f"CREATE TABLE {name} (report INTEGER NOT NULL, {written})")
 
 
-def add_records(connection, number, records):
+def add_records(connection: sqlite3.Connection, number: int, records: Any) -> None:
     """Rows for the records of one report, in order; number is that of the report in the file."""
     rows = {}
     for record in records:
@@ -60,7 +62,7 @@ def add_records(connection, number, records):
         connection.executemany(f"INSERT INTO {TABLES[kind][0]} VALUES ({marks})", found)
 
 
-def application_of(path):
+def application_of(path: str) -> int | None:
     """The number of the application that a database of SQLite says it is of, None of another file."""
     with open(path, "rb") as file:
         header = file.read(100)
@@ -68,7 +70,7 @@ def application_of(path):
     return int.from_bytes(header[68:72], "big") if is_database else None
 
 
-def check_replaceable(path, application):
+def check_replaceable(path: str, application: int) -> None:
     """Only a database of the same application is replaced by another. Raises OSError."""
     if os.path.isdir(path):
         raise IsADirectoryError("it is a folder")
@@ -79,7 +81,8 @@ def check_replaceable(path, application):
         raise FileExistsError("what stands there is no database that this tool has written")
 
 
-def write_database(path, application, fill, kinds=tuple(TABLES)):
+def write_database(path: str, application: int, fill: Callable[..., Any],
+                   kinds: tuple[str, ...] = tuple(TABLES)) -> None:
     """A new file with the tables of these kinds of records, which `fill` is given to fill; it says of which application
     it is. It stands under its name once it is whole. Raises OSError or sqlite3.Error, and then whatever stood there is
     as it was."""

@@ -3,15 +3,20 @@
 from __future__ import annotations
 
 import re
+from collections.abc import Callable
+from typing import TYPE_CHECKING
 
 from replay_tools import events, reasons
+
+if TYPE_CHECKING:
+    from replay_tools import report as reports, traces
 
 DATE = re.compile(r"\d{4}-\d\d-\d\d (?=\d\d:\d\d:\d\dZ)")
 # a cell that is a moment, or several of them
 MOMENTS = re.compile(rf"({DATE.pattern})[\d:]{{8}}Z(?:, .*)?", re.ASCII)
 
 
-def table(title, heads, rows):
+def table(title: str, heads: list[str], rows: list[list[str]]) -> list[str]:
     """Lines of a table; a column of numbers, some of them missing, is aligned to the right."""
     if not rows:
         return [title, "  none", ""]
@@ -28,12 +33,12 @@ def table(title, heads, rows):
     return [*lines, ""]
 
 
-def dated_once(rows):
+def dated_once(rows: list[list[str]]) -> list[list[str]]:
     """Rows in which the date of a moment is left out where it is that of the row above, or of the moment that a text
     stands beside."""
     above = {}
 
-    def told(place, cell, own):
+    def told(place: int, cell: str, own: str | None) -> str:
         first = MOMENTS.fullmatch(cell)
         if not first:
             return DATE.sub(lambda found: "" if found[0] == own else found[0], cell)
@@ -46,7 +51,8 @@ def dated_once(rows):
     return [[told(place, cell, own) for place, cell in enumerate(row)] for row, own in zip(rows, dates)]
 
 
-def event_words(event, is_beside=False, trace=None, is_whole=True):
+def event_words(event: reports.Event, is_beside: bool = False, trace: traces.Trace | None = None,
+                is_whole: bool = True) -> tuple[str, str]:
     """An event's attempt, if it has one, and what happened; an eviction in other words where it stands beside what the
     kubelet did, and a death with why, as far as the trace says it, and the whole with its message."""
     why = reasons.cause_words(event, int(event.rest[1]), trace, is_whole) if event.word == "died" else ""
@@ -54,7 +60,7 @@ def event_words(event, is_beside=False, trace=None, is_whole=True):
     return kind.attempt(event.rest), kind.told(event.rest, why, is_beside)
 
 
-def beside_words(pod, event, show):
+def beside_words(pod: reports.Pod, event: reports.Event, show: Callable[[int], str]) -> str:
     """What is not known of an event of several traces: it happened in a gap, or it is counted anew in a trace."""
     if event.was_so:
         return " (so before this trace)"
@@ -67,7 +73,7 @@ def beside_words(pod, event, show):
     return ""
 
 
-def containers_title(pod, ended):
+def containers_title(pod: reports.Pod, ended: tuple[int, str] | None) -> str:
     """The title of a pod's containers; where some still ran as it ended or went, that they stand as they were seen."""
     is_over = ended is not None or pod.left is not None
     if is_over and any(container.state == "Running" for container in pod.containers):

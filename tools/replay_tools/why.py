@@ -7,6 +7,7 @@ from __future__ import annotations
 import sys
 from bisect import bisect_left, bisect_right
 from dataclasses import dataclass, field
+from typing import Any
 
 from replay_tools import report as reports, traces
 
@@ -46,7 +47,7 @@ class Exit:
     """the delay of its restart goes by it"""
 
     @property
-    def run(self):
+    def run(self) -> int:
         return 0 if self.started is None else self.died - self.started
 
 
@@ -62,7 +63,7 @@ class Candidate:
     """the tick that said that it has no sample from there on, where none came since"""
 
     @property
-    def above(self):
+    def above(self) -> int:
         return (self.usage or 0) - (self.request or 0)
 
 
@@ -82,7 +83,7 @@ class Evicted:
     """the moment of the eviction before"""
 
     @property
-    def is_victim_first(self):
+    def is_victim_first(self) -> bool:
         return bool(self.candidates) and self.candidates[0].victim
 
 
@@ -102,7 +103,7 @@ class Around:
 class PodTicks:
     """The results and the listings of one pod's containers over its ticks."""
 
-    def __init__(self, trace, pod):
+    def __init__(self, trace: traces.Trace, pod: traces.Pod) -> None:
         self.trace, self.pod = trace, pod
         self.results = {}
         """moments and results, by container and probe"""
@@ -111,7 +112,7 @@ class PodTicks:
         self.written = None
         """what was listed last, as it is written"""
 
-    def take(self, at, entry):
+    def take(self, at: int, entry: dict[str, Any]) -> None:
         """One more tick, with what it has of the pod."""
         # most ticks list what the one before did, and to read that takes long
         if entry.get("containers") != self.written:
@@ -127,7 +128,7 @@ class PodTicks:
             moments.append(at)
             kept.append(sys.intern(found["result"]) if "result" in found else None)
 
-    def listed(self, name, at):
+    def listed(self, name: str, at: int) -> Listed:
         moments, kept = self.listings[name]
         place = bisect_right(moments, at) - 1
         if place < 0:
@@ -136,7 +137,7 @@ class PodTicks:
         return Listed(kept[place], kept[place - 1] if place > 0 else None,
                       self.trace.ticks[before].at if place > 0 else None)
 
-    def runs(self, name, kind, since, until):
+    def runs(self, name: str, kind: str, since: int, until: int) -> list[tuple[str, list[int]]]:
         """The results of a probe in a span of moments, both ends included, as runs of equal ones."""
         moments, kept = self.results.get((name, kind), ([], []))
         first = bisect_left(moments, since)
@@ -150,7 +151,7 @@ class PodTicks:
         return runs
 
 
-    def is_over_gap(self, before, at):
+    def is_over_gap(self, before: int, at: int) -> bool:
         return any(before <= since and until <= at for since, until in self.trace.gaps)
 
 
@@ -158,16 +159,16 @@ class Ticks:
     """The ticks of pods, of those of some numbers where these are given, one after the other. A tick that does not list
     a pod matters where the tick before did. Of some moments it keeps what each pod used by then."""
 
-    def __init__(self, wanted=None, moments=()):
+    def __init__(self, wanted: set[int] | None = None, moments: set[int] | tuple[Any, ...] = ()) -> None:
         self.found, self.wanted, self.listed = {}, wanted, {}
         self.usages, self.usages_at = {}, dict.fromkeys(moments)
 
-    def of(self, trace, pod):
+    def of(self, trace: traces.Trace, pod: traces.Pod) -> PodTicks:
         if pod.number not in self.found:
             self.found[pod.number] = PodTicks(trace, pod)
         return self.found[pod.number]
 
-    def take(self, trace, tick, present):
+    def take(self, trace: traces.Trace, tick: traces.Tick, present: dict[str, traces.Pod]) -> None:
         now = {}
         for key, entry in tick.entries.items():
             pod = present[key]
@@ -179,16 +180,16 @@ class Ticks:
                 self.found[number].take(tick.at, {})
         self.listed = now
 
-    def take_last(self, trace, present):
+    def take_last(self, trace: traces.Trace, present: dict[str, traces.Pod]) -> None:
         """Takes a trace's last tick, as it is read."""
         self.take_whole(trace, trace.ticks[-1], present)
 
-    def take_all(self, trace):
+    def take_all(self, trace: traces.Trace) -> None:
         """Takes the ticks of a trace that is read already."""
         for tick, present in zip(trace.ticks, traces.present_at_each(trace)):
             self.take_whole(trace, tick, present)
 
-    def take_whole(self, trace, tick, present):
+    def take_whole(self, trace: traces.Trace, tick: traces.Tick, present: dict[str, traces.Pod]) -> None:
         """Takes a tick with what the pods use by then."""
         self.take(trace, tick, present)
         if may_sample(tick):
@@ -198,7 +199,7 @@ class Ticks:
             self.usages_at[tick.at] = {number: dict(usage) for number, usage in self.usages.items()}
 
 
-def ticks_of(trace, pods):
+def ticks_of(trace: traces.Trace, pods: list[traces.Pod]) -> dict[int, PodTicks]:
     """The ticks of some pods, by their numbers, in one reading of the trace."""
     ticks = Ticks({pod.number for pod in pods})
     for tick, present in zip(trace.ticks, traces.present_at_each(trace)):
@@ -206,7 +207,7 @@ def ticks_of(trace, pods):
     return {pod.number: ticks.of(trace, pod) for pod in pods}
 
 
-def around_events(trace, report, pod):
+def around_events(trace: traces.Trace, report: reports.Report, pod: reports.Pod) -> list[Around]:
     """What the trace holds around each event of a pod of the report, in order."""
     ours = trace.pods[pod.number]
     ticks = ticks_of(trace, [ours])[pod.number]
@@ -233,19 +234,20 @@ def around_events(trace, report, pod):
     return found
 
 
-def add_exit(exits, event, start):
+def add_exit(exits: list[Exit], event: reports.Event, start: tuple[str, int] | None) -> None:
     started = start[1] if start and start[0] == event.rest[0] else None
     exits.append(Exit(int(event.rest[0]), started, event.at, int(event.rest[1]), 1))
     if len(exits) > 1 and exits[-1].run < LONG_RUN:
         exits[-1].number = exits[-2].number + 1
 
 
-def counted(exits):
+def counted(exits: list[Exit]) -> list[Exit]:
     """The exits that count for the newest one, which is the last."""
     return exits[-exits[-1].number :] if exits else []
 
 
-def results_of(ticks, container, event, start, died):
+def results_of(ticks: PodTicks, container: traces.Container, event: reports.Event, start: tuple[str, int],
+               died: bool) -> list[Results]:
     """The results of the probes that an event is of, from the start of the instance on."""
     kinds = {"startup-passed": ("startup",), "kill": tuple(event.rest[1:]), "ready": ("startup", "readiness"),
              "unready": () if died else ("readiness",)}
@@ -255,14 +257,15 @@ def results_of(ticks, container, event, start, died):
             for kind in kinds[event.word] if kind in container.probes]
 
 
-def add_evictions(trace, report, found):
+def add_evictions(trace: traces.Trace, report: reports.Report, found: list[Around]) -> None:
     evictions = [around for around in found if around.event.word == "evicted"]
     gathered = gather_evictions(trace, report, {around.event.at for around in evictions})
     for around in evictions:
         around.evicted = gathered[around.event.at]
 
 
-def gather_evictions(trace, report, moments, usages=None):
+def gather_evictions(trace: traces.Trace, report: reports.Report, moments: set[int],
+                     usages: dict[int, dict[int, dict[str, int]]] | None = None) -> dict[int, Evicted]:
     """What the trace holds around the evictions of some moments, by moment; a tick evicts one pod at most. The usages
     are what each pod used by then, by moment, where that is known already."""
     if usages is None:
@@ -281,11 +284,11 @@ def gather_evictions(trace, report, moments, usages=None):
                                      samples_of(trace, eviction.at, eviction.signal, since),
                                      candidates_of(trace, report, place, eviction.signal, eviction.number,
                                                    usages[eviction.at]), trace.pause(),
-                                     trace.pauses_until_gone(), before and before.at)
+                                     trace.pauses_until_gone(), None if before is None else before.at)
     return found
 
 
-def samples_of(trace, at, signal, since):
+def samples_of(trace: traces.Trace, at: int, signal: str, since: int) -> list[tuple[int, int, int | None]]:
     """The samples of a signal from one tick to another; a value that a tick repeats is no sample of its own."""
     last = trace.places[at]
     found = []
@@ -296,7 +299,7 @@ def samples_of(trace, at, signal, since):
     return found
 
 
-def usages_at(trace, places):
+def usages_at(trace: traces.Trace, places: set[int]) -> dict[int, dict[int, dict[str, int]]]:
     """The newest samples of each pod's usage up to the ticks of some places: thousandths by resource, by the pod's
     number, by place."""
     usages = {pod.number: {} for pod in trace.pods}
@@ -312,12 +315,12 @@ def usages_at(trace, places):
     return found
 
 
-def may_sample(tick):
+def may_sample(tick: traces.Tick) -> bool:
     """Whether a tick may say something of a pod's samples."""
     return tick.may_have(b"usage") or tick.may_have(UNSAMPLED.encode())
 
 
-def take_usage(usage, entry, at, heeds_unsampled):
+def take_usage(usage: dict[str, int], entry: dict[str, Any], at: int, heeds_unsampled: bool) -> None:
     """Takes what a tick says of a pod's samples: some, or that it has none from there on."""
     if entry.get("usage") is not None:
         usage.pop(UNSAMPLED, None)
@@ -330,7 +333,8 @@ def take_usage(usage, entry, at, heeds_unsampled):
             usage[resource] = traces.amounts.quantity(value)
 
 
-def candidates_of(trace, report, place, signal, number, usages):
+def candidates_of(trace: traces.Trace, report: reports.Report, place: int, signal: str, number: int,
+                  usages: dict[int, dict[str, int]]) -> list[Candidate]:
     """The pods that were present at a tick and had not ended before it, in the order of the rules for a signal; one of
     a number was evicted."""
     found, at = [], trace.ticks[place].at
@@ -344,7 +348,7 @@ def candidates_of(trace, report, place, signal, number, usages):
     return sorted(found, key=lambda candidate: order(candidate, signal))
 
 
-def order(candidate, signal):
+def order(candidate: Candidate, signal: str) -> tuple[bool, bool, int, bool, int, int]:
     """Without a sample first; above the request first, then lower priority, more usage above the request, lower number;
     without requests by priority and usage alone. Of processes the priority goes before that there is no sample."""
     exceeds = candidate.request is not None and candidate.above > 0
@@ -353,7 +357,7 @@ def order(candidate, signal):
             candidate.pod.number)
 
 
-def used(usage, signal, dedicated):
+def used(usage: dict[str, int], signal: str, dedicated: bool) -> int | None:
     kinds = {
         "memory.available": ("memory",), "pid.available": ("pids",),
         "nodefs.available": ("volumes", "logs") if dedicated else ("volumes", "logs", "writable"),
@@ -363,7 +367,7 @@ def used(usage, signal, dedicated):
     return sum(found) if found else None
 
 
-def requested(pod, signal):
+def requested(pod: traces.Pod, signal: str) -> int | None:
     resource = {"memory.available": "memory", "nodefs.available": "ephemeral-storage",
                 "imagefs.available": "ephemeral-storage"}.get(signal)
     return None if resource is None else pod.request(resource)

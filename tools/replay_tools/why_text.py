@@ -2,9 +2,15 @@
 
 from __future__ import annotations
 
+from collections.abc import Callable
+from typing import Any, TYPE_CHECKING
+
 from replay_tools import entry, events, kubelet as kubelets, reasons, traces, why
 from replay_tools.amounts import amount_text
 from replay_tools.telling import beside_words, event_words, table
+
+if TYPE_CHECKING:
+    from replay_tools import report as reports
 
 MOST_ROWS = 12
 MOST_MOMENTS = 6
@@ -12,11 +18,12 @@ ORDERS = {True: "usage above the request first, then lower priority, then more u
           False: "lower priority first, then greater usage, then lower number"}
 
 
-def always(_):
+def always(_: Any) -> Any:
     return True
 
 
-def whole_text(trace, report, pod, show, kubelet=None, is_near=always):
+def whole_text(trace: traces.Trace, report: reports.Report, pod: reports.Pod, show: Callable[[int], str],
+               kubelet: kubelets.Kubelet | None = None, is_near: Callable[..., Any] = always) -> str:
     """The lines for each event of a pod of the report, and for what the kubelet did to it, of moments that are near;
     show writes a moment."""
     parts = [(around.event.at, [heading(around.event, show, kubelet, trace) + beside_words(pod, around.event, show),
@@ -38,12 +45,14 @@ def whole_text(trace, report, pod, show, kubelet=None, is_near=always):
     return "\n".join(lines[:-1]) + "\n"
 
 
-def beside(pod, around, show, kubelet):
+def beside(pod: reports.Pod, around: why.Around, show: Callable[[int], str],
+           kubelet: kubelets.Kubelet | None) -> list[str]:
     """What the kubelet did, below an eviction by the rules."""
     return kubelets.lines_of(kubelet, pod.number, show) if around.event.word == "evicted" else []
 
 
-def kubelet_parts(trace, report, pod, show, kubelet):
+def kubelet_parts(trace: traces.Trace, report: reports.Report, pod: reports.Pod, show: Callable[[int], str],
+                  kubelet: kubelets.Kubelet | None) -> list[tuple[int, list[str]]]:
     """What the kubelet did to a pod, beside what the rules do, by moment."""
     fact = kubelet and kubelet.fact(pod.number)
     if not fact:
@@ -57,20 +66,21 @@ def kubelet_parts(trace, report, pod, show, kubelet):
     return [(fact.decision.at, [head, *lines])]
 
 
-def wait_parts(trace, pod, show):
+def wait_parts(trace: traces.Trace, pod: reports.Pod, show: Callable[[int], str]) -> list[tuple[int, list[str]]]:
     """Why the containers of a pod waited, by moment."""
     return [(wait.since, [f"{show(wait.since)}  {name} waits: {wait.words()}",
                           f"until {'the end of the trace' if wait.until is None else show(wait.until)}"])
             for name, wait in trace.reasons.waits_of(pod)]
 
 
-def heading(event, show, kubelet=None, trace=None):
+def heading(event: reports.Event, show: Callable[[int], str], kubelet: kubelets.Kubelet | None = None,
+            trace: traces.Trace | None = None) -> str:
     attempt, what = event_words(event, kubelet is not None, trace)
     said = " ".join(filter(None, [event.container, what]))
     return f"{show(event.at)}  {said}{events.attempt_words(attempt)}"
 
 
-def told(trace, pod, around, show):
+def told(trace: traces.Trace, pod: reports.Pod, around: why.Around, show: Callable[[int], str]) -> list[str]:
     """The lines below the heading of an event."""
     word = around.event.word
     if word in ("started", "died"):
@@ -90,27 +100,27 @@ def told(trace, pod, around, show):
     return [line for results in around.results for line in result_lines(results, show)]
 
 
-def listing_cells(listing):
+def listing_cells(listing: traces.Listing) -> list[str]:
     if listing is None:
         return ["-", "not listed", "-"]
     return [str(listing.attempt), listing.state, "-" if listing.code is None else str(listing.code)]
 
 
-def listing_words(listing):
+def listing_words(listing: traces.Listing | None) -> str:
     if listing is None:
         return "did not list it"
     code = "" if listing.code is None else f" with code {listing.code}"
     return f"listed attempt {listing.attempt} as {listing.state}{code}"
 
 
-def listed_lines(listed, show):
+def listed_lines(listed: why.Listed, show: Callable[[int], str]) -> list[str]:
     lines = [f"this tick {listing_words(listed.now)}"]
     if listed.before_at is None:
         return [*lines, "no tick before it listed anything else"]
     return [*lines, f"until {show(listed.before_at)} the ticks {listing_words(listed.before)}"]
 
 
-def result_lines(results, show):
+def result_lines(results: why.Results, show: Callable[[int], str]) -> list[str]:
     """A probe with its thresholds, and the results that count towards them."""
     probe = results.probe
     since = "the first tick" if results.since is None else show(results.since)
@@ -124,17 +134,17 @@ def result_lines(results, show):
     return lines + left_out(len(results.runs) - len(kept), "earlier runs of results")
 
 
-def moments_text(moments, show):
+def moments_text(moments: list[int], show: Callable[[int], str]) -> str:
     if len(moments) <= MOST_MOMENTS:
         return ", ".join(map(show, moments))
     return ", ".join([*map(show, moments[:2]), "..", show(moments[-1])])
 
 
-def left_out(count, what):
+def left_out(count: int, what: str) -> list[Any]:
     return [f"{count} {what} are left out"] if count > 0 else []
 
 
-def exit_lines(trace, pod, around, show):
+def exit_lines(trace: traces.Trace, pod: reports.Pod, around: why.Around, show: Callable[[int], str]) -> list[str]:
     kept = around.exits[-MOST_ROWS:]
     policy, most = trace.pods[pod.number].policy, traces.value_at(trace.settings, "maxRestartDelay", 300)
     name = around.event.container
@@ -148,12 +158,12 @@ def exit_lines(trace, pod, around, show):
     return lines + left_out(len(around.exits) - len(kept), "earlier exits")
 
 
-def reason_of(trace, pod, name, found):
+def reason_of(trace: traces.Trace, pod: reports.Pod, name: str, found: why.Exit) -> str:
     end = trace.reasons.ends.get((pod.number, name, found.attempt))
     return end.reason if end is not None and end.reason else "-"
 
 
-def evicted_lines(evicted, show, is_kubelets=False):
+def evicted_lines(evicted: why.Evicted, show: Callable[[int], str], is_kubelets: bool = False) -> list[str]:
     """The threshold of an eviction, its samples, and the pods in the order in which the rules rank them."""
     of_bytes = evicted.signal in traces.BYTE_SIGNALS
     lines = threshold_lines(evicted, of_bytes, show) + pause_lines(evicted, show, is_kubelets)
@@ -168,12 +178,12 @@ def evicted_lines(evicted, show, is_kubelets=False):
     return lines
 
 
-def threshold_lines(evicted, of_bytes, show):
+def threshold_lines(evicted: why.Evicted, of_bytes: bool, show: Callable[[int], str]) -> list[str]:
     since = "" if evicted.since is None or evicted.threshold is None else f"; active since {show(evicted.since)}"
     return [threshold_words(evicted, of_bytes) + since]
 
 
-def pause_lines(evicted, show, is_kubelets):
+def pause_lines(evicted: why.Evicted, show: Callable[[int], str], is_kubelets: bool) -> list[str]:
     if not evicted.pause:
         return []
     whose = "the rules' eviction" if is_kubelets else "the eviction"
@@ -181,18 +191,18 @@ def pause_lines(evicted, show, is_kubelets):
     return [f"{pause_words(evicted)}; {before}"]
 
 
-def pause_words(evicted):
+def pause_words(evicted: why.Evicted) -> str:
     return f"evictionPauseSeconds {evicted.pause}{', or until the evicted pod has ended' if evicted.until_gone else ''}"
 
 
-def order_words(evicted, with_requests):
+def order_words(evicted: why.Evicted, with_requests: bool) -> str:
     """How the rules rank the pods; of processes the priority goes before that there is no sample."""
     has_one = any(candidate.unsampled_at is not None for candidate in evicted.candidates)
     first = "without a sample first, then " if has_one and evicted.signal != "pid.available" else ""
     return first + ORDERS[with_requests]
 
 
-def threshold_words(evicted, of_bytes):
+def threshold_words(evicted: why.Evicted, of_bytes: bool) -> str:
     """The threshold as the node line sets it, with what that comes to in bytes or numbers."""
     threshold = evicted.threshold
     if threshold is None:
@@ -204,7 +214,7 @@ def threshold_words(evicted, of_bytes):
             f"grace {threshold.grace} s")
 
 
-def sample_lines(evicted, of_bytes, show, is_kubelets):
+def sample_lines(evicted: why.Evicted, of_bytes: bool, show: Callable[[int], str], is_kubelets: bool) -> list[str]:
     """The first sample and the last ones."""
     samples = evicted.samples
     kept = samples if len(samples) <= MOST_ROWS else [samples[0], *samples[1 - MOST_ROWS :]]
@@ -221,7 +231,8 @@ def sample_lines(evicted, of_bytes, show, is_kubelets):
     return lines
 
 
-def candidate_row(place, candidate, of_bytes, show=None):
+def candidate_row(place: int, candidate: why.Candidate, of_bytes: bool,
+                  show: Callable[[int], str] | None = None) -> list[str]:
     """A pod's row; `show` makes the moment from which on it has no sample a text."""
     request = "-" if candidate.request is None else amount_text(candidate.request, of_bytes)
     above = "-" if candidate.request is None else amount_text(candidate.above, of_bytes)

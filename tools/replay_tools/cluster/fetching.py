@@ -7,6 +7,7 @@ import os
 import time
 from concurrent.futures import ThreadPoolExecutor
 from dataclasses import dataclass, field
+from typing import Any
 
 from replay_tools import entry, packed, report as reports
 from replay_tools.cluster import recorders as asking
@@ -31,18 +32,19 @@ class Fetched:
     fault: str | None = None
 
 
-def now():
+def now() -> Any:
     return time.time()
 
 
-def fetched(cluster, recorders, folder, first, last):
+def fetched(cluster: asking.Cluster, recorders: list[asking.Recorder], folder: str, first: int | None,
+            last: int | None) -> list[Fetched]:
     """Copies what recorders hold of the time between two moments, each of which may be None, into a folder."""
     make_folder(folder)
     with ThreadPoolExecutor(AT_ONCE) as threads:
         return list(threads.map(lambda recorder: of_node(cluster, recorder, folder, first, last), recorders))
 
 
-def make_folder(folder):
+def make_folder(folder: str) -> None:
     try:
         os.makedirs(folder, exist_ok=True)
     except OSError as fault:
@@ -51,7 +53,8 @@ def make_folder(folder):
         raise entry.Fault(f"{folder} can't be written to")
 
 
-def of_node(cluster, recorder, folder, first, last):
+def of_node(cluster: asking.Cluster, recorder: asking.Recorder, folder: str, first: int | None,
+            last: int | None) -> Fetched:
     found = Fetched(recorder.node)
     try:
         held = cluster.held(recorder)
@@ -67,12 +70,12 @@ def of_node(cluster, recorder, folder, first, last):
     return found
 
 
-def span_words(held):
+def span_words(held: list[asking.File]) -> str:
     return (f"those of {reports.moment_text(held[0].begun, True)} to "
             f"{reports.moment_text(max(file.changed for file in held), True)}")
 
 
-def of_time(held, first, last):
+def of_time(held: list[asking.File], first: int | None, last: int | None) -> list[asking.File]:
     """Those that may have something between two moments: each lasts to the begin of the next at most, the last one to
     when it was written last."""
     ends = [file.begun for file in held[1:]] + [held[-1].changed if held else 0]
@@ -80,7 +83,7 @@ def of_time(held, first, last):
             and (last is None or file.begun <= last)]
 
 
-def take(cluster, recorder, file, folder, found):
+def take(cluster: asking.Cluster, recorder: asking.Recorder, file: asking.File, folder: str, found: Fetched) -> None:
     """Copies one trace, unless it is there."""
     path = os.path.join(folder, file.name)
     if not file.is_part and os.path.isfile(path) and os.path.getsize(path) == file.size:
@@ -99,7 +102,7 @@ def take(cluster, recorder, file, folder, found):
     found.size += len(data)
 
 
-def put(path, data):
+def put(path: str, data: bytes) -> None:
     """Writes a file, which has its name once it is whole."""
     made = f"{path}.copy"
     try:
@@ -111,12 +114,12 @@ def put(path, data):
         raise
 
 
-def drop(path):
+def drop(path: str) -> None:
     if os.path.exists(path):
         os.unlink(path)
 
 
-def whole(cluster, recorder, file):
+def whole(cluster: asking.Cluster, recorder: asking.Recorder, file: asking.File) -> tuple[str, bytes]:
     """The name and the bytes of a trace. A part may have ended since it was listed, and is packed then; what came cut
     is asked for once more. What the recorder writes ahead of a part may be less by then."""
     for each in range(TRIES):
@@ -136,11 +139,11 @@ def whole(cluster, recorder, file):
     raise asking.NoAnswer(f"{file.name} did not come whole: {len(data)} of {file.size} bytes")
 
 
-def whole_lines(data):
+def whole_lines(data: bytes) -> bytes:
     return data[: data.rfind(b"\n") + 1]
 
 
-def is_whole(data, size):
+def is_whole(data: bytes, size: int) -> bool:
     """Whether a packed trace is whole; its size is 0 where it was not listed."""
     try:
         packed.unpacked(data, MOST_UNPACKED)
@@ -150,7 +153,7 @@ def is_whole(data, size):
     return size in (0, len(data))
 
 
-def last_moment(data):
+def last_moment(data: bytes) -> int:
     """The moment of the last tick of whole lines; None where there is none."""
     for line in reversed(data.split(b"\n")):
         if line.startswith(b'{"kind":"tick"'):

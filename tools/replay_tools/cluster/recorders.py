@@ -6,7 +6,10 @@ import difflib
 import json
 import os
 import subprocess
+from argparse import Namespace
+from collections.abc import Iterable
 from dataclasses import dataclass
+from typing import Any
 
 from replay_tools import entry
 from replay_tools.joined import files
@@ -32,11 +35,11 @@ class File:
     changed: int
 
     @property
-    def is_part(self):
+    def is_part(self) -> bool:
         return self.name.endswith(files.PART)
 
     @property
-    def begun(self):
+    def begun(self) -> int:
         return files.parts_of(self.name)[1]
 
 
@@ -57,7 +60,7 @@ class Cluster:
     context: str | None = None
     namespace: str = NAMESPACE
 
-    def ask(self, *words, seconds=SECONDS):
+    def ask(self, *words: str, seconds: float = SECONDS) -> bytes:
         """What kubectl answers, as bytes. Raises NoAnswer."""
         context = ["--context", self.context] if self.context else []
         try:
@@ -75,7 +78,7 @@ class Cluster:
             raise NoAnswer(said[-1] if said else f"kubectl ended with status {done.returncode}")
         return done.stdout
 
-    def recorders(self):
+    def recorders(self) -> dict[str, Recorder]:
         """The recorders by their nodes; of several of one node, as while they are replaced, the one that is ready."""
         try:
             items = json.loads(self.ask("get", "pods", "-n", self.namespace, "-l", LABEL, "-o", "json"))["items"]
@@ -93,11 +96,11 @@ class Cluster:
                               "each node, and --recorders names another namespace")
         return dict(sorted(by_node.items()))
 
-    def run(self, recorder, *words, seconds=SECONDS):
+    def run(self, recorder: Recorder, *words: str, seconds: float = SECONDS) -> bytes:
         """What a command answers in a recorder's pod."""
         return self.ask("exec", "-n", self.namespace, recorder.pod, "-c", CONTAINER, "--", *words, seconds=seconds)
 
-    def held(self, recorder):
+    def held(self, recorder: Recorder) -> list[File]:
         """The traces that a recorder holds, in their order."""
         if recorder.phase != "Running":
             raise NoAnswer(f"its recorder {recorder.pod} is {recorder.phase}")
@@ -112,29 +115,29 @@ class Cluster:
                 found.append(File(name, int(size), int(float(changed))))
         return sorted(found, key=lambda file: (file.begun, files.parts_of(file.name)[2], file.is_part))
 
-    def content(self, recorder, file):
+    def content(self, recorder: Recorder, file: File) -> bytes:
         """The bytes of a trace that a recorder holds."""
         return self.run(recorder, "cat", f"{FOLDER}/{file.name}", seconds=SECONDS_OF_COPY)
 
 
-def recorder_of(item):
+def recorder_of(item: dict[str, Any]) -> Recorder:
     ready = [one.get("ready") for one in item.get("status", {}).get("containerStatuses") or []]
     return Recorder(item["spec"].get("nodeName") or "", item["metadata"]["name"],
                     item.get("status", {}).get("phase", "Unknown"), bool(ready) and all(ready))
 
 
-def add_words(words):
+def add_words(words: entry.Words) -> None:
     """Adds the words of a tool that asks them."""
     words.valued("--context")
     words.add_argument("--recorders", default=NAMESPACE)
 
 
-def cluster_of(found):
+def cluster_of(found: Namespace) -> Cluster:
     """The cluster that the words of a tool name."""
     return Cluster(found.context, found.recorders)
 
 
-def on_nodes(recorders, nodes):
+def on_nodes(recorders: dict[str, Recorder], nodes: Iterable[str]) -> list[Recorder]:
     """The recorders of some nodes. Raises Fault where one has none."""
     for node in nodes:
         if node not in recorders:

@@ -6,6 +6,7 @@ import difflib
 import itertools
 import os
 from dataclasses import dataclass
+from typing import TYPE_CHECKING
 
 from replay_tools import first_bytes
 from replay_tools.traces import LONGEST_TRACE
@@ -14,6 +15,9 @@ from . import table
 from .found import Found
 from .search import search
 from .verdict import verdict_of
+
+if TYPE_CHECKING:
+    from .verdict import Verdict
 
 
 @dataclass
@@ -32,12 +36,12 @@ class Answer:
     """the path is a place in the text, which is no JSON"""
 
 
-def answer_of(path, is_extended):
+def answer_of(path: str, is_extended: bool) -> Answer:
     """What the program says of a file, and what it means."""
     return of_verdict(path, verdict_of(path, is_extended), is_extended)
 
 
-def of_verdict(path, verdict, is_extended):
+def of_verdict(path: str, verdict: Verdict, is_extended: bool) -> Answer:
     """What the program's answer to a file means."""
     if verdict.status == 0:
         return Answer(verdict.said, False, [])
@@ -58,7 +62,7 @@ def of_verdict(path, verdict, is_extended):
                   verdict.number in (31, 32))
 
 
-def found_in(path, verdict, is_extended):
+def found_in(path: str, verdict: Verdict, is_extended: bool) -> tuple[list[Found], bytes]:
     """What is found of a line, and the line; nothing is found where it is written otherwise than it is thought to be
     here."""
     with open(path, "rb") as file:
@@ -69,12 +73,12 @@ def found_in(path, verdict, is_extended):
             return [], next(itertools.islice(file, verdict.line - 1, None), b"").rstrip(b"\n")
 
 
-def head_of(path):
+def head_of(path: str) -> bytes:
     with open(path, "rb") as file:
         return file.read(first_bytes.LOOKED_AT)
 
 
-def something_else(path):
+def something_else(path: str) -> Found | None:
     """What a file is that is no trace at all, by its first bytes."""
     head = head_of(path)
     kind = first_bytes.kind_of(head)
@@ -84,7 +88,7 @@ def something_else(path):
     return Found((), "it is empty: it has no line of a trace" if is_empty else f"it is {kind}", advice_for(kind))
 
 
-def advice_for(kind):
+def advice_for(kind: str) -> str:
     if kind == first_bytes.REPORT:
         return "give the trace that it was made of; a report is what tools/story, page and json read"
     if kind in (first_bytes.EMPTY, first_bytes.BLANK):
@@ -99,13 +103,13 @@ def advice_for(kind):
     return "a trace is JSON lines in UTF-8: docs/formats.md begins with one"
 
 
-def of_damaged(said):
+def of_damaged(said: str) -> Answer:
     """What is packed, and can't be unpacked."""
     return Answer("it can't be read", True, [Found((), f"it is packed by gzip: {said}")],
                   "copy it once more from where it was written; gzip -t FILE says whether it is whole")
 
 
-def of_file(path, said):
+def of_file(path: str, said: str) -> Answer:
     """Why a file can't be read, or how much too long it is."""
     if said == "input too long":
         size = os.stat(path).st_size
@@ -126,7 +130,7 @@ def of_file(path, said):
     return Answer(said, True, [Found((), "it can be read now")], "run it again")
 
 
-def nearest_file(path):
+def nearest_file(path: str) -> str | None:
     """The names in the folder that are most like the one that is not there."""
     if path == "-":
         return "standard input is /dev/stdin, or no name at all"

@@ -4,6 +4,7 @@ from __future__ import annotations
 
 import json
 from dataclasses import dataclass, field
+from typing import Any, IO
 
 STATES = ("CONTAINER_CREATED", "CONTAINER_RUNNING", "CONTAINER_EXITED", "CONTAINER_UNKNOWN")
 CREATED, EXITED, UNKNOWN = STATES[0], STATES[2], STATES[3]
@@ -44,7 +45,7 @@ class Before:
     first_tick_line: int | None = None
     at: int | None = None
 
-    def take(self, number, line, keeps_listings):
+    def take(self, number: int, line: dict[str, Any], keeps_listings: bool) -> None:
         """One more line that was accepted."""
         kind = line["kind"]
         if kind == "node":
@@ -62,38 +63,38 @@ class Before:
             if keeps_listings:
                 self.take_listings(number, line)
 
-    def take_listings(self, number, line):
+    def take_listings(self, number: int, line: dict[str, Any]) -> None:
         for entry in line.get("pods") or []:
             pod = self.pods[entry["pod"]]
             for found in entry.get("containers") or []:
                 pod.listed[found["name"]] = listed_of(found, pod.listed.get(found["name"]), number)
 
 
-def listed_of(found, before, number):
+def listed_of(found: Any, before: Listed | None, number: int) -> Listed:
     """The newest instance after a listing."""
     attempt, state = found.get("attempt") or 0, state_name(found["state"])
     known = before.state if before and before.attempt == attempt else CREATED
     return Listed(attempt, known if state == UNKNOWN else state, number)
 
 
-def state_name(state):
+def state_name(state: Any) -> str | None:
     """The name of a state, which may be its number; None where it is none."""
     if isinstance(state, int) and not isinstance(state, bool) and 0 <= state < len(STATES):
         return STATES[state]
     return state if state in STATES else None
 
 
-def key_of(manifest):
+def key_of(manifest: Any) -> str:
     metadata = manifest["metadata"]
     return f"{metadata.get('namespace') or 'default'}/{metadata['name']}"
 
 
-def names_of(manifest):
+def names_of(manifest: Any) -> list[str]:
     spec = manifest["spec"]
     return [container["name"] for each in ("initContainers", "containers") for container in spec.get(each) or []]
 
 
-def lines_before(file, number, keeps_listings):
+def lines_before(file: IO[bytes], number: int, keeps_listings: bool) -> tuple[Before, bytes]:
     """What stands before a line of an open trace, and the line itself as bytes; an empty one where there is none."""
     before = Before()
     for count, line in enumerate(file, 1):

@@ -8,7 +8,7 @@ from . import answer, told
 from .verdict import Verdict, says_extended
 
 
-def meaning(path, is_extended):
+def meaning(path: str, is_extended: bool) -> str | None:
     """What a refusal of a file means and what to do; None where nothing is known of it, or it is none."""
     try:
         return told.one_line(answer.answer_of(path, is_extended))
@@ -16,7 +16,7 @@ def meaning(path, is_extended):
         return None
 
 
-def meaning_of(path, line, number, fault):
+def meaning_of(path: str, line: int | None, number: int, fault: str) -> str | None:
     """The same where the program has said the line, the number and the fault already."""
     manifest = fault.partition(" ")[2]
     verdict = Verdict(2, f"line {line}: {number} {fault}", line, number, int(manifest) if manifest.isdigit() else None)

@@ -3,7 +3,9 @@
 from __future__ import annotations
 
 import json
+from json.decoder import scanstring  # type: ignore[attr-defined]
 import re
+from typing import Any
 
 # what serde_json takes
 DEEPEST = 127
@@ -13,23 +15,23 @@ DECODER = json.JSONDecoder()
 LEAST, MOST = -(2**63), 2**64 - 1
 
 
-def whole_number(text):
+def whole_number(text: str) -> Any:
     """A number that is written without a point and an exponent; one that the program does not take as whole is a
     float."""
     number = int(text) if len(text) < 21 else None
     return float(text) if text == "-0" or number is None or not LEAST <= number <= MOST else number
 
 
-def value_of(text):
+def value_of(text: str) -> Any:
     """The value of a line. Raises ValueError or RecursionError where it is no JSON of Python's."""
     return json.loads(text, parse_int=whole_number)
 
 
-def skip(text, at):
+def skip(text: str, at: Any) -> Any:
     return SPACE.match(text, at).end()
 
 
-def span_of(text, path):
+def span_of(text: str, path: tuple[Any, ...]) -> Any:
     """Where the value at a path begins and ends; where it is not there, the value around it."""
     at, ends = skip(text, 0), []
     for step in (*path, None):
@@ -40,7 +42,7 @@ def span_of(text, path):
     return ends[-1]
 
 
-def start_of(text, at, step):
+def start_of(text: str, at: Any, step: Any) -> Any:
     """Where the value of a key or an index begins, in the object or array that begins here; of two equal keys the last
     counts. None where there is none."""
     if text[at] not in "{[":
@@ -50,7 +52,7 @@ def start_of(text, at, step):
     while text[at] not in "}]":
         key = index
         if is_object:
-            key, at = json.decoder.scanstring(text, at + 1)
+            key, at = scanstring(text, at + 1)
             at = skip(text, skip(text, at) + 1)
         found = at if key == step else found
         at = skip(text, DECODER.raw_decode(text, at)[1])
@@ -59,7 +61,7 @@ def start_of(text, at, step):
     return found
 
 
-def json_fault(line):
+def json_fault(line: bytes) -> tuple[str, int] | None:
     """Why a line is no JSON of the program's, and the place in its text; None where that is not found."""
     try:
         text = line.decode("utf-8")
@@ -81,7 +83,7 @@ class Constant(Exception):
     """A word that Python takes for a number."""
 
 
-def refuse_constant(word):
+def refuse_constant(word: str) -> None:
     raise Constant(word)
 
 
@@ -89,7 +91,7 @@ CUT = "the line ends before its object does"
 CONTROL = "a control character stands in a text as it is"
 
 
-def words_of_fault(fault):
+def words_of_fault(fault: json.JSONDecodeError) -> str:
     if fault.pos >= len(fault.doc.rstrip()) or fault.msg.startswith("Unterminated string"):
         return CUT
     if fault.msg == "Extra data":
@@ -99,7 +101,7 @@ def words_of_fault(fault):
     return fault.msg[0].lower() + fault.msg[1:]
 
 
-def odd_place(text, value):
+def odd_place(text: str, value: Any) -> tuple[str, int] | None:
     """What Python takes, and serde_json does not."""
     depth = 0
     without_texts = STRING.sub(lambda found: " " * len(found[0]), text)

@@ -3,11 +3,14 @@ program makes them."""
 
 from __future__ import annotations
 
+from collections.abc import Callable, Iterator
+from typing import Any
+
 from replay_tools import amounts
 from replay_tools.record import formats
 from replay_tools.record.pods import MOST_CONTAINERS, PROBE_FIELDS, RESOURCES
 
-from .found import at, is_, kind_words
+from .found import Found, at, is_, kind_words
 from .node import quantity_advice
 
 MISSING, WRONG_KIND, QUANTITY, PROBE_RANGE, INIT_PROBE, REQUEST_ABOVE_LIMIT = 11, 12, 13, 14, 15, 16
@@ -18,7 +21,7 @@ MOST_SECONDS = 2**31 - 1
 AS_KUBECTL = "take the manifest as kubectl get pod -o json prints it"
 
 
-def faults_of(line):
+def faults_of(line: dict[str, Any]) -> Iterator[tuple[int, Found]]:
     """Each fault of a pod line with its number; the first is the program's answer."""
     for path, wanted in ((("pod",), "the whole manifest, as kubectl get pod -o json prints it"),
                          (("pod", "metadata"), "an object with the pod's name"),
@@ -33,7 +36,7 @@ def faults_of(line):
     yield from spec_faults(line["pod"]["spec"])
 
 
-def object_fault(around, path, wanted):
+def object_fault(around: Any, path: tuple[Any, ...], wanted: str) -> tuple[int, Found] | None:
     value = around.get(path[-1])
     if value is None:
         return MISSING, at(path, f"is missing: {wanted}", manifest_advice(around, path))
@@ -42,20 +45,21 @@ def object_fault(around, path, wanted):
     return None
 
 
-def manifest_advice(around, path):
+def manifest_advice(around: Any, path: tuple[Any, ...]) -> Any:
     """What to do where a field of the manifest is missing: often the whole manifest stands one level too high."""
     if path == ("pod",) and ("spec" in around or "metadata" in around):
         return 'put metadata and spec under the field pod: jq -c \'{kind:"pod",pod:.}\''
     return "put the whole object of kubectl get pod -o json under the field pod"
 
 
-def metadata_faults(metadata):
+def metadata_faults(metadata: Any) -> Iterator[tuple[int, Found]]:
     path = ("pod", "metadata")
     yield from text_faults(metadata, (*path, "name"), formats.name_fault, True)
     yield from text_faults(metadata, (*path, "namespace"), formats.label_fault, False)
 
 
-def text_faults(around, path, fault_of, is_required):
+def text_faults(around: Any, path: tuple[Any, ...], fault_of: Callable[..., Any],
+                is_required: bool) -> Iterator[tuple[int, Found]]:
     """The faults of a name."""
     value = around.get(path[-1])
     if value is None:
@@ -67,7 +71,7 @@ def text_faults(around, path, fault_of, is_required):
                               "ends")
 
 
-def spec_faults(spec):
+def spec_faults(spec: Any) -> Iterator[tuple[int, Found]]:
     path = ("pod", "spec")
     if spec.get("restartPolicy") not in (None, *POLICIES):
         yield WRONG_KIND, is_((*path, "restartPolicy"), spec["restartPolicy"], f"there are {', '.join(POLICIES)}")
@@ -83,14 +87,14 @@ def spec_faults(spec):
     yield from containers_faults(spec)
 
 
-def whole_faults(around, path, least, most):
+def whole_faults(around: Any, path: tuple[Any, ...], least: int, most: int) -> Iterator[tuple[int, Found]]:
     value = around.get(path[-1])
     if value is not None and formats.whole_fault(value, least, most):
         yield WRONG_KIND, is_(path, value, f"it is a whole number from {least} to {most}",
                               "write it without quotes and point")
 
 
-def containers_faults(spec):
+def containers_faults(spec: Any) -> Iterator[tuple[int, Found]]:
     found = [(("pod", "spec", field, index), container) for field in ("initContainers", "containers")
              for index, container in enumerate(spec.get(field) or [])]
     if len(found) > MOST_CONTAINERS:
@@ -108,7 +112,7 @@ def containers_faults(spec):
         names[name] = path
 
 
-def container_faults(container, path):
+def container_faults(container: Any, path: tuple[Any, ...]) -> Iterator[tuple[int, Found]]:
     if not isinstance(container, dict):
         yield WRONG_KIND, is_(path, container, "it is an object, a container", AS_KUBECTL)
         return
@@ -119,11 +123,11 @@ def container_faults(container, path):
         yield from probe_faults(container, (*path, field))
 
 
-def is_init(path):
+def is_init(path: tuple[Any, ...]) -> bool:
     return path[2] == "initContainers"
 
 
-def role_faults(container, path):
+def role_faults(container: Any, path: tuple[Any, ...]) -> Iterator[tuple[int, Found]]:
     policy = container.get("restartPolicy")
     if policy is not None and not (is_init(path) and policy == "Always"):
         yield SIDECAR, is_((*path, "restartPolicy"), policy,
@@ -131,7 +135,7 @@ def role_faults(container, path):
                            "a container of containers has none of its own", "leave it out")
 
 
-def resource_faults(container, path):
+def resource_faults(container: Any, path: tuple[Any, ...]) -> Iterator[tuple[int, Found]]:
     resources, path = container.get("resources"), (*path, "resources")
     if resources is None:
         return
@@ -144,7 +148,7 @@ def resource_faults(container, path):
         yield from above_faults(resources, path, resource)
 
 
-def amount_faults(found, path):
+def amount_faults(found: Any, path: tuple[Any, ...]) -> Iterator[tuple[int, Found]]:
     if found is None:
         return
     if not isinstance(found, dict):
@@ -159,7 +163,7 @@ def amount_faults(found, path):
                                                          quantity_advice(value))
 
 
-def above_faults(resources, path, resource):
+def above_faults(resources: Any, path: tuple[Any, ...], resource: str) -> Iterator[tuple[int, Found]]:
     """A request above its limit, where both are quantities and set."""
     request, limit = ((resources.get(side) or {}).get(resource) for side in ("requests", "limits"))
     try:
@@ -169,7 +173,7 @@ def above_faults(resources, path, resource):
         return
 
 
-def probe_faults(container, path):
+def probe_faults(container: Any, path: tuple[Any, ...]) -> Iterator[tuple[int, Found]]:
     probe = container.get(path[-1])
     if probe is None:
         return
@@ -184,7 +188,7 @@ def probe_faults(container, path):
         yield from probe_number_faults(probe, (*path, field))
 
 
-def probe_number_faults(probe, path):
+def probe_number_faults(probe: Any, path: tuple[Any, ...]) -> Iterator[tuple[int, Found]]:
     value, field = probe.get(path[-1]), path[-1]
     least = 0 if field == "initialDelaySeconds" else 1
     most = 1 if field == "successThreshold" and path[-2] != "readinessProbe" else MOST_SECONDS

@@ -2,6 +2,9 @@
 
 from __future__ import annotations
 
+from collections.abc import Callable, Iterator
+from typing import Any
+
 from replay_tools.record import formats
 from replay_tools.record.node import RECLAIMS
 from replay_tools.traces import SIGNALS
@@ -17,7 +20,7 @@ EXTENDED = "this recording is in the extended format (version 3)"
 WITH_EXTENDED = "run it with --extended"
 
 
-def config_faults(node, is_extended):
+def config_faults(node: Any, is_extended: bool) -> Iterator[Found]:
     """Each field whose value the formats do not take, as docs/formats.md lists them."""
     yield from version_fault(node, is_extended)
     yield from name_fault(node)
@@ -35,10 +38,11 @@ def config_faults(node, is_extended):
     if node.get("version") == 3:
         yield from whole_fault(node, "evictionPauseSeconds", 0, MOST_SECONDS)
         if not isinstance(node.get("evictionPauseUntilGone"), (bool, type(None))):
-            yield is_(("evictionPauseUntilGone",), node["evictionPauseUntilGone"], "it is true or false, without quotes")
+            yield is_(("evictionPauseUntilGone",), node["evictionPauseUntilGone"],
+                      "it is true or false, without quotes")
 
 
-def version_fault(node, is_extended):
+def version_fault(node: Any, is_extended: bool) -> Iterator[Found]:
     version = node.get("version")
     if version == 3 and formats.is_whole(version):
         if not is_extended:
@@ -47,7 +51,7 @@ def version_fault(node, is_extended):
         yield is_(("version",), version, "there are 1, 2 and, with --extended, 3")
 
 
-def name_fault(node):
+def name_fault(node: Any) -> Iterator[Found]:
     name = node.get("name")
     if name is None:
         yield at(("name",), "is missing: the node's name", 'write "name" with the name that kubectl get nodes shows')
@@ -56,14 +60,14 @@ def name_fault(node):
                   "digit at both ends")
 
 
-def whole_fault(node, field, least, most):
+def whole_fault(node: Any, field: str, least: int, most: int) -> Iterator[Found]:
     fault = None if node.get(field) is None else formats.whole_fault(node[field], least, most)
     if fault:
         yield is_((field,), node[field], f"it is a whole number from {least} to {most}",
                   "write it without quotes, point and unit")
 
 
-def map_faults(node, field, fault_of):
+def map_faults(node: Any, field: str, fault_of: Callable[..., Any]) -> Iterator[Found]:
     """The faults of a map from signals."""
     values = node.get(field)
     if values is None:
@@ -81,12 +85,12 @@ def map_faults(node, field, fault_of):
             yield from fault_of(node, (field, signal), value)
 
 
-def quantity_fault(_, path, value):
+def quantity_fault(_: Any, path: tuple[Any, ...], value: Any) -> Iterator[Found]:
     if formats.quantity_fault(value):
         yield is_(path, value, "it is no quantity", quantity_advice(value))
 
 
-def quantity_advice(value):
+def quantity_advice(value: Any) -> Any:
     """What to write in place of what is no quantity."""
     if isinstance(value, float):
         return 'write a fraction as a text, as "500m", and a whole number without a point'
@@ -99,7 +103,7 @@ def quantity_advice(value):
     return 'write it as "100Mi", "1.5Gi" or "2000"; docs/quantities.md has all suffixes'
 
 
-def limit_fault(node, path, value):
+def limit_fault(node: Any, path: tuple[Any, ...], value: Any) -> Iterator[Found]:
     """A limit is a quantity or a percentage; a percentage that sets a threshold needs a capacity."""
     if not formats.is_percentage(value):
         yield from quantity_fault(node, path, value)
@@ -116,12 +120,12 @@ def limit_fault(node, path, value):
                   f"give capacity its {signal}, or write a quantity for the percentage")
 
 
-def duration_fault(_, path, value):
+def duration_fault(_: Any, path: tuple[Any, ...], value: Any) -> Iterator[Found]:
     if formats.duration_fault(value):
         yield is_(path, value, "it is no duration", duration_advice(value))
 
 
-def duration_advice(value):
+def duration_advice(value: Any) -> Any:
     if not isinstance(value, str):
         return 'write it as a text with its unit, as "90s"'
     if value.isdigit():
@@ -131,7 +135,7 @@ def duration_advice(value):
     return 'write it in h, m and s, as "1m30s"'
 
 
-def without_graces(node, _):
+def without_graces(node: Any, _: Any) -> Iterator[Found]:
     """The soft thresholds that have no grace period."""
     graces = node.get(GRACES) or {}
     for signal, value in (node.get("evictionSoft") or {}).items():

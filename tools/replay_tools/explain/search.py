@@ -4,6 +4,8 @@ from __future__ import annotations
 
 import difflib
 import itertools
+from collections.abc import Iterable, Iterator
+from typing import Any, IO, TYPE_CHECKING
 
 from replay_tools.record.formats import LONGEST_LINE
 
@@ -11,11 +13,15 @@ from . import lines, manifest, node, tick
 from .before import key_of, lines_before
 from .found import Found, at, is_, shown
 
+if TYPE_CHECKING:
+    from .before import Before
+    from .verdict import Verdict
+
 MOST_FOUND = 10
 KINDS = ("node", "pod", "tick")
 
 
-def search(file, verdict, is_extended):
+def search(file: IO[bytes], verdict: Verdict, is_extended: bool) -> tuple[list[Found], bytes]:
     """The fields at fault of a trace that is open, for a verdict with a line, and that line as bytes."""
     file.seek(0)
     before, line = lines_before(file, verdict.line, verdict.number == 43)
@@ -29,7 +35,7 @@ def search(file, verdict, is_extended):
     return list(itertools.islice(of_line(found, before, verdict, is_extended, file), MOST_FOUND)), line
 
 
-def of_text(line, number, is_last):
+def of_text(line: bytes, number: int, is_last: bool) -> list[Found]:
     """What is wrong with the text of a line; the path is the place in it."""
     if number == 31:
         return [Found((0,), f"the line has {len(line)} bytes, and a line has at most {LONGEST_LINE}")]
@@ -40,7 +46,8 @@ def of_text(line, number, is_last):
     return [Found((fault[1],), fault[0], advice.get(fault[0]))] if fault else []
 
 
-def of_line(line, before, verdict, is_extended, file):
+def of_line(line: dict[str, Any], before: Before, verdict: Verdict, is_extended: bool,
+            file: IO[bytes]) -> Iterable[Found]:
     """The fields of a line that is JSON, for the kind of its fault."""
     number = verdict.number
     if number == 33:
@@ -59,17 +66,17 @@ def of_line(line, before, verdict, is_extended, file):
         return stranger_gone(line, before)
     if number == 39:
         return strangers(line, before, file, verdict.line)
-    found = tick.FAULTS.get(number)
+    found: Any = tick.FAULTS.get(number)
     return itertools.islice(found(line, before), None if number == 46 else 1) if found else ()
 
 
-def first_of_manifest(line, number):
+def first_of_manifest(line: dict[str, Any], number: int) -> Any:
     """The first fault of the manifest, where it is the one that the program has found."""
     first = next(manifest.faults_of(line), None)
     return [first[1]] if first and first[0] == number else []
 
 
-def unknown_kind(line, before, is_extended):
+def unknown_kind(line: dict[str, Any], before: Before, is_extended: bool) -> Iterator[Found]:
     if not isinstance(line, dict):
         yield Found((), "the line is no object", 'each line is an object with a "kind"')
         return
@@ -85,7 +92,7 @@ def unknown_kind(line, before, is_extended):
                   manifest_advice(line) or (f'write "kind":"{near[0]}"' if near else None))
 
 
-def gone_words(before, is_extended):
+def gone_words(before: Before, is_extended: bool) -> Any:
     if before.node_line is None:
         return "no node line stands before it", "put the node line first"
     if not is_extended and before.version == 3:
@@ -94,7 +101,7 @@ def gone_words(before, is_extended):
             'write "version":3 in the node line and give --extended, or leave the line out')
 
 
-def manifest_advice(line):
+def manifest_advice(line: dict[str, Any]) -> Any:
     """What to do with an object of Kubernetes that stands as a line of its own."""
     kind, spec = line.get("kind"), line.get("spec")
     if kind == "Pod" or isinstance(spec, dict) and "containers" in spec:
@@ -108,7 +115,7 @@ def manifest_advice(line):
     return None
 
 
-def out_of_turn(line, before):
+def out_of_turn(line: dict[str, Any], before: Before) -> Iterator[Found]:
     kind = line["kind"]
     if before.node_line is None:
         yield is_(("kind",), kind, "the first line is a node line", 'begin with {"kind":"node","name":"worker-3"}')
@@ -120,14 +127,14 @@ def out_of_turn(line, before):
                   "version 1", 'write "version":2 in the node line, or put the line before the ticks')
 
 
-def duplicate(line, before):
+def duplicate(line: dict[str, Any], before: Before) -> Iterator[Found]:
     key = key_of(line["pod"])
     if key in before.pods:
         yield is_(("pod", "metadata", "name"), line["pod"]["metadata"]["name"],
                   f"line {before.pods[key].line} has the pod {key} already")
 
 
-def stranger_gone(line, before):
+def stranger_gone(line: dict[str, Any], before: Before) -> Iterator[Found]:
     key = line.get("pod")
     if isinstance(key, str):
         yield tick.stranger(("pod",), key, before)
@@ -135,7 +142,7 @@ def stranger_gone(line, before):
         yield at(("pod",), f"is {shown(key)}: it is the key of a pod that is present, as shop/web")
 
 
-def strangers(line, before, file, number):
+def strangers(line: dict[str, Any], before: Before, file: IO[bytes], number: int) -> Iterator[Found]:
     """The keys that are no pod's; of the first of them the line of its pod, where that comes later."""
     for count, found in enumerate(tick.stranger_pods(line, before)):
         key = line["pods"][found.path[1]]["pod"]
@@ -146,7 +153,7 @@ def strangers(line, before, file, number):
         yield found
 
 
-def later_line(file, key):
+def later_line(file: IO[bytes], key: str) -> Any:
     """How many lines further the pod line of a key comes, of a file that is read up to a line."""
     name = key.rpartition("/")[2].encode()
     for count, text in enumerate(file, 1):

@@ -2,6 +2,8 @@
 
 from __future__ import annotations
 
+from typing import Any
+
 # number: what it is, what to do, the part of docs/formats.md
 FAULTS = {
     31: ("the line has more than 1 MiB", "leave out of manifests what the formats do not read, as env and "
@@ -43,7 +45,7 @@ MANIFEST_FAULTS = {
 }
 
 
-def row(number, manifest):
+def row(number: int, manifest: Any) -> tuple[str, str, str]:
     """What a fault is, what to do, and the part of docs/formats.md."""
     says, advice, part = FAULTS.get(number, ("the program refuses it", "docs/formats.md has the faults", "The trace"))
     if manifest in MANIFEST_FAULTS:

@@ -2,11 +2,14 @@
 
 from __future__ import annotations
 
+from collections.abc import Callable, Iterable, Iterator
+from typing import Any
+
 from replay_tools.record import formats
 from replay_tools.traces import SIGNALS
 
 from . import before as earlier
-from .found import at, is_, nearest, shown
+from .found import Found, at, is_, nearest, shown
 from .node import quantity_advice
 
 MOST_MOMENT = 2**40 - 1
@@ -18,7 +21,7 @@ PROBES, RESULTS = ("startup", "liveness", "readiness"), ("success", "failure", "
 # --- 42 Moment ---
 
 
-def moment_faults(line, before):
+def moment_faults(line: dict[str, Any], before: earlier.Before) -> Iterator[Found]:
     moment = line.get("at")
     if moment is None:
         yield at(("at",), "is missing: the moment of the tick in seconds")
@@ -33,7 +36,7 @@ def moment_faults(line, before):
 # --- 46 Usage ---
 
 
-def field_faults(line, before):
+def field_faults(line: dict[str, Any], before: earlier.Before) -> Iterator[Found]:
     """Fields with other values than a tick line has."""
     pods = line.get("pods")
     if pods is not None and not isinstance(pods, list):
@@ -46,7 +49,7 @@ def field_faults(line, before):
     yield from signal_faults(line, "afterReclaim", FREED)
 
 
-def signal_faults(line, field, allowed):
+def signal_faults(line: dict[str, Any], field: str, allowed: Iterable[str]) -> Iterator[Found]:
     values = line.get(field)
     if values is None:
         return
@@ -65,12 +68,12 @@ def signal_faults(line, field, allowed):
             yield is_((field, signal), value, "it is no quantity", quantity_advice(value))
 
 
-def entry_faults(entry, path):
+def entry_faults(entry: Any, path: tuple[Any, ...]) -> Iterator[Found]:
     if not isinstance(entry, dict):
         yield is_(path, entry, "it is an object, a pod's entry")
         return
     if not isinstance(entry.get("pod"), str):
-        yield (at if entry.get("pod") is None else is_)(*missing_or(entry, (*path, "pod"), "a pod's key, as shop/web"))
+        yield missing_or(entry, (*path, "pod"), "a pod's key, as shop/web")
     for field, fault_of in (("containers", listing_faults), ("probes", result_faults)):
         items = entry.get(field)
         if items is not None and not isinstance(items, list):
@@ -81,23 +84,23 @@ def entry_faults(entry, path):
     yield from usage_faults(entry.get("usage"), (*path, "usage"))
 
 
-def unsampled_faults(entry, path):
+def unsampled_faults(entry: Any, path: tuple[Any, ...]) -> Iterator[Found]:
     if not isinstance(entry.get("unsampled"), (bool, type(None))):
         yield is_(path, entry["unsampled"], "it is true or false, without quotes")
 
 
-def missing_or(around, path, wanted):
+def missing_or(around: Any, path: tuple[Any, ...], wanted: str) -> Found:
     """What to say of a field that is required and is missing, or has another value."""
     value = around.get(path[-1])
-    return (path, f"is missing: {wanted}") if value is None else (path, value, f"it is {wanted}")
+    return at(path, f"is missing: {wanted}") if value is None else is_(path, value, f"it is {wanted}")
 
 
-def required(around, path, is_good, wanted):
+def required(around: Any, path: tuple[Any, ...], is_good: Callable[[Any], bool], wanted: str) -> Iterator[Found]:
     if not is_good(around.get(path[-1])):
-        yield (at if around.get(path[-1]) is None else is_)(*missing_or(around, path, wanted))
+        yield missing_or(around, path, wanted)
 
 
-def listing_faults(listing, path):
+def listing_faults(listing: Any, path: tuple[Any, ...]) -> Iterator[Found]:
     yield from required(listing, (*path, "name"), lambda value: isinstance(value, str), "the container's name")
     attempt = listing.get("attempt")
     if attempt is not None and formats.whole_fault(attempt, 0, 2**31 - 1):
@@ -106,14 +109,13 @@ def listing_faults(listing, path):
                         f"one of {', '.join(earlier.STATES)}, or 0, 1, 2, 3")
 
 
-def result_faults(result, path):
+def result_faults(result: Any, path: tuple[Any, ...]) -> Iterator[Found]:
     yield from required(result, (*path, "container"), lambda value: isinstance(value, str), "the container's name")
     for field, words in (("probe", PROBES), ("result", RESULTS)):
-        yield from required(result, (*path, field), lambda value, words=words: value in words,
-                            f"one of {', '.join(words)}")
+        yield from required(result, (*path, field), words.__contains__, f"one of {', '.join(words)}")
 
 
-def usage_faults(usage, path):
+def usage_faults(usage: Any, path: tuple[Any, ...]) -> Iterator[Found]:
     if usage is None:
         return
     if not isinstance(usage, dict):
@@ -128,17 +130,17 @@ def usage_faults(usage, path):
 # --- 39, 40, 41: pods and containers that are not there, or twice ---
 
 
-def entries_of(line):
+def entries_of(line: dict[str, Any]) -> Any:
     return enumerate(line.get("pods") or [])
 
 
-def stranger_pods(line, before):
+def stranger_pods(line: dict[str, Any], before: earlier.Before) -> Iterator[Found]:
     for index, entry in entries_of(line):
         if entry["pod"] not in before.pods:
             yield stranger(("pods", index, "pod"), entry["pod"], before)
 
 
-def stranger(path, key, before):
+def stranger(path: tuple[Any, ...], key: str, before: earlier.Before) -> Any:
     """A key that no present pod has."""
     if key in before.gone:
         return is_(path, key, f"line {before.gone[key]} let this pod go", "leave it out of the ticks behind that "
@@ -150,7 +152,7 @@ def stranger(path, key, before):
                nearest(key, before.pods) or "put the pod's line before the tick")
 
 
-def containers_named(line):
+def containers_named(line: dict[str, Any]) -> Iterator[Any]:
     """Each container that a tick line names: the path, the pod's key, and the name."""
     for index, entry in entries_of(line):
         for field, name in (("containers", "name"), ("probes", "container")):
@@ -158,7 +160,7 @@ def containers_named(line):
                 yield ("pods", index, field, place, name), entry["pod"], found[name]
 
 
-def stranger_containers(line, before):
+def stranger_containers(line: dict[str, Any], before: earlier.Before) -> Iterator[Found]:
     for path, key, name in containers_named(line):
         known = before.pods[key].containers
         if name not in known:
@@ -166,7 +168,7 @@ def stranger_containers(line, before):
                       nearest(name, known) or "leave it out; the formats have no ephemeral containers")
 
 
-def doubled(line, _):
+def doubled(line: dict[str, Any], _: Any) -> Iterator[Found]:
     pods = set()
     for index, entry in entries_of(line):
         if entry["pod"] in pods:
@@ -187,20 +189,21 @@ def doubled(line, _):
 # --- 43 Backwards, 44 ExitCode ---
 
 
-def listings_of(line):
+def listings_of(line: dict[str, Any]) -> Iterator[Any]:
     for index, entry in entries_of(line):
         for place, found in enumerate(entry.get("containers") or []):
             yield ("pods", index, "containers", place), entry["pod"], found
 
 
-def backwards(line, before):
+def backwards(line: dict[str, Any], before: earlier.Before) -> Iterator[Found]:
     for path, key, found in listings_of(line):
         known = before.pods[key].listed.get(found["name"])
         if known:
             yield from backwards_of(path, key, found, known, before)
 
 
-def backwards_of(path, key, found, known, before):
+def backwards_of(path: tuple[Any, ...], key: str, found: Any, known: Any,
+                 before: earlier.Before) -> Iterator[Found]:
     attempt, state, name = found.get("attempt") or 0, earlier.state_name(found["state"]), found["name"]
     if attempt < known.attempt:
         yield is_((*path, "attempt"), attempt, f"line {known.line} listed attempt {known.attempt} of {name} of {key} "
@@ -213,7 +216,7 @@ def backwards_of(path, key, found, known, before):
                   f"{known.line}, and is {state} now", "a restart has the next attempt")
 
 
-def exit_codes(line, _):
+def exit_codes(line: dict[str, Any], _: Any) -> Iterator[Found]:
     for path, key, found in listings_of(line):
         code = found.get("exitCode")
         if earlier.state_name(found["state"]) != earlier.EXITED:

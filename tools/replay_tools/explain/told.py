@@ -2,14 +2,19 @@
 
 from __future__ import annotations
 
+from typing import Any, TYPE_CHECKING
+
 from replay_tools import entry
 
 from . import lines
 
+if TYPE_CHECKING:
+    from .answer import Answer
+
 BEFORE, SHOWN = 50, 100
 
 
-def whole_text(answer, name):
+def whole_text(answer: Answer, name: str) -> str:
     """What the program says of a file, what it means, the line around it, and what to do."""
     if not answer.is_fault:
         return f"{entry.visible(name)}: {answer.said}\n  nothing is wrong with it\n"
@@ -23,7 +28,7 @@ def whole_text(answer, name):
     return "\n".join(told) + "\n"
 
 
-def one_line(answer):
+def one_line(answer: Answer) -> str:
     """What it means and what to do; None where there is nothing to say."""
     if not answer.is_fault or not answer.found:
         return None
@@ -31,7 +36,7 @@ def one_line(answer):
     return entry.visible(answer.found[0].says + (f": {advice}" if advice else ""))
 
 
-def excerpt(answer, path):
+def excerpt(answer: Answer, path: tuple[Any, ...]) -> list[str]:
     """The line around a value with marks below it; nothing where there is no line."""
     text = answer.text.decode("utf-8", "replace").rstrip("\r")
     begin, end = span(answer, text, path)
@@ -46,7 +51,7 @@ def excerpt(answer, path):
             f"      {marks}"]
 
 
-def span(answer, text, path):
+def span(answer: Answer, text: str, path: tuple[Any, ...]) -> tuple[int, int]:
     """Where the value of a path begins and ends in the line."""
     if not text.strip(" \t\r"):
         return None, None

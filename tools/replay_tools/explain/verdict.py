@@ -22,7 +22,7 @@ class Verdict:
     """the number of a manifest's fault"""
 
 
-def verdict_of(path, is_extended):
+def verdict_of(path: str, is_extended: bool) -> Verdict:
     """The program's answer to check."""
     program = programs.path()
     words = [program, "check", path, *(["--extended"] if is_extended else [])]
@@ -38,7 +38,7 @@ def verdict_of(path, is_extended):
     return Verdict(2, said, int(line), int(number), int(manifest) if manifest else None)
 
 
-def says_extended(path):
+def says_extended(path: str) -> bool:
     """Whether a trace's node line says the extended format."""
     try:
         with open(path, "rb") as file:

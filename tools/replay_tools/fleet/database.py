@@ -5,9 +5,13 @@ from __future__ import annotations
 import os
 import sqlite3
 import urllib.parse
+from typing import TYPE_CHECKING
 
 from replay_tools import entry, tables
 from replay_tools.fleet import work
+
+if TYPE_CHECKING:
+    from replay_tools.fleet import kept
 
 # SQLite keeps it in the file; it says whose file it is
 APPLICATION = int.from_bytes(b"fleT", "big")
@@ -17,7 +21,7 @@ NAMES = tuple(column.split()[0] for column in COLUMNS)
 TABLES = ("traces", *(tables.TABLES[kind][0] for kind in work.KINDS))
 
 
-def check_replaceable(path):
+def check_replaceable(path: str) -> None:
     """Only a fleet's database is replaced by another."""
     if not os.path.basename(path) and not os.path.isdir(path):
         raise entry.Fault(f"'{path}' can't be written: it names no file")
@@ -28,7 +32,7 @@ def check_replaceable(path):
         raise entry.Fault(f"{path} can't be written: {folder} is no folder that can be written to")
 
 
-def open_database(path):
+def open_database(path: str) -> sqlite3.Connection:
     """A connection that reads."""
     if os.path.exists(path) and not (os.path.isfile(path) or os.path.isdir(path)):
         raise entry.Fault(f"{path} is a device or a pipe, and no database of tools/fleet")
@@ -48,10 +52,10 @@ def open_database(path):
     raise entry.Fault(f"{path} is there and is no database of tools/fleet")
 
 
-def write(path, paths, kept, failed):
+def write(path: str, paths: list[str], kept: kept.Kept, failed: dict[str, dict[str, str | None]]) -> None:
     """The database of the traces of some paths, in their order, from what is kept; `failed` has the records of those
     that have nothing kept."""
-    def fill(connection):
+    def fill(connection: sqlite3.Connection) -> None:
         connection.execute(f"CREATE TABLE traces (report INTEGER NOT NULL, {', '.join(COLUMNS)})")
         numbers = {}
         for number, trace_path in enumerate(paths, 1):
@@ -60,7 +64,7 @@ def write(path, paths, kept, failed):
             content = trace["sha256"], trace["bytes"]
             first = number if trace["status"] == "failed" else numbers.setdefault(content, number)
             if first != number:
-                trace, rows = copied(trace, first), ()
+                trace, rows = copied(trace, first), iter(())
             add_trace(connection, number, trace, kept.file(trace_path, "report"))
             tables.add_records(connection, number, rows)
 
@@ -72,12 +76,12 @@ def write(path, paths, kept, failed):
         raise entry.Fault(f"an answer in {kept.folder} is broken; --anew makes all of them again") from None
 
 
-def copied(trace, first):
+def copied(trace: dict[str, int | str | None], first: int) -> dict[str, int | str]:
     """The record of a trace that has the bytes of another one before it, whose number is given, and counts nothing."""
     return {**{name: trace[name] for name in ("path", "sha256", "bytes")}, "status": "copy", "copy_of": first}
 
 
-def add_trace(connection, number, trace, report):
+def add_trace(connection: sqlite3.Connection, number: int, trace: dict[str, int | str | None], report: str) -> None:
     trace["report_file"] = os.path.basename(report) if trace["status"] == "replayed" else None
     marks = ", ".join("?" * (len(NAMES) + 1))
     connection.execute(f"INSERT INTO traces VALUES ({marks})", [number, *map(trace.get, NAMES)])

@@ -9,6 +9,8 @@ import hashlib
 import json
 import os
 import re
+from collections.abc import Iterator
+from typing import Any
 
 from replay_tools import entry
 
@@ -20,7 +22,7 @@ FORM = "3"
 class Kept:
     """The folder of kept answers of one program; another program's are no answers."""
 
-    def __init__(self, folder, program_sum):
+    def __init__(self, folder: str, program_sum: str) -> None:
         self.folder, self.program_sum = folder, program_sum
         try:
             os.makedirs(folder, exist_ok=True)
@@ -32,16 +34,16 @@ class Kept:
         except OSError as fault:
             raise entry.Fault(f"{folder} can't be written: {fault.strerror}") from None
 
-    def name(self, path):
+    def name(self, path: str) -> str:
         """The name of a trace's files: what people call it, and a key of its path, of the program and of the form."""
         plain = re.sub(r"[^A-Za-z0-9.-]", "_", os.path.basename(path).removesuffix(".gz").removesuffix(".trace"))[:80]
         key = hashlib.sha256(f"{FORM}\n{self.program_sum}\n".encode() + os.fsencode(path)).hexdigest()[:16]
         return f"{plain}-{key}"
 
-    def file(self, path, kind):
+    def file(self, path: str, kind: str) -> str:
         return os.path.join(self.folder, f"{self.name(path)}.{kind}.gz")
 
-    def known(self, path, until):
+    def known(self, path: str, until: int | None) -> str | None:
         """The SHA-256 of the trace whose answer is kept, as one that says all up to a moment; or None."""
         try:
             trace = next(self.rows(path))
@@ -49,12 +51,12 @@ class Kept:
         except (OSError, EOFError, ValueError, KeyError, StopIteration):
             return None
 
-    def rows(self, path):
+    def rows(self, path: str) -> Iterator[dict[str, Any] | None]:
         """The record of a trace, and those of its report."""
         with gzip.open(self.file(path, "rows"), "rt", encoding="utf-8") as lines:
             yield from map(json.loads, lines)
 
-    def keep(self, path, answer):
+    def keep(self, path: str, answer: dict[str, Any]) -> None:
         """Takes an answer in. The rows come last, since they say that the answer is whole."""
         if answer["rows"] is None:
             return
@@ -62,7 +64,7 @@ class Kept:
             self.write(self.file(path, "report"), answer["report"])
         self.write(self.file(path, "rows"), answer["rows"])
 
-    def write(self, path, content):
+    def write(self, path: str, content: bytes) -> None:
         part = path + ".part"
         try:
             with open(part, "wb") as file:

@@ -7,7 +7,9 @@ import os
 import signal
 import threading
 import time
+from collections.abc import Iterator
 from concurrent.futures.process import BrokenProcessPool
+from typing import Any
 
 from replay_tools.fleet import work
 
@@ -15,7 +17,8 @@ from replay_tools.fleet import work
 WAITING_EACH = 4
 
 
-def answers(tasks, program, program_sum, processes):
+def answers(tasks: list[tuple[str, tuple[str | None, int | None]]], program: str, program_sum: str,
+            processes: int) -> Iterator[tuple[str, dict[str, Any]]]:
     """Path and answer of each task, as they come; tasks are pairs of a path and what is known of it."""
     left = dict(tasks)
     while left:
@@ -29,7 +32,7 @@ def answers(tasks, program, program_sum, processes):
                 yield path, answer_alone(path, left.pop(path), program, program_sum)
 
 
-def answer_alone(path, known, program, program_sum):
+def answer_alone(path: str, known: tuple[str | None, int | None], program: str, program_sum: str) -> dict[str, Any]:
     try:
         [(_, answer)] = answers_of_pool([(path, known)], program, program_sum, 1)
         return answer
@@ -37,7 +40,8 @@ def answer_alone(path, known, program, program_sum):
         return work.failed(path, "each process that had it in hand was ended")
 
 
-def answers_of_pool(tasks, program, program_sum, processes):
+def answers_of_pool(tasks: list[tuple[str, tuple[str | None, int | None]]], program: str, program_sum: str,
+                    processes: int) -> Iterator[tuple[str, dict[str, Any]]]:
     """A few tasks wait beside those in hand, so that answers don't pile up."""
     with concurrent.futures.ProcessPoolExecutor(processes, initializer=begin) as pool:
         pending = {}
@@ -52,20 +56,20 @@ def answers_of_pool(tasks, program, program_sum, processes):
             pool.shutdown(wait=True, cancel_futures=True)
 
 
-def some(pending):
+def some(pending: dict[Any, str]) -> Iterator[tuple[str, dict[str, Any]]]:
     """Takes what is done from what is pending, once there is something."""
     done, _ = concurrent.futures.wait(pending, return_when=concurrent.futures.FIRST_COMPLETED)
     for future in done:
         yield pending.pop(future), future.result()
 
 
-def begin():
+def begin() -> None:
     """An interrupt is the parent's to take, and a worker does not outlive it."""
     signal.signal(signal.SIGINT, signal.SIG_IGN)
     threading.Thread(target=end_with, args=(os.getppid(),), daemon=True).start()
 
 
-def end_with(parent):
+def end_with(parent: int) -> None:
     while os.getppid() == parent:
         time.sleep(0.5)
     os._exit(1)

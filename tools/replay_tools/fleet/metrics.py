@@ -6,6 +6,7 @@ from __future__ import annotations
 import os
 import sqlite3
 import tempfile
+from typing import Any
 
 from replay_tools import entry
 from replay_tools.fleet import database, nodes
@@ -40,7 +41,7 @@ FAMILIES = (
 )
 
 
-def text(connection):
+def text(connection: Any) -> Any:
     """The families of a database that is open."""
     lines = []
     for name, unit, says, labels, query in FAMILIES:
@@ -52,11 +53,11 @@ def text(connection):
     return "\n".join([*lines, "# EOF"]) + "\n"
 
 
-def escaped(value):
+def escaped(value: Any) -> Any:
     return value.replace("\\", "\\\\").replace("\n", "\\n").replace('"', '\\"')
 
 
-def write(path, metrics):
+def write(path: str, metrics: Any) -> None:
     """Writes the metrics of a database to a file, which is replaced as a whole, since it may be read at any time."""
     connection = database.open_database(path)
     try:
@@ -77,7 +78,7 @@ def write(path, metrics):
         raise entry.Fault(f"{metrics} can't be written: {fault.strerror}") from None
 
 
-def check_replaceable(path):
+def check_replaceable(path: str) -> None:
     """Only metrics of a fleet are replaced by others."""
     if not os.path.lexists(path):
         folder = os.path.dirname(os.path.abspath(path))

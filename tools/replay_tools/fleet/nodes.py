@@ -2,6 +2,10 @@
 
 from __future__ import annotations
 
+from collections.abc import Iterator
+from sqlite3 import Connection
+from typing import Any
+
 from replay_tools import entry, kubelet as kubelets, traces
 
 # what a node is worst by, an hour of recording; the seconds of recording are those between a trace's ticks
@@ -51,7 +55,7 @@ CONDITIONS = {"MemoryPressure": "memory_pressure_seconds", "DiskPressure": "disk
 RESOURCES = {"memory": "memory", "ephemeral-storage": "disk", "inodes": "inode", "pids": "PID", "pid": "PID"}
 
 
-def worst_rows(connection, by, top):
+def worst_rows(connection: Connection, by: str, top: int) -> Iterator[list[str]]:
     """The worst nodes by a measure: name, hours, restarts, kills, evictions, their signals, and the seconds of each
     pressure an hour of recording."""
     order = [ORDERS[by], *(measure for measure in ("evicted", "memory + disk + pid", "restarts", "kills")
@@ -70,19 +74,19 @@ HEADS = ["node", "hours", "restarts", "kills", "evicted", "by the rules for", "m
 # --- causes ---
 
 
-def causes(connection, top):
+def causes(connection: Connection, top: int) -> list[str]:
     """A line for each cause, the one on the most nodes first."""
     found = [*pressed(connection), *under_pressure(connection), *died(connection), *waited(connection),
              *killed(connection)]
     return [f"  {entry.visible(said)}" for _, said in sorted(found, key=lambda cause: (*cause[0], cause[1]))[:top]]
 
 
-def cause(nodes, times, what, rest):
+def cause(nodes: int, times: int, what: str, rest: str) -> tuple[tuple[int, int], str]:
     """Its place, and its line."""
     return (-nodes, -times), f"{what} on {entry.counted(nodes, 'node')}, {rest}"
 
 
-def pressed(connection):
+def pressed(connection: Connection) -> Iterator[tuple[tuple[int, int], str]]:
     """Evictions: by the kubelet where a trace says so, else by the rules."""
     for resource, nodes, times in connection.execute(PRESSED):
         yield cause(nodes, times, f"{RESOURCES.get(resource, resource)} pressure", entry.counted(times, "eviction"))
@@ -95,26 +99,26 @@ def pressed(connection):
         yield cause(len(set(named)), len(named), what, f"{entry.counted(len(named), 'eviction')} by the kubelet")
 
 
-def under_pressure(connection):
+def under_pressure(connection: Connection) -> Iterator[Any]:
     for condition, column in CONDITIONS.items():
         [[nodes, seconds]] = connection.execute(UNDER.format(column=column))
         if nodes:
             yield cause(nodes, 0, condition, f"for {seconds} s and without an eviction")
 
 
-def died(connection):
+def died(connection: Connection) -> Iterator[tuple[tuple[int, int], str]]:
     for reason, code, nodes, times, containers in connection.execute(DIED):
         known = f"code {code}" if code is not None else "137, killed or unknown"
         what = known if reason is None else f"{reason} ({known})"
         yield cause(nodes, times, what, f"{entry.counted(times, 'death')} of {entry.counted(containers, 'container')}")
 
 
-def waited(connection):
+def waited(connection: Connection) -> Iterator[Any]:
     for reason, nodes, seconds, containers in connection.execute(WAITED):
         yield cause(nodes, 0, reason, f"{entry.counted(containers, 'container')} waited for {seconds} s")
 
 
-def killed(connection):
+def killed(connection: Connection) -> Iterator[tuple[tuple[int, int], str]]:
     [[nodes, times, pods]] = connection.execute(KILLED)
     if nodes:
         orders = entry.counted(times, "kill order")

@@ -1,7 +1,11 @@
 """What a worker of Dask is sent. It is sent by value, since a worker knows nothing of the tools before it runs."""
 
+from __future__ import annotations
 
-def answer(tools, *words):
+from typing import Any
+
+
+def answer(tools: Any, *words: Any) -> Any:
     """The answer of fleet.work; the folder `tools`, which has the package, is on the worker's machine under the same
     path."""
     import sys

@@ -7,6 +7,7 @@ import tempfile
 
 import pyarrow
 import pyarrow.parquet
+from typing import Any
 
 from replay_tools import entry
 from replay_tools.fleet import database
@@ -15,7 +16,7 @@ from replay_tools.fleet import database
 MARK = {b"application": b"tools/fleet"}
 
 
-def make_folder(folder):
+def make_folder(folder: str) -> None:
     """A folder in which each table may be written."""
     try:
         os.makedirs(folder, exist_ok=True)
@@ -25,11 +26,11 @@ def make_folder(folder):
         check_replaceable(path)
 
 
-def paths_in(folder):
+def paths_in(folder: str) -> Any:
     return [os.path.join(folder, f"{table}.parquet") for table in database.TABLES]
 
 
-def check_replaceable(path):
+def check_replaceable(path: str) -> None:
     """Only a table of a fleet is replaced by another."""
     if not os.path.exists(path):
         return
@@ -41,7 +42,7 @@ def check_replaceable(path):
         raise entry.Fault(f"{path} is there and is no table of tools/fleet")
 
 
-def write(path, folder):
+def write(path: str, folder: str) -> None:
     """A file for each table of a database; each stands under its name once it is whole."""
     connection = database.open_database(path)
     try:
@@ -57,7 +58,7 @@ def write(path, folder):
         connection.close()
 
 
-def arrow_table(connection, table):
+def arrow_table(connection: Any, table: Any) -> Any:
     fields = [(name, pyarrow.int64() if kind == "INTEGER" else pyarrow.string())
               for _, name, kind, *_ in connection.execute(f"PRAGMA table_info({table})")]
     rows = connection.execute(f"SELECT * FROM {table} ORDER BY rowid").fetchall()

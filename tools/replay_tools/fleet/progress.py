@@ -13,13 +13,13 @@ EVERY = 0.2
 class Progress:
     """Counts answers, and shows how many there are where standard error is a terminal."""
 
-    def __init__(self, total):
+    def __init__(self, total: int) -> None:
         self.total, self.done, self.kept, self.refused, self.failed = total, 0, 0, 0, 0
         self.began = time.monotonic()
         self.shown = self.began - EVERY
         self.is_seen = sys.stderr.isatty()
 
-    def step(self, status):
+    def step(self, status: str) -> None:
         """One more trace is done; it is told now and then, and not for each."""
         self.done += 1
         self.refused += status == "refused"
@@ -32,7 +32,7 @@ class Progress:
             self.shown = now
             self.show(now - self.began)
 
-    def show(self, seconds):
+    def show(self, seconds: float) -> None:
         replayed = self.done - self.kept
         said = f"{self.done} of {entry.counted(self.total, 'trace')}"
         said += f", {self.kept} kept from before" if self.kept else ""
@@ -41,7 +41,7 @@ class Progress:
         sys.stderr.write(f"\r\x1b[K{said}")
         sys.stderr.flush()
 
-    def end(self):
+    def end(self) -> None:
         """Takes the line away."""
         if self.is_seen:
             sys.stderr.write("\r\x1b[K")

@@ -4,7 +4,9 @@ from __future__ import annotations
 
 import contextlib
 import importlib
+from collections.abc import Iterator
 from dataclasses import dataclass
+from typing import Any
 
 from replay_tools import entry, program as programs
 from replay_tools.fleet import database, kept, local, progress, traces
@@ -29,7 +31,7 @@ class Order:
     anew: bool
 
 
-def run(order):
+def run(order: Order) -> int:
     """Writes the database; gives how many traces failed. What can't be done is found before any work."""
     database.check_replaceable(order.database)
     scheduler = part("scheduler") if order.scheduler else None
@@ -53,14 +55,14 @@ def run(order):
     return len(failed)
 
 
-def part(name):
+def part(name: str) -> Any:
     try:
         return importlib.import_module(f"fleet.{name}")
     except ImportError:
         raise entry.Fault(PARTS[name], 127) from None
 
 
-def taken(coming, store, total):
+def taken(coming: Iterator[Any], store: kept.Kept, total: int) -> dict[str, dict[str, str | None]]:
     """Keeps each answer as it comes; gives the records of the traces that failed, by path."""
     failed, shown = {}, progress.Progress(total)
     try:

@@ -10,6 +10,8 @@ import time
 
 import cloudpickle
 import distributed
+from collections.abc import Iterator
+from typing import Any
 
 from replay_tools import entry
 from replay_tools.fleet import on_worker, work
@@ -24,7 +26,7 @@ TOOLS = os.path.dirname(os.path.dirname(os.path.dirname(os.path.realpath(__file_
 
 
 @contextlib.contextmanager
-def connected(address):
+def connected(address: str) -> Iterator[Any]:
     """A client of the scheduler of an address, with a worker at least."""
     # what a lost connection means is said in one line
     logging.disable(logging.CRITICAL)
@@ -38,14 +40,14 @@ def connected(address):
             client.close()
 
 
-def client_of(address):
+def client_of(address: str) -> Any:
     try:
         return distributed.Client(address, timeout=SECONDS_TO_CONNECT)
     except (OSError, ValueError, TypeError, RuntimeError) as fault:
         raise no_answer(address, fault) from None
 
 
-def wait_for_worker(client, address):
+def wait_for_worker(client: Any, address: str) -> None:
     try:
         client.wait_for_workers(1, timeout=SECONDS_TO_WAIT)
     except distributed.TimeoutError:
@@ -54,12 +56,12 @@ def wait_for_worker(client, address):
         raise no_answer(address, fault) from None
 
 
-def no_answer(address, fault):
+def no_answer(address: str, fault: Any) -> Any:
     said = str(fault).split("\n")[0] or type(fault).__name__
     return entry.Fault(f"the scheduler {address} does not answer: {said}")
 
 
-def answers(tasks, program, program_sum, client):
+def answers(tasks: Any, program: str, program_sum: str, client: Any) -> Iterator[Any]:
     """Path and answer of each task, as they come; tasks are pairs of a path and what is known of it."""
     try:
         yield from answers_of_workers(tasks, program, program_sum, client)
@@ -73,7 +75,7 @@ def answers(tasks, program, program_sum, client):
                           ) from None
 
 
-def answers_of_workers(tasks, program, program_sum, client):
+def answers_of_workers(tasks: Any, program: str, program_sum: str, client: Any) -> Iterator[Any]:
     """A few tasks wait beside those in hand, and answers are fetched as they come, so that few are lost with a worker
     that dies."""
     cloudpickle.register_pickle_by_value(on_worker)
@@ -89,10 +91,11 @@ def answers_of_workers(tasks, program, program_sum, client):
 class Threads:
     """How many threads the workers have together, which come and go."""
 
-    def __init__(self, client):
-        self.client, self.known, self.asked = client, 1, None
+    def __init__(self, client: Any) -> None:
+        self.client, self.known = client, 1
+        self.asked: float | None = None
 
-    def count(self):
+    def count(self) -> Any:
         """One at least; it is asked for anew each second."""
         now = time.monotonic()
         if self.asked is None or now - self.asked > 1:
@@ -100,7 +103,7 @@ class Threads:
         return self.known
 
 
-def some(pending, client):
+def some(pending: Any, client: Any) -> Iterator[Any]:
     """Takes what is done from what is pending, once there is something. An answer that was lost with its worker is
     pending again, since the scheduler hands its trace out again."""
     try:
@@ -118,7 +121,7 @@ def some(pending, client):
             yield pending.pop(future), answer
 
 
-def answer_without(future, path):
+def answer_without(future: Any, path: str) -> Any:
     """The answer of a task that came to none. One whose workers died again and again failed."""
     fault = future.exception()
     if not isinstance(fault, distributed.KilledWorker):

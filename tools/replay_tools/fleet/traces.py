@@ -7,6 +7,7 @@ import gzip
 import json
 import os
 import zlib
+from typing import Any
 
 from replay_tools import entry, packed, traces
 
@@ -14,19 +15,19 @@ ENDINGS = (".trace", ".trace.gz")
 LONGEST_LINE = 1 << 20
 
 
-def paths_of(words):
+def paths_of(words: list[str]) -> list[str]:
     """The absolute paths of the traces that the words name, each once, in the order of their bytes."""
-    found = set()
+    found: set[str] = set()
     for word in words:
         named = paths_named(word)
         if not named:
             raise entry.Fault(f"no trace found: {word} is no file, has no *.trace or *.trace.gz below it and "
                               "matches nothing")
-        found.update(map(os.path.abspath, named))
+        found.update(os.path.abspath(path) for path in named)
     return sorted(found, key=os.fsencode)
 
 
-def paths_named(word):
+def paths_named(word: str) -> list[str]:
     if os.path.isdir(word):
         return paths_below(word)
     if os.path.exists(word):
@@ -35,13 +36,13 @@ def paths_named(word):
     return [path for path in matched if not os.path.isdir(path)]
 
 
-def paths_below(folder):
+def paths_below(folder: str) -> list[str]:
     """Every *.trace and *.trace.gz in a folder and in those below it."""
     return [os.path.join(where, name) for where, _, names in os.walk(folder) for name in names
             if name.endswith(ENDINGS)]
 
 
-def known_ends(paths):
+def known_ends(paths: list[str]) -> dict[Any, Any]:
     """By the path of a trace up to when it says all that happened, where one that follows it says so. Its own last tick
     may be some seconds before that."""
     by_name = {}
@@ -58,11 +59,11 @@ def known_ends(paths):
     return ends
 
 
-def plain_name(path):
+def plain_name(path: str) -> str:
     return os.path.basename(path).removesuffix(".gz")
 
 
-def follows_of(path):
+def follows_of(path: str) -> Any:
     """What the node line of a trace says of the one before it; None where it says nothing, or can't be read."""
     if not os.path.isfile(path):
         # a pipe would be waited for
@@ -77,6 +78,6 @@ def follows_of(path):
     return said if traces.is_follows(said) else None
 
 
-def shown(path):
+def shown(path: str) -> Any:
     """A path as text that a table can hold, where its bytes are no UTF-8 too."""
     return os.fsencode(path).decode("utf-8", "replace")

@@ -12,6 +12,8 @@ import os
 import re
 import stat
 import subprocess
+from collections.abc import Iterator
+from typing import Any
 
 from replay_tools import entry, kubelet as kubelets, packed, program as programs, records, report as reports, traces
 
@@ -27,11 +29,11 @@ class WorkFault(entry.Fault):
     """This process can't do the work of any trace; the message says why."""
 
 
-def answer(program, program_sum, path, known):
+def answer(program: str, program_sum: str, path: str, known: tuple[str | None, int | None]) -> dict[str, Any]:
     """What became of the trace of a path: a dict of its record, its rows and its report, both as gzip or None. What is
-    known are the SHA-256 of the trace that was answered before, or None, and up to when it says all that happened, where
-    one that follows it says so. Where the trace is still the same there are neither rows nor report, and the status is
-    "known"."""
+    known are the SHA-256 of the trace that was answered before, or None, and up to when it says all that happened,
+    where one that follows it says so. Where the trace is still the same there are neither rows nor report, and the
+    status is "known"."""
     known_sum, until = known
     check_program(program, program_sum)
     try:
@@ -62,7 +64,7 @@ def answer(program, program_sum, path, known):
     return answered(record_of(path, trace_sum, size, "replayed") | {"until": until}, rows, done.stdout)
 
 
-def beside(text, report):
+def beside(text: bytes, report: reports.Report) -> tuple[traces.Trace | None, kubelets.Kubelet | None]:
     """A trace and what it says that the kubelet did, beside its report; None for each where it says nothing that the
     formats don't read, or can't be read as the tools read one."""
     node_line = text.lstrip().split(b"\n", 1)[0]
@@ -76,7 +78,7 @@ def beside(text, report):
         return None, None
 
 
-def begun_of(text):
+def begun_of(text: bytes) -> Any:
     """The moment behind which a trace that follows another one says what happened; None of any other."""
     try:
         said = json.loads(text.lstrip().split(b"\n", 1)[0]).get("follows")
@@ -85,13 +87,13 @@ def begun_of(text):
     return said["at"] if traces.is_follows(said) else None
 
 
-def span_of(text):
+def span_of(text: bytes) -> tuple[int, int] | None:
     """The moments of the first and the last tick, of which the lines are looked for from both ends; None without."""
-    found = [next(filter(None, map(moment_of, lines)), None) for lines in (lines_from(text), lines_back(text))]
-    return None if None in found else tuple(each["at"] for each in found)
+    first, last = (next(filter(None, map(moment_of, lines)), None) for lines in (lines_from(text), lines_back(text)))
+    return None if first is None or last is None else (first["at"], last["at"])
 
 
-def lines_from(text):
+def lines_from(text: bytes) -> Iterator[bytes | None]:
     begin = 0
     while begin < len(text):
         end = text.find(b"\n", begin)
@@ -100,7 +102,7 @@ def lines_from(text):
         begin = end + 1
 
 
-def lines_back(text):
+def lines_back(text: bytes) -> Iterator[bytes | None]:
     end = len(text)
     while end > 0:
         begin = text.rfind(b"\n", 0, end) + 1
@@ -108,7 +110,7 @@ def lines_back(text):
         end = begin - 1
 
 
-def moment_of(line):
+def moment_of(line: bytes) -> dict[str, Any] | None:
     """A tick line as it is read, or None."""
     if b'"tick"' not in line:
         return None
@@ -117,7 +119,7 @@ def moment_of(line):
 
 
 @functools.lru_cache
-def check_program(program, program_sum):
+def check_program(program: str, program_sum: str) -> None:
     """Another program could give other bytes."""
     try:
         found = programs.sum_of(program)
@@ -127,7 +129,7 @@ def check_program(program, program_sum):
         raise WorkFault(f"{program} is another program where a worker is")
 
 
-def read_trace(path):
+def read_trace(path: str) -> tuple[bytes, int]:
     """The bytes of a trace, unpacked, one more than the longest at most, and how many it has."""
     with open(os.open(path, os.O_RDONLY | os.O_NONBLOCK), "rb") as file:
         found = os.fstat(file.fileno())
@@ -138,7 +140,7 @@ def read_trace(path):
     return text, found.st_size if text is data else len(text)
 
 
-def refusal(status, said):
+def refusal(status: int, said: str) -> dict[str, Any]:
     """The status, line, code and fault of a trace without a report."""
     refused = REFUSED_LINE.fullmatch(said)
     if status == 2 and refused:
@@ -149,17 +151,19 @@ def refusal(status, said):
     return {"status": "failed", "fault": said or ended}
 
 
-def record_of(path, trace_sum, size, status, line=None, code=None, fault=None):
+def record_of(path: str, trace_sum: str | None, size: int | None, status: str, line: int | None = None,
+              code: int | None = None, fault: str | None = None) -> dict[str, str | int | None]:
     return {"record": "trace", "path": os.fsencode(path).decode("utf-8", "replace"), "sha256": trace_sum,
             "bytes": size, "status": status, "line": line, "code": code, "fault": fault, "until": None}
 
 
-def failed(path, said):
+def failed(path: str, said: str) -> dict[str, dict[str, str | None] | None]:
     """The answer where there is not even a trace to name."""
     return answered(record_of(path, None, None, "failed", fault=said))
 
 
-def answered(trace, rows=(), report=None):
+def answered(trace: dict[str, str | int | None], rows: list[dict[str, Any]] | tuple[Any, ...] = (),
+             report: bytes | None = None) -> dict[str, Any]:
     if trace["status"] not in ("replayed", "refused"):
         return {"trace": trace, "rows": None, "report": None}
     lines = "".join(json.dumps(row, ensure_ascii=False, separators=(",", ":")) + "\n" for row in (trace, *rows))

@@ -3,6 +3,7 @@
 from __future__ import annotations
 
 import sqlite3
+from collections.abc import Iterator
 
 from replay_tools import entry, telling
 from replay_tools.explain import beside
@@ -50,7 +51,7 @@ SELECT (SELECT COUNT(*) FROM traces), (SELECT COUNT(*) FROM traces WHERE status 
 """
 
 
-def text(path, by, top):
+def text(path: str, by: str, top: int) -> str:
     """What stands in a database, by one of the measures."""
     connection = database.open_database(path)
     try:
@@ -61,7 +62,7 @@ def text(path, by, top):
         connection.close()
 
 
-def lines_of(connection, by, top):
+def lines_of(connection: sqlite3.Connection, by: str, top: int) -> list[str]:
     """What a database has: the worst pods by a measure, evictions by signal, and traces without a report."""
     lines = [counts_text(*next(connection.execute(COUNTS))), ""]
     order = [MEASURES[by], *(measure for name, measure in MEASURES.items() if name != by)]
@@ -91,7 +92,7 @@ def lines_of(connection, by, top):
     return lines
 
 
-def meanings(connection):
+def meanings(connection: sqlite3.Connection) -> Iterator[list[str]]:
     """Of each fault what the refusal of its first trace means, as far as that trace can still be read."""
     for fault, _, path, line, code in connection.execute(REFUSED):
         said = beside.meaning_of(path, line, code, fault)
@@ -99,16 +100,16 @@ def meanings(connection):
             yield [fault, said]
 
 
-def counts_text(traces, replayed, refused, failed, copies, pods, nodes):
+def counts_text(traces: int, replayed: int, refused: int, failed: int, copies: int, pods: int, nodes: int) -> str:
     return (f"{entry.counted(traces, 'trace')}: {replayed} replayed, {refused} refused, {failed} failed"
             + (f", {entry.counted(copies, 'copy')} of others" if copies else "")
             + f"; {entry.counted(pods, 'pod')} on {entry.counted(nodes, 'node')}")
 
 
-def table(title, heads, rows):
+def table(title: str, heads: list[str], rows: list[list[str]]) -> list[str]:
     """A table of what a database has, in which a file's name may be anything."""
     return telling.table(title, heads, [[entry.visible(cell) for cell in row] for row in rows])
 
 
-def distinct(signals):
+def distinct(signals: str | None) -> str:
     return ", ".join(sorted(set(signals.split(",")))) if signals else "-"

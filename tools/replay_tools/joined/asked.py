@@ -5,6 +5,7 @@ from __future__ import annotations
 import calendar
 import re
 import time
+from argparse import Namespace
 from dataclasses import dataclass
 
 from replay_tools import entry
@@ -34,21 +35,21 @@ class Asked:
     """a time was given, and not a number of seconds"""
 
     @property
-    def first(self):
+    def first(self) -> int | None:
         return self.since if self.at is None else self.at - SECONDS_BEFORE
 
     @property
-    def last(self):
+    def last(self) -> int | None:
         return None if self.at is None else self.at + SECONDS_BEHIND
 
 
-def add_words(words):
+def add_words(words: entry.Words) -> None:
     """Adds the words of several traces to those of a tool."""
     words.add_argument(TRACES, action="append")
     words.valued(*VALUED)
 
 
-def asked_of(found):
+def asked_of(found: Namespace) -> Asked | None:
     """What the words of a tool ask for; None where they name no traces."""
     if found.traces is None:
         for word in VALUED:
@@ -60,7 +61,7 @@ def asked_of(found):
     return asked_at(found.traces, found.node, found.since, found.at, time.time())
 
 
-def asked_at(named, node, since, at, now):
+def asked_at(named: list[str], node: str | None, since: str | None, at: str | None, now: float) -> Asked:
     """What is asked for, by the values of words, of which that of --since may count from now."""
     if since is not None and at is not None:
         raise entry.Fault("--since and --at exclude each other (--help says more)")
@@ -69,24 +70,24 @@ def asked_at(named, node, since, at, now):
                  None if at is None else moment_of(at, "--at", now), is_utc)
 
 
-def span_of(since, at, now):
+def span_of(since: str | None, at: str | None, now: float) -> tuple[int | None, int | None]:
     """The first and the last moment that the values of --since and --at ask for; None for each that they leave open."""
     wanted = asked_at([], None, since, at, now)
     return wanted.first, wanted.last
 
 
-def since_of(text, now):
+def since_of(text: str, now: float) -> int:
     """The moment of --since, which may be so long before now."""
     if DURATION.fullmatch(text):
         return max(int(now) - seconds_of(text), 0)
     return moment_of(text, "--since", now)
 
 
-def seconds_of(text):
+def seconds_of(text: str) -> int:
     return sum(int(number) * SECONDS[unit] for number, unit in re.findall(r"(\d+)([dhms])", text))
 
 
-def moment_of(text, word, now):
+def moment_of(text: str, word: str, now: float) -> int:
     """A moment as seconds: a number of them, or a time; one without its date is the last before now."""
     if text.isascii() and text.isdigit() and len(text) < 13:
         return int(text)
@@ -105,7 +106,7 @@ def moment_of(text, word, now):
     return at if parts["date"] or at <= now else at - SECONDS["d"]
 
 
-def zone_of(text):
+def zone_of(text: str) -> int:
     """The seconds by which a zone's clock is before that of UTC."""
     if text == "Z":
         return 0

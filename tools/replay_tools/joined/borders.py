@@ -2,16 +2,18 @@
 
 from __future__ import annotations
 
+from typing import Any
+
 from replay_tools import entry, report as reports
 from replay_tools.joined import files, parts
 
 
-def borders_of(found):
+def borders_of(found: list[parts.Part]) -> list[Any]:
     """The borders of parts in the order of their times, one fewer than there are parts."""
     return [border_of(before, part) for before, part in zip(found, found[1:])]
 
 
-def border_of(before, part):
+def border_of(before: parts.Part, part: parts.Part) -> reports.Border:
     follows = part.follows
     if follows is None:
         at = first_behind(before, part)
@@ -25,7 +27,7 @@ def border_of(before, part):
     return reports.Border(before.last if missing else follows["at"], follows["at"], part.source.name, missing)
 
 
-def is_of(name, before):
+def is_of(name: str, before: parts.Part) -> bool:
     """Whether the name of a trace is that of a part. Where its file is called otherwise here, the name still has the
     second at which the trace begins, before which at most so many ticks show what was known."""
     _, begun, number = files.parts_of(name)
@@ -36,7 +38,7 @@ def is_of(name, before):
     return before.first <= begun <= before.first + parts.MOST_CARRIED
 
 
-def first_behind(before, part):
+def first_behind(before: parts.Part, part: parts.Part) -> int:
     """The first moment of a part behind the end of the one before. The first ticks of a recording show what was known
     before it, and may lie some seconds before its begin."""
     if part.trace is None:
@@ -51,12 +53,12 @@ def first_behind(before, part):
     return at
 
 
-def check_order(before, part, at):
+def check_order(before: parts.Part, part: parts.Part, at: int) -> None:
     if at < before.last or part.last < before.last:
         raise overlap(before, part)
 
 
-def overlap(before, part):
+def overlap(before: parts.Part, part: parts.Part) -> entry.Fault:
     is_utc = before.first > 10 ** 8
     last, first = (reports.moment_text(at, is_utc) for at in (before.last, part.first))
     return entry.Fault(f"{before.source.shown} and {part.source.shown} overlap: the one ends at {last}, the other "

@@ -8,8 +8,12 @@ import os
 import re
 import time
 from dataclasses import dataclass
+from typing import TYPE_CHECKING
 
 from replay_tools import entry, report as reports
+
+if TYPE_CHECKING:
+    from replay_tools.joined import asked
 
 # as tools/record --into names them
 NAME = re.compile(r"(?P<node>.+)[.](?P<stamp>\d{4}-\d\d-\d\dT\d\d-\d\d-\d\dZ)(?:_(?P<number>[1-9]\d*))?"
@@ -32,24 +36,24 @@ class Source:
     number: int = 1
 
     @property
-    def name(self):
+    def name(self) -> str:
         return os.path.basename(self.path)
 
     @property
-    def shown(self):
+    def shown(self) -> str:
         return self.path if self.is_named else self.name
 
     @property
-    def is_part(self):
+    def is_part(self) -> bool:
         return self.path.endswith(PART)
 
 
-def source_of(path, is_named):
+def source_of(path: str, is_named: bool) -> Source:
     node, begun, number = parts_of(os.path.basename(path))
     return Source(path, is_named, node, begun, number)
 
 
-def parts_of(name):
+def parts_of(name: str) -> tuple[str, int, int]:
     """The node, the begin and the number that a name says; None for what it does not say."""
     parts = NAME.fullmatch(name)
     try:
@@ -59,7 +63,7 @@ def parts_of(name):
     return (None, None, 1) if begun is None else (parts["node"], begun, int(parts["number"] or 1))
 
 
-def sources_of(asked):
+def sources_of(asked: asked.Asked) -> list[Source]:
     """The files that are meant, in their order as far as their names say it. Raises Fault where there are none."""
     found = []
     for named in asked.named:
@@ -76,7 +80,7 @@ def sources_of(asked):
             {other.path for other in found if other.is_named}]
 
 
-def below(folder, asked):
+def below(folder: str, asked: asked.Asked) -> list[Source]:
     """The traces of a folder that are of one node and of the time that is asked for."""
     try:
         names = [name for name in os.listdir(folder) if name.endswith(ENDINGS)]
@@ -90,7 +94,7 @@ def below(folder, asked):
     return of_time(of_node(found, folder, asked.node), asked)
 
 
-def of_node(found, folder, node):
+def of_node(found: list[Source], folder: str, node: str | None) -> list[Source]:
     """Those of a node, by their names; of one that does not say it, what it holds says it later."""
     nodes = sorted({source.node for source in found if source.node is not None})
     if node is None and len(nodes) > 1:
@@ -103,12 +107,12 @@ def of_node(found, folder, node):
     return kept
 
 
-def listed(names):
+def listed(names: list[str]) -> str:
     more = f" and {len(names) - MOST_NAMED} more" if len(names) > MOST_NAMED else ""
     return ", ".join(names[:MOST_NAMED]) + more
 
 
-def of_time(found, asked):
+def of_time(found: list[Source], asked: asked.Asked) -> list[Source]:
     """Those that may have something of the time that is asked for: each lasts to the begin of the next at most."""
     dated = sorted((source for source in found if source.begun is not None),
                    key=lambda source: (source.begun, source.number))

@@ -3,6 +3,7 @@
 from __future__ import annotations
 
 from dataclasses import dataclass
+from typing import Any
 
 from replay_tools import entry, records, report as reports, traces
 from replay_tools.joined import asked as asking_for, borders as joined_borders, of_reports, of_traces, parts
@@ -26,18 +27,18 @@ class Joined:
     is_utc: bool
     """a time was given, or the name of a trace has one"""
 
-    def is_near(self, at):
+    def is_near(self, at: int) -> bool:
         """Whether a moment is told, where one was asked for."""
         return self.asked.at is None or abs(at - self.asked.at) <= asking_for.NEAR
 
-    def is_span_near(self, span):
+    def is_span_near(self, span: reports.Span) -> bool:
         if self.asked.at is None:
             return True
         until = self.last if span.until is None else span.until
         return (span.since or 0) - asking_for.NEAR <= self.asked.at <= until + asking_for.NEAR
 
 
-def joined(asked):
+def joined(asked: asking_for.Asked) -> Joined:
     """All that is asked for, joined. Raises Fault where it can't be, or has nothing of the time."""
     found = parts.parts_of(asked)
     borders = joined_borders.borders_of(found)
@@ -54,9 +55,9 @@ def joined(asked):
     return Joined(asked, report, trace, len(found), found[0].shown_until, found[-1].last, known, is_utc)
 
 
-def check_time(asked, found, borders):
+def check_time(asked: asking_for.Asked, found: list[parts.Part], borders: list[Any]) -> None:
     """Raises Fault where nothing was recorded at the time that is asked for."""
-    def show(at):
+    def show(at: int) -> Any:
         return reports.moment_text(at, asked.is_utc or found[0].source.begun is not None)
 
     last = found[-1].last

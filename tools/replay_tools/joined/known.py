@@ -2,10 +2,15 @@
 
 from __future__ import annotations
 
+from typing import TYPE_CHECKING
+
 from replay_tools import why
 
+if TYPE_CHECKING:
+    from replay_tools import report as reports
 
-def tell_known(report, until):
+
+def tell_known(report: reports.Report, until: int) -> None:
     """What the report says up to a moment was so before, and what is counted goes on from there."""
     for event in report.events:
         event.was_so = event.at <= until
@@ -13,7 +18,7 @@ def tell_known(report, until):
         mark_anew(pod, until)
 
 
-def mark_anew(pod, until):
+def mark_anew(pod: reports.Pod, until: int) -> None:
     """Of back-offs and restarts, those for which exits before the trace may count: up to a long run, which begins the
     count anew."""
     counted, starts = set(), {}

@@ -4,15 +4,19 @@ before is told once."""
 from __future__ import annotations
 
 from dataclasses import replace
+from typing import Any, TYPE_CHECKING
 
 from replay_tools import report as reports
 from replay_tools.joined import known, pods as joined_pods
+
+if TYPE_CHECKING:
+    from replay_tools.joined import parts
 
 # of these events the last word is the state
 STATES = {"threshold": ("active", "cleared"), "pressure": ("True", "False")}
 
 
-def join_reports(found, borders):
+def join_reports(found: list[parts.Part], borders: list[Any]) -> tuple[reports.Report, list[dict[int, int]]]:
     """The report of all parts, and for each part the numbers that its pods have in it."""
     first = found[0].report
     made = reports.Report(first.node, 0, 0, borders=list(borders))
@@ -32,7 +36,8 @@ def join_reports(found, borders):
     return made, numbers
 
 
-def take_pods(made, part, border, present):
+def take_pods(made: reports.Report, part: parts.Part, border: reports.Border | None,
+              present: dict[Any, Any]) -> dict[int, int]:
     """Takes the pods of a part; those that were there at the end of the one before go on. Gives their numbers."""
     numbers = {}
     for pod in part.report.pods:
@@ -55,12 +60,12 @@ def take_pods(made, part, border, present):
     return numbers
 
 
-def is_there(part, pod, border):
+def is_there(part: parts.Part, pod: reports.Pod, border: reports.Border | None) -> bool:
     """Whether a pod is there as its part begins; one that comes later is another one."""
     return reports.first_tick(pod) <= max(part.known_until, border.at)
 
 
-def present_at_end(made, part, numbers):
+def present_at_end(made: reports.Report, part: parts.Part, numbers: dict[int, int]) -> dict[str, reports.Pod]:
     """The pods that a part has at its end, by their keys."""
     found = {}
     for pod in part.report.pods:
@@ -70,14 +75,14 @@ def present_at_end(made, part, numbers):
     return found
 
 
-def behind(at, border):
+def behind(at: int, border: reports.Border | None) -> int:
     return at if border is None else max(at, border.at)
 
 
 # --- the node ---
 
 
-def take_node(made, part, border):
+def take_node(made: reports.Report, part: parts.Part, border: reports.Border | None) -> None:
     """Takes the thresholds and conditions of a part."""
     before = {} if border is None else states_at_end(made)
     met, news = set(), []
@@ -99,19 +104,19 @@ def take_node(made, part, border):
     tell_node_conditions(made, part, news)
 
 
-def states_at_end(made):
+def states_at_end(made: reports.Report) -> dict[tuple[str, ...], str]:
     """The state that each threshold and condition of the node had last."""
     return {(event.word, *event.rest[:-1]): event.rest[-1]
             for event in sorted(made.events, key=lambda event: event.at) if event.word in STATES}
 
 
-def is_shown(part, key):
+def is_shown(part: parts.Part, key: tuple[str, ...]) -> bool:
     """Whether a part shows at its begin that a threshold is active or a condition true."""
     return any(event.word == key[0] and tuple(event.rest[:-1]) == key[1:] and event.at <= part.known_until
                for event in part.report.events if event.pod is None)
 
 
-def tell_node_conditions(made, part, news):
+def tell_node_conditions(made: reports.Report, part: parts.Part, news: list[reports.Event]) -> None:
     changed = {event.rest[0]: event.at for event in news if event.word == "pressure"}
     before = {condition.kind: condition.at for condition in made.conditions}
     made.conditions = [replace(condition, at=changed.get(condition.kind, before.get(condition.kind, condition.at)))
@@ -121,7 +126,8 @@ def tell_node_conditions(made, part, news):
 # --- evictions ---
 
 
-def take_evictions(made, part, border, numbers):
+def take_evictions(made: reports.Report, part: parts.Part, border: reports.Border | None,
+                   numbers: dict[int, int]) -> None:
     """Takes the evictions of a part, but those of pods that the rules had evicted before and that only go."""
     told = {(event.number, event.at) for event in made.events if event.word == "evicted"}
     for eviction in part.report.evictions:
@@ -134,7 +140,8 @@ def take_evictions(made, part, border, numbers):
                     event.anew = anew
 
 
-def anew_of(made, part, border, eviction, number, at):
+def anew_of(made: reports.Report, part: parts.Part, border: reports.Border | None, eviction: reports.Eviction,
+            number: int | None, at: int) -> int | None:
     """The border behind which the grace period of an eviction, or the pause behind the one before, began anew, or
     behind which the pod was there again that they had evicted; None where none of these lies over it."""
     if border is None:
@@ -149,11 +156,11 @@ def anew_of(made, part, border, eviction, number, at):
                             for one in made.evictions) else None
 
 
-def sorted_report(made):
+def sorted_report(made: reports.Report) -> reports.Report:
     return reports.Report(made.node, 0, 0, sorted(made.events, key=lambda event: event.at))
 
 
-def totals_of(made, found):
+def totals_of(made: reports.Report, found: list[parts.Part]) -> tuple[int, int, int]:
     """Updates as the parts have them; events and orders as they are told."""
     of_pods = [event for pod in made.pods for event in pod.events if event.word != "evicted"]
     orders = sum(event.word in ("kill", "restart") for event in of_pods)

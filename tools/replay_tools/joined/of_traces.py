@@ -3,8 +3,13 @@
 from __future__ import annotations
 
 from dataclasses import dataclass, replace
+from typing import Any, TYPE_CHECKING
 
 from replay_tools import traces
+
+if TYPE_CHECKING:
+    from replay_tools import reasons, report as reports
+    from replay_tools.joined import parts
 
 
 @dataclass
@@ -12,12 +17,12 @@ class Known(traces.Tick):
     """The tick of a border: what its probes show was known before, and is no result of its own."""
 
     @property
-    def entries(self):
+    def entries(self) -> dict[str, dict[str, Any]]:
         return {key: {name: value for name, value in entry.items() if name != "probes"}
                 for key, entry in self.lines.entries(self.begin, self.end).items()}
 
 
-def join_traces(found, borders, numbers):
+def join_traces(found: list[parts.Part], borders: list[Any], numbers: list[dict[int, int]]) -> traces.Trace:
     """The trace of all parts; numbers has for each part those that its pods have in the joined report."""
     made = traces.Trace(found[0].trace.node, found[-1].trace.settings, found[-1].trace.thresholds)
     for part, border, of in zip(found, [None, *borders], numbers):
@@ -31,7 +36,7 @@ def join_traces(found, borders, numbers):
     return made
 
 
-def take_ticks(made, trace, border):
+def take_ticks(made: traces.Trace, trace: traces.Trace, border: reports.Border | None) -> int:
     """Takes the ticks behind a border, and that of the border where no tick stands there; gives how many ticks of the
     trace come before these."""
     if border is None:
@@ -46,10 +51,10 @@ def take_ticks(made, trace, border):
     return len(trace.ticks) - len(kept)
 
 
-def take_pods(made, trace, of, begin, dropped):
+def take_pods(made: traces.Trace, trace: traces.Trace, of: dict[int, int], begin: int, dropped: int) -> None:
     """Takes the pods of a trace whose ticks, but the first ones, stand at a place; pods that are not in it have gone by
     its first tick."""
-    def place(number):
+    def place(number: int) -> int:
         return begin + max(number - dropped, 0)
 
     going_on = {of[pod.number] for pod in trace.pods}
@@ -65,7 +70,7 @@ def take_pods(made, trace, of, begin, dropped):
             made.pods.append(replace(pod, number=number, first=place(pod.first), gone=gone))
 
 
-def take_decisions(made, trace, of):
+def take_decisions(made: traces.Trace, trace: traces.Trace, of: dict[int, int]) -> None:
     """A pod that the kubelet has evicted, and that is still there, is told once more at a border."""
     told = {(one.kind, one.pod, one.at) for one in made.decisions}
     for one in trace.decisions:
@@ -73,7 +78,7 @@ def take_decisions(made, trace, of):
             made.decisions.append(replace(one, number=None if one.number is None else of[one.number]))
 
 
-def take_reasons(made, trace, of, border):
+def take_reasons(made: traces.Trace, trace: traces.Trace, of: dict[int, int], border: reports.Border | None) -> None:
     for (number, name, attempt), end in trace.reasons.ends.items():
         known = made.reasons.ends.setdefault((of[number], name, attempt), end)
         known.reason, known.message = end.reason or known.reason, known.message or end.message
@@ -85,7 +90,7 @@ def take_reasons(made, trace, of, border):
         take_waits(made.reasons.waits.setdefault((of[number], name), []), waits, border)
 
 
-def take_waits(known, waits, border):
+def take_waits(known: list[reasons.Wait], waits: list[reasons.Wait], border: reports.Border | None) -> None:
     """Takes the waits of a container; the one that lasts over a border is one."""
     for wait in waits:
         since = wait.since if border is None else max(wait.since, border.at)

@@ -6,12 +6,17 @@ import os
 import re
 import subprocess
 import tempfile
+from collections.abc import Callable
 from concurrent.futures import ThreadPoolExecutor
 from dataclasses import dataclass
+from typing import Any, TYPE_CHECKING
 
 from replay_tools import entry, first_bytes, packed, program as programs, records, report as reports, traces
 from replay_tools.explain import beside
 from replay_tools.joined import files
+
+if TYPE_CHECKING:
+    from replay_tools.joined import asked
 
 AT_ONCE = 4
 # ticks before the border at most, which show what was known there
@@ -22,7 +27,7 @@ REFUSED = re.compile(r"line \d+: \d+ .*")
 class Unusable(Exception):
     """A file that can't be used; the message says why, `means` what that means, where it is known."""
 
-    def __init__(self, said, means=None):
+    def __init__(self, said: str, means: str | None = None) -> None:
         super().__init__(said)
         self.means = means
 
@@ -39,12 +44,12 @@ class Part:
     """of the ticks that it has or, of a report alone, of the moments that it names"""
 
     @property
-    def follows(self):
+    def follows(self) -> Any:
         """What a trace of a recorder says of the one before it; None where it says nothing of its form."""
         return None if self.trace is None else self.trace.follows()
 
     @property
-    def known_until(self):
+    def known_until(self) -> int:
         """The moment up to which it shows what was known before, as far as that can be told."""
         if self.follows:
             return self.follows["at"]
@@ -62,12 +67,12 @@ class Part:
 
 
     @property
-    def shown_until(self):
+    def shown_until(self) -> int:
         """The moment up to which its ticks are there to show what was known; a report alone has none of its own."""
         return self.first if self.trace is None else self.known_until
 
 
-def parts_of(asked):
+def parts_of(asked: asked.Asked) -> list[Part]:
     """The parts that are asked for, in the order of their times."""
     sources = files.sources_of(asked)
     program = None if all(map(is_report, sources)) else program_path()
@@ -84,7 +89,7 @@ def parts_of(asked):
     return sorted(found, key=lambda part: (part.shown_until, part.source.number))
 
 
-def is_report(source):
+def is_report(source: files.Source) -> bool:
     try:
         with open(source.path, "rb") as file:
             return first_bytes.kind_of(file.read(first_bytes.LOOKED_AT)) == first_bytes.REPORT
@@ -92,12 +97,12 @@ def is_report(source):
         return False
 
 
-def program_path():
+def program_path() -> str:
     """The program; in a checkout it is built once, before several ask for it."""
     return programs.path() if os.environ.get("KUBELET_REPLAY") else programs.checked_path()
 
 
-def made_of(source, program):
+def made_of(source: files.Source, program: str) -> tuple[Unusable | bytes, Unusable | bytes]:
     """The text of a source and its report, or why there is none in its place. A part may be written while it is read,
     so it is read once more where it can't be used."""
     for _ in range(2 if source.is_part else 1):
@@ -108,7 +113,7 @@ def made_of(source, program):
     return text, report
 
 
-def tried(does, *given):
+def tried(does: Callable[..., Any], *given: Any) -> bytes | Unusable:
     """What comes of a step, or why that can't be done, for the next one to hand on."""
     fault = next((each for each in given if isinstance(each, Unusable)), None)
     if fault is not None:
@@ -119,7 +124,7 @@ def tried(does, *given):
         return unusable
 
 
-def text_of(source):
+def text_of(source: files.Source) -> bytes:
     """The bytes of a trace or a report, of a part that is still written as far as its last whole line."""
     if source.is_part and not os.path.exists(source.path):
         # it has ended since the folder was read
@@ -143,7 +148,7 @@ def text_of(source):
     return text
 
 
-def replayed(source, text, program):
+def replayed(source: files.Source, text: bytes, program: str) -> bytes:
     """The report of a text, by the program where it is a trace."""
     if text.startswith(b"node "):
         return text
@@ -161,7 +166,7 @@ def replayed(source, text, program):
     raise entry.Fault(f"{source.shown} can't be replayed: {said}", status)
 
 
-def meaning(text, is_extended):
+def meaning(text: bytes, is_extended: bool) -> str:
     """What a refusal means, in one line."""
     try:
         with tempfile.NamedTemporaryFile(prefix="trace-") as file:
@@ -172,9 +177,11 @@ def meaning(text, is_extended):
         return None
 
 
-def of_source(source, text, made, asked):
+def of_source(source: files.Source, text: bytes | Unusable, made: bytes | Unusable, asked: asked.Asked) -> Part | None:
     """A part of a file, or None where it is left out, which is said. A file that was named has to be usable."""
     try:
+        if isinstance(text, Unusable):
+            raise text
         if isinstance(made, Unusable):
             raise made
         part = read_part(source, text, made)
@@ -195,14 +202,14 @@ def of_source(source, text, made, asked):
     return part
 
 
-def is_of_another_time(part, asked):
+def is_of_another_time(part: Part, asked: asked.Asked) -> bool:
     """Whether a trace of a folder, whose name may not say when it begins, has nothing of the time that is asked for.
     The last one lasts beyond its last tick."""
     return part.source.begun is None and (asked.first is not None and part.last < asked.first
                                           or asked.last is not None and part.first > asked.last)
 
 
-def read_part(source, text, made):
+def read_part(source: files.Source, text: bytes, made: bytes) -> Part:
     """A part of its text and its report."""
     try:
         report = reports.read_report(made.decode("utf-8", "replace"))
@@ -224,7 +231,7 @@ def read_part(source, text, made):
     return Part(source, trace, report, trace.ticks[0].at, trace.ticks[-1].at)
 
 
-def check_alike(found):
+def check_alike(found: list[Part]) -> None:
     """Raises Fault unless all are of one node, and all traces or all reports."""
     one = found[0]
     for other in found[1:]:

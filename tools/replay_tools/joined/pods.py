@@ -3,8 +3,12 @@
 from __future__ import annotations
 
 from dataclasses import dataclass, replace
+from typing import Any, TYPE_CHECKING
 
 from replay_tools import report as reports, why
+
+if TYPE_CHECKING:
+    from replay_tools.joined import parts
 
 # words of events that are of an instance, with its attempt
 OF_INSTANCE = ("started", "died", "startup-passed", "kill", "restart")
@@ -17,16 +21,17 @@ class Seen:
     is_other: bool = False
     """of a later instance than the newest of the part before"""
     has_readiness: bool = False
-    died: int | None = None
+    died: str | None = None
+    """the attempt that died last"""
 
 
-def begun(pod, number):
+def begun(pod: reports.Pod, number: int) -> reports.Pod:
     """A pod of a part as the first of a joined one, with a number of its own and no event."""
     return reports.Pod(number, pod.key, pod.phase, pod.reason, pod.qos, [replace(each) for each in pod.conditions],
                        [replace(each) for each in pod.containers])
 
 
-def is_same(pod, found, is_behind_gap):
+def is_same(pod: reports.Pod, found: reports.Pod, is_behind_gap: bool) -> bool:
     """Whether a pod of the next part can be the one that was there at the end of the one before: by its name and
     containers, since traces have no uid, and over a gap no attempt is lower."""
     names = [[container.name for container in each.containers] for each in (pod, found)]
@@ -36,7 +41,7 @@ def is_same(pod, found, is_behind_gap):
                                     for before, after in zip(pod.containers, found.containers))
 
 
-def go_on(pod, found, border, part):
+def go_on(pod: reports.Pod, found: reports.Pod, border: reports.Border, part: parts.Part) -> list[reports.Event]:
     """The pod goes on with what the next part has of it: gives its events that are news."""
     until = part.known_until
     if stays_ended(pod, found, until):
@@ -62,7 +67,7 @@ def go_on(pod, found, border, part):
     return news
 
 
-def stays_ended(pod, found, until):
+def stays_ended(pod: reports.Pod, found: reports.Pod, until: int) -> Any:
     """Whether a pod that the rules evicted before shows nothing more than that it goes."""
     return pod.reason == "Evicted" and not any(event.word in ("started", "ready") and event.at > until
                                                for event in found.events) \
@@ -72,7 +77,7 @@ def stays_ended(pod, found, until):
 # --- events ---
 
 
-def news_of(pod, found, border, part):
+def news_of(pod: reports.Pod, found: reports.Pod, border: reports.Border, part: parts.Part) -> list[reports.Event]:
     """The events of a part's pod that say more than what the pod had come to, each of them with its number, and behind
     the border."""
     until = part.known_until
@@ -97,7 +102,8 @@ def news_of(pod, found, border, part):
     return sorted(news + at_border, key=lambda event: event.at)
 
 
-def is_known(event, before, seen, told, backed):
+def is_known(event: reports.Event, before: reports.Container, seen: Seen, told: set[tuple[str | None, str, str]],
+             backed: set[tuple[str | None, str | None]]) -> bool:
     """Whether an event of a container says what it had come to before the border."""
     if event.word in ("ready", "unready"):
         is_first, seen.has_readiness = not seen.has_readiness, True
@@ -118,7 +124,7 @@ def is_known(event, before, seen, told, backed):
     return is_earlier or (event.container, event.word, event.rest[0]) in told
 
 
-def backed_off(pod):
+def backed_off(pod: reports.Pod) -> set[tuple[str | None, str | None]]:
     """The exits, by container and attempt, whose restarts were backed off."""
     died, found = {}, set()
     for event in pod.events:
@@ -129,14 +135,15 @@ def backed_off(pod):
     return found
 
 
-def phases_known(pod, found, until):
+def phases_known(pod: reports.Pod, found: reports.Pod, until: int) -> list[reports.Event]:
     """The changes of phase that lead to the one that the pod had."""
     changes = [event for event in found.events if event.word == "phase" and event.at <= until]
     same = [place for place, event in enumerate(changes) if event.rest[0] == pod.phase]
     return changes[: same[-1] + 1] if same else []
 
 
-def readiness_of(pod, found, border, part, seen):
+def readiness_of(pod: reports.Pod, found: reports.Pod, border: reports.Border, part: parts.Part,
+                 seen: dict[str, Seen]) -> list[reports.Event]:
     """That a container is ready at a border, or behind a gap is not, where it was otherwise before it. Without a gap it
     stays ready, though a part that can't show as many results as its probe wants says so later."""
     news = []
@@ -151,7 +158,7 @@ def readiness_of(pod, found, border, part, seen):
     return news
 
 
-def phase_lost(pod, found, border, until):
+def phase_lost(pod: reports.Pod, found: reports.Pod, border: reports.Border, until: int) -> list[reports.Event]:
     """That the pod is pending again, where a part shows no other phase at its begin."""
     changes = [event for event in found.events if event.word == "phase" and event.at <= until]
     if changes or pod.phase == "Pending":
@@ -162,7 +169,7 @@ def phase_lost(pod, found, border, until):
 # --- what is counted anew ---
 
 
-def mark_anew(pod, found, news, border):
+def mark_anew(pod: reports.Pod, found: reports.Pod, news: list[reports.Event], border: reports.Border) -> None:
     """Of back-offs and restarts, those whose exit has another number over the border than in the part alone."""
     whole, alone, died, fresh = numbers_of(pod), numbers_of(found), {}, set(map(id, news))
     for event in pod.events:
@@ -174,7 +181,7 @@ def mark_anew(pod, found, news, border):
                 event.anew = border.at
 
 
-def mark_results(news, border):
+def mark_results(news: list[reports.Event], border: reports.Border) -> None:
     """Of each container that ran on over a gap the first change by its probes, whose results before the gap are not
     known to the part behind it."""
     told, died = set(), {(event.container, event.at) for event in news if event.word == "died"}
@@ -187,7 +194,7 @@ def mark_results(news, border):
             told.add(event.container)
 
 
-def numbers_of(pod):
+def numbers_of(pod: reports.Pod) -> dict[tuple[str | None, str], int]:
     """The number of each exit, by container and attempt, as the delays of restarts count them."""
     starts, exits = {}, {}
     for event in pod.events:
@@ -201,7 +208,7 @@ def numbers_of(pod):
 # --- conditions ---
 
 
-def tell_conditions(pod, before, border, until):
+def tell_conditions(pod: reports.Pod, before: list[reports.Condition], border: reports.Border, until: int) -> None:
     """Each condition has lasted since it changed last, also where that was before the border."""
     known = {condition.kind: condition for condition in before}
     for condition in pod.conditions:
@@ -212,13 +219,13 @@ def tell_conditions(pod, before, border, until):
             condition.at = was.at if was is not None and was.value == condition.value else border.at
 
 
-def ready_is_told(pod):
+def ready_is_told(pod: reports.Pod) -> bool:
     """Whether the events of a pod tell since when it is Ready or not; of containers that are never ready they don't."""
     last, final = reports.changes_of_ready(pod)[-1], pod.condition("Ready")
     return (last.value, last.since) == (final.value, final.at)
 
 
-def tell_ready(pod):
+def tell_ready(pod: reports.Pod) -> None:
     """Since when it is Ready or not, by its events over the border."""
     last = reports.changes_of_ready(pod)[-1]
     for kind in ("ContainersReady", "Ready"):

@@ -3,13 +3,20 @@ happened nearest to the moment that was asked for."""
 
 from __future__ import annotations
 
+from collections.abc import Callable
+from typing import Any, TYPE_CHECKING
+
 from replay_tools import entry, telling
 from replay_tools.joined import asked
+
+if TYPE_CHECKING:
+    from replay_tools import kubelet as kubelets, report as reports, traces
+    from replay_tools.joined import join
 
 MOST_LISTED = 4
 
 
-def head_lines(several, show):
+def head_lines(several: join.Joined, show: Callable[[int], str]) -> list[Any]:
     """Of which time the traces are, and what is not known between them."""
     report, what = several.report, "report" if several.trace is None else "trace"
     lines = []
@@ -27,7 +34,8 @@ def head_lines(several, show):
     return lines
 
 
-def nearest_lines(several, pod, restarts, fact, show):
+def nearest_lines(several: join.Joined, pod: reports.Pod, restarts: list[tuple[int, list[str]]],
+                  fact: kubelets.Fact | None, show: Callable[[int], str]) -> list[Any]:
     """What happened to a pod nearest to the moment that was asked for: a restart, else something else that is bad.
     The fact is that the kubelet evicted it, where it did."""
     at = several.asked.at
@@ -49,5 +57,5 @@ def nearest_lines(several, pod, restarts, fact, show):
     return [f"no restart {within}; nearest to it, at {show(moment)}: {what}"]
 
 
-def bad_words(event, is_beside, trace):
+def bad_words(event: reports.Event, is_beside: bool, trace: traces.Trace) -> Any:
     return " ".join(filter(None, [event.container, telling.event_words(event, is_beside, trace, False)[1]]))

@@ -3,7 +3,10 @@ are differences, so that a page of many events stays small. `decode.js` reads it
 
 from __future__ import annotations
 
-from replay_tools import events, kubelet as kubelets, reasons, records, report as reports, telling, traces, why, why_text
+from typing import Any
+
+from replay_tools import (events, kubelet as kubelets, reasons, records, report as reports, telling, traces, why,
+                          why_text)
 
 STATES = ("Waiting", "Running", "Terminated")
 RESULTS = ("success", "failure", "unknown")
@@ -17,7 +20,7 @@ WITHOUT_TRACE = ("the samples of signals, the results of probes and what the tic
 class Span:
     """The first and the last moment that a page shows, and moments counted from the first."""
 
-    def __init__(self, report, trace):
+    def __init__(self, report: reports.Report, trace: traces.Trace | None) -> None:
         if trace and trace.ticks:
             self.first, self.last = trace.ticks[0].at, trace.ticks[-1].at
         else:
@@ -27,23 +30,24 @@ class Span:
                     named += [condition.at for condition in pod.conditions]
             self.first, self.last = (min(named), max(named)) if report.tick_count else (0, 0)
 
-    def of(self, at):
+    def of(self, at: int | None) -> int | None:
         return None if at is None else at - self.first
 
 
-def differences(moments):
+def differences(moments: list[int]) -> list[int]:
     """Each moment less the one before."""
     return [at - before for before, at in zip([0, *moments], moments)]
 
 
-def data_of(report, trace, ticks, utc):
+def data_of(report: reports.Report, trace: traces.Trace | None, ticks: why.Ticks, utc: bool) -> dict[str, Any]:
     """All that the page shows; what a trace alone would tell is left out without one."""
     span = Span(report, trace)
     left = [] if trace else list(WITHOUT_TRACE)
     budget, words = Budget(MOST_RUNS), Words(trace)
-    data = {
+    data: dict[str, Any] = {
         "node": report.node, "utc": utc, "first": span.first, "last": span.of(span.last), "hasTrace": bool(trace),
-        **table_of_words(trace), "states": STATES, "results": RESULTS, "pods": report.pod_count, "ticks": report.tick_count,
+        **table_of_words(trace), "states": STATES, "results": RESULTS,
+        "pods": report.pod_count, "ticks": report.tick_count,
         "tickSteps": repeated(differences([span.of(tick.at) for tick in trace.ticks])) if trace else [],
         "signals": signals_of(trace), "active": active_of(report, span), "pressure": pressure_of(report, span),
         "gaps": [[span.of(since), span.of(at)] for since, at in report.gaps],
@@ -64,9 +68,9 @@ def data_of(report, trace, ticks, utc):
     return data | {"left": left}
 
 
-def not_known(report, utc):
+def not_known(report: reports.Report, utc: bool) -> list[Any]:
     """What is not known between the traces that a report is joined of."""
-    def show(at):
+    def show(at: int) -> Any:
         return reports.moment_text(at, utc)
 
     gaps = [f"the time from {show(since)} to {show(at)}, of which nothing was recorded" for since, at in report.gaps]
@@ -75,7 +79,7 @@ def not_known(report, utc):
                     "counted anew from there"] if anew else [])
 
 
-def table_of_words(trace):
+def table_of_words(trace: traces.Trace | None) -> dict[str, Any]:
     """The words of events, and of each the fields that it has and the sentence in which it is told."""
     is_beside = trace is not None and trace.tells()
     told = {kind.word: [[field.name for field in kind.fields], kind.sentence_beside if is_beside else kind.sentence]
@@ -87,10 +91,10 @@ def table_of_words(trace):
 class Budget:
     """How many runs of results still go into the page, and how often there was no room."""
 
-    def __init__(self, most):
+    def __init__(self, most: int) -> None:
         self.room, self.refused = most, 0
 
-    def takes(self, count):
+    def takes(self, count: int) -> bool:
         if count > self.room:
             self.refused += 1
             return False
@@ -101,21 +105,21 @@ class Budget:
 class Words:
     """Why instances died and containers waited: each text once, by its place."""
 
-    def __init__(self, trace):
+    def __init__(self, trace: traces.Trace | None) -> None:
         self.trace, self.causes, self.waits, self.places = trace, [], [], {}
         self.kinds = [kind.word for kind in events.kinds().values() if kind.is_of_pod]
 
-    def cause(self, event):
+    def cause(self, event: reports.Event) -> list[int]:
         """A list of the place of what is known of why an instance died, with what it means; empty where its code says
         as much."""
         said = reasons.cause_words(event, int(event.rest[1]), self.trace, True)
         because = reasons.because_lines(event, self.trace) if self.trace and said else []
         return [self.place(self.causes, [said, *because])] if said else []
 
-    def wait(self, wait):
+    def wait(self, wait: reasons.Wait) -> int:
         return self.place(self.waits, wait.words())
 
-    def place(self, texts, said):
+    def place(self, texts: list[Any], said: list[str] | str) -> int:
         key = id(texts), str(said)
         if key not in self.places:
             self.places[key] = len(texts)
@@ -123,7 +127,7 @@ class Words:
         return self.places[key]
 
 
-def repeated(values):
+def repeated(values: list[Any]) -> list[int | None]:
     """Values with how often each stands in a row, one after the other in one list."""
     found = []
     for value in values:
@@ -134,14 +138,14 @@ def repeated(values):
     return found
 
 
-def units(thousandths):
+def units(thousandths: int | None) -> float | None:
     """A whole number where it is one."""
     if thousandths is None:
         return None
     return thousandths // 1000 if thousandths % 1000 == 0 else thousandths / 1000
 
 
-def signals_of(trace):
+def signals_of(trace: traces.Trace | None) -> list[dict[str, Any]]:
     """Each signal that has a sample or a threshold: its samples, tick by tick, and its thresholds."""
     if trace is None:
         return []
@@ -156,7 +160,7 @@ def signals_of(trace):
     return found
 
 
-def active_of(report, span):
+def active_of(report: reports.Report, span: Span) -> list[list[Any]]:
     """The spans in which thresholds were active: signal, kind, since, until."""
     open_spans, found = {}, []
     for event in report.events:
@@ -170,12 +174,13 @@ def active_of(report, span):
     return found + [[*named, span.of(since), None] for named, since in open_spans.items()]
 
 
-def pressure_of(report, span):
+def pressure_of(report: reports.Report, span: Span) -> list[list[Any]]:
     return [[kind, span.of(pressed.since), span.of(pressed.until)] for kind in reports.CONDITIONS
             for pressed in reports.pressure_spans(report, kind)]
 
 
-def evictions_of(report, trace, ticks, span, left):
+def evictions_of(report: reports.Report, trace: traces.Trace | None, ticks: why.Ticks, span: Span,
+                 left: list[str]) -> list[dict[str, Any]]:
     """The evictions, with a trace each with the table of its pods, of which a long one is cut."""
     moments = {one.at for one in report.evictions}
     gathered = why.gather_evictions(trace, report, moments, ticks.usages_at) if trace else {}
@@ -193,7 +198,7 @@ def evictions_of(report, trace, ticks, span, left):
     return found
 
 
-def kubelet_of(report, trace, span):
+def kubelet_of(report: reports.Report, trace: traces.Trace | None, span: Span) -> dict[str, list[Any]] | None:
     """What the kubelet did, beside what the rules do; None where no trace says so."""
     found = kubelets.beside(trace, report) if trace else None
     if found is None:
@@ -207,17 +212,17 @@ def kubelet_of(report, trace, span):
     }
 
 
-def decision_of(decision, span):
+def decision_of(decision: traces.Decision, span: Span) -> dict[str, int | str | None]:
     return {"at": span.of(decision.at), "pod": decision.number, "key": decision.pod, "kind": decision.kind,
             "why": kubelets.why_words(decision)}
 
 
-def causes_of(causes, span):
+def causes_of(causes: list[list[str | int]], span: Span) -> list[list[Any]]:
     """Causes as their parts, with moments from the first one on."""
     return [[span.of(part) if isinstance(part, int) else part for part in cause] for cause in causes]
 
 
-def around_of(evicted, span):
+def around_of(evicted: why.Evicted, span: Span) -> dict[str, Any]:
     """What the trace holds around an eviction, in the words of tools/why."""
     of_bytes = evicted.signal in traces.BYTE_SIGNALS
     rows = [why_text.candidate_row(place, candidate, of_bytes)
@@ -233,7 +238,8 @@ def around_of(evicted, span):
     }
 
 
-def pod_of(report, trace, span, pod, ticks, budget, words):
+def pod_of(report: reports.Report, trace: traces.Trace | None, span: Span, pod: reports.Pod, ticks: why.Ticks,
+           budget: Budget, words: Words) -> dict[str, Any]:
     """What the page shows of a pod: that of the report, and with a trace its listings and results."""
     ended, seen = reports.end_of(pod), has_ticks(report, trace, pod)
     found = {
@@ -249,14 +255,14 @@ def pod_of(report, trace, span, pod, ticks, budget, words):
     }
     if trace:
         ours = trace.pods[pod.number]
-        ticks = ticks.of(trace, ours)
+        of_pod = ticks.of(trace, ours)
         found |= {"policy": ours.policy, "priority": ours.priority,
-                  "listings": [listings_of(span, ticks, container.name) for container in pod.containers],
-                  "probes": probes_of(span, ours, ticks, budget), "waits": waits_of(trace, span, pod, words)}
+                  "listings": [listings_of(span, of_pod, container.name) for container in pod.containers],
+                  "probes": probes_of(span, ours, of_pod, budget), "waits": waits_of(trace, span, pod, words)}
     return found
 
 
-def notes_of(pod, utc):
+def notes_of(pod: reports.Pod, utc: bool) -> dict[Any, Any]:
     """What is not known of events of several traces, by the places of the events; nothing where all is."""
     told = {str(place): telling.beside_words(pod, event, lambda at: reports.moment_text(at, utc))
             for place, event in enumerate(pod.events)}
@@ -264,21 +270,21 @@ def notes_of(pod, utc):
     return {"notes": told} if told else {}
 
 
-def waits_of(trace, span, pod, words):
+def waits_of(trace: traces.Trace, span: Span, pod: reports.Pod, words: Words) -> list[list[int | None]]:
     """Why its containers waited: the container's place, since when, until when, and the place of the words."""
     names = [container.name for container in pod.containers]
     return [[names.index(name), span.of(wait.since), span.of(wait.until), words.wait(wait)]
             for name, wait in trace.reasons.waits_of(pod)]
 
 
-def has_ticks(report, trace, pod):
+def has_ticks(report: reports.Report, trace: traces.Trace | None, pod: reports.Pod) -> bool:
     if trace is None:
         return reports.has_ticks(report, pod)
     ours = trace.pods[pod.number]
     return ours.first < (len(trace.ticks) if ours.gone is None else ours.gone)
 
 
-def container_of(span, pod, container, seen):
+def container_of(span: Span, pod: reports.Pod, container: reports.Container, seen: bool) -> dict[str, Any]:
     """A container's status, and its states as differences of moments, states, attempts and codes in one list."""
     states, moments = reports.state_spans(pod, container.name) if seen else [], []
     flat = []
@@ -292,7 +298,7 @@ def container_of(span, pod, container, seen):
             "started": container.started == "true", "states": flat}
 
 
-def events_of(span, pod, words):
+def events_of(span: Span, pod: reports.Pod, words: Words) -> list[list[Any]]:
     """Events, each with the difference of its moment, the place of its container (-1 without), that of its word, and
     its words. A death has the number of its exit and its run behind its own, and the place of why, where that is
     known."""
@@ -312,7 +318,7 @@ def events_of(span, pod, words):
     return found
 
 
-def listings_of(span, ticks, name):
+def listings_of(span: Span, ticks: why.PodTicks, name: str) -> list[int]:
     """What the ticks list of a container, where it changes: differences of moments, and attempt, state and code."""
     flat, before = [], 0
     for at, listing in zip(*ticks.listings[name]):
@@ -323,7 +329,7 @@ def listings_of(span, ticks, name):
     return flat
 
 
-def probes_of(span, pod, ticks, budget):
+def probes_of(span: Span, pod: traces.Pod, ticks: why.PodTicks, budget: Budget) -> list[list[Any]]:
     """Of each probe its container's place, its kind, its thresholds, and its results, as the page has room for them."""
     found = []
     for place, container in enumerate(pod.containers):
@@ -335,7 +341,7 @@ def probes_of(span, pod, ticks, budget):
     return found
 
 
-def result_runs(span, moments, results):
+def result_runs(span: Span, moments: list[int], results: list[str]) -> list[int]:
     """Runs of one result at one distance: the difference of the first moment from the last one before, that distance,
     how many, and the result, in one list."""
     flat, last = [], 0

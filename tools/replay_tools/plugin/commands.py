@@ -7,6 +7,7 @@ import re
 import subprocess
 import sys
 from dataclasses import dataclass
+from typing import Any, IO
 
 from replay_tools import entry, program as programs
 from replay_tools.plugin import failing, files, several, words
@@ -25,7 +26,7 @@ class Caller:
     help: str
 
 
-def run(given, caller):
+def run(given: list[str], caller: Caller) -> Any:
     """Runs a command with its words, by the program or a tool; the status, where it comes back."""
     if given[:1] == ["help"] and len(given) > 1:
         given = [given[1], "--help"]
@@ -55,7 +56,7 @@ def run(given, caller):
     return run_tool(name, command, found)
 
 
-def show_help(name, caller):
+def show_help(name: str, caller: Caller) -> Any:
     """Shows a command's help, with its name as it is typed here."""
     if name in ("run", "check"):
         files.run_on(programs.path(), ["help", name])
@@ -68,7 +69,7 @@ def show_help(name, caller):
     return done.returncode
 
 
-def named(text, name, typed):
+def named(text: str, name: str, typed: Any) -> Any:
     """A tool's help in which the commands are named as they are typed; the usage stays in its columns."""
     usage, blank, rest = text.partition("\n\n")
     further = " " * (len(f"{typed} {name}") - len(f"tools/{name}"))
@@ -78,7 +79,7 @@ def named(text, name, typed):
         .replace("./kubelet_replay", "kubelet_replay")
 
 
-def run_program(name, found, caller):
+def run_program(name: str, found: words.Words, caller: Caller) -> Any:
     """Runs the program, with the option for the format that the node line of the trace says; its status."""
     rest, kinds = without_fail_on(found.rest)
     traces, copy, option = [*([found.file] if found.file else []), *found.plain], None, []
@@ -95,7 +96,7 @@ def run_program(name, found, caller):
     return files.run_beside(programs.path(), [name, *traces, *rest, *option], path, copy, caller.name)
 
 
-def without_fail_on(rest):
+def without_fail_on(rest: list[Any]) -> tuple[list[Any], None]:
     """The words for the program, and what a run is to fail on."""
     if failing.WORD not in rest:
         return rest, None
@@ -103,7 +104,7 @@ def without_fail_on(rest):
     return rest[:place] + rest[place + 2 :], failing.kinds_of(rest[place + 1])
 
 
-def run_tool(name, command, found):
+def run_tool(name: str, command: words.Command, found: Any) -> None:
     """Becomes a tool, with the words that it takes in place of kubectl's."""
     if name == "what-if":
         report = open_trace(found.file) if found.file else None
@@ -116,7 +117,7 @@ def run_tool(name, command, found):
     files.run_on(os.path.join(TOOLS, name), [*found.rest, *pods, *trace], report)
 
 
-def keys(command, found, report):
+def keys(command: words.Command, found: Any, report: IO[bytes]) -> Any:
     """The pods that are meant, and the report, which was read where a namespace alone says which."""
     named = words.pods_meant(command, found)
     if named is not None:
@@ -128,7 +129,7 @@ def keys(command, found, report):
     return named, report
 
 
-def trace_words(name, found, pods):
+def trace_words(name: str, found: Any, pods: Any) -> Any:
     """The words that hand the trace on to a tool that looks into it, or that tells what the kubelet did."""
     if found.file is None or files.is_report(found.file):
         return []
@@ -140,7 +141,7 @@ def trace_words(name, found, pods):
     return [found.file] if name == "page" and not found.plain else []
 
 
-def open_trace(path):
+def open_trace(path: str) -> Any:
     if files.is_report(path):
         raise entry.Fault(f"{path} is a report, and it wants a trace")
     return open(path, "rb")

@@ -2,6 +2,8 @@
 
 from __future__ import annotations
 
+from typing import Any
+
 from replay_tools.plugin import files, words
 
 # kubectl's directives: the shell offers no files, or its files
@@ -16,7 +18,7 @@ OF_CLUSTER = ("--context", "--recorders")
 CLUSTER_WORDS = {"fetch": ("--all", "--at", "--into", "--since", *OF_CLUSTER), "nodes": OF_CLUSTER}
 
 
-def candidates(given, is_of_kubectl=True):
+def candidates(given: list[str], is_of_kubectl: Any = True) -> Any:
     """The candidates for the last word, and the directive."""
     *before, last = given or [""]
     if not before:
@@ -46,22 +48,22 @@ def candidates(given, is_of_kubectl=True):
     return beginning(pods(found, last), last), NO_FILES
 
 
-def beginning(names, start):
+def beginning(names: Any, start: Any) -> Any:
     return sorted({name for name in names if name.startswith(start)})
 
 
-def keys(found):
+def keys(found: Any) -> Any:
     named = dict(zip(found.rest, found.rest[1:]))
     trace = named.get("--trace") or named.get("--traces")
     path = found.files[-1] if found.files else trace
     return files.keys_of(path) if path else []
 
 
-def namespaces(found):
+def namespaces(found: Any) -> Any:
     return [key.partition("/")[0] for key in keys(found)]
 
 
-def pods(found, last):
+def pods(found: Any, last: str) -> Any:
     """Names in the namespace; with a slash in the word, names behind one."""
     head, slash, _ = last.partition("/")
     named = keys(found)
@@ -74,7 +76,7 @@ def pods(found, last):
     return [before + key.partition("/")[2] for key in named if key.startswith(namespace + "/")]
 
 
-def fleet_words(before, last):
+def fleet_words(before: Any, last: str) -> Any:
     """What may follow among the words of tools/fleet."""
     if len(before) == 1:
         return beginning(("run", "worst"), last), NO_FILES

@@ -4,9 +4,13 @@ from __future__ import annotations
 
 import os
 import sys
+from typing import Any, IO, TYPE_CHECKING
 
 from replay_tools import asking, entry, program as programs, report as reports, traces
 from replay_tools.plugin import files
+
+if TYPE_CHECKING:
+    from replay_tools import kubelet as kubelets
 
 WORD = "--fail-on"
 # the program has 0 to 3
@@ -14,7 +18,7 @@ STATUS = 4
 MOST_NAMED = 3
 
 
-def kinds_of(value):
+def kinds_of(value: Any) -> Any:
     """What --fail-on names."""
     kinds = [kind for kind in value.split(",") if kind]
     wrong = [kind for kind in kinds if kind not in FOUND]
@@ -23,7 +27,7 @@ def kinds_of(value):
     return dict.fromkeys(kinds)
 
 
-def run(words, path, given, caller, kinds):
+def run(words: list[str], path: str, given: IO[bytes] | None, caller: str, kinds: Any) -> Any:
     """Runs the program on a trace, writes its report, and says what of these kinds is in it; the status."""
     report = files.temporary()
     status = files.run_beside(programs.path(), words, path, given, caller, report)
@@ -44,7 +48,7 @@ def run(words, path, given, caller, kinds):
     return STATUS if any(pods for _, pods in said) else 0
 
 
-def kubelet_of(report, path):
+def kubelet_of(report: reports.Report, path: str) -> Any:
     """What the kubelet did, where the trace says it and can be read as the tools read one."""
     try:
         return asking.kubelet_beside(asking.trace_of(report, path), report)
@@ -52,39 +56,39 @@ def kubelet_of(report, path):
         return None
 
 
-def named(pods):
+def named(pods: Any) -> Any:
     more = f" and {entry.counted(len(pods) - MOST_NAMED, 'more pod')}" if len(pods) > MOST_NAMED else ""
     return entry.visible(", ".join(pods[:MOST_NAMED]) + more)
 
 
-def evicted(report, kubelet):
+def evicted(report: reports.Report, kubelet: kubelets.Kubelet) -> Any:
     """Pods that the kubelet evicted, where the trace says what it did, else those that the rules evict."""
     if kubelet is None:
         return list(dict.fromkeys(eviction.pod for eviction in report.evictions))
     return list(dict.fromkeys(fact.decision.pod for fact in kubelet.evicted))
 
 
-def restarted(report, _):
+def restarted(report: reports.Report, _: Any) -> Any:
     """Pods of which a container was started again; the instance with which the trace begins is no restart."""
     return keys(pod for pod in report.pods if any(starts_of(pod, container.name) > 1 or is_ordered(pod, container.name)
                                                   for container in pod.containers))
 
 
-def starts_of(pod, name):
+def starts_of(pod: reports.Pod, name: str) -> Any:
     return sum(event.word == "started" and event.container == name for event in pod.events)
 
 
-def is_ordered(pod, name):
+def is_ordered(pod: reports.Pod, name: str) -> bool:
     return any(event.word == "restart" and event.container == name for event in pod.events)
 
 
-def unready(report, _):
+def unready(report: reports.Report, _: Any) -> Any:
     """Pods that are not ready at the end and have not succeeded; one that has gone by then is none."""
     return keys(pod for pod in report.pods if pod.condition("Ready").value == "False" and pod.phase != "Succeeded"
                 and pod.left is None and reports.has_ticks(report, pod))
 
 
-def keys(pods):
+def keys(pods: Any) -> Any:
     return list(dict.fromkeys(pod.key for pod in pods))
 
 

@@ -10,6 +10,7 @@ import stat
 import subprocess
 import sys
 import tempfile
+from typing import Any, IO
 
 from replay_tools import entry, packed, program as programs, report as reports, traces
 from replay_tools.explain import beside
@@ -24,7 +25,7 @@ KEPT = []
 NAMES = {}
 
 
-def is_report(path):
+def is_report(path: str) -> bool:
     """Whether a file begins as a report. One that can't be read, or not twice, is a fault."""
     if os.path.exists(path) and not (os.path.isfile(path) or os.path.isdir(path)):
         raise entry.Fault(f"{path} is a device or a pipe; a report may come on standard input")
@@ -35,7 +36,7 @@ def is_report(path):
         raise entry.Fault(f"{path} can't be read: {fault.strerror}") from None
 
 
-def plain(path):
+def plain(path: str) -> Any:
     """The path of a trace as the program takes it: of one that is packed that of a copy which is not."""
     try:
         if not os.path.isfile(path) or not packed.is_packed_file(path):
@@ -50,7 +51,7 @@ def plain(path):
     return copy
 
 
-def open_report(path):
+def open_report(path: str) -> Any:
     """A file that holds the report: of the file that was named, or of standard input without one."""
     if path is None:
         given = entry.standard_input()
@@ -62,7 +63,7 @@ def open_report(path):
     return replayed(path)
 
 
-def temporary():
+def temporary() -> Any:
     """A file without a name."""
     try:
         return tempfile.TemporaryFile()
@@ -70,13 +71,13 @@ def temporary():
         raise no_room(fault.strerror) from None
 
 
-def no_room(said):
+def no_room(said: str) -> Any:
     """That what is kept for a tool has no place."""
     folder = os.environ.get("TMPDIR") or "/tmp"
     return entry.Fault(f"what it has to keep has no place in {folder}: {said} (TMPDIR names another folder)", 1)
 
 
-def replayed(path):
+def replayed(path: str) -> Any:
     """The report of a trace, as a file without a name."""
     path = plain(path)
     program, report = programs.path(), temporary()
@@ -97,7 +98,7 @@ def replayed(path):
     return report
 
 
-def format_words(path):
+def format_words(path: str) -> Any:
     try:
         with open(path, "rb") as file:
             return format_words_of(file)
@@ -105,11 +106,11 @@ def format_words(path):
         raise entry.Fault(f"{path} can't be read: {fault.strerror}") from None
 
 
-def format_words_of(file):
+def format_words_of(file: Any) -> Any:
     return programs.format_words(iter(lambda: file.readline(LONGEST_LINE), b""))
 
 
-def with_format(path):
+def with_format(path: str) -> Any:
     """The path of a trace, a copy of it that is to be standard input where it can be read but once, and the words for
     its format. What can't be read the program has to say."""
     try:
@@ -125,7 +126,7 @@ def with_format(path):
     return "/dev/stdin", copy, format_words_of(copy)
 
 
-def pods_in(report, namespace):
+def pods_in(report: IO[bytes], namespace: str) -> Any:
     """The keys of the pods of a namespace in an open report, each once; the report can be read once more after that."""
     try:
         found = reports.read_report(report.read().decode("utf-8", "replace"))
@@ -135,7 +136,7 @@ def pods_in(report, namespace):
     return list(dict.fromkeys(pod.key for pod in found.pods if pod.key.startswith(namespace + "/")))
 
 
-def whole(report):
+def whole(report: IO[bytes]) -> Any:
     """The same as a file that can be read twice."""
     copy = temporary()
     try:
@@ -147,7 +148,7 @@ def whole(report):
     return copy
 
 
-def keys_of(path):
+def keys_of(path: str) -> Any:
     """The keys of the pods that a trace or a report names, or the last trace of a folder, for a completion: without one
     where it can't be read."""
     try:
@@ -163,7 +164,8 @@ def keys_of(path):
     return [f"{found.get('namespace') or 'default'}/{found.get('name')}" for found in manifests]
 
 
-def run_beside(program, words, path, given, caller, output=None):
+def run_beside(program: str, words: list[str], path: str, given: IO[bytes] | None, caller: str,
+               output: IO[bytes] | None = None) -> Any:
     """Runs the program on a trace, with a file as its standard input, and one as its standard output where that is not
     this one's; its status. Where it refuses the trace, what that means is said in one more line."""
     if given is not None:
@@ -183,7 +185,7 @@ def run_beside(program, words, path, given, caller, output=None):
     return status if status >= 0 else 128 - status
 
 
-def hand_on(source):
+def hand_on(source: IO[bytes]) -> None:
     """Writes what the program writes; what a reader that has gone, as head, does not take is let go, where the program
     would say that it can't write."""
     is_read = True
@@ -195,18 +197,18 @@ def hand_on(source):
                 is_read = False
 
 
-def path_of(file):
+def path_of(file: Any) -> Any:
     """The path of an open file without a name, also for the programs that this one starts or becomes."""
     os.set_inheritable(file.fileno(), True)
     return f"/proc/{os.getpid()}/fd/{file.fileno()}"
 
 
-def shown(path):
+def shown(path: str) -> Any:
     """A path as the operator knows it."""
     return NAMES.get(path) or ("standard input" if path.startswith(f"/proc/{os.getpid()}/fd/") else path)
 
 
-def kept_input():
+def kept_input() -> Any:
     """Standard input as a file that can be read twice."""
     given = entry.standard_input()
     if given.isatty():
@@ -214,7 +216,7 @@ def kept_input():
     return path_of(whole(given))
 
 
-def run_on(tool, words, report=None):
+def run_on(tool: str, words: list[str], report: IO[bytes] | None = None) -> None:
     """Becomes a tool, with a file as its standard input. It does not come back."""
     if report is not None and report.fileno() != 0:
         os.lseek(report.fileno(), 0, os.SEEK_SET)

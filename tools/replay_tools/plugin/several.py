@@ -7,6 +7,7 @@ import os
 import subprocess
 import sys
 import tempfile
+from typing import Any
 
 from replay_tools import entry
 from replay_tools.cluster import fetching, recorders
@@ -14,17 +15,17 @@ from replay_tools.joined import asked
 from replay_tools.plugin import files, words
 
 
-def is_meant(found):
+def is_meant(found: words.Words) -> bool:
     """Whether the words are of several traces, or of a time of them."""
     return (len(found.files) > 1 or any(os.path.isdir(file) or is_pattern(file) for file in found.files)
             or any(word in found.rest for word in words.SEVERAL))
 
 
-def is_pattern(file):
+def is_pattern(file: str) -> bool:
     return glob.has_magic(file) and not os.path.exists(file)
 
 
-def run(name, command, found, tool):
+def run(name: str, command: words.Command, found: words.Words, tool: str) -> Any:
     """Runs a tool on several traces; its status, where it comes back."""
     pods = found.plain if command.pods == "none" else words.pods_meant(command, found)
     if pods is None:
@@ -43,13 +44,13 @@ def run(name, command, found, tool):
                                                     folder])
 
 
-def without(rest, name):
+def without(rest: Any, name: str) -> Any:
     """The words without one of them and its value."""
     places = [place for place, word in enumerate(rest) if word == name]
     return [word for place, word in enumerate(rest) if place not in places and place - 1 not in places]
 
 
-def run_fetched(found, node, words_for):
+def run_fetched(found: Any, node: str, words_for: Any) -> Any:
     """Fetches the traces of a node into a folder that goes again, and runs a tool on them; its status."""
     cluster = recorders.Cluster(found.context, found.value(words.RECORDERS) or recorders.NAMESPACE)
     first, last = asked.span_of(found.value("--since"), found.value("--at"), fetching.now())

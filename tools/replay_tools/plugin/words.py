@@ -5,6 +5,7 @@ from __future__ import annotations
 import os
 import subprocess
 from dataclasses import dataclass, field
+from typing import Any
 
 from replay_tools import entry
 from replay_tools.joined import asked, files
@@ -70,18 +71,18 @@ class Words:
     """the last word, where it wants a value"""
 
     @property
-    def file(self):
+    def file(self) -> Any:
         """The one file that is named, or None."""
         if len(self.files) > 1:
             raise entry.Fault(f"it takes one file, not {len(self.files)} (--help says more)")
         return self.files[0] if self.files else None
 
-    def value(self, name):
+    def value(self, name: str) -> Any:
         """The last value of a word of the tool."""
         return next((value for word, value in zip(self.rest[-2::-1], self.rest[:0:-1]) if word == name), None)
 
 
-def words_of(command, given, is_of_kubectl=True):
+def words_of(command: Command, given: list[str], is_of_kubectl: bool = True) -> Words:
     """The words of a command. Where kubectl is not what runs it there is no context, and pods are those of all
     namespaces where none is named."""
     found, given = Words(), list(given)
@@ -99,7 +100,7 @@ def words_of(command, given, is_of_kubectl=True):
     return found
 
 
-def take(command, given, found):
+def take(command: Command, given: list[str], found: Words) -> None:
     """Takes a word, and its value where it has one."""
     word = given.pop(0)
     name, value = parts_of(word, command)
@@ -126,7 +127,7 @@ def take(command, given, found):
         found.rest += [name, value]
 
 
-def parts_of(word, command):
+def parts_of(word: str, command: Command) -> tuple[str | None, str | None]:
     """The name of a word that has a value, and the value that stands in the same word; None where it has none."""
     name, equals, value = word.partition("=")
     if name in (*NAMESPACE, *FILE, *command.valued, *CONTEXT[: command.pods != "none"]):
@@ -136,7 +137,7 @@ def parts_of(word, command):
     return None, None
 
 
-def key_of(name, given, otherwise):
+def key_of(name: str, given: str | None, otherwise: Any) -> Any:
     """NAMESPACE/NAME of a pod as kubectl names it: web, pod/web, or shop/web. `given` is the namespace that was asked
     for, `otherwise` answers the one that holds without it."""
     head, slash, tail = name.partition("/")
@@ -147,7 +148,7 @@ def key_of(name, given, otherwise):
     return f"{given or otherwise()}/{tail if slash else name}"
 
 
-def pods_meant(command, found):
+def pods_meant(command: Command, found: Words) -> list[str]:
     """The pods that words name for a tool; None where they name a namespace alone, whose pods the tool does not list
     itself. A name without a namespace is for the tool to find among all, where all are meant."""
     if found.is_everywhere:
@@ -160,13 +161,13 @@ def pods_meant(command, found):
     return None
 
 
-def name_of(name):
+def name_of(name: str) -> str:
     """A pod's name without kubectl's type before it."""
     head, slash, tail = name.partition("/")
     return tail if slash and head in POD_TYPES else name
 
 
-def current_namespace(context=None):
+def current_namespace(context: Any = None) -> Any:
     """That of a context of kubectl, else of its own, else `default`."""
     words = ["kubectl", *(["--context", context] if context else []), "config", "view", "--minify", "--output",
              "jsonpath={..namespace}"]

@@ -1,6 +1,8 @@
 """Connections that are kept: to a kubelet's port, as a file of curl says it, or to a proxy of kubectl's on a socket in
 a folder of its own. So no command is started for an answer but crictl."""
 
+from __future__ import annotations
+
 import ctypes
 import http.client
 import json
@@ -13,8 +15,9 @@ import ssl
 import subprocess
 import tempfile
 import time
+from collections.abc import Callable
 from dataclasses import dataclass, field
-from typing import Optional
+from typing import Any, Optional
 from urllib.parse import urlsplit
 
 from .sources import ENDPOINT_SECONDS, Failed, Sources
@@ -44,7 +47,7 @@ class Settings:
     key: Optional[str] = None
 
 
-def settings_of(text):
+def settings_of(text: str) -> Settings:
     """The settings of a file of curl. Raises NotRead where it has others than those of a token and certificates."""
     found = Settings()
     for line in filter(None, map(str.strip, text.split("\n"))):
@@ -58,7 +61,7 @@ def settings_of(text):
     return found
 
 
-def unquoted(value):
+def unquoted(value: Any) -> str:
     if not value.startswith('"'):
         return value.split(" ")[0]
     quoted = re.match(r'"((?:[^"\\]|\\.)*)"', value)
@@ -67,7 +70,7 @@ def unquoted(value):
     return re.sub(r"\\(.)", lambda escaped: ESCAPES.get(escaped[1], escaped[1]), quoted[1])
 
 
-def take(settings, name, value):
+def take(settings: Any, name: str, value: Any) -> None:
     """Takes one setting of a file of curl."""
     if name == "header" and ":" in value and not value.startswith("@"):
         header, _, said = value.partition(":")
@@ -87,11 +90,11 @@ def take(settings, name, value):
 class Kept:
     """One connection that is kept from one answer to the next, and opened anew where it was closed."""
 
-    def __init__(self, connect):
+    def __init__(self, connect: Callable[..., Any]) -> None:
         self.connect = connect
-        self.connection = None
+        self.connection: http.client.HTTPConnection | None = None
 
-    def get(self, path, headers):
+    def get(self, path: str, headers: dict[str, str]) -> str:
         """The text of an answer; Failed where none comes."""
         is_kept = self.connection is not None
         try:
@@ -106,14 +109,14 @@ class Kept:
         except FAULTS as error:
             raise self.failed(error) from None
 
-    def failed(self, error):
+    def failed(self, error: Any) -> Failed:
         self.close()
         if isinstance(error, TimeoutError):
             return Failed(f"gave no answer within {ENDPOINT_SECONDS} s")
         said = getattr(error, "verify_message", None) or getattr(error, "strerror", None) or error
         return Failed(f"gave no answer: {said}")
 
-    def asked(self, path, headers):
+    def asked(self, path: str, headers: dict[str, str]) -> str:
         until = time.monotonic() + ENDPOINT_SECONDS
         if self.connection is None:
             self.connection = self.connect()
@@ -126,7 +129,7 @@ class Kept:
             raise Failed(f"answered with {answer.status} {answer.reason}: {said_in(text)}")
         return text
 
-    def text_of(self, answer, until):
+    def text_of(self, answer: http.client.HTTPResponse, until: float) -> str:
         parts, count = [], 0
         while part := answer.read(PART_BYTES):
             parts.append(part)
@@ -138,13 +141,13 @@ class Kept:
                 raise Failed(f"answered with more than {MOST_BYTES >> 20} MiB")
         return b"".join(parts).decode("utf-8", "replace")
 
-    def close(self):
+    def close(self) -> None:
         if self.connection is not None:
             self.connection.close()
             self.connection = None
 
 
-def said_in(text):
+def said_in(text: str) -> str:
     """Why an answer is a refusal, in one line: an API server writes an object with a message."""
     try:
         answer = json.loads(text)
@@ -158,12 +161,13 @@ class Kubelet:
     """A kubelet at its URL, with the settings of a file of curl, which is read again where it has changed, as a token
     does. Raises NotRead for settings that it does not know."""
 
-    def __init__(self, url, curl_file):
-        self.url, self.curl_file, self.text = urlsplit(url), curl_file, None
+    def __init__(self, url: str, curl_file: str | None) -> None:
+        self.url, self.curl_file = urlsplit(url), curl_file
+        self.text: str | None = None
         self.kept = Kept(self.connected)
         self.read()
 
-    def read(self):
+    def read(self) -> None:
         text = ""
         if self.curl_file is not None:
             with open(self.curl_file, encoding="utf-8") as file:
@@ -172,7 +176,7 @@ class Kubelet:
             self.settings, self.text = settings_of(text), text
             self.kept.close()
 
-    def connected(self):
+    def connected(self) -> http.client.HTTPConnection:
         host, port = self.url.hostname, self.url.port
         if self.url.scheme == "http":
             return http.client.HTTPConnection(host, port or 80, timeout=ENDPOINT_SECONDS)
@@ -183,7 +187,7 @@ class Kubelet:
             context.load_cert_chain(self.settings.certificate, self.settings.key)
         return http.client.HTTPSConnection(host, port or 443, timeout=ENDPOINT_SECONDS, context=context)
 
-    def endpoint(self, path):
+    def endpoint(self, path: str) -> str:
         try:
             self.read()
         except (OSError, UnicodeDecodeError) as error:
@@ -192,31 +196,31 @@ class Kubelet:
             raise Failed(f"can't be asked: {self.curl_file} has {other}, which is not read") from None
         return self.kept.get(f"/{path}", self.settings.headers)
 
-    def pods(self):
+    def pods(self) -> Any:
         return self.endpoint("pods")
 
-    def works(self):
+    def works(self) -> bool:
         """Whether it is asked."""
         return True
 
-    def close(self):
+    def close(self) -> None:
         self.kept.close()
 
 
 class SocketConnection(http.client.HTTPConnection):
     """A connection to a socket of a folder."""
 
-    def __init__(self, path):
+    def __init__(self, path: str) -> None:
         super().__init__("localhost", timeout=ENDPOINT_SECONDS)
         self.path = path
 
-    def connect(self):
+    def connect(self) -> None:
         self.sock = socket.socket(socket.AF_UNIX, socket.SOCK_STREAM)
         self.sock.settimeout(self.timeout)
         self.sock.connect(self.path)
 
 
-def dies_with_its_parent():
+def dies_with_its_parent() -> None:
     """The proxy is not left behind by a recorder that is killed."""
     try:
         ctypes.CDLL(None).prctl(DEATH_SIGNAL, signal.SIGTERM)
@@ -228,17 +232,18 @@ class Proxy:
     """A `kubectl proxy` of the recorder's own, on a socket in a folder that others can't enter. It is started with the
     first question, and again where it has ended."""
 
-    def __init__(self, node, say):
+    def __init__(self, node: str, say: Callable[..., None]) -> None:
         self.node = node
         self.say = say
-        self.does_start = None
-        self.folder = self.process = None
+        self.does_start: bool | None = None
+        self.folder: str | None = None
+        self.process: subprocess.Popen | None = None
         self.kept = Kept(lambda: SocketConnection(self.socket()))
 
-    def socket(self):
+    def socket(self) -> str:
         return os.path.join(self.folder, "proxy")
 
-    def start(self):
+    def start(self) -> None:
         """Starts it; Failed where it does not come up."""
         self.close()
         try:
@@ -260,12 +265,12 @@ class Proxy:
             self.close()
             raise
 
-    def listens(self):
+    def listens(self) -> bool:
         """Whether it takes a connection: its socket is there some moments before that."""
         with socket.socket(socket.AF_UNIX, socket.SOCK_STREAM) as tried:
             return tried.connect_ex(self.socket()) == 0
 
-    def wait_for_socket(self):
+    def wait_for_socket(self) -> None:
         until = time.monotonic() + ENDPOINT_SECONDS
         while not self.listens():
             if self.process.poll() is not None:
@@ -275,7 +280,7 @@ class Proxy:
                 raise Failed(f"kubectl proxy did not start within {ENDPOINT_SECONDS} s")
             time.sleep(0.02)
 
-    def works(self):
+    def works(self) -> bool:
         """Whether it is asked: not where it did not start at first, which is said."""
         if self.does_start is None:
             try:
@@ -286,7 +291,7 @@ class Proxy:
                 self.say(f"{failed}: kubectl is started for each answer")
         return self.does_start
 
-    def get(self, path):
+    def get(self, path: str) -> str:
         if self.process is None or self.process.poll() is not None:
             try:
                 self.start()
@@ -294,13 +299,13 @@ class Proxy:
                 raise Failed(f"gave no answer: {failed}") from None
         return self.kept.get(path, {})
 
-    def endpoint(self, path):
+    def endpoint(self, path: str) -> str:
         return self.get(f"/api/v1/nodes/{self.node}/proxy/{path}")
 
-    def pods(self):
+    def pods(self) -> str:
         return self.get(f"/api/v1/pods?fieldSelector=spec.nodeName%3D{self.node}")
 
-    def close(self):
+    def close(self) -> None:
         """Ends the proxy, and takes its folder away."""
         self.kept.close()
         if self.process is not None:
@@ -317,7 +322,7 @@ class Proxy:
             self.folder = None
 
 
-def kept_sources(node, kubelet, curl_file, say):
+def kept_sources(node: str, kubelet: str | None, curl_file: str | None, say: Callable[..., None]) -> Sources:
     """The sources of a node, of which crictl alone is a command for each answer. Where a file of curl has more than is
     read here, curl is one too."""
     if kubelet is None:

@@ -1,5 +1,7 @@
 """The folder of the traces that stand one behind the other: their names, what was left there, and what goes."""
 
+from __future__ import annotations
+
 import calendar
 import contextlib
 import errno
@@ -12,7 +14,9 @@ import shutil
 import stat
 import time
 import zlib
+from collections.abc import Callable
 from dataclasses import dataclass
+from typing import Any
 
 from .formats import LONGEST_LINE
 
@@ -43,14 +47,14 @@ class Trace:
     size: int
 
 
-def why(error):
+def why(error: Any) -> Any:
     return error.strerror or str(error) if isinstance(error, OSError) else str(error)
 
 
 class Part:
     """A trace that is being written: whole lines, each of them or none."""
 
-    def __init__(self, folder, name):
+    def __init__(self, folder: str, name: str) -> None:
         self.name = name
         self.size = self.ticks = self.pods = 0
         self.has_more = False
@@ -59,7 +63,7 @@ class Part:
         self.descriptor = os.open(os.path.join(folder, f"{name}.{PART}"),
                                   os.O_WRONLY | os.O_CREAT | os.O_EXCL | os.O_APPEND | os.O_CLOEXEC, 0o640)
 
-    def write(self, data):
+    def write(self, data: bytes) -> None:
         self.take_back()
         try:
             left = data
@@ -72,7 +76,7 @@ class Part:
             raise
         self.size += len(data)
 
-    def write_ahead(self, data):
+    def write_ahead(self, data: bytes) -> None:
         """Writes lines that stand until the next ones are written, or none of them."""
         with contextlib.suppress(OSError):
             self.take_back()
@@ -80,13 +84,13 @@ class Part:
             if os.write(self.descriptor, data) < len(data):
                 self.take_back()
 
-    def take_back(self):
+    def take_back(self) -> None:
         """Takes away what was written ahead."""
         if self.has_more:
             os.ftruncate(self.descriptor, self.size)
             self.has_more = False
 
-    def close(self):
+    def close(self) -> None:
         with contextlib.suppress(OSError):
             self.take_back()
         with contextlib.suppress(OSError):
@@ -97,7 +101,7 @@ class Folder:
     """A folder that one recorder writes into, and the traces of its node there; it keeps them for some seconds, and
     some bytes of them. `say` takes what is said."""
 
-    def __init__(self, path, node, keep, most, say):
+    def __init__(self, path: str, node: str, keep: int, most: int, say: Callable[..., None]) -> None:
         self.path = path
         self.keep = keep
         self.most = most
@@ -106,7 +110,7 @@ class Folder:
         self.form = re.compile(re.escape(node) + NAME + f"(?P<kind>{PACKED}|{PART}|{re.escape(PACKING)})")
         self.lock()
 
-    def lock(self):
+    def lock(self) -> None:
         """Refuses a folder that can't be written, and the second recorder of one."""
         try:
             self.descriptor = os.open(self.path, os.O_RDONLY | os.O_DIRECTORY | os.O_CLOEXEC)
@@ -123,10 +127,10 @@ class Folder:
             raise Refused(f"--into: '{self.path}' can't be written: "
                           + os.strerror(errno.EROFS if is_read_only else errno.EACCES))
 
-    def place(self, name, kind):
+    def place(self, name: str, kind: str) -> str:
         return os.path.join(self.path, f"{name}.{kind}")
 
-    def free_name(self, second):
+    def free_name(self, second: int) -> str:
         """A name that no trace has. A clock that went back comes by the same second once more."""
         name = f"{self.node}.{time.strftime(STAMP, time.gmtime(second))}"
         found, number = f"{name}.trace", 1
@@ -135,14 +139,14 @@ class Folder:
             found = f"{name}_{number}.trace"
         return found
 
-    def part(self, second):
+    def part(self, second: int) -> Part:
         """A new trace that begins at a second; a loss of power leaves it."""
         part = Part(self.path, self.free_name(second))
         with contextlib.suppress(OSError):
             os.fsync(self.descriptor)
         return part
 
-    def traces(self):
+    def traces(self) -> list[Trace]:
         """The traces of the node that have ended, in the order in which they begin."""
         found = []
         for entry in self.entries():
@@ -156,7 +160,7 @@ class Folder:
                 found.append(Trace(entry, begun, int(parts["number"] or 1), size))
         return sorted(found, key=lambda trace: (trace.begun, trace.number))
 
-    def entries(self):
+    def entries(self) -> list[str]:
         try:
             return os.listdir(self.path)
         except OSError:
@@ -164,29 +168,29 @@ class Folder:
 
     # --- room ---
 
-    def has_room(self, wanted):
+    def has_room(self, wanted: int) -> bool:
         """Whether so many bytes can be written, and some of the file system stays free behind them."""
         free, left = self.room()
         return free >= left + wanted
 
-    def has_room_again(self):
+    def has_room_again(self) -> bool:
         """Whether so much is free that it is not full again at once."""
         free, left = self.room()
         return free >= 2 * left
 
-    def room(self):
+    def room(self) -> tuple[int, int]:
         """The bytes that are free, and those that stay so."""
         system = os.statvfs(self.path)
         return (system.f_bavail * system.f_frsize,
                 min(system.f_blocks * system.f_frsize // FREE_SHARE, MOST_FREE))
 
-    def give_way(self):
+    def give_way(self) -> Any:
         """Takes away the oldest trace, but for the newest one; whether there was one."""
         for trace in self.traces()[:-1]:
             return self.remove(trace)
         return False
 
-    def remove(self, trace):
+    def remove(self, trace: Any) -> Any:
         try:
             os.unlink(os.path.join(self.path, trace.name))
         except OSError as error:
@@ -194,7 +198,7 @@ class Folder:
             return False
         return True
 
-    def prune(self, second, longest, room):
+    def prune(self, second: int, longest: int, room: int) -> None:
         """Takes away what is older than is kept, of traces that have at most so many seconds, and then the oldest ones
         until so many bytes have room beside the others."""
         traces = self.traces()
@@ -209,7 +213,7 @@ class Folder:
 
     # --- the end of a trace ---
 
-    def pack(self, name, size, packed_name=None):
+    def pack(self, name: str, size: int, packed_name: Any = None) -> str:
         """Packs so many bytes of a part: once they are on the disk they get their name, and the part goes. The name of
         the trace; OSError where it can't be, which leaves the part as it is."""
         made = packed_name or name
@@ -231,7 +235,7 @@ class Folder:
         os.unlink(self.place(name, PART))
         return f"{made}.{PACKED}"
 
-    def drop(self, name):
+    def drop(self, name: str) -> None:
         """Takes away a part that has nothing."""
         try:
             os.unlink(self.place(name, PART))
@@ -240,7 +244,7 @@ class Folder:
 
     # --- what was left ---
 
-    def end_left(self):
+    def end_left(self) -> None:
         """Ends the traces that a recorder has left, and says what else lies there that is no whole trace."""
         newest = self.traces()[-1:]
         for entry in sorted(self.entries()):
@@ -254,7 +258,7 @@ class Folder:
             if fault is not None:
                 self.say(f"{trace.name} is damaged, and is left as it is: {fault}")
 
-    def end_entry(self, entry, parts):
+    def end_entry(self, entry: Any, parts: Any) -> None:
         if parts is None:
             self.say(f"{entry} is not of this recorder, and is left as it is")
         elif parts["kind"] == PACKING:
@@ -262,7 +266,7 @@ class Folder:
         else:
             self.end_one(entry.removesuffix(f".{PART}"))
 
-    def end_one(self, name):
+    def end_one(self, name: str) -> None:
         """Ends one trace behind its last whole line."""
         path = self.place(name, PART)
         is_file = stat.S_ISREG(os.lstat(path).st_mode)
@@ -277,7 +281,7 @@ class Folder:
             cut = f", without the {size - whole} bytes behind its last whole line" if size > whole else ""
             self.say(f"{name}.{PART} was left by a recorder that did not end: it is {made} now{cut}")
 
-    def ended(self, name, size):
+    def ended(self, name: str, size: Any) -> Any:
         """Packs a part that was left. Where its trace is there, whole, it was only not yet removed."""
         packed = self.place(name, PACKED)
         if not os.path.lexists(packed):
@@ -289,7 +293,7 @@ class Folder:
         return self.pack(name, size, self.free_name(calendar.timegm(time.strptime(parts["stamp"], STAMP))))
 
 
-def whole_bytes(path):
+def whole_bytes(path: str) -> Any:
     """How many bytes of a part are whole lines of a trace, and how many it has. None where it is no trace: what was cut
     within its first line still begins as one."""
     whole = 0
@@ -304,14 +308,14 @@ def whole_bytes(path):
     return whole, size
 
 
-def is_record(line):
+def is_record(line: bytes) -> bool:
     try:
         return "kind" in json.loads(line)
     except (ValueError, TypeError, RecursionError):
         return False
 
 
-def damage(path):
+def damage(path: str) -> Any:
     """What is wrong with a packed file, or None."""
     try:
         with gzip.open(path, "rb") as file:
@@ -322,7 +326,7 @@ def damage(path):
     return None if os.path.getsize(path) else "it is empty"
 
 
-def is_same(packed, plain):
+def is_same(packed: Any, plain: Any) -> bool:
     """Whether a packed file has the bytes of another one."""
     try:
         with gzip.open(packed, "rb") as one, open(plain, "rb") as other:

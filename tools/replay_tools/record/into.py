@@ -1,7 +1,11 @@
 """Traces of one node, one behind the other: `--into FOLDER`. Each is whole by itself, and begins in the second in which
 the one before it ends."""
 
+from __future__ import annotations
+
 import json
+from collections.abc import Callable, Iterator
+from typing import Any, TYPE_CHECKING
 
 from .folder import FULL, Folder, Refused, why
 from .formats import MOST_BYTES, MOST_PODS
@@ -9,6 +13,11 @@ from .lasting import LastingRecorder, forget_strangers, set_back
 from .program import Output, Recording, watch
 from .standing import Standing
 from .lines import line_of
+
+if TYPE_CHECKING:
+    from .folder import Part
+    from .sources import Sources
+    from .words import Words
 
 # a clock that goes back by less stands still until its time comes again
 BACK_SECONDS = 60
@@ -22,7 +31,7 @@ SHORT = 2
 AGAIN_SECONDS = 5
 
 
-def say_again(say, text):
+def say_again(say: Callable[..., None], text: str) -> None:
     """Says a line that may have been said before."""
     say(text, object())
 
@@ -30,7 +39,7 @@ def say_again(say, text):
 class Traces(Output):
     """What is written, as traces in a folder that end and begin; each has at most so many seconds and ticks."""
 
-    def __init__(self, folder, each, most_ticks, say):
+    def __init__(self, folder: Folder, each: Any, most_ticks: int, say: Callable[..., None]) -> None:
         super().__init__(float("inf"))
         self.folder = folder
         self.each = each
@@ -40,9 +49,11 @@ class Traces(Output):
         self.standing = Standing()
         # what the pods' statuses say at the first look
         self.probed = {}
-        self.part = None
+        self.part: Part | None = None
         # the second at which the newest trace begins, its name, and up to when it has all that happened
-        self.begun = self.last = self.until = None
+        self.begun: int | None = None
+        self.last: str | None = None
+        self.until: int | None = None
         # parts that have ended, with their bytes
         self.unpacked = {}
         self.is_lost = self.has_turned = False
@@ -50,17 +61,17 @@ class Traces(Output):
 
     # --- what comes ---
 
-    def write(self, lines):
+    def write(self, lines: list[str]) -> None:
         """The node line; that of a trace is written with its first tick."""
         for line in lines:
             self.standing.take(json.loads(line))
 
-    def write_due(self, due):
+    def write_due(self, due: Iterator[Any]) -> None:
         for lines, _ in due:
             if lines:
                 self.take(lines)
 
-    def take(self, lines):
+    def take(self, lines: list[str]) -> None:
         """Takes the lines of a second, one of which is a tick."""
         records = [json.loads(line) for line in lines]
         place = next(place for place, record in enumerate(records) if record["kind"] == "tick")
@@ -69,7 +80,7 @@ class Traces(Output):
             records, lines = records[place + 1:], lines[place + 1:]
         self.take_next(records, "".join(f"{line}\n" for line in lines).encode())
 
-    def take_first(self, records, lines):
+    def take_first(self, records: list[dict[str, Any]], lines: list[str]) -> None:
         """Takes the lines up to the first tick of all. It shows what was before it too, where the pods' statuses say
         that."""
         for record in records:
@@ -77,7 +88,7 @@ class Traces(Output):
         has_past = self.standing.assume(self.probed)
         self.begin(self.standing.at, None if has_past else [line_of(self.standing.node), *lines])
 
-    def take_next(self, records, data):
+    def take_next(self, records: list[dict[str, Any]], data: bytes) -> None:
         ticks = [record["at"] for record in records if record["kind"] == "tick"]
         second = ticks[0] if ticks else self.standing.at
         arrivals = sum(record["kind"] == "pod" for record in records)
@@ -96,7 +107,7 @@ class Traces(Output):
         for record in records:
             self.standing.take(record)
 
-    def settle(self, second):
+    def settle(self, second: float) -> None:
         """All before a second is written: a trace whose time is over ends, though nothing happens."""
         border = None if self.part is None else self.border(second)
         if border is not None:
@@ -104,7 +115,7 @@ class Traces(Output):
         elif self.is_lost:
             self.go_on(second)
 
-    def write_ahead(self, due):
+    def write_ahead(self, due: list[tuple[list[str], bool]]) -> None:
         """Writes what is seen and not settled, so that a crash loses nothing of it; where there is room for it."""
         lines = [line for lines, _ in due for line in lines]
         data = "".join(f"{line}\n" for line in lines).encode()
@@ -113,26 +124,26 @@ class Traces(Output):
             fits = not self.is_full(len(data), arrivals, ticks) and self.has_room_for(len(data))
             self.part.write_ahead(data if fits else b"")
 
-    def border(self, second):
+    def border(self, second: Any) -> int | None:
         """The newest border before a second, behind the begin of the trace; or None."""
         border = (second - 1) // self.each * self.each
         return border if border > self.begun else None
 
-    def is_full(self, size, arrivals, ticks=1):
+    def is_full(self, size: int, arrivals: int, ticks: int = 1) -> bool:
         part = self.part
         return (part.ticks + ticks > self.most_ticks or part.size + size > self.most_bytes
                 or part.pods + arrivals > MOST_PODS)
 
     # --- traces end and begin ---
 
-    def turn(self, second):
+    def turn(self, second: int) -> None:
         """The trace ends, and the next one begins at this second."""
         self.until = max(self.until, second)
         self.end()
         self.begin(second)
         self.has_turned = True
 
-    def turn_back(self, second, before):
+    def turn_back(self, second: Any, before: Any) -> None:
         """The clock said the one second, and now says an earlier one."""
         if self.part is not None:
             self.until = max(self.until, before)
@@ -140,7 +151,7 @@ class Traces(Output):
             self.begin(second)
         self.standing.at, self.has_turned = second, True
 
-    def end(self):
+    def end(self) -> None:
         """Ends the trace that is written, if one is."""
         if self.part is None:
             return
@@ -148,7 +159,7 @@ class Traces(Output):
         self.pack()
         self.folder.prune(self.until, self.each, (PARTS - 2) * self.most_bytes)
 
-    def leave(self):
+    def leave(self) -> None:
         """Closes the part; where it has a tick it is to be packed."""
         part, self.part = self.part, None
         part.close()
@@ -158,11 +169,11 @@ class Traces(Output):
         else:
             self.folder.drop(part.name)
 
-    def pack(self):
+    def pack(self) -> None:
         """Packs what has ended."""
         self.unpacked = {name: size for name, size in self.unpacked.items() if not self.is_packed(name, size)}
 
-    def is_packed(self, name, size):
+    def is_packed(self, name: str, size: int) -> bool:
         """Packs one part; whether that is done. Where there is no room the oldest traces go."""
         while True:
             try:
@@ -176,7 +187,7 @@ class Traces(Output):
                     self.say(f"{name}.part can't be packed yet: {why(error)}")
                     return False
 
-    def begin(self, second, lines=None):
+    def begin(self, second: int, lines: list[str] | None = None) -> None:
         """Begins a trace at a second, with what is known then, or with these lines."""
         follows = None if self.until is None else {"trace": self.last, "until": self.until, "at": second}
         lines = lines or list(self.standing.beginning(second, follows))
@@ -186,7 +197,7 @@ class Traces(Output):
             self.part.ticks = len(lines) - 1 - self.part.pods
             self.until = second
 
-    def open(self, second):
+    def open(self, second: int) -> bool:
         """Makes the file of a trace; whether it could be made."""
         while True:
             try:
@@ -201,7 +212,7 @@ class Traces(Output):
 
     # --- room ---
 
-    def put(self, data, second):
+    def put(self, data: bytes, second: int) -> bool:
         """Writes whole lines into the trace; whether they were. Where there is no room it is cut short, then the oldest
         traces go, and where there is none of these what comes is lost until there is room."""
         while True:
@@ -218,14 +229,14 @@ class Traces(Output):
             if self.part is None:
                 return False
 
-    def is_cut_short(self):
+    def is_cut_short(self) -> bool:
         """Where there is no room the trace ends, if it is long: packed it is a small part of what it was."""
         if self.part is None or self.part.size <= SHORT * self.part.head:
             return False
         self.turn(self.standing.at)
         return True
 
-    def lose(self, second, reason):
+    def lose(self, second: Any, reason: Any) -> None:
         """From a second on nothing is written; what is whole by then ends as a trace."""
         if not self.is_lost:
             say_again(self.say, f"{second}: nothing is written into '{self.folder.path}' until it can be: {reason}")
@@ -233,7 +244,7 @@ class Traces(Output):
         if self.part is not None:
             self.leave()
 
-    def go_on(self, second):
+    def go_on(self, second: Any) -> None:
         """Begins a trace where nothing could be written."""
         if not 0 <= second - self.tried_at < AGAIN_SECONDS:
             self.tried_at = second
@@ -244,13 +255,13 @@ class Traces(Output):
             self.is_lost = False
             say_again(self.say, f"{second}: there is room again, and a trace begins")
 
-    def has_room_for(self, size):
+    def has_room_for(self, size: int) -> bool:
         try:
             return self.folder.has_room(size)
         except OSError:
             return False
 
-    def can_write(self):
+    def can_write(self) -> Any:
         try:
             return self.folder.has_room_again()
         except OSError:
@@ -260,16 +271,19 @@ class Traces(Output):
 class LastingRecording(Recording):
     """A run of the recorder that goes on from one trace to the next."""
 
-    def __init__(self, words, sources, clock, output, say):
+    output: Traces
+    recorder: LastingRecorder
+
+    def __init__(self, words: Words, sources: Sources, clock: Any, output: Traces, say: Callable[..., None]) -> None:
         super().__init__(words, sources, clock, output, say)
         self.say = say
         self.recorder = LastingRecorder(words.format, words.every, say)
 
-    def begin(self):
+    def begin(self) -> None:
         super().begin()
         self.output.probed = {pod.key: pod.probed for pod in self.recorder.listed}
 
-    def go_on(self):
+    def go_on(self) -> None:
         moment = self.begun
         while not self.output.is_stopped and not self.is_over(moment):
             self.clock.wait(min(max(moment + self.words.look - self.clock.now(), 0), self.words.look))
@@ -284,7 +298,7 @@ class LastingRecording(Recording):
                 self.output.write_ahead(self.recorder.foreseen(moment))
                 self.forget()
 
-    def see_clock(self, before, moment):
+    def see_clock(self, before: float, moment: float) -> None:
         """What the clock says at a look, behind the look before."""
         if moment < before - BACK_SECONDS:
             say_again(self.say, f"{int(before)}: the clock went back by {round(before - moment)} s, and the next trace "
@@ -298,14 +312,14 @@ class LastingRecording(Recording):
             say_again(self.say, f"{int(moment)}: the look before was {round(moment - before)} s ago: the clock went "
                                 "forward, or the recorder stood still")
 
-    def forget(self):
+    def forget(self) -> None:
         """Behind each border what is over is forgotten, so that the recorder stays as small as it is."""
         if self.output.has_turned:
             self.output.has_turned = False
             self.recorder.forget()
             forget_strangers(self.observer)
 
-    def run(self):
+    def run(self) -> None:
         try:
             super().run()
         finally:
@@ -314,7 +328,7 @@ class LastingRecording(Recording):
                 self.output.pack()
 
 
-def recorded_into(words, sources, clock, say):
+def recorded_into(words: Words, sources: Sources, clock: Any, say: Callable[..., None]) -> int:
     """Records traces one behind the other; the status."""
     try:
         folder = Folder(words.into.folder, words.node, words.into.keep, words.into.most, say)

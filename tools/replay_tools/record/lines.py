@@ -1,10 +1,18 @@
 """The lines of a trace, in one of its formats."""
 
+from __future__ import annotations
+
 from dataclasses import dataclass, replace
-from typing import Optional
+from typing import Any, Optional, TYPE_CHECKING
 
 from .formats import LONGEST_LINE, shown, without_nones
 from .runtime import CREATED, RUNNING, UNKNOWN
+
+if TYPE_CHECKING:
+    from .asides import Asides
+    from .decisions import Decision
+    from .pods import Pod
+    from .runtime import Listing
 
 
 class TooLong(Exception):
@@ -25,7 +33,7 @@ STANDARD = Format(2, False, None)
 EVICTION_PAUSE = 30
 
 
-def extended(eviction_pause=EVICTION_PAUSE):
+def extended(eviction_pause: int = EVICTION_PAUSE) -> Format:
     return Format(3, True, eviction_pause)
 
 
@@ -33,33 +41,34 @@ def extended(eviction_pause=EVICTION_PAUSE):
 DEFAULT = STANDARD
 
 
-def line_of(fields):
+def line_of(fields: dict[str, Any]) -> str:
     text = shown(fields)
     if len(text.encode()) > LONGEST_LINE:
         raise TooLong("a line would be longer than the formats take")
     return text
 
 
-def pod_line(pod):
+def pod_line(pod: Pod) -> str:
     return line_of({"kind": "pod", "pod": pod.manifest})
 
 
-def gone_line(pod):
+def gone_line(pod: Pod) -> str:
     return line_of({"kind": "gone", "pod": pod.key})
 
 
-def unknown(listing):
+def unknown(listing: Listing) -> Listing:
     """A listing of what might have changed since."""
     return replace(listing, state=UNKNOWN) if listing.state in (CREATED, RUNNING) else listing
 
 
-def container_fields(name, listing):
+def container_fields(name: str, listing: Listing) -> dict[str, int | str]:
     """What a tick lists of a container."""
     return without_nones({"name": name, "attempt": listing.attempt, "state": listing.state,
                           "exitCode": listing.exit_code})
 
 
-def entry_of(pod, listings, results, usage, is_unsampled, asides):
+def entry_of(pod: Pod, listings: dict[str, Listing], results: dict[tuple[str, str], str], usage: dict[str, int] | None,
+             is_unsampled: bool, asides: Asides) -> dict[str, Any] | None:
     """One pod's entry of a tick: {container: listing}, {(container, probe): result}, its usage or None, whether it has
     no sample from here on, and what stands beside; None where there is nothing to say of it."""
     containers = [container_fields(name, listing) | asides.of_listing(pod.uid, name, listing)
@@ -74,7 +83,7 @@ def entry_of(pod, listings, results, usage, is_unsampled, asides):
                           "unsampled": is_unsampled or None, "waiting": waiting})
 
 
-def told(second, decisions):
+def told(second: int, decisions: list[tuple[str, Decision, bool]]) -> dict[str, list[dict[str, Any]]] | None:
     """What the kubelet did in a tick, which the formats don't read: {"evicted" or "refused": [..]}, or None."""
     found = {}
     for key, decision, is_left_out in decisions:
@@ -82,6 +91,7 @@ def told(second, decisions):
     return found or None
 
 
-def tick_line(second, entries, signals, kubelet=None):
+def tick_line(second: int, entries: list[dict[str, Any]], signals: dict[str, int],
+              kubelet: dict[str, list[dict[str, Any]]] | None = None) -> str:
     return line_of(without_nones({"kind": "tick", "at": second, "pods": entries, "signals": signals,
                                   "kubelet": kubelet}))

@@ -1,16 +1,23 @@
 """The node line, of the kubelet's /configz and the capacities of /stats/summary."""
 
+from __future__ import annotations
+
 import math
 import re
 import struct
 from dataclasses import dataclass
 from fractions import Fraction
+from typing import Any, TYPE_CHECKING
 
 from replay_tools.traces import SIGNALS
 
 from .formats import (at_place, duration_fault, first_fault, is_percentage, limit_fault, name_fault, percentage_fault,
                       seconds_of, whole_fault, without_nones)
 from .sources import Failed, read_json, reads
+
+if TYPE_CHECKING:
+    from .lines import Format
+    from .summary import Summary
 
 GRACES = "evictionSoftGracePeriod"
 RECLAIMS = "evictionMinimumReclaim"
@@ -30,12 +37,12 @@ class NodeLine:
     notes: list
 
 
-def single(number):
+def single(number: float) -> float:
     """The nearest number of 32 bits, as the kubelet keeps a percentage."""
     return struct.unpack("f", struct.pack("f", number))[0]
 
 
-def share(percentage, capacity):
+def share(percentage: str, capacity: int) -> int:
     """The amount of a capacity that a percentage is, rounded as the kubelet does; None where it is no percentage."""
     number = percentage.rstrip("%")
     if not PERCENT_NUMBER.fullmatch(number):
@@ -43,7 +50,7 @@ def share(percentage, capacity):
     return int(float(capacity) * single(single(float(number)) / 100))
 
 
-def whole_duration(duration):
+def whole_duration(duration: str) -> str:
     """A duration of Go's, rounded up to whole seconds, as the formats write it; None where it is none."""
     if not isinstance(duration, str) or not GO_DURATION.fullmatch(duration):
         return None
@@ -54,12 +61,12 @@ def whole_duration(duration):
 class Reader:
     """Takes over the fields of a configuration one by one, with what is to be said of them and what is at fault."""
 
-    def __init__(self, capacity):
+    def __init__(self, capacity: dict[str, int]) -> None:
         self.capacity = capacity
         self.notes = []
         self.faults = []
 
-    def limit(self, field, signal, value):
+    def limit(self, field: str, signal: str, value: Any) -> int | str:
         """A limit as the formats take it: a percentage that they don't take becomes the amount that it is."""
         if is_percentage(value) and percentage_fault(value) and signal in self.capacity:
             amount = share(value, self.capacity[signal])
@@ -69,7 +76,7 @@ class Reader:
         self.faults.append(at_place(f"{field} {signal}", limit_fault(value)))
         return value
 
-    def duration(self, place, value):
+    def duration(self, place: str, value: Any) -> str:
         """A duration as the formats take it: rounded up to whole seconds."""
         if duration_fault(value) and whole_duration(value):
             self.notes.append(f"{place}: {value} is written as {whole_duration(value)}, in whole seconds")
@@ -77,7 +84,7 @@ class Reader:
         self.faults.append(at_place(place, duration_fault(value)))
         return value
 
-    def is_kept(self, field, signal, value):
+    def is_kept(self, field: str, signal: str, value: Any) -> bool:
         """Whether a threshold stays in the node line; a note says of each other why the formats would refuse it."""
         if signal not in SIGNALS:
             self.notes.append(f"{field} {signal} is left out: the formats have no such signal")
@@ -89,15 +96,15 @@ class Reader:
         self.notes.append(f"{field} {signal} is left out: the summary has no capacity for {value}")
         return False
 
-    def limits(self, field, values):
+    def limits(self, field: str, values: dict[str, str]) -> dict[str, int | str]:
         return {signal: self.limit(field, signal, value)
                 for signal, value in values.items() if self.is_kept(field, signal, value)}
 
-    def graces(self, values):
+    def graces(self, values: dict[str, str]) -> dict[str, str]:
         return {signal: self.duration(f"{GRACES} {signal}", value)
                 for signal, value in values.items() if self.is_kept(GRACES, signal, value)}
 
-    def restart_delay(self, back_off):
+    def restart_delay(self, back_off: dict[str, str] | None) -> int | None:
         """The greatest delay of a restart, in seconds, or None where the configuration has none."""
         period = (back_off or {}).get("maxContainerRestartPeriod")
         if period is None:
@@ -109,7 +116,7 @@ class Reader:
         self.faults.append(at_place(place, whole_fault(seconds_of(written), 1, 300)))
         return seconds_of(written)
 
-    def fields(self, read):
+    def fields(self, read: dict[str, Any]) -> dict[str, Any]:
         """The fields of eviction and of restarts. An absent evictionHard sets no threshold: the kubelet has put in
         its defaults before it answers."""
         if read.get("mergeDefaultEvictionSettings"):
@@ -126,12 +133,12 @@ class Reader:
                     None if period is None else self.duration("evictionPressureTransitionPeriod", period)}
 
 
-def sets_no_threshold(value):
+def sets_no_threshold(value: Any) -> bool:
     return percentage_fault(value) is None and float(value.rstrip("%")) in (0, 100)
 
 
 @reads("/configz")
-def node_line_of(text, name, summary, node_format):
+def node_line_of(text: str, name: str, summary: Summary, node_format: Format) -> NodeLine:
     """The node line of an answer of /configz; Failed where the formats do not take what it says."""
     answer = read_json(text, "/configz")
     read = answer.get("kubeletconfig") if isinstance(answer, dict) else None
@@ -149,13 +156,13 @@ def node_line_of(text, name, summary, node_format):
     return NodeLine(without_nones(line), reader.notes)
 
 
-def pause_of(node_format):
+def pause_of(node_format: Format) -> dict[str, bool | int | None]:
     """How long no pod is evicted after an eviction: a kubelet waits for the evicted one."""
     seconds = node_format.eviction_pause
     return {"evictionPauseSeconds": seconds, "evictionPauseUntilGone": None if seconds is None else True}
 
 
-def own_node_line(fields, node_format):
+def own_node_line(fields: dict[str, Any], node_format: Format) -> NodeLine:
     """A node line that the operator gives, in the version that is recorded; its own pause goes before."""
     pause = {} if "evictionPauseSeconds" in fields else pause_of(node_format)
     return NodeLine(without_nones({**pause, **fields, "kind": "node", "version": node_format.version, **TELLS}), [])

@@ -1,6 +1,10 @@
 """Looks at a node: asks each source as often as it changes, and goes on without one that fails."""
 
+from __future__ import annotations
+
+from collections.abc import Callable
 from dataclasses import replace
+from typing import Any, TYPE_CHECKING
 
 from .near import Nearness
 from .probes import counters_of
@@ -10,6 +14,13 @@ from .pods import pods_of
 from .runtime import CREATED, EXITED, RUNNING, inspected_of, instances_of
 from .sources import Failed
 from .summary import summary_of
+
+if TYPE_CHECKING:
+    from .pods import Pod
+    from .reasons import Reason
+    from .runtime import Instance
+    from .sources import Sources
+    from .summary import Summary
 
 # the kubelet samples its node and its pods about as often, and its node for each decision about evictions
 SUMMARY_SECONDS = 10
@@ -37,7 +48,7 @@ class Observer:
     """Asks the sources of a node, the summary every some seconds where it does not count more; `say` takes what is said
     of those that fail."""
 
-    def __init__(self, sources, summary_seconds, say):
+    def __init__(self, sources: Sources, summary_seconds: int, say: Callable[..., None]) -> None:
         self.sources = sources
         self.say = say
         self.seconds = {PODS: PODS_SECONDS, SUMMARY: max(SUMMARY_SECONDS, summary_seconds)}
@@ -51,12 +62,14 @@ class Observer:
         self.unended = {}
         self.missed_at = {}
         self.listed_pods = {}
-        self.instances = self.counters = None
-        self.listed_at = self.moved_at = 0
+        self.instances: dict[str, list[Instance]] | None = None
+        self.counters: dict | None = None
+        self.listed_at: float = 0
+        self.moved_at: float = 0
         self.known = set()
         self.strangers = set()
 
-    def first_look(self, moment):
+    def first_look(self, moment: float) -> Seen:
         """A look that needs all sources; Failed where one of them gives no answer."""
         counters = counters_of(self.sources.probes())
         listed = instances_of(self.sources.listed())
@@ -68,7 +81,7 @@ class Observer:
         self.pass_over(listed)
         return Seen(moment, self.resolved(listed, moment), counters, pods, summary)
 
-    def pass_over(self, listed):
+    def pass_over(self, listed: list[Instance]) -> None:
         """Of the pods that are there at the first look no start is asked for, and of instances that were replaced no
         code: what a tick shows of them is the newest alone."""
         newest = {(each.uid, each.container): each for each in listed}
@@ -78,7 +91,7 @@ class Observer:
             elif each.state == RUNNING:
                 self.details[each.id] = each
 
-    def look(self, moment):
+    def look(self, moment: float) -> Seen:
         """What the sources show at a moment; a source that is silent shows nothing."""
         seen = Seen(moment)
         # the probes come first: a result that is counted was found on an instance that the list then shows
@@ -99,19 +112,19 @@ class Observer:
         seen.is_summary_silent, seen.low = SUMMARY in self.silent, self.near.low
         return seen
 
-    def wants_pods(self, moment):
+    def wants_pods(self, moment: float) -> bool:
         """Whether the pods are asked for, though the runtime shows nothing new."""
         often = PRESSED_PODS_SECONDS[self.sources.kubelet is not None]
         return self.is_due(PODS, moment, often if self.near.is_pressed(moment) else None)
 
-    def wants_list(self, counters, moment):
+    def wants_list(self, counters: dict[tuple[str, str, str], dict[str, int]] | None, moment: float) -> bool:
         """Whether the runtime is asked at a look: not at each where nothing happens and no probe finds anything."""
         is_still = counters is not None and counters == self.counters and moment - self.moved_at > STILL_SECONDS
         self.counters = counters
         is_sure = self.instances is not None and not self.near.is_near(moment)
         return not (is_still and is_sure and 0 <= moment - self.listed_at < LIST_SECONDS)
 
-    def attempt(self, source, moment, ask, is_whole=True):
+    def attempt(self, source: str, moment: float, ask: Callable[..., Any], is_whole: bool = True) -> Any:
         """An answer, or None; that a source is silent is said once, and so is that its whole answer is there again."""
         try:
             answer = ask()
@@ -126,13 +139,13 @@ class Observer:
                      (source, moment, "again"))
         return answer
 
-    def is_due(self, source, moment, seconds=None):
+    def is_due(self, source: str, moment: float, seconds: int | None = None) -> bool:
         """Whether so many whole seconds have passed since a source was asked, also where it gave no answer."""
         asked = self.asked_at.get(source)
         seconds = self.seconds[source] if seconds is None or source in self.silent else seconds
         return asked is None or int(moment) < int(asked) or int(moment) - int(asked) >= seconds
 
-    def wants_summary(self, pods, moment):
+    def wants_summary(self, pods: list[Pod] | None, moment: float) -> bool:
         """Whether the summary is asked for: at each look while the kubelet may evict a pod, at once where it is seen
         that it has, and else from time to time, as one that gives no answer."""
         decided = {pod.uid for pod in pods or () if pod.decision is not None}
@@ -143,13 +156,13 @@ class Observer:
         counts = SUMMARY not in self.silent and (has_decided or self.near.is_near(moment))
         return counts or self.is_due(SUMMARY, moment)
 
-    def take_summary(self, moment):
+    def take_summary(self, moment: float) -> Summary:
         self.asked_at[SUMMARY] = moment
         summary = summary_of(self.sources.summary())
         self.near.sample({signal: sample.value for signal, sample in summary.signals.items()}, moment)
         return summary
 
-    def take_pods(self, moment):
+    def take_pods(self, moment: float) -> list[Pod]:
         self.asked_at[PODS] = moment
         pods = pods_of(self.sources.pods(), self.sources.pods_name())
         # a pod that is no longer listed stays known, since its containers may have yet to exit
@@ -157,7 +170,7 @@ class Observer:
         self.known |= set(self.listed_pods)
         return pods
 
-    def may_have_changed_pods(self, listed):
+    def may_have_changed_pods(self, listed: list[Instance]) -> bool:
         """Whether the runtime has a pod that is not known, or an instance has exited or gone: then pods may have come
         or gone. Each is asked for once."""
         uids = {each.uid for each in listed}
@@ -172,7 +185,7 @@ class Observer:
 
     # --- instances ---
 
-    def resolved(self, listed, moment):
+    def resolved(self, listed: list[Instance], moment: float) -> dict[str, list[Instance]]:
         """The instances by their pods' uids, with the moments and codes that `crictl inspect` says. One that it does
         not know is asked for by a fresh list, in which it is no more."""
         for _ in range(MOST_LISTS):
@@ -194,7 +207,7 @@ class Observer:
                 self.unended.pop(instance.id, None)
         return by_uid
 
-    def with_removed(self, listed, moment):
+    def with_removed(self, listed: list[Instance], moment: float) -> list[Instance]:
         """A list of the runtime with the instances that it removed before their codes were known: as ended where the
         status of their pod says so, and for some seconds with no code where it may say so yet."""
         there = {each.id for each in listed}
@@ -203,7 +216,7 @@ class Observer:
         found = [self.ended(each, moment) for each in removed]
         return sorted([*listed, *filter(None, found)], key=lambda each: (each.created, each.attempt))
 
-    def ended(self, instance, moment):
+    def ended(self, instance: Instance, moment: float) -> Instance | None:
         """An instance that the runtime has no more, by its pod's status, else since when it is missed; None where that
         won't say how it ended."""
         pod = self.listed_pods.get(instance.uid)
@@ -217,13 +230,13 @@ class Observer:
             self.asked_at.pop(PODS, None)
         return replace(instance, state=EXITED, finished=self.missed_at[instance.id])
 
-    def reason(self, instance):
+    def reason(self, instance: Instance) -> Reason | None:
         """Why an instance ended: what the runtime says, or its pod's status where that says more."""
         pod = self.listed_pods.get(instance.uid)
         end = (pod.ends or {}).get(instance.id) if pod is not None else None
         return better(instance.reason, end and end.reason)
 
-    def wants_inspection(self, instance):
+    def wants_inspection(self, instance: Instance) -> bool:
         if instance.uid not in self.known:
             return False
         detail = self.details.get(instance.id)
@@ -231,7 +244,7 @@ class Observer:
             return detail is None or detail.exit_code is None
         return instance.state == RUNNING and detail is None
 
-    def inspect(self, instance):
+    def inspect(self, instance: Instance) -> Failed | None:
         """Keeps what the runtime says of an instance; else why not."""
         try:
             detail = inspected_of(self.sources.inspected(instance.id), instance)
@@ -240,7 +253,7 @@ class Observer:
         self.details[instance.id] = detail
         return None
 
-    def detailed(self, instance):
+    def detailed(self, instance: Instance) -> Instance:
         detail = self.details.get(instance.id)
         if detail is None:
             return instance

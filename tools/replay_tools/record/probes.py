@@ -1,6 +1,8 @@
 """Results of probes, of `prober_probe_total` in the kubelet's /metrics/probes: what each counter grew by between two
 looks, put in an order."""
 
+from __future__ import annotations
+
 import re
 from dataclasses import dataclass
 
@@ -23,7 +25,7 @@ class Result:
 
 
 @reads("/metrics/probes")
-def counters_of(text):
+def counters_of(text: str) -> dict[tuple[str, str, str], dict[str, int]]:
     """The counts of an answer: {(uid, container, probe): {result: count}}."""
     counters = {}
     for line in text.split("\n"):
@@ -38,13 +40,13 @@ def counters_of(text):
     return counters
 
 
-def grown(before, now):
+def grown(before: dict[str, int], now: dict[str, int]) -> dict[str, int]:
     """What the counts of one probe grew by. A count that fell began anew with the kubelet, so all of it came since."""
     growth = {result: now.get(result, 0) - before.get(result, 0) for result in RESULTS}
     return {result: number if number >= 0 else now.get(result, 0) for result, number in growth.items()}
 
 
-def results_of(probe, growth, period, since, until):
+def results_of(probe: str, growth: dict[str, int], period: int, since: float, until: float) -> list[Result]:
     """The results of one probe between two looks, in an order: failures before the success that ends them, the last at
     the later look and each other one a period before the next, but none before the earlier look."""
     outcomes = [result for result in RESULTS for _ in range(growth.get(result, 0))]

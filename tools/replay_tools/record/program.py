@@ -1,10 +1,14 @@
 """Runs the recorder: looks until the end, and writes the lines as they are settled."""
 
+from __future__ import annotations
+
 import os
 import signal
 import sys
+from collections.abc import Callable, Iterator
 from contextlib import contextmanager
 from dataclasses import replace
+from typing import Any, TYPE_CHECKING
 
 from .check import check
 from .clock import Clock
@@ -16,6 +20,11 @@ from .recorder import Recorder
 from .sources import Failed
 from .lines import TooLong
 from .words import BadWord, help_text, missing_commands, words_of
+
+if TYPE_CHECKING:
+    from .into import LastingRecording, Traces
+    from .sources import Sources
+    from .words import Words
 
 INTERRUPTS = (signal.SIGINT, signal.SIGTERM, signal.SIGHUP)
 # a recorder that goes on for ever does not grow by what it has said
@@ -29,7 +38,7 @@ class Stopped(Exception):
 class Ended(Exception):
     """The recording ends, with a status, for a reason or none."""
 
-    def __init__(self, status, reason=None):
+    def __init__(self, status: int, reason: str | None = None) -> None:
         super().__init__(reason)
         self.status = status
         self.reason = reason
@@ -38,10 +47,10 @@ class Ended(Exception):
 class Says:
     """Says a line on standard error, once of each subject, or once of its text, as far back as it remembers."""
 
-    def __init__(self):
+    def __init__(self) -> None:
         self.said = {}
 
-    def __call__(self, text, subject=None):
+    def __call__(self, text: str, subject: str | tuple[str | float, ...] | None = None) -> None:
         subject = text if subject is None else subject
         if subject not in self.said:
             self.said[subject] = True
@@ -53,19 +62,19 @@ class Says:
 class Output:
     """Standard output: whole lines, up to the most that a trace takes."""
 
-    def __init__(self, most_ticks, most_bytes=MOST_BYTES):
+    def __init__(self, most_ticks: float, most_bytes: int = MOST_BYTES) -> None:
         self.ticks_left = most_ticks
         self.bytes_left = most_bytes
         self.is_busy = False
         self.is_stopped = False
 
-    def interrupt(self, *_):
+    def interrupt(self, *_: object) -> None:
         self.is_stopped = True
         if not self.is_busy:
             raise Stopped
 
     @contextmanager
-    def undisturbed(self):
+    def undisturbed(self) -> Iterator[None]:
         """No interrupt ends what is done here; it ends the recording after it."""
         self.is_busy = True
         try:
@@ -73,7 +82,7 @@ class Output:
         finally:
             self.is_busy = False
 
-    def write(self, lines):
+    def write(self, lines: list[str]) -> None:
         """Writes whole lines, all of them or none where they reach the most that a trace takes."""
         data = "".join(f"{line}\n" for line in lines).encode()
         self.bytes_left -= len(data)
@@ -85,7 +94,7 @@ class Output:
         except OSError:
             raise Ended(1, "standard output takes no more") from None
 
-    def write_due(self, due):
+    def write_due(self, due: Iterator[Any]) -> None:
         """Writes what is settled, up to the last tick that is asked for."""
         for lines, has_tick in due:
             if self.ticks_left == 0:
@@ -97,16 +106,17 @@ class Output:
 class Recording:
     """One run of the recorder."""
 
-    def __init__(self, words, sources, clock, output, say):
+    def __init__(self, words: Words, sources: Sources, clock: Any, output: Traces | Output,
+                 say: Callable[..., None]) -> None:
         self.words = words
         self.sources = sources
         self.clock = clock
         self.output = output
         self.observer = Observer(sources, words.every, say)
         self.recorder = Recorder(words.format, words.every, say)
-        self.begun = None
+        self.begun: float | None = None
 
-    def begin(self):
+    def begin(self) -> None:
         """The first look and the node line; they need every source."""
         moment = self.clock.now()
         try:
@@ -124,16 +134,16 @@ class Recording:
             self.recorder.take(seen)
             self.begun = moment
 
-    def has_all(self):
+    def has_all(self) -> bool:
         """Whether all ticks that are asked for are written or wanted."""
         return self.recorder.timeline.planned() >= self.output.ticks_left
 
-    def is_over(self, moment):
+    def is_over(self, moment: float) -> bool:
         """Whether the next look would come too late."""
         duration = self.words.duration
         return duration is not None and moment + self.words.look - self.begun > duration
 
-    def go_on(self):
+    def go_on(self) -> None:
         """Looks until the end."""
         moment = self.begun
         while not self.has_all() and not self.output.is_stopped and not self.is_over(moment):
@@ -144,7 +154,7 @@ class Recording:
                 self.recorder.take(seen)
                 self.output.write_due(self.recorder.due(moment))
 
-    def run(self):
+    def run(self) -> None:
         """Records to the end; what is seen is written also where an interrupt ends it."""
         try:
             self.begin()
@@ -156,7 +166,7 @@ class Recording:
                 self.output.write_due(self.recorder.rest(self.clock.now()))
 
 
-def recorded(words, sources, clock, say):
+def recorded(words: Words, sources: Sources, clock: Any, say: Callable[..., None]) -> int:
     """Records as the words ask for; the status."""
     if words.into is not None:
         from .into import recorded_into  # which stands on what is here
@@ -165,7 +175,7 @@ def recorded(words, sources, clock, say):
     return watch(output, Recording(words, sources, clock, output, say), say)
 
 
-def watch(output, recording, say):
+def watch(output: Traces | Output, recording: LastingRecording | Recording, say: Callable[..., None]) -> int:
     """Runs a recording until its end or an interrupt; the status."""
     for number in INTERRUPTS:
         signal.signal(number, output.interrupt)
@@ -183,13 +193,13 @@ def watch(output, recording, say):
     return 0
 
 
-def version():
+def version() -> Any:
     """That of the release, or of the checkout, with the end of its line."""
     with open(os.path.join(os.path.dirname(os.path.realpath(__file__)), "../../../VERSION"), encoding="utf-8") as file:
         return file.read()
 
 
-def checked(words, sources, say):
+def checked(words: Words, sources: Sources, say: Callable[..., None]) -> int:
     """Shows which sources work; the status."""
     try:
         works = check(sources, words.node, words.format, lambda line: print(line, flush=True))
@@ -199,7 +209,7 @@ def checked(words, sources, say):
     return 0 if works else 1
 
 
-def main(arguments, clock=None, make_sources=None):
+def main(arguments: list[str], clock: Any = None, make_sources: Callable[..., Any] | None = None) -> int:
     """The program, with a clock and sources that tests can stand in for; its status."""
     say = Says()
     if "--help" in arguments or "-h" in arguments:

@@ -1,7 +1,10 @@
 """The core of the recorder: from what was seen at each look to the lines of a trace. It asks nothing itself."""
 
+from __future__ import annotations
+
+from collections.abc import Callable, Iterator
 from dataclasses import dataclass, field
-from typing import Optional
+from typing import Any, Optional, TYPE_CHECKING
 
 from .decisions import EVICTED, REFUSED
 from .formats import MOST_PODS
@@ -9,6 +12,15 @@ from .probes import PROBES, grown, results_of
 from .runtime import EXITED, RUNNING, Container
 from .timeline import Timeline
 from .lines import line_of
+
+if TYPE_CHECKING:
+    from .lines import Format
+    from .node import NodeLine
+    from .pods import Pod
+    from .probes import Result
+    from .reasons import Reason
+    from .runtime import Change, Instance
+    from .summary import Sample, Summary
 
 # how long what was seen waits for a source that is silent, since with it the moments can be told
 PATIENCE = 30
@@ -31,10 +43,10 @@ class Seen:
     has the instances of each pod's uid, `counters` the counts of probes, `pods` those that are there, `low` the signals
     near their thresholds."""
     moment: float
-    instances: Optional[dict] = None
+    instances: Optional[dict[str, list[Instance]]] = None
     counters: Optional[dict] = None
-    pods: Optional[list] = None
-    summary: object = None
+    pods: Optional[list[Pod]] = None
+    summary: Optional[Summary] = None
     is_summary_silent: bool = False
     low: frozenset = frozenset()
 
@@ -44,7 +56,7 @@ class Recorded:
     """A pod of the trace, the second of its line, that from which on its containers change, what was seen of them, and
     what is not planned yet; `usage` has its newest samples, `sampled_at` is when a summary had it last, `unsampled_at`
     since when none has it, and `waits` says why its containers wait."""
-    pod: object
+    pod: Pod
     arrived: int
     changes_from: int
     containers: dict = field(default_factory=dict)
@@ -61,7 +73,7 @@ class Recorded:
 class Recorder:
     """Makes the lines of a trace in a format, with a tick at least every some seconds; `say` takes what is said."""
 
-    def __init__(self, trace_format, every, say):
+    def __init__(self, trace_format: Format, every: int, say: Callable[..., None]) -> None:
         self.format = trace_format
         self.every = every
         self.say = say
@@ -74,21 +86,25 @@ class Recorder:
         self.gone_at = {}
         self.is_first = True
         self.is_behind = False
-        self.begun = self.planned_at = self.listed_at = self.sampled_at = None
+        self.begun: Optional[float] = None
+        self.planned_at: Optional[float] = None
+        self.listed_at: Optional[float] = None
+        self.sampled_at: Optional[float] = None
         self.wanted_at = self.newest = float("-inf")
         self.samples = {}
         # the newest summary, and the pods that had gone by the time at which the kubelet evicted them
-        self.summary, self.evicted_behind = None, []
+        self.summary: Optional[Summary] = None
+        self.evicted_behind: list = []
         self.counters = self.planned_counters = {}
 
-    def begin(self, node_line):
+    def begin(self, node_line: NodeLine) -> str:
         """The first line."""
         for note in node_line.notes:
             self.say(note)
         self.timeline.near.know(node_line.fields)
         return line_of(node_line.fields)
 
-    def take(self, seen):
+    def take(self, seen: Seen) -> None:
         """Takes what a look saw; what happened is planned once the runtime and the probes have both answered."""
         self.check_clock(seen.moment)
         if self.is_first:
@@ -109,7 +125,7 @@ class Recorder:
             self.timeline.place_look(seen.moment)
         self.is_first = False
 
-    def check_clock(self, moment):
+    def check_clock(self, moment: float) -> None:
         is_behind = int(moment) < self.timeline.next_second - 1
         if is_behind and not self.is_behind:
             self.say(f"{int(moment)}: the clock is behind the last tick: until it has passed that, what happens is "
@@ -118,10 +134,10 @@ class Recorder:
 
     # --- pods ---
 
-    def followed(self):
+    def followed(self) -> list[Recorded]:
         return [recorded for recorded in self.recorded.values() if recorded.is_followed]
 
-    def take_pods(self, seen):
+    def take_pods(self, seen: Seen) -> None:
         """Follows the pods that come, and those that go until their containers have exited."""
         listed = {pod.uid: pod for pod in self.listed}
         for recorded in self.followed():
@@ -139,7 +155,7 @@ class Recorder:
             if pod.decision is not None:
                 self.see_decision(pod, seen)
 
-    def arrive(self, pod, seen):
+    def arrive(self, pod: Pod, seen: Seen) -> None:
         """A pod comes: it is recorded, or left out, which is said once. It waits for the one before it under its name
         to go."""
         reason = self.reason_to_leave_out(pod)
@@ -157,7 +173,7 @@ class Recorder:
             self.recorded[pod.uid] = Recorded(pod, second, second)
             self.see_waits(self.recorded[pod.uid], pod.waits, seen)
 
-    def reason_to_leave_out(self, pod):
+    def reason_to_leave_out(self, pod: Pod) -> str | None:
         """Why a pod has no line, by what came before; None where it can have one."""
         if pod.fault is not None:
             return f"is left out: {pod.fault}"
@@ -170,24 +186,24 @@ class Recorder:
         was_here = any(each.pod.key == pod.key and not each.is_followed for each in self.recorded.values())
         return ANEW if was_here else None
 
-    def see_waits(self, recorded, waits, seen):
+    def see_waits(self, recorded: Recorded, waits: dict[str, Reason], seen: Seen) -> None:
         """Why a pod's containers wait, where that is another than before."""
         if waits != recorded.waits:
             recorded.waits = waits
             self.timeline.place_waits(recorded.pod, seen.moment, waits)
 
-    def has_room(self):
+    def has_room(self) -> bool:
         """Whether the trace can have one more pod."""
         return len(self.recorded) < MOST_PODS
 
-    def arrival_moment(self, pod, seen):
+    def arrival_moment(self, pod: Pod, seen: Seen) -> float:
         """A pod that comes late is there from the moment on at which its first container was made."""
         if self.is_first:
             return seen.moment
         created = [each.created / 1e9 for each in (seen.instances or {}).get(pod.uid, []) if each.created]
         return min([seen.moment, *created])
 
-    def see_decision(self, pod, seen):
+    def see_decision(self, pod: Pod, seen: Seen) -> None:
         """The kubelet evicted or refused a pod, which is written once, unless that was before the recording. What an
         evicted pod was running exits behind it."""
         if pod.uid in self.decided:
@@ -203,7 +219,7 @@ class Recorder:
             recorded.evicted_at = second
             self.evicted_behind += [] if recorded.is_followed else [recorded]
 
-    def see_evicted_behind(self):
+    def see_evicted_behind(self) -> None:
         """Of a pod that was deleted and had ended the kubelet's sample has none, and until it knows of that end the
         kubelet evicts such a pod first. So that is said where the sample is from before the pod has gone."""
         second = int(max(self.newest, 0))
@@ -213,13 +229,13 @@ class Recorder:
                 self.timeline.place_unsampled(recorded.pod, second)
         self.evicted_behind = []
 
-    def decided_at(self, pod, seen):
+    def decided_at(self, pod: Pod, seen: Seen) -> float:
         """When the kubelet decided: as the pod's status says, else when that or an exit that it led to was seen."""
         moments = [each.finished for each in (seen.instances or {}).get(pod.uid, [])
                    if each.finished is not None and each.finished > self.planned_at]
         return min([seen.moment, *moments] if pod.decision.moment is None else [seen.moment, pod.decision.moment])
 
-    def see_going(self, recorded, is_listed, seen):
+    def see_going(self, recorded: Recorded, is_listed: bool, seen: Seen) -> None:
         """A pod is no longer listed, was told to go, or the kubelet ended it. It is gone once each of its containers
         has exited with a code that is known, or is no more, and one that was evicted once the kubelet goes on behind
         it; where a new pod of its name waits for that, at the latest after some seconds."""
@@ -236,17 +252,17 @@ class Recorder:
         if (is_late and has_next) or (has_ended and (is_late or has_next or self.is_cleaned_up(recorded))):
             self.depart(recorded, seen)
 
-    def is_cleaned_up(self, recorded):
+    def is_cleaned_up(self, recorded: Recorded) -> bool:
         """Whether the kubelet has gone on behind the pod's eviction, which it does once the pod is cleaned up: by a new
         sample."""
         return recorded.evicted_at is None or self.newest > recorded.evicted_at
 
-    def has_next(self, pod):
+    def has_next(self, pod: Pod) -> bool:
         """Whether a pod of its name waits for its line."""
         waiting = (each for each in self.listed if each.uid not in self.recorded and each.uid not in self.left_out)
         return any(each.key == pod.key for each in waiting)
 
-    def depart(self, recorded, seen):
+    def depart(self, recorded: Recorded, seen: Seen) -> None:
         """A pod goes from the trace, behind what the same look saw of its containers."""
         if seen.instances is not None:
             self.follow(recorded, seen)
@@ -256,7 +272,7 @@ class Recorder:
         moment = max(seen.moment, recorded.changes_from)
         self.gone_at[recorded.pod.key] = self.timeline.place_departure(recorded.pod, moment)
 
-    def last_changes(self, changes):
+    def last_changes(self, changes: list[Change]) -> list[Change]:
         """The changes of a container whose pod goes. That it is no longer listed is said by that its pod goes, but for
         a code that is lost: a line of a pod that goes ends no container."""
         return [change for change in changes
@@ -264,12 +280,12 @@ class Recorder:
 
     # --- containers and probes ---
 
-    def take_instances(self, seen):
+    def take_instances(self, seen: Seen) -> None:
         self.listed_at = seen.moment
         for recorded in self.followed():
             self.follow(recorded, seen)
 
-    def follow(self, recorded, seen):
+    def follow(self, recorded: Recorded, seen: Seen) -> None:
         """What became of the containers of one pod since the last look."""
         pod, names = recorded.pod, recorded.pod.containers()
         by_name = {name: [] for name in names}
@@ -287,29 +303,29 @@ class Recorder:
                 recorded.changes.setdefault(name, []).extend(step(instances, seen.moment))
                 self.take_end(recorded, name)
 
-    def take_end(self, recorded, name):
+    def take_end(self, recorded: Recorded, name: str) -> None:
         """Why a container's newest instance ended, which its pod's status may say later."""
         container = recorded.containers[name]
         if container.newest is not None and container.newest.state == EXITED:
             self.timeline.asides.take_end(recorded.pod.uid, name, container.attempt, container.newest.reason)
 
-    def without_past(self, instances):
+    def without_past(self, instances: list[Instance]) -> list[Instance]:
         """The instances of a container that is met: without those that were over before the recording began."""
         return [each for each in instances if each is instances[-1]
                 or each.finished is None or each.finished >= self.begun]
 
-    def plan(self, moment):
+    def plan(self, moment: float) -> None:
         for recorded in self.followed():
             self.plan_pod(recorded, moment)
         self.planned_counters, self.planned_at = self.counters, moment
 
-    def plan_pod(self, recorded, moment):
+    def plan_pod(self, recorded: Recorded, moment: float) -> None:
         for name in recorded.pod.containers():
             changes = recorded.changes.pop(name, [])
             results = self.results(recorded.pod, name, moment)
             self.timeline.place_container(recorded.pod, name, changes, results, recorded.changes_from)
 
-    def results(self, pod, name, moment):
+    def results(self, pod: Pod, name: str, moment: float) -> list[Result]:
         """The results of a container's probes since what was planned last."""
         found = []
         for probe in PROBES:
@@ -326,7 +342,7 @@ class Recorder:
 
     # --- what the node has left ---
 
-    def take_summary(self, seen):
+    def take_summary(self, seen: Seen) -> None:
         """Samples of the kubelet's that are new stand at their own moments. Those of signals want a tick, but for one
         that is counted when it is asked, where it is not near its threshold; usage is in the next one."""
         if seen.summary is None:
@@ -347,12 +363,12 @@ class Recorder:
             recorded.usage = usage
             self.see_unsampled(recorded, seen)
 
-    def newest_moment(self, seen):
+    def newest_moment(self, seen: Seen) -> float:
         """When the newest sample of the node was taken."""
         return max((self.sampled_moment(sample, seen) for sample in seen.summary.signals.values()
                     if sample.moment is not None), default=seen.moment)
 
-    def see_unsampled(self, recorded, seen):
+    def see_unsampled(self, recorded: Recorded, seen: Seen) -> None:
         """A summary without a pod that has run: the kubelet has no sample of it, and evicts it before all others. That
         is said once, until a sample comes, and from the newest sample of the node on, by which the kubelet decides; but
         behind an exit since, as an eviction leads to."""
@@ -373,7 +389,7 @@ class Recorder:
             recorded.unsampled_at = max(self.newest, recorded.sampled_at, recorded.arrived, *behind)
             self.timeline.place_unsampled(recorded.pod, recorded.unsampled_at)
 
-    def take_signals(self, samples, seen, is_wanted):
+    def take_signals(self, samples: dict[str, Sample], seen: Seen, is_wanted: bool) -> None:
         """Places the samples that are others than before; a signal that is no longer there has no value. In the
         standard format each tick below a threshold evicts a pod, so there samples want no more ticks than those that
         the kubelet takes of itself."""
@@ -388,27 +404,27 @@ class Recorder:
                 self.timeline.place_signal(self.sampled_moment(sample, seen), signal, sample.value, is_wanted and wants)
         self.samples = samples
 
-    def sampled_moment(self, sample, seen):
+    def sampled_moment(self, sample: Sample, seen: Seen) -> float:
         """When a sample was taken, within what is recorded."""
         return seen.moment if sample.moment is None else max(self.begun, min(sample.moment, seen.moment))
 
     @staticmethod
-    def has_running(recorded):
+    def has_running(recorded: Recorded) -> bool:
         return any(container.newest is not None and container.newest.state == RUNNING
                    for container in recorded.containers.values())
 
     # --- what is written ---
 
-    def due(self, moment):
+    def due(self, moment: float) -> Iterator[Any]:
         """The lines whose seconds are settled at a moment, as (lines, whether a tick is among them)."""
         before = min(int(moment) - HELD_SECONDS, int(self.planned_at))
         return self.timeline.due(before, self.silent_from(moment))
 
-    def rest(self, moment):
+    def rest(self, moment: float) -> Iterator[Any]:
         """All lines that are left, at the end."""
         if self.planned_at is not None:
             self.plan(moment)
         return self.timeline.due(float("inf"), self.silent_from(moment))
 
-    def silent_from(self, moment):
+    def silent_from(self, moment: float) -> int | None:
         return int(self.listed_at) + 1 if self.listed_at is not None and self.listed_at < moment else None

@@ -1,9 +1,12 @@
 """The container runtime's instances, of `crictl ps -a` and `crictl inspect`, and what became of them between looks."""
 
+from __future__ import annotations
+
 import calendar
 import re
+from collections.abc import Callable
 from dataclasses import dataclass, replace
-from typing import Optional
+from typing import Any, Optional
 
 from .formats import whole_fault
 from .reasons import OUT_OF_MEMORY, Reason, environment_of_process, reason_of
@@ -39,7 +42,7 @@ class End:
     exit_code: int
     reason: Optional[Reason]
 
-    def of(self, instance):
+    def of(self, instance: Instance) -> Instance:
         """The instance as it ended, which the runtime may know no more."""
         started = self.started if instance.started is None else instance.started
         return replace(instance, state=EXITED, started=started, finished=self.finished, exit_code=self.exit_code,
@@ -54,7 +57,7 @@ class Listing:
     state: str
     exit_code: Optional[int] = None
     reason: Optional[Reason] = None
-    ended: Optional["Listing"] = None
+    ended: Optional[Listing] = None
 
 
 @dataclass(frozen=True)
@@ -65,13 +68,13 @@ class Change:
     is_quiet: bool = False
 
     @property
-    def is_out_of_memory(self):
+    def is_out_of_memory(self) -> bool:
         """What ran out of memory was not ended by the kubelet, which sees it some time after."""
-        reason = self.listing and self.listing.reason
+        reason = None if self.listing is None else self.listing.reason
         return reason is not None and reason.word == OUT_OF_MEMORY
 
 
-def moment_of(text):
+def moment_of(text: str | None) -> float | None:
     """The seconds since 1970 of a moment as Go writes it, or None for its zero."""
     parts = MOMENT.fullmatch(text or "")
     if parts is None:
@@ -83,11 +86,11 @@ def moment_of(text):
     return seconds + float(parts[7] or 0) if seconds > 0 else None
 
 
-def code_fault(code):
+def code_fault(code: int) -> str | None:
     return whole_fault(code, -2 ** 31, 2 ** 31 - 1)
 
 
-def instance_of(item):
+def instance_of(item: Any) -> Instance:
     """A container of the runtime's list. Raises Failed where the list is none that the runtime gives."""
     labels, metadata = item.get("labels") or {}, item.get("metadata") or {}
     state, identity = item.get("state"), item.get("id")
@@ -104,7 +107,7 @@ def instance_of(item):
 
 
 @reads("crictl ps")
-def instances_of(text):
+def instances_of(text: str) -> list[Instance]:
     """The instances of a list, in the order in which they were created."""
     answer = read_json(text, "crictl ps")
     containers = answer.get("containers") if isinstance(answer, dict) else None
@@ -114,9 +117,9 @@ def instances_of(text):
 
 
 @reads("crictl inspect")
-def inspected_of(text, instance):
+def inspected_of(text: str, instance: Instance) -> Instance:
     """An instance with what `crictl inspect` says of it. A code of 0 may be left out of an answer."""
-    answer = read_json(text, f"crictl inspect {instance.id}")
+    answer: Any = read_json(text, f"crictl inspect {instance.id}")
     answer = answer[0] if isinstance(answer, list) and answer else answer
     status = answer.get("status") if isinstance(answer, dict) else None
     if not isinstance(status, dict) or status.get("id") != instance.id:
@@ -134,19 +137,19 @@ def inspected_of(text, instance):
 class Container:
     """What was seen of one container of a recorded pod: its newest instance, and how its attempts are written."""
 
-    def __init__(self, place, say):
+    def __init__(self, place: str, say: Callable[..., None]) -> None:
         self.place = place
         self.say = say
-        self.newest = None
+        self.newest: Instance | None = None
         self.is_listed = False
         self.has_started = False
         self.is_unknown = False
-        self.attempt = None
+        self.attempt: int | None = None
         self.shift = 0
         # since when the runtime no longer has the newest, where its pod's status may have its code yet
-        self.missed_since = None
+        self.missed_since: float | None = None
 
-    def first_changes(self, instances, moment):
+    def first_changes(self, instances: list[Instance], moment: float) -> list[Change]:
         """What the first look shows of it: its newest instance alone, as it is at that moment."""
         newest = instances[-1]
         self.begin(newest)
@@ -154,7 +157,7 @@ class Container:
         self.is_unknown = newest.state == UNKNOWN
         return [Change(moment, Listing(self.attempt, newest.state, newest.exit_code, newest.reason))]
 
-    def changes(self, instances, moment):
+    def changes(self, instances: list[Instance], moment: float) -> list[Change]:
         """What became of it since the last look, by its instances in the order of their creation."""
         if self.newest is None:
             newer = instances
@@ -168,10 +171,10 @@ class Container:
             made += self.of_instance(instance, moment)
         return made
 
-    def order(self):
+    def order(self) -> tuple[int, int]:
         return self.newest.created, self.newest.attempt
 
-    def vanished(self, newer, moment):
+    def vanished(self, newer: list[Instance], moment: float) -> list[Change]:
         """The newest instance so far is no longer listed. Where it had not exited its code is lost; the successor's
         listing says so, or that none is there."""
         if not self.is_listed or any(each.id == self.newest.id for each in newer):
@@ -184,7 +187,7 @@ class Container:
         moment = moment if has_exited or self.missed_since is None else self.missed_since
         return [] if newer else [Change(moment, None, has_exited)]
 
-    def begin(self, instance):
+    def begin(self, instance: Instance) -> None:
         """Another instance is the newest. The formats want a greater attempt for each."""
         number = instance.attempt + self.shift
         if self.attempt is not None and number <= self.attempt:
@@ -199,7 +202,7 @@ class Container:
         self.newest, self.is_listed, self.missed_since = replace(instance, state=CREATED), True, None
         self.has_started = self.is_unknown = False
 
-    def of_instance(self, instance, moment):
+    def of_instance(self, instance: Instance, moment: float) -> list[Change]:
         """The changes that an instance shows, which may be the newest or one more."""
         was_replaced = self.newest is not None
         if not self.is_listed or self.newest.id != instance.id or self.has_come_back(instance):
@@ -215,24 +218,24 @@ class Container:
             self.newest = before
         return self.unknown(instance, moment) + self.started(instance, moment) + self.exited(instance, moment)
 
-    def has_come_back(self, instance):
+    def has_come_back(self, instance: Instance) -> bool:
         return self.newest.state == EXITED and instance.state != EXITED
 
-    def unknown(self, instance, moment):
+    def unknown(self, instance: Instance, moment: float) -> list[Any]:
         """The runtime no longer knows its state, or knows it again."""
         was_unknown, self.is_unknown = self.is_unknown, instance.state == UNKNOWN
         if self.is_unknown == was_unknown or instance.state == EXITED:
             return []
         return [Change(moment, Listing(self.attempt, instance.state), True)]
 
-    def started(self, instance, moment):
+    def started(self, instance: Instance, moment: float) -> list[Change]:
         has_run = instance.state == RUNNING or instance.started is not None
         if self.has_started or not has_run:
             return []
         self.has_started = True
         return [Change(moment if instance.started is None else instance.started, Listing(self.attempt, RUNNING))]
 
-    def exited(self, instance, moment):
+    def exited(self, instance: Instance, moment: float) -> list[Change]:
         if instance.state != EXITED:
             return []
         return [Change(moment if instance.finished is None else instance.finished,

@@ -1,11 +1,14 @@
 """What is asked of a node, each with a time-out: commands, or a connection that is kept. An answer is a text; one that
 does not come is Failed."""
 
+from __future__ import annotations
+
 import functools
 import json
 import subprocess
+from collections.abc import Callable
 from dataclasses import dataclass
-from typing import Optional
+from typing import Any, Optional
 
 RUNTIME_SECONDS = 10
 ENDPOINT_SECONDS = 10
@@ -15,7 +18,7 @@ class Failed(Exception):
     """A source that gave no answer, or none that can be read; its text says which source, and why."""
 
 
-def run_command(words, seconds):
+def run_command(words: list[str], seconds: float) -> str:
     """What a command writes on standard output; Failed where it fails or takes longer than this many seconds."""
     try:
         done = subprocess.run(words, stdin=subprocess.DEVNULL, capture_output=True, timeout=seconds, check=False)
@@ -31,18 +34,18 @@ def run_command(words, seconds):
     return done.stdout.decode("utf-8", "replace")
 
 
-def read_json(text, what):
+def read_json(text: str, what: str) -> dict[str, Any] | None:
     try:
         return json.loads(text)
     except (ValueError, RecursionError):
         raise Failed(f"{what}: the answer is no JSON") from None
 
 
-def reads(what):
+def reads(what: str) -> Callable[..., Any]:
     """Marks what reads an answer: one that has another shape than it reads is Failed."""
-    def marked(read):
+    def marked(read: Callable[..., Any]) -> Callable[..., Any]:
         @functools.wraps(read)
-        def checked(*given):
+        def checked(*given: Any) -> Any:
             try:
                 return read(*given)
             except (ValueError, TypeError, KeyError, AttributeError, OverflowError):
@@ -58,32 +61,32 @@ class Sources:
     node: str
     kubelet: Optional[str] = None
     curl_file: Optional[str] = None
-    run: callable = run_command
-    keeps: Optional[object] = None
-    crictl: tuple = ("crictl",)
+    run: Callable[[list[str], float], str] = run_command
+    keeps: Optional[Any] = None
+    crictl: tuple[str, ...] = ("crictl",)
 
-    def commands(self):
+    def commands(self) -> list[str]:
         """The commands that are needed on the PATH."""
         if self.kubelet is None:
             return [self.crictl[0], "kubectl"]
         return [self.crictl[0]] if self.keeps is not None else [self.crictl[0], "curl"]
 
-    def close(self):
+    def close(self) -> None:
         if self.keeps is not None:
             self.keeps.close()
 
-    def ask(self, what, words, seconds):
+    def ask(self, what: str, words: list[str], seconds: int) -> str:
         return self.answer(what, lambda: self.run(words, seconds))
 
     @staticmethod
-    def answer(what, ask):
+    def answer(what: str, ask: Callable[..., Any]) -> str:
         """An answer; where none comes it is said of what."""
         try:
             return ask()
         except Failed as failed:
             raise Failed(f"{what} {failed}") from None
 
-    def endpoint_words(self, path):
+    def endpoint_words(self, path: str) -> list[str]:
         if self.kubelet is None:
             return ["kubectl", "get", "--raw", f"/api/v1/nodes/{self.node}/proxy/{path}",
                     f"--request-timeout={ENDPOINT_SECONDS}s"]
@@ -91,23 +94,23 @@ class Sources:
         return ["curl", *settings, "--fail", "--silent", "--show-error", "--max-time", str(ENDPOINT_SECONDS),
                 f"{self.kubelet}/{path}"]
 
-    def endpoint(self, path):
+    def endpoint(self, path: str) -> str:
         if self.keeps is not None and self.keeps.works():
             return self.answer(f"/{path}", lambda: self.keeps.endpoint(path))
         # the command's own time-out comes first, and says more
         return self.ask(f"/{path}", self.endpoint_words(path), ENDPOINT_SECONDS + 5)
 
-    def listed(self):
+    def listed(self) -> str:
         return self.ask("crictl ps", [*self.crictl, "ps", "-a", "-o", "json"], RUNTIME_SECONDS)
 
-    def inspected(self, container_id):
+    def inspected(self, container_id: str) -> str:
         return self.ask(f"crictl inspect {container_id}", [*self.crictl, "inspect", "-o", "json", container_id],
                         RUNTIME_SECONDS)
 
-    def pods_name(self):
+    def pods_name(self) -> str:
         return "/pods" if self.kubelet is not None else "kubectl get pods"
 
-    def pods(self):
+    def pods(self) -> str:
         if self.kubelet is not None:
             return self.endpoint("pods")
         if self.keeps is not None and self.keeps.works():
@@ -116,11 +119,11 @@ class Sources:
                  "-o", "json", f"--request-timeout={ENDPOINT_SECONDS}s"]
         return self.ask(self.pods_name(), words, ENDPOINT_SECONDS + 5)
 
-    def summary(self):
+    def summary(self) -> str:
         return self.endpoint("stats/summary")
 
-    def probes(self):
+    def probes(self) -> str:
         return self.endpoint("metrics/probes")
 
-    def configuration(self):
+    def configuration(self) -> str:
         return self.endpoint("configz")

@@ -1,6 +1,11 @@
 """What is known at a border between two traces. It is read from the lines that were written, by the rules that the
 replay has for them, so that the next trace begins where the replay of the one before it ends."""
 
+from __future__ import annotations
+
+from collections.abc import Iterator
+from typing import Any
+
 from .formats import without_nones
 from .runtime import EXITED, LOST_CODE, RUNNING, UNKNOWN
 from .lines import line_of
@@ -14,7 +19,7 @@ MOST_CARRIED = 100
 class Run:
     """What the results of one probe have shown since its instance started."""
 
-    def __init__(self, probe):
+    def __init__(self, probe: dict[str, int]) -> None:
         self.delay = probe.get(DELAY, 0)
         self.failures_wanted = probe.get("failureThreshold", 3)
         self.successes_wanted = probe.get("successThreshold", 1)
@@ -24,7 +29,7 @@ class Run:
         # a kill was ordered
         self.is_over = False
 
-    def take(self, result):
+    def take(self, result: str) -> None:
         """A result that is known and counts."""
         if self.is_over:
             return
@@ -34,11 +39,11 @@ class Run:
         elif self.failures >= self.failures_wanted:
             self.holds = False
 
-    def order(self):
+    def order(self) -> None:
         """Of a probe whose failures order a kill: whether they have."""
         self.is_over = self.is_over or self.failures >= self.failures_wanted
 
-    def results(self, probe):
+    def results(self, probe: str) -> list[str]:
         """The fewest results that show the same once more. A kill that was ordered stands until the next instance, so
         that failures behind it order none."""
         if self.is_over:
@@ -54,27 +59,29 @@ class Run:
 class Container:
     """One container of a pod: its newest instance as it was listed, since when, and its probes."""
 
-    def __init__(self, fields, is_sidecar):
+    def __init__(self, fields: dict[str, Any], is_sidecar: bool) -> None:
         self.fields = fields
         self.is_sidecar = is_sidecar
         # whether some instance of a sidecar was started, without which its pod is pending
         self.was_started = False
         # the newest instance, and the one before it as it ended
-        self.listing = self.previous = None
-        self.since = None
+        self.listing: dict[str, Any] | None = None
+        self.previous: dict[str, Any] | None = None
+        self.since: int | None = None
         self.is_listed = False
         self.begin()
 
-    def begin(self):
+    def begin(self) -> None:
         """Another instance begins without any result."""
         self.runs = {probe: Run(self.fields[field]) for probe, field in FIELDS.items()
                      if self.fields.get(field) is not None}
-        self.started = self.passed = None
+        self.started: int | None = None
+        self.passed: int | None = None
 
-    def is_running(self):
+    def is_running(self) -> bool:
         return self.listing is not None and self.listing["state"] == RUNNING
 
-    def show(self, listing, second):
+    def show(self, listing: dict[str, Any] | None, second: int) -> None:
         """What a tick lists of it, or None. The first state of an exit counts, and what is not known changes none."""
         self.is_listed = listing is not None
         if listing is None:
@@ -91,23 +98,23 @@ class Container:
         elif listing["state"] not in (UNKNOWN, self.listing["state"]):
             self.change(listing, second)
 
-    def lost(self):
+    def lost(self) -> dict[str, int | str]:
         """Its newest instance, as one that is no longer listed ended."""
         return {"name": self.listing["name"], "attempt": self.listing["attempt"], "state": EXITED,
                 "exitCode": LOST_CODE}
 
-    def change(self, listing, second):
+    def change(self, listing: dict[str, Any], second: int) -> None:
         """It is listed otherwise from a second on; of its exit before that tells, and no later one."""
         self.listing, self.since = {name: value for name, value in listing.items() if name != "ended"}, second
         if listing["state"] == RUNNING:
             self.started = second
 
-    def end_tick(self):
+    def end_tick(self) -> None:
         """All of a tick is taken."""
         if self.is_running() and ("startup" not in self.runs or self.runs["startup"].holds):
             self.was_started = True
 
-    def has_started_before(self):
+    def has_started_before(self) -> bool:
         """Whether it is a sidecar of which an instance was started, and the newest does not show that: it has exited,
         or its startup has not passed."""
         if not self.is_sidecar or not self.was_started:
@@ -115,7 +122,7 @@ class Container:
         return self.listing["state"] == EXITED or (self.previous is not None and "startup" in self.runs
                                                    and not self.runs["startup"].holds)
 
-    def history(self):
+    def history(self) -> list[dict[str, int | str]]:
         """The listings before the newest that show that, the last one first."""
         if not self.has_started_before():
             return []
@@ -123,7 +130,7 @@ class Container:
         of = ended[0] if ended else self.listing
         return [*ended, {"name": of["name"], "attempt": of["attempt"], "state": RUNNING}]
 
-    def take(self, probe, result, second):
+    def take(self, probe: str, result: str, second: int) -> None:
         """A result of a tick, behind what the tick lists."""
         run = self.runs.get(probe)
         if run is None or result == "unknown" or not self.is_listed or not self.is_running():
@@ -141,12 +148,12 @@ class Container:
         if probe == "startup" and run.holds:
             self.passed = second
 
-    def go_over(self):
+    def go_over(self) -> None:
         """A border is passed: what runs has its start before it, so no delay counts any more."""
         for run in self.runs.values() if self.is_running() else ():
             run.delay = 0
 
-    def assume(self, restarts, is_started, is_ready, second):
+    def assume(self, restarts: Any, is_started: bool, is_ready: bool, second: int) -> bool:
         """What its pod's status says of it where it is met running, whose results were before the recording; whether
         that changes what is known."""
         if not self.is_running() or self.listing["attempt"] != restarts:
@@ -159,7 +166,7 @@ class Container:
             self.passed = second - 1
         return bool(held) or any(run.delay for run in self.runs.values())
 
-    def carried(self):
+    def carried(self) -> list[dict[str, str]]:
         """The results that show once more what is known, one behind the other: a list of {probe: result}."""
         before = [{} for _ in self.history()]
         if before and "startup" in self.runs:
@@ -167,7 +174,7 @@ class Container:
         newest = self.carried_of_newest()
         return before + (newest or [{}]) if before else newest
 
-    def carried_of_newest(self):
+    def carried_of_newest(self) -> list[dict[str, str]]:
         if not self.is_running():
             return []
         found = {probe: run.results(probe)[-MOST_CARRIED:] for probe, run in self.runs.items()}
@@ -179,14 +186,14 @@ class Container:
                  if place >= count - len(results)} for place in range(count)]
         return [{"startup": result} for result in early] + rows
 
-    def listed(self, second, back):
+    def listed(self, second: int, back: int) -> dict[str, int | str]:
         """What a tick that stands so many before the border lists of it: what was before where that counts."""
         before, place = self.history(), back - max(len(self.carried_of_newest()), 1)
         if before and place >= 0:
             return before[min(place, len(before) - 1)]
         return without_nones({**self.listing, "since": self.since if self.since < second + back else None})
 
-    def manifest(self):
+    def manifest(self) -> dict[str, Any]:
         """Its part of the manifest. The kubelet itself has waited for the delay of a probe of what runs, and its start
         is not in the next trace, so that delay is left out."""
         if not self.is_running() and not self.has_started_before():
@@ -199,7 +206,7 @@ class Container:
 class Pod:
     """A pod that is there, as its line has it."""
 
-    def __init__(self, manifest):
+    def __init__(self, manifest: Any) -> None:
         metadata, spec = manifest["metadata"], manifest["spec"]
         self.key = f"{metadata['namespace']}/{metadata['name']}"
         self.fields = manifest
@@ -211,7 +218,7 @@ class Pod:
         self.waiting = {}
         self.decisions = []
 
-    def take(self, entry, second):
+    def take(self, entry: Any, second: int) -> None:
         """What a tick has of it."""
         listed = {each["name"]: each for each in entry.get("containers") or []}
         for name, container in self.containers.items():
@@ -230,13 +237,13 @@ class Pod:
             known = before.get(each["container"], {})
             self.waiting[each["container"]] = known | each if known.get("reason") == each.get("reason") else each
 
-    def manifest(self):
+    def manifest(self) -> dict[str, dict[str, Any]]:
         spec = self.fields["spec"]
         made = {name: [self.containers[each["name"]].manifest() for each in spec[name]]
                 for name in ("initContainers", "containers") if spec.get(name)}
         return {**self.fields, "spec": {**spec, **made}}
 
-    def entry(self, second, back):
+    def entry(self, second: int, back: int) -> dict[str, Any] | None:
         """Its entry of a tick that stands so many before the border: usage, and why it waits, are in that of the border
         alone."""
         containers = [each.listed(second, back) for _, each in sorted(self.containers.items())
@@ -244,7 +251,7 @@ class Pod:
         rows = [(name, each.carried()) for name, each in self.containers.items()]
         probes = [{"container": name, "probe": probe, "result": result} for name, carried in rows
                   if len(carried) > back for probe, result in carried[-1 - back].items()]
-        said = {"probes": probes or None}
+        said: dict[str, Any] = {"probes": probes or None}
         if back == 0:
             said |= {"usage": self.usage or None, "unsampled": self.is_unsampled or None,
                      "waiting": list(self.waiting.values()) or None}
@@ -256,14 +263,14 @@ class Pod:
 class Standing:
     """What the lines so far say of the node, and of the pods that are there."""
 
-    def __init__(self):
-        self.node = None
+    def __init__(self) -> None:
+        self.node: dict[str, Any] | None = None
         self.pods = {}
         self.signals = {}
         # the second of the last tick
-        self.at = None
+        self.at: int | None = None
 
-    def take(self, record):
+    def take(self, record: dict[str, Any]) -> None:
         """A line that is written, or would be where there was room."""
         kind = record["kind"]
         if kind == "node":
@@ -276,7 +283,7 @@ class Standing:
         else:
             self.take_tick(record)
 
-    def take_tick(self, tick):
+    def take_tick(self, tick: dict[str, Any]) -> None:
         self.at, self.signals = tick["at"], tick.get("signals") or {}
         entries = {entry["pod"]: entry for entry in tick["pods"]}
         for key, pod in self.pods.items():
@@ -286,13 +293,13 @@ class Standing:
                 if decision["pod"] in self.pods and not decision.get("leftOut"):
                     self.pods[decision["pod"]].decisions.append((kind, decision))
 
-    def assume(self, probed):
+    def assume(self, probed: dict[str, dict[str, tuple[None, bool, bool]]]) -> bool:
         """Takes what the statuses of the pods say at the first tick, {key: {container: (restarts, started, ready)}};
         whether that is more than the tick shows."""
         return any([container.assume(*probed[key][name], self.at) for key, pod in self.pods.items()
                     for name, container in pod.containers.items() if name in probed.get(key, {})])
 
-    def beginning(self, second, follows):
+    def beginning(self, second: int, follows: dict[str, Any] | None) -> Iterator[str]:
         """The lines that a trace begins with at a border, or at the first tick of all: its node and pods, and the ticks
         that show what is known, the last of which is that of the border. It has one, but where what probes have shown
         wants more."""
@@ -306,7 +313,7 @@ class Standing:
         for back in reversed(range(count)):
             yield self.tick(second - back, back)
 
-    def tick(self, second, back):
+    def tick(self, second: int, back: int) -> str:
         """One of the ticks that show what is known; signals, and what the kubelet did, are in that of the border."""
         entries = [pod.entry(second, back) for pod in self.pods.values()]
         told = {}

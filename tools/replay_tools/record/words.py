@@ -1,12 +1,14 @@
 """The words of tools/record: what they mean, what is wrong with them, and its help."""
 
+from __future__ import annotations
+
 import json
 import os
 import re
 import shlex
 import shutil
 from dataclasses import dataclass
-from typing import Optional
+from typing import Any, Optional
 
 from . import lines
 from .formats import MOST_TICKS, name_fault
@@ -118,13 +120,14 @@ class Words:
     crictl: tuple
 
 
-def help_text():
+def help_text() -> Any:
     return HELP.replace("{default}", "extended" if lines.DEFAULT.says_gone else "standard")
 
 
-def split(arguments):
+def split(arguments: list[str]) -> dict[str, Any]:
     """The values of words, {word: text or True}."""
-    given, rest = {}, list(arguments)
+    given: dict[str, Any] = {}
+    rest = list(arguments)
     while rest:
         word = rest.pop(0)
         if word in SWITCHES:
@@ -138,7 +141,7 @@ def split(arguments):
     return given
 
 
-def number(given, word, default):
+def number(given: dict[str, Any], word: str, default: int | None) -> int | None:
     text = given.get(word)
     if text is None:
         return default
@@ -148,7 +151,7 @@ def number(given, word, default):
     return int(text)
 
 
-def trace_format(given):
+def trace_format(given: dict[str, Any]) -> lines.Format:
     """The format that the words ask for. Raises BadWord where they ask for two."""
     text = given.get("--eviction-pause")
     if "--standard" in given and "--extended" in given:
@@ -166,7 +169,7 @@ def trace_format(given):
     return lines.extended(int(text))
 
 
-def node_line(given):
+def node_line(given: dict[str, Any]) -> dict[str, Any] | None:
     """The operator's own node line, or None."""
     path = given.get("--node-line")
     if path is None:
@@ -183,7 +186,7 @@ def node_line(given):
     return fields
 
 
-def duration(given, word, default):
+def duration(given: dict[str, Any], word: str, default: str) -> int:
     """A span of time, in seconds."""
     found = re.fullmatch("([1-9][0-9]{0,8})([smhd])", given.get(word, default))
     seconds = int(found[1]) * UNITS[found[2]] if found else 0
@@ -192,7 +195,7 @@ def duration(given, word, default):
     return seconds
 
 
-def size(given, word, default):
+def size(given: dict[str, Any], word: str, default: str) -> int:
     """A number of bytes."""
     found = re.fullmatch("([1-9][0-9]{0,14})([kMGT]|[KMGT]i|)", given.get(word, default))
     count = int(found[1]) * SIZES[found[2]] if found else 0
@@ -201,7 +204,7 @@ def size(given, word, default):
     return count
 
 
-def into(given, node):
+def into(given: dict[str, Any], node: str) -> Into | None:
     """Where and how traces stand one behind the other, or None where they don't."""
     alone = [word for word in LASTING if word in given]
     if "--into" not in given:
@@ -216,7 +219,7 @@ def into(given, node):
                 size(given, "--most", "2Gi"))
 
 
-def crictl_words(given):
+def crictl_words(given: dict[str, Any]) -> tuple[str, ...]:
     """The words that start crictl."""
     try:
         words = shlex.split(given.get("--crictl", "crictl"))
@@ -227,7 +230,7 @@ def crictl_words(given):
     return tuple(words)
 
 
-def words_of(arguments):
+def words_of(arguments: list[str]) -> Words:
     """What the arguments ask for; BadWord where they are mistaken."""
     given = split(arguments)
     node, curl_file = given.get("--node", os.uname().nodename), given.get("--curl")
@@ -246,5 +249,5 @@ def words_of(arguments):
                  crictl_words(given))
 
 
-def missing_commands(commands):
+def missing_commands(commands: list[str]) -> list[str]:
     return [command for command in commands if shutil.which(command) is None]
