@@ -36,12 +36,12 @@ class Words(argparse.ArgumentParser):
         super().__init__(usage="", add_help=False, allow_abbrev=False, exit_on_error=False)
         self.add_argument("-h", "--help", action=ShowHelp, text=text)
 
-    def flag(self, *names: Any) -> None:
+    def flag(self, *names: str) -> None:
         """Words without a value."""
         for name in names:
             self.add_argument(name, action="store_true")
 
-    def valued(self, *names: Any) -> None:
+    def valued(self, *names: str) -> None:
         """Words with a value, of which the last one counts; without it None."""
         for name in names:
             self.add_argument(name)

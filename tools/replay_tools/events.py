@@ -99,8 +99,11 @@ def decision_sentence() -> str:
 
 @functools.cache
 def definitions() -> dict:
-    with open(SCHEMA, encoding="utf-8") as file:
-        return json.load(file)["definitions"]
+    try:
+        with open(SCHEMA, encoding="utf-8") as file:
+            return json.load(file)["definitions"]
+    except OSError as fault:
+        raise OSError(f"{SCHEMA}, which has the words of events, can't be read: {fault.strerror}") from None
 
 
 def kind_of(found: dict) -> Kind:

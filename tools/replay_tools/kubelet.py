@@ -180,7 +180,7 @@ def no_sample_below(limits: list[traces.Threshold], near: list[traces.Tick]) -> 
     return [f"no sample below the threshold was recorded ({'; '.join(found)})"]
 
 
-def around(trace: traces.Trace, report: reports.Report, decision: traces.Decision) -> why.Evicted:
+def around(trace: traces.Trace, report: reports.Report, decision: traces.Decision) -> why.Evicted | None:
     """What the trace holds around the kubelet's eviction of a pod, as that around one by the rules, with the samples of
     some seconds; None where no threshold is known that it was for."""
     limits = [limit for limit in trace.thresholds if limit.signal in SIGNALS.get(resource_of(decision), ())]

@@ -3,9 +3,9 @@
 from __future__ import annotations
 
 from collections.abc import Callable
-from typing import Any, TYPE_CHECKING
+from typing import TYPE_CHECKING
 
-from replay_tools import entry, records, report as reports, telling
+from replay_tools import entry, reasons, records, report as reports, telling
 
 if TYPE_CHECKING:
     from replay_tools import traces
@@ -41,7 +41,7 @@ def event_text(found: list[reports.Event], trace: traces.Trace | None) -> str:
     return said if len(found) == 1 else f"{said} (first of {len(found)})"
 
 
-def last_wait(pod: reports.Pod, trace: traces.Trace | None) -> Any:
+def last_wait(pod: reports.Pod, trace: traces.Trace | None) -> tuple[str, reasons.Wait] | None:
     """The container that still waits at the end, and why; None where none does or no trace says so."""
     waits = trace.reasons.waits_of(pod) if trace else []
     return next(((name, wait) for name, wait in waits if wait.until is None), None)

@@ -6,7 +6,7 @@ import hashlib
 import json
 import os
 import subprocess
-from typing import Any
+from collections.abc import Iterable
 
 from replay_tools import entry
 
@@ -36,7 +36,7 @@ def checked_path() -> str:
     return built if found == os.path.join(TOP, "kubelet_replay") and os.access(built, os.X_OK) else found
 
 
-def format_words(lines: Any) -> list[str]:
+def format_words(lines: Iterable[bytes]) -> list[str]:
     """The words for the format of a trace, of which the lines are given as bytes: --extended where its node line says
     version 3. Whatever else it says, the program has to say why it is refused."""
     node_line = next((line for line in lines if line.strip(b" \t\r\n")), b"")

@@ -130,7 +130,7 @@ def cause_words(event: reports.Event, code: int, trace: traces.Trace | None, is_
     return "it was no longer listed, its own code is not known"
 
 
-def reason_words(event: reports.Event, end: End, trace: traces.Trace, is_whole: bool) -> str:
+def reason_words(event: reports.Event, end: End, trace: traces.Trace, is_whole: bool) -> str | None:
     if end.reason == OUT_OF_MEMORY:
         limit = trace.memory_limit(event.number, event.container)
         return f"{OUT_OF_MEMORY}, {f'its memory limit is {limit}' if limit else 'it has no memory limit'}"

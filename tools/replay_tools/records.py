@@ -48,14 +48,14 @@ def records_of(report: reports.Report, kubelet: kubelets.Kubelet | None = None, 
         yield from cause_records(report, trace, last or 0, known)
 
 
-def first_moment(report: reports.Report) -> int:
+def first_moment(report: reports.Report) -> int | None:
     """The first moment that the report names, which is that of the first tick; None without a tick."""
     named = [event.at for event in report.events] + [condition.at for condition in report.conditions]
     named += [reports.first_tick(pod) for pod in report.pods if reports.has_ticks(report, pod)]
     return min(named) if report.tick_count else None
 
 
-def last_moment(report: reports.Report) -> int:
+def last_moment(report: reports.Report) -> int | None:
     """The last moment that the report names, which is no later than that of the last tick; None without a tick."""
     return max(reports.moments(report)) if report.tick_count else None
 

@@ -4,6 +4,7 @@ from __future__ import annotations
 
 import functools
 import re
+from collections.abc import Iterable
 from dataclasses import dataclass, field
 from datetime import datetime, timezone
 from typing import Any
@@ -74,7 +75,7 @@ class Pod:
     def condition(self, kind: str) -> Condition:
         return next((found for found in self.conditions if found.kind == kind), None)
 
-    def own_gaps(self) -> list[Any]:
+    def own_gaps(self) -> list[tuple[int, int]]:
         """The gaps that begin before it was gone."""
         return [(since, until) for since, until in self.gaps if self.left is None or since < self.left]
 
@@ -125,7 +126,7 @@ class Report:
     """of one that is joined of several"""
 
     @property
-    def gaps(self) -> list[Any]:
+    def gaps(self) -> list[tuple[int, int]]:
         """The spans of moments in which nothing was recorded."""
         return [(border.since, border.at) for border in self.borders if border.is_gap]
 
@@ -233,7 +234,7 @@ def tell_left(named: dict[str, list[Pod]]) -> None:
             following = first_tick(pod) or following
 
 
-def pod_at(pods: list[Pod] | tuple[Any, ...], at: int) -> Pod | None:
+def pod_at(pods: Iterable[Pod], at: int) -> Pod | None:
     """Of pods of one key, one after the other, that which was there at the moment of an event: the last whose first
     tick was by then. A pod without ticks has the moment 0 as its first, and its lines say that nothing happened."""
     begun = [pod for pod in pods if first_tick(pod) <= at]
@@ -347,14 +348,14 @@ def spans_of(changes: list[tuple[int, str]], first: int, value: str) -> list[Spa
     return spans
 
 
-def without_gaps(spans: list[Span], gaps: list[Any]) -> list[Span]:
+def without_gaps(spans: list[Span], gaps: list[tuple[int, int]]) -> list[Span]:
     """The same spans without what lies in gaps, of which nothing is known."""
     for since, until in gaps:
         spans = [piece for span in spans for piece in beside_gap(span, since, until)]
     return spans
 
 
-def beside_gap(span: Span, since: int, until: int) -> Any:
+def beside_gap(span: Span, since: int, until: int) -> list[Span]:
     """A span as what of it lies before a gap and behind it."""
     begun = until if span.since is None else span.since
     if begun >= until or (span.until is not None and span.until <= since):

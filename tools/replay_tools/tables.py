@@ -6,7 +6,7 @@ from __future__ import annotations
 import os
 import sqlite3
 import tempfile
-from collections.abc import Callable
+from collections.abc import Callable, Iterable
 from typing import Any
 
 TABLES = {
@@ -51,7 +51,7 @@ def create_tables(connection: sqlite3.Connection, kinds: tuple[str, ...] = tuple
         connection.execute(f"CREATE TABLE {name} (report INTEGER NOT NULL, {written})")
 
 
-def add_records(connection: sqlite3.Connection, number: int, records: Any) -> None:
+def add_records(connection: sqlite3.Connection, number: int, records: Iterable[dict[str, Any]]) -> None:
     """Rows for the records of one report, in order; number is that of the report in the file."""
     rows = {}
     for record in records:

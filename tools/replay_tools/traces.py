@@ -224,7 +224,7 @@ class Trace:
         """Whether the trace says what the kubelet did: where it then says nothing, the kubelet did nothing."""
         return self.settings.get("recordsKubelet") is True or bool(self.decisions)
 
-    def follows(self) -> Any:
+    def follows(self) -> dict[str, Any] | None:
         """What its node line says of the trace before it: its name, `until`, up to when that says all, and `at`, up to
         when this one shows what was so before; None where it says nothing of this form."""
         said = self.settings.get("follows")
@@ -234,12 +234,12 @@ class Trace:
         return value_at(self.settings, "dedicatedImagefs", False)
 
 
-def is_follows(said: str | None) -> bool:
+def is_follows(said: Any) -> bool:
     return (isinstance(said, dict) and isinstance(said.get("trace"), str)
             and all(isinstance(said.get(name), int) for name in ("until", "at")))
 
 
-def present_at_each(trace: Trace) -> Iterator[dict[str, Pod] | None]:
+def present_at_each(trace: Trace) -> Iterator[dict[str, Pod]]:
     """The pods that are present, by key, at each tick in turn; the same dict each time."""
     present, arriving = {}, sorted(trace.pods, key=lambda pod: pod.first, reverse=True)
     leaving = sorted((pod for pod in trace.pods if pod.gone is not None), key=lambda pod: pod.gone, reverse=True)

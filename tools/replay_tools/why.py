@@ -6,6 +6,7 @@ from __future__ import annotations
 
 import sys
 from bisect import bisect_left, bisect_right
+from collections.abc import Iterable
 from dataclasses import dataclass, field
 from typing import Any
 
@@ -159,7 +160,7 @@ class Ticks:
     """The ticks of pods, of those of some numbers where these are given, one after the other. A tick that does not list
     a pod matters where the tick before did. Of some moments it keeps what each pod used by then."""
 
-    def __init__(self, wanted: set[int] | None = None, moments: set[int] | tuple[Any, ...] = ()) -> None:
+    def __init__(self, wanted: set[int] | None = None, moments: Iterable[int] = ()) -> None:
         self.found, self.wanted, self.listed = {}, wanted, {}
         self.usages, self.usages_at = {}, dict.fromkeys(moments)
 
@@ -288,7 +289,8 @@ def gather_evictions(trace: traces.Trace, report: reports.Report, moments: set[i
     return found
 
 
-def samples_of(trace: traces.Trace, at: int, signal: str, since: int) -> list[tuple[int, int, int | None]]:
+def samples_of(trace: traces.Trace, at: int, signal: str,
+               since: int | None) -> list[tuple[int, int | None, int | None]]:
     """The samples of a signal from one tick to another; a value that a tick repeats is no sample of its own."""
     last = trace.places[at]
     found = []

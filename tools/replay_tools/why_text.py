@@ -18,7 +18,7 @@ ORDERS = {True: "usage above the request first, then lower priority, then more u
           False: "lower priority first, then greater usage, then lower number"}
 
 
-def always(_: Any) -> Any:
+def always(_: int) -> bool:
     return True
 
 
@@ -100,7 +100,7 @@ def told(trace: traces.Trace, pod: reports.Pod, around: why.Around, show: Callab
     return [line for results in around.results for line in result_lines(results, show)]
 
 
-def listing_cells(listing: traces.Listing) -> list[str]:
+def listing_cells(listing: traces.Listing | None) -> list[str]:
     if listing is None:
         return ["-", "not listed", "-"]
     return [str(listing.attempt), listing.state, "-" if listing.code is None else str(listing.code)]
@@ -140,7 +140,7 @@ def moments_text(moments: list[int], show: Callable[[int], str]) -> str:
     return ", ".join([*map(show, moments[:2]), "..", show(moments[-1])])
 
 
-def left_out(count: int, what: str) -> list[Any]:
+def left_out(count: int, what: str) -> list[str]:
     return [f"{count} {what} are left out"] if count > 0 else []
 
 

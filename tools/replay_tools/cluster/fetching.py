@@ -7,7 +7,6 @@ import os
 import time
 from concurrent.futures import ThreadPoolExecutor
 from dataclasses import dataclass, field
-from typing import Any
 
 from replay_tools import entry, packed, report as reports
 from replay_tools.cluster import recorders as asking
@@ -32,7 +31,7 @@ class Fetched:
     fault: str | None = None
 
 
-def now() -> Any:
+def now() -> float:
     return time.time()
 
 
@@ -153,7 +152,7 @@ def is_whole(data: bytes, size: int) -> bool:
     return size in (0, len(data))
 
 
-def last_moment(data: bytes) -> int:
+def last_moment(data: bytes) -> int | None:
     """The moment of the last tick of whole lines; None where there is none."""
     for line in reversed(data.split(b"\n")):
         if line.startswith(b'{"kind":"tick"'):

@@ -28,7 +28,7 @@ def whole_text(answer: Answer, name: str) -> str:
     return "\n".join(told) + "\n"
 
 
-def one_line(answer: Answer) -> str:
+def one_line(answer: Answer) -> str | None:
     """What it means and what to do; None where there is nothing to say."""
     if not answer.is_fault or not answer.found:
         return None
@@ -51,7 +51,7 @@ def excerpt(answer: Answer, path: tuple[Any, ...]) -> list[str]:
             f"      {marks}"]
 
 
-def span(answer: Answer, text: str, path: tuple[Any, ...]) -> tuple[int, int]:
+def span(answer: Answer, text: str, path: tuple[Any, ...]) -> tuple[int | None, int | None]:
     """Where the value of a path begins and ends in the line."""
     if not text.strip(" \t\r"):
         return None, None

@@ -41,7 +41,7 @@ FAMILIES = (
 )
 
 
-def text(connection: Any) -> Any:
+def text(connection: sqlite3.Connection) -> str:
     """The families of a database that is open."""
     lines = []
     for name, unit, says, labels, query in FAMILIES:
@@ -53,11 +53,11 @@ def text(connection: Any) -> Any:
     return "\n".join([*lines, "# EOF"]) + "\n"
 
 
-def escaped(value: Any) -> Any:
+def escaped(value: Any) -> str:
     return value.replace("\\", "\\\\").replace("\n", "\\n").replace('"', '\\"')
 
 
-def write(path: str, metrics: Any) -> None:
+def write(path: str, metrics: str) -> None:
     """Writes the metrics of a database to a file, which is replaced as a whole, since it may be read at any time."""
     connection = database.open_database(path)
     try:

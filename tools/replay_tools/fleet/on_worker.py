@@ -5,7 +5,7 @@ from __future__ import annotations
 from typing import Any
 
 
-def answer(tools: Any, *words: Any) -> Any:
+def answer(tools: str, *words: Any) -> dict[str, Any]:
     """The answer of fleet.work; the folder `tools`, which has the package, is on the worker's machine under the same
     path."""
     import sys

@@ -56,7 +56,7 @@ def wait_for_worker(client: Any, address: str) -> None:
         raise no_answer(address, fault) from None
 
 
-def no_answer(address: str, fault: Any) -> Any:
+def no_answer(address: str, fault: Exception) -> entry.Fault:
     said = str(fault).split("\n")[0] or type(fault).__name__
     return entry.Fault(f"the scheduler {address} does not answer: {said}")
 
@@ -95,7 +95,7 @@ class Threads:
         self.client, self.known = client, 1
         self.asked: float | None = None
 
-    def count(self) -> Any:
+    def count(self) -> int:
         """One at least; it is asked for anew each second."""
         now = time.monotonic()
         if self.asked is None or now - self.asked > 1:
@@ -121,7 +121,7 @@ def some(pending: Any, client: Any) -> Iterator[Any]:
             yield pending.pop(future), answer
 
 
-def answer_without(future: Any, path: str) -> Any:
+def answer_without(future: Any, path: str) -> dict[str, Any]:
     """The answer of a task that came to none. One whose workers died again and again failed."""
     fault = future.exception()
     if not isinstance(fault, distributed.KilledWorker):

@@ -42,7 +42,7 @@ def paths_below(folder: str) -> list[str]:
             if name.endswith(ENDINGS)]
 
 
-def known_ends(paths: list[str]) -> dict[Any, Any]:
+def known_ends(paths: list[str]) -> dict[str, int]:
     """By the path of a trace up to when it says all that happened, where one that follows it says so. Its own last tick
     may be some seconds before that."""
     by_name = {}
@@ -63,7 +63,7 @@ def plain_name(path: str) -> str:
     return os.path.basename(path).removesuffix(".gz")
 
 
-def follows_of(path: str) -> Any:
+def follows_of(path: str) -> dict[str, Any] | None:
     """What the node line of a trace says of the one before it; None where it says nothing, or can't be read."""
     if not os.path.isfile(path):
         # a pipe would be waited for
@@ -78,6 +78,6 @@ def follows_of(path: str) -> Any:
     return said if traces.is_follows(said) else None
 
 
-def shown(path: str) -> Any:
+def shown(path: str) -> str:
     """A path as text that a table can hold, where its bytes are no UTF-8 too."""
     return os.fsencode(path).decode("utf-8", "replace")

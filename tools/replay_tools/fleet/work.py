@@ -78,7 +78,7 @@ def beside(text: bytes, report: reports.Report) -> tuple[traces.Trace | None, ku
         return None, None
 
 
-def begun_of(text: bytes) -> Any:
+def begun_of(text: bytes) -> int | None:
     """The moment behind which a trace that follows another one says what happened; None of any other."""
     try:
         said = json.loads(text.lstrip().split(b"\n", 1)[0]).get("follows")

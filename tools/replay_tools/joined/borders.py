@@ -2,13 +2,12 @@
 
 from __future__ import annotations
 
-from typing import Any
 
 from replay_tools import entry, report as reports
 from replay_tools.joined import files, parts
 
 
-def borders_of(found: list[parts.Part]) -> list[Any]:
+def borders_of(found: list[parts.Part]) -> list[reports.Border]:
     """The borders of parts in the order of their times, one fewer than there are parts."""
     return [border_of(before, part) for before, part in zip(found, found[1:])]
 

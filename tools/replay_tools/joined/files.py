@@ -53,7 +53,7 @@ def source_of(path: str, is_named: bool) -> Source:
     return Source(path, is_named, node, begun, number)
 
 
-def parts_of(name: str) -> tuple[str, int, int]:
+def parts_of(name: str) -> tuple[str | None, int | None, int]:
     """The node, the begin and the number that a name says; None for what it does not say."""
     parts = NAME.fullmatch(name)
     try:

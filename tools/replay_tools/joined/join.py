@@ -3,7 +3,6 @@
 from __future__ import annotations
 
 from dataclasses import dataclass
-from typing import Any
 
 from replay_tools import entry, records, report as reports, traces
 from replay_tools.joined import asked as asking_for, borders as joined_borders, of_reports, of_traces, parts
@@ -55,9 +54,9 @@ def joined(asked: asking_for.Asked) -> Joined:
     return Joined(asked, report, trace, len(found), found[0].shown_until, found[-1].last, known, is_utc)
 
 
-def check_time(asked: asking_for.Asked, found: list[parts.Part], borders: list[Any]) -> None:
+def check_time(asked: asking_for.Asked, found: list[parts.Part], borders: list[reports.Border]) -> None:
     """Raises Fault where nothing was recorded at the time that is asked for."""
-    def show(at: int) -> Any:
+    def show(at: int) -> str:
         return reports.moment_text(at, asked.is_utc or found[0].source.begun is not None)
 
     last = found[-1].last

@@ -16,7 +16,7 @@ if TYPE_CHECKING:
 STATES = {"threshold": ("active", "cleared"), "pressure": ("True", "False")}
 
 
-def join_reports(found: list[parts.Part], borders: list[Any]) -> tuple[reports.Report, list[dict[int, int]]]:
+def join_reports(found: list[parts.Part], borders: list[reports.Border]) -> tuple[reports.Report, list[dict[int, int]]]:
     """The report of all parts, and for each part the numbers that its pods have in it."""
     first = found[0].report
     made = reports.Report(first.node, 0, 0, borders=list(borders))

@@ -22,7 +22,7 @@ class Known(traces.Tick):
                 for key, entry in self.lines.entries(self.begin, self.end).items()}
 
 
-def join_traces(found: list[parts.Part], borders: list[Any], numbers: list[dict[int, int]]) -> traces.Trace:
+def join_traces(found: list[parts.Part], borders: list[reports.Border], numbers: list[dict[int, int]]) -> traces.Trace:
     """The trace of all parts; numbers has for each part those that its pods have in the joined report."""
     made = traces.Trace(found[0].trace.node, found[-1].trace.settings, found[-1].trace.thresholds)
     for part, border, of in zip(found, [None, *borders], numbers):

@@ -44,7 +44,7 @@ class Part:
     """of the ticks that it has or, of a report alone, of the moments that it names"""
 
     @property
-    def follows(self) -> Any:
+    def follows(self) -> dict[str, Any] | None:
         """What a trace of a recorder says of the one before it; None where it says nothing of its form."""
         return None if self.trace is None else self.trace.follows()
 
@@ -166,7 +166,7 @@ def replayed(source: files.Source, text: bytes, program: str) -> bytes:
     raise entry.Fault(f"{source.shown} can't be replayed: {said}", status)
 
 
-def meaning(text: bytes, is_extended: bool) -> str:
+def meaning(text: bytes, is_extended: bool) -> str | None:
     """What a refusal means, in one line."""
     try:
         with tempfile.NamedTemporaryFile(prefix="trace-") as file:

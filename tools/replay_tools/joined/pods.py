@@ -3,7 +3,7 @@
 from __future__ import annotations
 
 from dataclasses import dataclass, replace
-from typing import Any, TYPE_CHECKING
+from typing import TYPE_CHECKING
 
 from replay_tools import report as reports, why
 
@@ -67,7 +67,7 @@ def go_on(pod: reports.Pod, found: reports.Pod, border: reports.Border, part: pa
     return news
 
 
-def stays_ended(pod: reports.Pod, found: reports.Pod, until: int) -> Any:
+def stays_ended(pod: reports.Pod, found: reports.Pod, until: int) -> bool:
     """Whether a pod that the rules evicted before shows nothing more than that it goes."""
     return pod.reason == "Evicted" and not any(event.word in ("started", "ready") and event.at > until
                                                for event in found.events) \

@@ -4,7 +4,7 @@ happened nearest to the moment that was asked for."""
 from __future__ import annotations
 
 from collections.abc import Callable
-from typing import Any, TYPE_CHECKING
+from typing import TYPE_CHECKING
 
 from replay_tools import entry, telling
 from replay_tools.joined import asked
@@ -16,7 +16,7 @@ if TYPE_CHECKING:
 MOST_LISTED = 4
 
 
-def head_lines(several: join.Joined, show: Callable[[int], str]) -> list[Any]:
+def head_lines(several: join.Joined, show: Callable[[int], str]) -> list[str]:
     """Of which time the traces are, and what is not known between them."""
     report, what = several.report, "report" if several.trace is None else "trace"
     lines = []
@@ -35,7 +35,7 @@ def head_lines(several: join.Joined, show: Callable[[int], str]) -> list[Any]:
 
 
 def nearest_lines(several: join.Joined, pod: reports.Pod, restarts: list[tuple[int, list[str]]],
-                  fact: kubelets.Fact | None, show: Callable[[int], str]) -> list[Any]:
+                  fact: kubelets.Fact | None, show: Callable[[int], str]) -> list[str]:
     """What happened to a pod nearest to the moment that was asked for: a restart, else something else that is bad.
     The fact is that the kubelet evicted it, where it did."""
     at = several.asked.at
@@ -57,5 +57,5 @@ def nearest_lines(several: join.Joined, pod: reports.Pod, restarts: list[tuple[i
     return [f"no restart {within}; nearest to it, at {show(moment)}: {what}"]
 
 
-def bad_words(event: reports.Event, is_beside: bool, trace: traces.Trace) -> Any:
+def bad_words(event: reports.Event, is_beside: bool, trace: traces.Trace | None) -> str:
     return " ".join(filter(None, [event.container, telling.event_words(event, is_beside, trace, False)[1]]))

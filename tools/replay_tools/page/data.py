@@ -68,9 +68,9 @@ def data_of(report: reports.Report, trace: traces.Trace | None, ticks: why.Ticks
     return data | {"left": left}
 
 
-def not_known(report: reports.Report, utc: bool) -> list[Any]:
+def not_known(report: reports.Report, utc: bool) -> list[str]:
     """What is not known between the traces that a report is joined of."""
-    def show(at: int) -> Any:
+    def show(at: int) -> str:
         return reports.moment_text(at, utc)
 
     gaps = [f"the time from {show(since)} to {show(at)}, of which nothing was recorded" for since, at in report.gaps]
@@ -127,7 +127,7 @@ class Words:
         return self.places[key]
 
 
-def repeated(values: list[Any]) -> list[int | None]:
+def repeated(values: list[Any]) -> list[Any]:
     """Values with how often each stands in a row, one after the other in one list."""
     found = []
     for value in values:
@@ -262,7 +262,7 @@ def pod_of(report: reports.Report, trace: traces.Trace | None, span: Span, pod: 
     return found
 
 
-def notes_of(pod: reports.Pod, utc: bool) -> dict[Any, Any]:
+def notes_of(pod: reports.Pod, utc: bool) -> dict[str, Any]:
     """What is not known of events of several traces, by the places of the events; nothing where all is."""
     told = {str(place): telling.beside_words(pod, event, lambda at: reports.moment_text(at, utc))
             for place, event in enumerate(pod.events)}

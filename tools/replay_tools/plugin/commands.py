@@ -7,7 +7,7 @@ import re
 import subprocess
 import sys
 from dataclasses import dataclass
-from typing import Any, IO
+from typing import IO, NoReturn
 
 from replay_tools import entry, program as programs
 from replay_tools.plugin import failing, files, several, words
@@ -26,7 +26,7 @@ class Caller:
     help: str
 
 
-def run(given: list[str], caller: Caller) -> Any:
+def run(given: list[str], caller: Caller) -> int:
     """Runs a command with its words, by the program or a tool; the status, where it comes back."""
     if given[:1] == ["help"] and len(given) > 1:
         given = [given[1], "--help"]
@@ -56,7 +56,7 @@ def run(given: list[str], caller: Caller) -> Any:
     return run_tool(name, command, found)
 
 
-def show_help(name: str, caller: Caller) -> Any:
+def show_help(name: str, caller: Caller) -> int:
     """Shows a command's help, with its name as it is typed here."""
     if name in ("run", "check"):
         files.run_on(programs.path(), ["help", name])
@@ -69,7 +69,7 @@ def show_help(name: str, caller: Caller) -> Any:
     return done.returncode
 
 
-def named(text: str, name: str, typed: Any) -> Any:
+def named(text: str, name: str, typed: str) -> str:
     """A tool's help in which the commands are named as they are typed; the usage stays in its columns."""
     usage, blank, rest = text.partition("\n\n")
     further = " " * (len(f"{typed} {name}") - len(f"tools/{name}"))
@@ -79,7 +79,7 @@ def named(text: str, name: str, typed: Any) -> Any:
         .replace("./kubelet_replay", "kubelet_replay")
 
 
-def run_program(name: str, found: words.Words, caller: Caller) -> Any:
+def run_program(name: str, found: words.Words, caller: Caller) -> int:
     """Runs the program, with the option for the format that the node line of the trace says; its status."""
     rest, kinds = without_fail_on(found.rest)
     traces, copy, option = [*([found.file] if found.file else []), *found.plain], None, []
@@ -96,7 +96,7 @@ def run_program(name: str, found: words.Words, caller: Caller) -> Any:
     return files.run_beside(programs.path(), [name, *traces, *rest, *option], path, copy, caller.name)
 
 
-def without_fail_on(rest: list[Any]) -> tuple[list[Any], None]:
+def without_fail_on(rest: list[str]) -> tuple[list[str], dict[str, None] | None]:
     """The words for the program, and what a run is to fail on."""
     if failing.WORD not in rest:
         return rest, None
@@ -104,7 +104,7 @@ def without_fail_on(rest: list[Any]) -> tuple[list[Any], None]:
     return rest[:place] + rest[place + 2 :], failing.kinds_of(rest[place + 1])
 
 
-def run_tool(name: str, command: words.Command, found: Any) -> None:
+def run_tool(name: str, command: words.Command, found: words.Words) -> NoReturn:
     """Becomes a tool, with the words that it takes in place of kubectl's."""
     if name == "what-if":
         report = open_trace(found.file) if found.file else None
@@ -117,7 +117,7 @@ def run_tool(name: str, command: words.Command, found: Any) -> None:
     files.run_on(os.path.join(TOOLS, name), [*found.rest, *pods, *trace], report)
 
 
-def keys(command: words.Command, found: Any, report: IO[bytes]) -> Any:
+def keys(command: words.Command, found: words.Words, report: IO[bytes]) -> tuple[list[str], IO[bytes]]:
     """The pods that are meant, and the report, which was read where a namespace alone says which."""
     named = words.pods_meant(command, found)
     if named is not None:
@@ -129,7 +129,7 @@ def keys(command: words.Command, found: Any, report: IO[bytes]) -> Any:
     return named, report
 
 
-def trace_words(name: str, found: Any, pods: Any) -> Any:
+def trace_words(name: str, found: words.Words, pods: list[str]) -> list[str]:
     """The words that hand the trace on to a tool that looks into it, or that tells what the kubelet did."""
     if found.file is None or files.is_report(found.file):
         return []
@@ -141,7 +141,7 @@ def trace_words(name: str, found: Any, pods: Any) -> Any:
     return [found.file] if name == "page" and not found.plain else []
 
 
-def open_trace(path: str) -> Any:
+def open_trace(path: str) -> IO[bytes]:
     if files.is_report(path):
         raise entry.Fault(f"{path} is a report, and it wants a trace")
     return open(path, "rb")

@@ -2,7 +2,8 @@
 
 from __future__ import annotations
 
-from typing import Any
+from collections.abc import Iterable
+
 
 from replay_tools.plugin import files, words
 
@@ -18,7 +19,7 @@ OF_CLUSTER = ("--context", "--recorders")
 CLUSTER_WORDS = {"fetch": ("--all", "--at", "--into", "--since", *OF_CLUSTER), "nodes": OF_CLUSTER}
 
 
-def candidates(given: list[str], is_of_kubectl: Any = True) -> Any:
+def candidates(given: list[str], is_of_kubectl: bool = True) -> tuple[list[str], int]:
     """The candidates for the last word, and the directive."""
     *before, last = given or [""]
     if not before:
@@ -48,22 +49,22 @@ def candidates(given: list[str], is_of_kubectl: Any = True) -> Any:
     return beginning(pods(found, last), last), NO_FILES
 
 
-def beginning(names: Any, start: Any) -> Any:
+def beginning(names: Iterable[str], start: str) -> list[str]:
     return sorted({name for name in names if name.startswith(start)})
 
 
-def keys(found: Any) -> Any:
+def keys(found: words.Words) -> list[str]:
     named = dict(zip(found.rest, found.rest[1:]))
     trace = named.get("--trace") or named.get("--traces")
     path = found.files[-1] if found.files else trace
     return files.keys_of(path) if path else []
 
 
-def namespaces(found: Any) -> Any:
+def namespaces(found: words.Words) -> list[str]:
     return [key.partition("/")[0] for key in keys(found)]
 
 
-def pods(found: Any, last: str) -> Any:
+def pods(found: words.Words, last: str) -> list[str]:
     """Names in the namespace; with a slash in the word, names behind one."""
     head, slash, _ = last.partition("/")
     named = keys(found)
@@ -76,7 +77,7 @@ def pods(found: Any, last: str) -> Any:
     return [before + key.partition("/")[2] for key in named if key.startswith(namespace + "/")]
 
 
-def fleet_words(before: Any, last: str) -> Any:
+def fleet_words(before: list[str], last: str) -> tuple[list[str], int]:
     """What may follow among the words of tools/fleet."""
     if len(before) == 1:
         return beginning(("run", "worst"), last), NO_FILES

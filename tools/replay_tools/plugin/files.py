@@ -10,7 +10,7 @@ import stat
 import subprocess
 import sys
 import tempfile
-from typing import Any, IO
+from typing import Any, IO, NoReturn
 
 from replay_tools import entry, packed, program as programs, report as reports, traces
 from replay_tools.explain import beside
@@ -36,7 +36,7 @@ def is_report(path: str) -> bool:
         raise entry.Fault(f"{path} can't be read: {fault.strerror}") from None
 
 
-def plain(path: str) -> Any:
+def plain(path: str) -> str:
     """The path of a trace as the program takes it: of one that is packed that of a copy which is not."""
     try:
         if not os.path.isfile(path) or not packed.is_packed_file(path):
@@ -51,7 +51,7 @@ def plain(path: str) -> Any:
     return copy
 
 
-def open_report(path: str) -> Any:
+def open_report(path: str | None) -> IO[bytes]:
     """A file that holds the report: of the file that was named, or of standard input without one."""
     if path is None:
         given = entry.standard_input()
@@ -63,7 +63,7 @@ def open_report(path: str) -> Any:
     return replayed(path)
 
 
-def temporary() -> Any:
+def temporary() -> IO[bytes]:
     """A file without a name."""
     try:
         return tempfile.TemporaryFile()
@@ -71,13 +71,13 @@ def temporary() -> Any:
         raise no_room(fault.strerror) from None
 
 
-def no_room(said: str) -> Any:
+def no_room(said: str) -> entry.Fault:
     """That what is kept for a tool has no place."""
     folder = os.environ.get("TMPDIR") or "/tmp"
     return entry.Fault(f"what it has to keep has no place in {folder}: {said} (TMPDIR names another folder)", 1)
 
 
-def replayed(path: str) -> Any:
+def replayed(path: str) -> IO[bytes]:
     """The report of a trace, as a file without a name."""
     path = plain(path)
     program, report = programs.path(), temporary()
@@ -98,7 +98,7 @@ def replayed(path: str) -> Any:
     return report
 
 
-def format_words(path: str) -> Any:
+def format_words(path: str) -> list[str]:
     try:
         with open(path, "rb") as file:
             return format_words_of(file)
@@ -106,11 +106,11 @@ def format_words(path: str) -> Any:
         raise entry.Fault(f"{path} can't be read: {fault.strerror}") from None
 
 
-def format_words_of(file: Any) -> Any:
+def format_words_of(file: IO[bytes]) -> list[str]:
     return programs.format_words(iter(lambda: file.readline(LONGEST_LINE), b""))
 
 
-def with_format(path: str) -> Any:
+def with_format(path: str) -> tuple[str, IO[bytes] | None, list[str]]:
     """The path of a trace, a copy of it that is to be standard input where it can be read but once, and the words for
     its format. What can't be read the program has to say."""
     try:
@@ -126,7 +126,7 @@ def with_format(path: str) -> Any:
     return "/dev/stdin", copy, format_words_of(copy)
 
 
-def pods_in(report: IO[bytes], namespace: str) -> Any:
+def pods_in(report: IO[bytes], namespace: str) -> list[str]:
     """The keys of the pods of a namespace in an open report, each once; the report can be read once more after that."""
     try:
         found = reports.read_report(report.read().decode("utf-8", "replace"))
@@ -136,7 +136,7 @@ def pods_in(report: IO[bytes], namespace: str) -> Any:
     return list(dict.fromkeys(pod.key for pod in found.pods if pod.key.startswith(namespace + "/")))
 
 
-def whole(report: IO[bytes]) -> Any:
+def whole(report: IO[bytes]) -> IO[bytes]:
     """The same as a file that can be read twice."""
     copy = temporary()
     try:
@@ -148,7 +148,7 @@ def whole(report: IO[bytes]) -> Any:
     return copy
 
 
-def keys_of(path: str) -> Any:
+def keys_of(path: str) -> list[str]:
     """The keys of the pods that a trace or a report names, or the last trace of a folder, for a completion: without one
     where it can't be read."""
     try:
@@ -197,18 +197,18 @@ def hand_on(source: IO[bytes]) -> None:
                 is_read = False
 
 
-def path_of(file: Any) -> Any:
+def path_of(file: IO[bytes]) -> str:
     """The path of an open file without a name, also for the programs that this one starts or becomes."""
     os.set_inheritable(file.fileno(), True)
     return f"/proc/{os.getpid()}/fd/{file.fileno()}"
 
 
-def shown(path: str) -> Any:
+def shown(path: str) -> str:
     """A path as the operator knows it."""
     return NAMES.get(path) or ("standard input" if path.startswith(f"/proc/{os.getpid()}/fd/") else path)
 
 
-def kept_input() -> Any:
+def kept_input() -> str:
     """Standard input as a file that can be read twice."""
     given = entry.standard_input()
     if given.isatty():
@@ -216,7 +216,7 @@ def kept_input() -> Any:
     return path_of(whole(given))
 
 
-def run_on(tool: str, words: list[str], report: IO[bytes] | None = None) -> None:
+def run_on(tool: str, words: list[str], report: IO[bytes] | None = None) -> NoReturn:
     """Becomes a tool, with a file as its standard input. It does not come back."""
     if report is not None and report.fileno() != 0:
         os.lseek(report.fileno(), 0, os.SEEK_SET)

@@ -7,7 +7,7 @@ import os
 import subprocess
 import sys
 import tempfile
-from typing import Any
+from collections.abc import Callable
 
 from replay_tools import entry
 from replay_tools.cluster import fetching, recorders
@@ -25,7 +25,7 @@ def is_pattern(file: str) -> bool:
     return glob.has_magic(file) and not os.path.exists(file)
 
 
-def run(name: str, command: words.Command, found: words.Words, tool: str) -> Any:
+def run(name: str, command: words.Command, found: words.Words, tool: str) -> int:
     """Runs a tool on several traces; its status, where it comes back."""
     pods = found.plain if command.pods == "none" else words.pods_meant(command, found)
     if pods is None:
@@ -44,13 +44,13 @@ def run(name: str, command: words.Command, found: words.Words, tool: str) -> Any
                                                     folder])
 
 
-def without(rest: Any, name: str) -> Any:
+def without(rest: list[str], name: str) -> list[str]:
     """The words without one of them and its value."""
     places = [place for place, word in enumerate(rest) if word == name]
     return [word for place, word in enumerate(rest) if place not in places and place - 1 not in places]
 
 
-def run_fetched(found: Any, node: str, words_for: Any) -> Any:
+def run_fetched(found: words.Words, node: str, words_for: Callable[[str], list[str]]) -> int:
     """Fetches the traces of a node into a folder that goes again, and runs a tool on them; its status."""
     cluster = recorders.Cluster(found.context, found.value(words.RECORDERS) or recorders.NAMESPACE)
     first, last = asked.span_of(found.value("--since"), found.value("--at"), fetching.now())

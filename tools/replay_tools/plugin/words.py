@@ -4,8 +4,8 @@ from __future__ import annotations
 
 import os
 import subprocess
+from collections.abc import Callable
 from dataclasses import dataclass, field
-from typing import Any
 
 from replay_tools import entry
 from replay_tools.joined import asked, files
@@ -71,13 +71,13 @@ class Words:
     """the last word, where it wants a value"""
 
     @property
-    def file(self) -> Any:
+    def file(self) -> str | None:
         """The one file that is named, or None."""
         if len(self.files) > 1:
             raise entry.Fault(f"it takes one file, not {len(self.files)} (--help says more)")
         return self.files[0] if self.files else None
 
-    def value(self, name: str) -> Any:
+    def value(self, name: str) -> str | None:
         """The last value of a word of the tool."""
         return next((value for word, value in zip(self.rest[-2::-1], self.rest[:0:-1]) if word == name), None)
 
@@ -137,7 +137,7 @@ def parts_of(word: str, command: Command) -> tuple[str | None, str | None]:
     return None, None
 
 
-def key_of(name: str, given: str | None, otherwise: Any) -> Any:
+def key_of(name: str, given: str | None, otherwise: Callable[[], str]) -> str:
     """NAMESPACE/NAME of a pod as kubectl names it: web, pod/web, or shop/web. `given` is the namespace that was asked
     for, `otherwise` answers the one that holds without it."""
     head, slash, tail = name.partition("/")
@@ -148,7 +148,7 @@ def key_of(name: str, given: str | None, otherwise: Any) -> Any:
     return f"{given or otherwise()}/{tail if slash else name}"
 
 
-def pods_meant(command: Command, found: Words) -> list[str]:
+def pods_meant(command: Command, found: Words) -> list[str] | None:
     """The pods that words name for a tool; None where they name a namespace alone, whose pods the tool does not list
     itself. A name without a namespace is for the tool to find among all, where all are meant."""
     if found.is_everywhere:
@@ -167,7 +167,7 @@ def name_of(name: str) -> str:
     return tail if slash and head in POD_TYPES else name
 
 
-def current_namespace(context: Any = None) -> Any:
+def current_namespace(context: str | None = None) -> str:
     """That of a context of kubectl, else of its own, else `default`."""
     words = ["kubectl", *(["--context", context] if context else []), "config", "view", "--minify", "--output",
              "jsonpath={..namespace}"]

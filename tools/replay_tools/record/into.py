@@ -10,9 +10,9 @@ from typing import Any, TYPE_CHECKING
 from .folder import FULL, Folder, Refused, why
 from .formats import MOST_BYTES, MOST_PODS
 from .lasting import LastingRecorder, forget_strangers, set_back
+from .lines import line_of
 from .program import Output, Recording, watch
 from .standing import Standing
-from .lines import line_of
 
 if TYPE_CHECKING:
     from .folder import Part

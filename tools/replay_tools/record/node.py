@@ -42,7 +42,7 @@ def single(number: float) -> float:
     return struct.unpack("f", struct.pack("f", number))[0]
 
 
-def share(percentage: str, capacity: int) -> int:
+def share(percentage: str, capacity: int) -> int | None:
     """The amount of a capacity that a percentage is, rounded as the kubelet does; None where it is no percentage."""
     number = percentage.rstrip("%")
     if not PERCENT_NUMBER.fullmatch(number):
@@ -50,7 +50,7 @@ def share(percentage: str, capacity: int) -> int:
     return int(float(capacity) * single(single(float(number)) / 100))
 
 
-def whole_duration(duration: str) -> str:
+def whole_duration(duration: str) -> str | None:
     """A duration of Go's, rounded up to whole seconds, as the formats write it; None where it is none."""
     if not isinstance(duration, str) or not GO_DURATION.fullmatch(duration):
         return None

@@ -7,10 +7,10 @@ from dataclasses import replace
 from typing import Any, TYPE_CHECKING
 
 from .near import Nearness
+from .pods import pods_of
 from .probes import counters_of
 from .reasons import better
 from .recorder import Seen
-from .pods import pods_of
 from .runtime import CREATED, EXITED, RUNNING, inspected_of, instances_of
 from .sources import Failed
 from .summary import summary_of

@@ -95,7 +95,7 @@ def ends_in(status: dict[str, Any]) -> dict[str, End] | None:
     return found if listed else None
 
 
-def probed_in(status: dict[str, Any]) -> dict[str, tuple[None, bool, bool]]:
+def probed_in(status: dict[str, Any]) -> dict[str, tuple[int | None, bool, bool]]:
     """What a status says that the probes of its containers have come to: {name: (restarts, started, ready)}."""
     listed = [*(status.get("initContainerStatuses") or []), *(status.get("containerStatuses") or [])]
     return {each.get("name"): (each.get("restartCount"), each.get("started") is True, each.get("ready") is True)

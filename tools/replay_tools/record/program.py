@@ -14,11 +14,11 @@ from .check import check
 from .clock import Clock
 from .connections import kept_sources
 from .formats import MOST_BYTES
+from .lines import TooLong
 from .node import node_line_of, own_node_line
 from .observer import Observer
 from .recorder import Recorder
 from .sources import Failed
-from .lines import TooLong
 from .words import BadWord, help_text, missing_commands, words_of
 
 if TYPE_CHECKING:

@@ -8,10 +8,10 @@ from typing import Any, Optional, TYPE_CHECKING
 
 from .decisions import EVICTED, REFUSED
 from .formats import MOST_PODS
+from .lines import line_of
 from .probes import PROBES, grown, results_of
 from .runtime import EXITED, RUNNING, Container
 from .timeline import Timeline
-from .lines import line_of
 
 if TYPE_CHECKING:
     from .lines import Format

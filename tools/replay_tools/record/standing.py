@@ -7,8 +7,8 @@ from collections.abc import Iterator
 from typing import Any
 
 from .formats import without_nones
-from .runtime import EXITED, LOST_CODE, RUNNING, UNKNOWN
 from .lines import line_of
+from .runtime import EXITED, LOST_CODE, RUNNING, UNKNOWN
 
 FIELDS = {"startup": "startupProbe", "liveness": "livenessProbe", "readiness": "readinessProbe"}
 DELAY = "initialDelaySeconds"

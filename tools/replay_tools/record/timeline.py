@@ -17,9 +17,9 @@ from typing import Any, TYPE_CHECKING
 from .asides import Asides
 from .decisions import EVICTED
 from .formats import without_nones
+from .lines import EVICTION_PAUSE, entry_of, gone_line, pod_line, tick_line, told, unknown
 from .near import Nearness
 from .runtime import CREATED, EXITED, LOST_CODE, RUNNING, Change
-from .lines import EVICTION_PAUSE, entry_of, gone_line, pod_line, tick_line, told, unknown
 
 if TYPE_CHECKING:
     from .lines import Format
