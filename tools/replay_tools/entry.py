@@ -10,7 +10,7 @@ import sys
 from collections.abc import Callable, Iterable
 from typing import Any, BinaryIO, TextIO
 
-from replay_tools import first_bytes, report as reports
+from replay_tools import events, first_bytes, report as reports
 
 
 # the tool that runs, which says what it says under its name
@@ -183,6 +183,8 @@ def answered(main: Callable[[list[str]], int], words: list[str]) -> int:
     except Help as text:
         sys.stdout.write(str(text))
         return 0
+    except events.NoTable as fault:
+        raise Fault(str(fault), 1) from None
 
 
 def is_version(words: list[str]) -> bool:

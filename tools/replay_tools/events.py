@@ -16,6 +16,10 @@ PLACE = re.compile(r"\{(\w+)\}")
 SUBJECTS = {"{pod} {container}": "container", "{pod} -": "pod", "node": "node"}
 
 
+class NoTable(Exception):
+    """The table is not where the tools are; the message says why."""
+
+
 @dataclass(frozen=True)
 class Field:
     """A field of an event, as a line has it."""
@@ -103,7 +107,7 @@ def definitions() -> dict:
         with open(SCHEMA, encoding="utf-8") as file:
             return json.load(file)["definitions"]
     except OSError as fault:
-        raise OSError(f"{SCHEMA}, which has the words of events, can't be read: {fault.strerror}") from None
+        raise NoTable(f"{SCHEMA}, which has the words of events, can't be read: {fault.strerror}") from None
 
 
 def kind_of(found: dict) -> Kind:
