@@ -69,11 +69,12 @@ WRITTEN = {"pod": "NAMESPACE/NAME", "delay_seconds": "DELAY", "grace_seconds": "
 
 def test_events_of_the_documents():
     """Each kind of event of the table stands in docs/report.md with the fields of its line."""
-    page = read(f"{TOP}/docs/report.md")
-    lines = {kind["properties"]["event"]["const"]: re.sub(r"\{(\w+)\}", lambda found: WRITTEN.get(
-        found[1], found[1].upper()), kind["line"]) for kind in json.loads(read(SCHEMA))["definitions"]["event"]["oneOf"]}
-    expect("events without their line in docs/report.md", [word for word, line in lines.items() if f"`{line}`" not in
-                                                           page], ["unready"])
+    page, missing = read(f"{TOP}/docs/report.md"), []
+    for kind in json.loads(read(SCHEMA))["definitions"]["event"]["oneOf"]:
+        line = re.sub(r"\{(\w+)\}", lambda found: WRITTEN.get(found[1], found[1].upper()), kind["line"])
+        if f"`{line}`" not in page:
+            missing.append(kind["properties"]["event"]["const"])
+    expect("events without their line in docs/report.md", missing, ["unready"])
     expect("the line of unready", "`NAMESPACE/NAME CONTAINER ready`, or `unready`" in page, True)
 
 
