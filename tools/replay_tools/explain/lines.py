@@ -3,8 +3,8 @@
 from __future__ import annotations
 
 import json
-from json.decoder import scanstring  # type: ignore[attr-defined]
 import re
+from json.decoder import scanstring  # type: ignore[attr-defined]
 from typing import Any
 
 # what serde_json takes

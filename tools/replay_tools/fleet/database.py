@@ -1,4 +1,4 @@
-"""The database of a fleet: a table of traces beside those of tools/lib/tables.py, by the number of the trace."""
+"""The database of a fleet: a table of traces beside those of tables.py, by the number of the trace."""
 
 from __future__ import annotations
 

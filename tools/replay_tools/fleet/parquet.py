@@ -4,10 +4,10 @@ from __future__ import annotations
 
 import os
 import tempfile
+from typing import Any
 
 import pyarrow
 import pyarrow.parquet
-from typing import Any
 
 from replay_tools import entry
 from replay_tools.fleet import database

@@ -57,7 +57,7 @@ def run(order: Order) -> int:
 
 def part(name: str) -> Any:
     try:
-        return importlib.import_module(f"fleet.{name}")
+        return importlib.import_module(f"replay_tools.fleet.{name}")
     except ImportError:
         raise entry.Fault(PARTS[name], 127) from None
 

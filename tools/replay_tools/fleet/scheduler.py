@@ -7,11 +7,11 @@ import contextlib
 import logging
 import os
 import time
+from collections.abc import Iterator
+from typing import Any
 
 import cloudpickle
 import distributed
-from collections.abc import Iterator
-from typing import Any
 
 from replay_tools import entry
 from replay_tools.fleet import on_worker, work
