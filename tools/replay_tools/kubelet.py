@@ -128,7 +128,8 @@ def causes_of(trace: traces.Trace, report: reports.Report, decision: traces.Deci
     if not limits:
         return [[f"the trace has no threshold of {resource or 'any signal'}"]]
     near = ticks_near(trace, decision.at)
-    thresholds, active = reports.Thresholds(report), {}
+    thresholds = reports.Thresholds(report)
+    active: dict[tuple[str, str], int] = {}
     for tick in near:
         active |= thresholds.at(tick.at)
     due = [limit for limit in limits if (limit.signal, limit.kind) in active]

@@ -48,11 +48,11 @@ class Reasons:
     """What the ticks of a trace say, which are taken one after the other."""
 
     def __init__(self) -> None:
-        self.ends = {}
+        self.ends: dict[tuple[int, str, int], End] = {}
         """by the pod's number, the container and the attempt"""
-        self.waits = {}
+        self.waits: dict[tuple[int, str], list[Wait]] = {}
         """lists by the pod's number and the container, in order"""
-        self.open = {}
+        self.open: dict[tuple[int, str], Wait] = {}
 
     def take(self, line: bytes, at: int, entries: dict[str, dict[str, Any]], present: dict[str, traces.Pod]) -> None:
         """What a tick says, by its bytes and its entries."""

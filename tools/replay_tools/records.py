@@ -190,7 +190,7 @@ def cause_records(report: reports.Report, trace: traces.Trace, last: int,
     """Of each container why its instances died and why it waited: a record for each reason and code, and for each
     reason of waiting."""
     for pod in report.pods:
-        found = {}
+        found: dict[tuple[Any, ...], dict[str, Any]] = {}
         for event in pod.events:
             if event.word == "died" and event.at > known:
                 end = trace.reasons.end_of(event)

@@ -219,7 +219,7 @@ def tell_pods(report: Report, named: dict[str, list[Pod]]) -> None:
 
 def pods_by_key(report: Report) -> dict[str, list[Pod]]:
     """The pods of each key, one after the other."""
-    named = {}
+    named: dict[str, list[Pod]] = {}
     for pod in report.pods:
         named.setdefault(pod.key, []).append(pod)
     return named
@@ -436,7 +436,7 @@ class Thresholds:
 
     def __init__(self, report: Report) -> None:
         self.later = [event for event in reversed(report.events) if event.word == "threshold"]
-        self.active = {}
+        self.active: dict[tuple[str, str], int] = {}
 
     def at(self, moment: int) -> dict[tuple[str, str], int]:
         """Each with the moment since which it is active, by signal and kind."""

@@ -53,7 +53,7 @@ def create_tables(connection: sqlite3.Connection, kinds: tuple[str, ...] = tuple
 
 def add_records(connection: sqlite3.Connection, number: int, records: Iterable[dict[str, Any]]) -> None:
     """Rows for the records of one report, in order; number is that of the report in the file."""
-    rows = {}
+    rows: dict[str, list[list[Any]]] = {}
     for record in records:
         kind = record["record"]
         rows.setdefault(kind, []).append([number, *map(record.get, columns(kind))])

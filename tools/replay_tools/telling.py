@@ -36,7 +36,7 @@ def table(title: str, heads: list[str], rows: list[list[str]]) -> list[str]:
 def dated_once(rows: list[list[str]]) -> list[list[str]]:
     """Rows in which the date of a moment is left out where it is that of the row above, or of the moment that a text
     stands beside."""
-    above = {}
+    above: dict[int, str] = {}
 
     def told(place: int, cell: str, own: str | None) -> str:
         first = MOMENTS.fullmatch(cell)

@@ -241,7 +241,8 @@ def is_follows(said: Any) -> bool:
 
 def present_at_each(trace: Trace) -> Iterator[dict[str, Pod]]:
     """The pods that are present, by key, at each tick in turn; the same dict each time."""
-    present, arriving = {}, sorted(trace.pods, key=lambda pod: pod.first, reverse=True)
+    present: dict[str, Pod] = {}
+    arriving = sorted(trace.pods, key=lambda pod: pod.first, reverse=True)
     leaving = sorted((pod for pod in trace.pods if pod.gone is not None), key=lambda pod: pod.gone, reverse=True)
     for place in range(len(trace.ticks)):
         while leaving and leaving[-1].gone <= place:

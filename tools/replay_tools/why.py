@@ -106,9 +106,10 @@ class PodTicks:
 
     def __init__(self, trace: traces.Trace, pod: traces.Pod) -> None:
         self.trace, self.pod = trace, pod
-        self.results = {}
+        self.results: dict[tuple[str, str], tuple[list[int], list[str]]] = {}
         """moments and results, by container and probe"""
-        self.listings = {container.name: ([], []) for container in pod.containers}
+        self.listings: dict[str, tuple[list[int], list[traces.Listing | None]]] = {
+            container.name: ([], []) for container in pod.containers}
         """the moments at which what is listed changed, and what it was from then on, by container"""
         self.written = None
         """what was listed last, as it is written"""
@@ -125,9 +126,9 @@ class PodTicks:
                     moments.append(at)
                     kept.append(listing)
         for found in traces.list_at(entry, "probes") if "probes" in entry else ():
-            moments, kept = self.results.setdefault((found.get("container"), found.get("probe")), ([], []))
+            moments, results = self.results.setdefault((found.get("container"), found.get("probe")), ([], []))
             moments.append(at)
-            kept.append(sys.intern(found["result"]) if "result" in found else None)
+            results.append(sys.intern(found["result"]) if "result" in found else None)
 
     def listed(self, name: str, at: int) -> Listed:
         moments, kept = self.listings[name]
@@ -142,7 +143,7 @@ class PodTicks:
         """The results of a probe in a span of moments, both ends included, as runs of equal ones."""
         moments, kept = self.results.get((name, kind), ([], []))
         first = bisect_left(moments, since)
-        runs = []
+        runs: list[tuple[str, list[int]]] = []
         for at, result in zip(moments[first:], kept[first:]):
             if at > until:
                 break
@@ -161,8 +162,10 @@ class Ticks:
     a pod matters where the tick before did. Of some moments it keeps what each pod used by then."""
 
     def __init__(self, wanted: set[int] | None = None, moments: Iterable[int] = ()) -> None:
-        self.found, self.wanted, self.listed = {}, wanted, {}
-        self.usages, self.usages_at = {}, dict.fromkeys(moments)
+        self.found: dict[int, PodTicks] = {}
+        self.listed: dict[int, traces.Pod] = {}
+        self.usages: dict[int, dict[str, int]] = {}
+        self.wanted, self.usages_at = wanted, dict.fromkeys(moments)
 
     def of(self, trace: traces.Trace, pod: traces.Pod) -> PodTicks:
         if pod.number not in self.found:
@@ -214,7 +217,9 @@ def around_events(trace: traces.Trace, report: reports.Report, pod: reports.Pod)
     ticks = ticks_of(trace, [ours])[pod.number]
     specs = {container.name: container for container in ours.containers}
     deaths = {(event.container, event.at) for event in pod.events if event.word == "died"}
-    starts, exits, found = {}, {}, []
+    starts: dict[str, tuple[str, int]] = {}
+    exits: dict[str, list[Exit]] = {}
+    found = []
     for event in pod.events:
         name = event.container
         if event.word == "started":
@@ -293,7 +298,7 @@ def samples_of(trace: traces.Trace, at: int, signal: str,
                since: int | None) -> list[tuple[int, int | None, int | None]]:
     """The samples of a signal from one tick to another; a value that a tick repeats is no sample of its own."""
     last = trace.places[at]
-    found = []
+    found: list[tuple[int, int | None, int | None]] = []
     for tick in trace.ticks[trace.places.get(since, last) : last + 1]:
         sample = tick.signals.get(signal), tick.after_reclaim.get(signal)
         if not found or found[-1][1:] != sample:
@@ -304,7 +309,7 @@ def samples_of(trace: traces.Trace, at: int, signal: str,
 def usages_at(trace: traces.Trace, places: set[int]) -> dict[int, dict[int, dict[str, int]]]:
     """The newest samples of each pod's usage up to the ticks of some places: thousandths by resource, by the pod's
     number, by place."""
-    usages = {pod.number: {} for pod in trace.pods}
+    usages: dict[int, dict[str, int]] = {pod.number: {} for pod in trace.pods}
     found = {}
     for place, (tick, present) in enumerate(zip(trace.ticks, traces.present_at_each(trace))):
         # most ticks have no sample, and to read them takes long

@@ -57,7 +57,7 @@ def write(path: str, paths: list[str], kept: kept.Kept, failed: dict[str, dict[s
     that have nothing kept."""
     def fill(connection: sqlite3.Connection) -> None:
         connection.execute(f"CREATE TABLE traces (report INTEGER NOT NULL, {', '.join(COLUMNS)})")
-        numbers = {}
+        numbers: dict[tuple[str, int], int] = {}
         for number, trace_path in enumerate(paths, 1):
             rows = iter([failed[trace_path]]) if trace_path in failed else kept.rows(trace_path)
             trace = next(rows)

@@ -90,7 +90,7 @@ def pressed(connection: Connection) -> Iterator[tuple[tuple[int, int], str]]:
     """Evictions: by the kubelet where a trace says so, else by the rules."""
     for resource, nodes, times in connection.execute(PRESSED):
         yield cause(nodes, times, f"{RESOURCES.get(resource, resource)} pressure", entry.counted(times, "eviction"))
-    by_resource = {}
+    by_resource: dict[str, Any] = {}
     for node, reason, message in connection.execute(DID):
         decision = traces.Decision("evicted", 0, "", None, reason, message)
         by_resource.setdefault(kubelets.resource_of(decision), []).append(node)

@@ -45,7 +45,7 @@ def paths_below(folder: str) -> list[str]:
 def known_ends(paths: list[str]) -> dict[str, int]:
     """By the path of a trace up to when it says all that happened, where one that follows it says so. Its own last tick
     may be some seconds before that."""
-    by_name = {}
+    by_name: dict[str, Any] = {}
     for path in paths:
         by_name.setdefault(plain_name(path), []).append(path)
     ends = {}

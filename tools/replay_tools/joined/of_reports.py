@@ -20,7 +20,8 @@ def join_reports(found: list[parts.Part], borders: list[reports.Border]) -> tupl
     """The report of all parts, and for each part the numbers that its pods have in it."""
     first = found[0].report
     made = reports.Report(first.node, 0, 0, borders=list(borders))
-    numbers, present = [], {}
+    numbers: list[dict[int, int]] = []
+    present: dict[str, reports.Pod] = {}
     for part, border in zip(found, [None, *borders]):
         numbers.append(take_pods(made, part, border, present))
         take_node(made, part, border)

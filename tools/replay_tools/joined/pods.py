@@ -196,7 +196,8 @@ def mark_results(news: list[reports.Event], border: reports.Border) -> None:
 
 def numbers_of(pod: reports.Pod) -> dict[tuple[str | None, str], int]:
     """The number of each exit, by container and attempt, as the delays of restarts count them."""
-    starts, exits = {}, {}
+    starts: dict[str, tuple[str, int]] = {}
+    exits: dict[str, list[why.Exit]] = {}
     for event in pod.events:
         if event.word == "started":
             starts[event.container] = (event.rest[0], event.at)

@@ -106,7 +106,10 @@ class Words:
     """Why instances died and containers waited: each text once, by its place."""
 
     def __init__(self, trace: traces.Trace | None) -> None:
-        self.trace, self.causes, self.waits, self.places = trace, [], [], {}
+        self.trace = trace
+        self.causes: list[list[str]] = []
+        self.waits: list[str] = []
+        self.places: dict[tuple[int, str], int] = {}
         self.kinds = [kind.word for kind in events.kinds().values() if kind.is_of_pod]
 
     def cause(self, event: reports.Event) -> list[int]:
@@ -129,7 +132,7 @@ class Words:
 
 def repeated(values: list[Any]) -> list[Any]:
     """Values with how often each stands in a row, one after the other in one list."""
-    found = []
+    found: list[Any] = []
     for value in values:
         if found and found[-2] == value:
             found[-1] += 1
@@ -303,7 +306,9 @@ def events_of(span: Span, pod: reports.Pod, words: Words) -> list[list[Any]]:
     its words. A death has the number of its exit and its run behind its own, and the place of why, where that is
     known."""
     names = [container.name for container in pod.containers]
-    starts, exits, found, before = {}, {}, [], 0
+    starts: dict[str, tuple[str, int]] = {}
+    exits: dict[str, list[why.Exit]] = {}
+    found, before = [], 0
     for event in pod.events:
         rest = [int(word) if word.lstrip("-").isdigit() else word for word in event.rest]
         if event.word == "started":
@@ -344,7 +349,8 @@ def probes_of(span: Span, pod: traces.Pod, ticks: why.PodTicks, budget: Budget) 
 def result_runs(span: Span, moments: list[int], results: list[str]) -> list[int]:
     """Runs of one result at one distance: the difference of the first moment from the last one before, that distance,
     how many, and the result, in one list."""
-    flat, last = [], 0
+    flat: list[int] = []
+    last = 0
     for at, result in zip(moments, results):
         at, said = span.of(at), RESULTS.index(result)
         if flat and flat[-1] == said and (flat[-2] == 1 or at - last == flat[-3]):

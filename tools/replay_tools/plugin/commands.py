@@ -82,7 +82,8 @@ def named(text: str, name: str, typed: str) -> str:
 def run_program(name: str, found: words.Words, caller: Caller) -> int:
     """Runs the program, with the option for the format that the node line of the trace says; its status."""
     rest, kinds = without_fail_on(found.rest)
-    traces, copy, option = [*([found.file] if found.file else []), *found.plain], None, []
+    traces, copy = [*([found.file] if found.file else []), *found.plain], None
+    option: list[str] = []
     traces = ["/dev/stdin" if trace == "-" else trace for trace in traces]
     traces = [files.plain(traces[0])] if len(traces) == 1 else traces
     path = traces[0] if len(traces) == 1 else None

@@ -18,9 +18,9 @@ class Asides:
     """What stands at the last tick, and what was told of it: a reason stands in each tick, its message in the first."""
 
     def __init__(self) -> None:
-        self.ends = {}
-        self.waits = {}
-        self.told = {}
+        self.ends: dict[Any, Any] = {}
+        self.waits: dict[str, dict[str, Any]] = {}
+        self.told: dict[Any, Any] = {}
 
     def copied(self) -> Asides:
         copied = Asides()

@@ -48,14 +48,14 @@ class Traces(Output):
         self.say = say
         self.standing = Standing()
         # what the pods' statuses say at the first look
-        self.probed = {}
+        self.probed: dict[str, Any] = {}
         self.part: Part | None = None
         # the second at which the newest trace begins, its name, and up to when it has all that happened
         self.begun: int | None = None
         self.last: str | None = None
         self.until: int | None = None
         # parts that have ended, with their bytes
-        self.unpacked = {}
+        self.unpacked: dict[str, int] = {}
         self.is_lost = self.has_turned = False
         self.tried_at = float("-inf")
 

@@ -57,7 +57,7 @@ class LastingRecorder(Recorder):
         super().__init__(trace_format, every, say)
         self.timeline = LastingTimeline(trace_format)
         # pods that are left out as long as there is no room for them
-        self.waiting = set()
+        self.waiting: set[str] = set()
 
     def take(self, seen: Seen) -> None:
         self.timeline.now = seen.moment

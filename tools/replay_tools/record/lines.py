@@ -85,7 +85,7 @@ def entry_of(pod: Pod, listings: dict[str, Listing], results: dict[tuple[str, st
 
 def told(second: int, decisions: list[tuple[str, Decision, bool]]) -> dict[str, list[dict[str, Any]]] | None:
     """What the kubelet did in a tick, which the formats don't read: {"evicted" or "refused": [..]}, or None."""
-    found = {}
+    found: dict[str, Any] = {}
     for key, decision, is_left_out in decisions:
         found.setdefault(decision.kind, []).append(decision.told(key, second, is_left_out))
     return found or None

@@ -5,7 +5,7 @@ from __future__ import annotations
 from typing import Any
 
 from replay_tools import amounts
-from replay_tools.traces import thresholds_of
+from replay_tools.traces import Threshold, thresholds_of
 
 # a signal below this many times its threshold is near it
 NEAR_TIMES = 2
@@ -17,9 +17,9 @@ class Nearness:
     """How near a node is to its thresholds, by the newest samples and by what the kubelet did."""
 
     def __init__(self) -> None:
-        self.thresholds = []
+        self.thresholds: list[Threshold] = []
         self.transition = DEFAULT_TRANSITION_SECONDS
-        self.low = frozenset()
+        self.low: frozenset[str] = frozenset()
         self.pressed_at: float | None = None
 
     def know(self, node_line: dict[str, Any]) -> None:

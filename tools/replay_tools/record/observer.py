@@ -53,21 +53,21 @@ class Observer:
         self.say = say
         self.seconds = {PODS: PODS_SECONDS, SUMMARY: max(SUMMARY_SECONDS, summary_seconds)}
         self.near = Nearness()
-        self.decided = set()
-        self.asked_at = {}
-        self.silent = {}
-        self.details = {}
-        self.states = {}
+        self.decided: set[str] = set()
+        self.asked_at: dict[str, float] = {}
+        self.silent: dict[str, Any] = {}
+        self.details: dict[str, Any] = {}
+        self.states: dict[str, Any] = {}
         # the instances whose code is not known yet, and since when the runtime has them no more
-        self.unended = {}
-        self.missed_at = {}
-        self.listed_pods = {}
+        self.unended: dict[str, Any] = {}
+        self.missed_at: dict[str, float] = {}
+        self.listed_pods: dict[str, Pod] = {}
         self.instances: dict[str, list[Instance]] | None = None
         self.counters: dict | None = None
         self.listed_at: float = 0
         self.moved_at: float = 0
-        self.known = set()
-        self.strangers = set()
+        self.known: set[str] = set()
+        self.strangers: set[str] = set()
 
     def first_look(self, moment: float) -> Seen:
         """A look that needs all sources; Failed where one of them gives no answer."""
@@ -198,7 +198,7 @@ class Observer:
         listed = self.with_removed(listed, moment)
         there = {each.id for each in listed}
         self.details = {identity: detail for identity, detail in self.details.items() if identity in there}
-        by_uid = {}
+        by_uid: dict[str, list[Instance]] = {}
         for instance in map(self.detailed, listed):
             by_uid.setdefault(instance.uid, []).append(instance)
             if instance.exit_code is None and instance.uid in self.known:

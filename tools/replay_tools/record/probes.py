@@ -27,7 +27,7 @@ class Result:
 @reads("/metrics/probes")
 def counters_of(text: str) -> dict[tuple[str, str, str], dict[str, int]]:
     """The counts of an answer: {(uid, container, probe): {result: count}}."""
-    counters = {}
+    counters: dict[tuple[str, str, str], dict[str, int]] = {}
     for line in text.split("\n"):
         series = SERIES.match(line)
         if series is None:

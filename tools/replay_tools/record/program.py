@@ -48,7 +48,7 @@ class Says:
     """Says a line on standard error, once of each subject, or once of its text, as far back as it remembers."""
 
     def __init__(self) -> None:
-        self.said = {}
+        self.said: dict[Any, bool] = {}
 
     def __call__(self, text: str, subject: str | tuple[str | float, ...] | None = None) -> None:
         subject = text if subject is None else subject

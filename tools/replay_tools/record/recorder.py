@@ -78,12 +78,12 @@ class Recorder:
         self.every = every
         self.say = say
         self.timeline = Timeline(trace_format)
-        self.recorded = {}
-        self.left_out = set()
-        self.decided = set()
-        self.listed = []
+        self.recorded: dict[str, Recorded] = {}
+        self.left_out: set[str] = set()
+        self.decided: set[str] = set()
+        self.listed: list[Pod] = []
         # the second behind which the last pod of a name is no more
-        self.gone_at = {}
+        self.gone_at: dict[str, int] = {}
         self.is_first = True
         self.is_behind = False
         self.begun: Optional[float] = None
@@ -91,11 +91,12 @@ class Recorder:
         self.listed_at: Optional[float] = None
         self.sampled_at: Optional[float] = None
         self.wanted_at = self.newest = float("-inf")
-        self.samples = {}
+        self.samples: dict[str, Sample] = {}
         # the newest summary, and the pods that had gone by the time at which the kubelet evicted them
         self.summary: Optional[Summary] = None
         self.evicted_behind: list = []
-        self.counters = self.planned_counters = {}
+        self.counters: dict = {}
+        self.planned_counters: dict = {}
 
     def begin(self, node_line: NodeLine) -> str:
         """The first line."""
@@ -288,7 +289,7 @@ class Recorder:
     def follow(self, recorded: Recorded, seen: Seen) -> None:
         """What became of the containers of one pod since the last look."""
         pod, names = recorded.pod, recorded.pod.containers()
-        by_name = {name: [] for name in names}
+        by_name: dict[str, list[Instance]] = {name: [] for name in names}
         for instance in seen.instances.get(pod.uid, []):
             if instance.container in by_name:
                 by_name[instance.container].append(instance)

@@ -168,7 +168,7 @@ class Container:
 
     def carried(self) -> list[dict[str, str]]:
         """The results that show once more what is known, one behind the other: a list of {probe: result}."""
-        before = [{} for _ in self.history()]
+        before: list[dict[str, Any]] = [{} for _ in self.history()]
         if before and "startup" in self.runs:
             before[0] = {"startup": "success"}
         newest = self.carried_of_newest()
@@ -213,10 +213,10 @@ class Pod:
         inits = spec.get("initContainers") or []
         self.containers = {each["name"]: Container(each, each in inits and each.get("restartPolicy") == "Always")
                            for each in inits + spec["containers"]}
-        self.usage = {}
+        self.usage: dict[str, Any] = {}
         self.is_unsampled = False
-        self.waiting = {}
-        self.decisions = []
+        self.waiting: dict[str, Any] = {}
+        self.decisions: list[Any] = []
 
     def take(self, entry: Any, second: int) -> None:
         """What a tick has of it."""
@@ -265,8 +265,8 @@ class Standing:
 
     def __init__(self) -> None:
         self.node: dict[str, Any] | None = None
-        self.pods = {}
-        self.signals = {}
+        self.pods: dict[str, Any] = {}
+        self.signals: dict[str, Any] = {}
         # the second of the last tick
         self.at: int | None = None
 
@@ -316,7 +316,7 @@ class Standing:
     def tick(self, second: int, back: int) -> str:
         """One of the ticks that show what is known; signals, and what the kubelet did, are in that of the border."""
         entries = [pod.entry(second, back) for pod in self.pods.values()]
-        told = {}
+        told: dict[str, Any] = {}
         for pod in self.pods.values():
             for kind, decision in pod.decisions if back == 0 else ():
                 told.setdefault(kind, []).append(decision)

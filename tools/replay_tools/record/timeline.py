@@ -101,17 +101,17 @@ class Timeline:
 
     def __init__(self, trace_format: Format) -> None:
         self.format = trace_format
-        self.ticks = {}
+        self.ticks: dict[int, Tick] = {}
         self.next_second: float = 0
         self.latest: int | None = None
-        self.last_placed = {}
-        self.successes = {}
-        self.present = []
-        self.listings = {}
-        self.results = {}
-        self.usages = {}
-        self.unsampled = set()
-        self.signals = {}
+        self.last_placed: dict[tuple[str, ...], int] = {}
+        self.successes: dict[tuple[str, ...], Any] = {}
+        self.present: list[Pod] = []
+        self.listings: dict[str, dict[str, Any]] = {}
+        self.results: dict[tuple[str, ...], str] = {}
+        self.usages: dict[str, dict[str, Any]] = {}
+        self.unsampled: set[str] = set()
+        self.signals: dict[str, int] = {}
         # when the kubelet evicted a pod last, and the signals that were not sampled since
         self.evicted_at: int | None = None
         self.outdated: set[str] = set()
