@@ -384,13 +384,9 @@ def tick_of(found: dict[str, Any], lines: Lines, begin: int, end: int) -> Tick:
 
 def entries_of(found: dict[str, Any]) -> dict[str, dict[str, Any]]:
     entries = {entry.get("pod"): entry for entry in list_at(found, "pods")}
-    if not all(map(is_text, entries)):
+    if not all(isinstance(key, str) for key in entries):
         raise ValueError("pod")
     return entries
-
-
-def is_text(value: str) -> bool:
-    return isinstance(value, str)
 
 
 def decisions_of(trace: Trace, found: dict[str, Any]) -> Iterator[Decision]:
