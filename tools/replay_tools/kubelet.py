@@ -56,12 +56,12 @@ class Kubelet:
         all_of = [(fact.decision, fact) for fact in self.evicted] + [(each, None) for each in self.refused]
         return sorted(all_of, key=lambda pair: pair[0].at)
 
-    def fact(self, number: int) -> Fact | None:
+    def fact(self, number: int | None) -> Fact | None:
         """The kubelet's eviction of a pod, or None."""
         found = (fact for fact in self.evicted if number is not None and fact.decision.number == number)
         return next(found, None)
 
-    def by_rules_alone(self, number: int) -> Alone | None:
+    def by_rules_alone(self, number: int | None) -> Alone | None:
         return next((each for each in self.alone if each.eviction.number == number), None)
 
     def of_no_line(self, key: str) -> list[traces.Decision]:

@@ -340,7 +340,7 @@ def take_usage(usage: dict[str, int], entry: dict[str, Any], at: int, heeds_unsa
             usage[resource] = traces.amounts.quantity(value)
 
 
-def candidates_of(trace: traces.Trace, report: reports.Report, place: int, signal: str, number: int,
+def candidates_of(trace: traces.Trace, report: reports.Report, place: int, signal: str, number: int | None,
                   usages: dict[int, dict[str, int]]) -> list[Candidate]:
     """The pods that were present at a tick and had not ended before it, in the order of the rules for a signal; one of
     a number was evicted."""

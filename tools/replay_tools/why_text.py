@@ -158,7 +158,7 @@ def exit_lines(trace: traces.Trace, pod: reports.Pod, around: why.Around, show: 
     return lines + left_out(len(around.exits) - len(kept), "earlier exits")
 
 
-def reason_of(trace: traces.Trace, pod: reports.Pod, name: str, found: why.Exit) -> str:
+def reason_of(trace: traces.Trace, pod: reports.Pod, name: str | None, found: why.Exit) -> str:
     end = trace.reasons.ends.get((pod.number, name, found.attempt))
     return end.reason if end is not None and end.reason else "-"
 

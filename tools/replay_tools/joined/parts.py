@@ -102,7 +102,7 @@ def program_path() -> str:
     return programs.path() if os.environ.get("KUBELET_REPLAY") else programs.checked_path()
 
 
-def made_of(source: files.Source, program: str) -> tuple[Unusable | bytes, Unusable | bytes]:
+def made_of(source: files.Source, program: str | None) -> tuple[Unusable | bytes, Unusable | bytes]:
     """The text of a source and its report, or why there is none in its place. A part may be written while it is read,
     so it is read once more where it can't be used."""
     for _ in range(2 if source.is_part else 1):

@@ -34,7 +34,7 @@ def run_command(words: list[str], seconds: float) -> str:
     return done.stdout.decode("utf-8", "replace")
 
 
-def read_json(text: str, what: str) -> dict[str, Any] | None:
+def read_json(text: str, what: str) -> Any:
     try:
         return json.loads(text)
     except (ValueError, RecursionError):
