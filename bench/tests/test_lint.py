@@ -1,4 +1,5 @@
-"""Tests of bench/lint over a small repository, where stand-ins take the place of shellcheck and pyflakes3."""
+"""Tests of bench/lint over a small repository, where stand-ins take the place of shellcheck, pyflakes3 and
+mypy."""
 import os
 import shutil
 import subprocess
@@ -10,10 +11,10 @@ from common import PATH_WITH_COMMANDS, Case, commands_in, run, write
 SHELL = {"a": "#!/bin/sh\n", "b c": "#!/usr/bin/env bash\n", "d.sh": "echo\n", "lib/e": "# shellcheck shell=bash\n",
          "f.bash": "", "g": "#! /bin/dash -e\n"}
 PYTHON = {"h": "#!/usr/bin/env python3\n", "i.py": "", "lib/j": "#!/usr/bin/python3 -B\n",
-          "s": "#!/bin/sh\n'''exec' python3 \"$0\"\n'''\n"}
+          "s": "#!/bin/sh\n'''exec' python3 \"$0\"\n'''\n", "tools/replay_tools/t.py": "", "tools/t.py": ""}
 OTHERS = {"k": "", "l.md": "#!/bin/sh\n"[1:], "m": "sh\n", "n": "#!/usr/bin/awk -f\n", "out/o.py": "FINDING\n",
           ".gitignore": "out/\n", "p": "#!/usr/bin/env fish\n", "q.js": "// python\n"}
-ALL = "10 files were looked at: 6 of shell, 4 of Python\n"
+ALL = "12 files were looked at: 6 of shell, 6 of Python\n"
 
 
 @unittest.skipUnless(shutil.which("git"), "git is missing")
@@ -35,10 +36,11 @@ class Lint(Case):
 
     def test_every_script_is_looked_at(self):
         self.assertEqual(self.lint(), (
-            0, f"shellcheck: {' '.join(sorted(SHELL))}\npyflakes3: {' '.join(sorted(PYTHON))}\n{ALL}", ""))
+            0, f"shellcheck: {' '.join(sorted(SHELL))}\npyflakes3: {' '.join(sorted(PYTHON))}\n"
+            f"mypy: tools/replay_tools/t.py\n{ALL}", ""))
 
     def test_what_one_of_them_finds(self):
-        for path in ("d.sh", "lib/j"):
+        for path in ("d.sh", "lib/j", "tools/replay_tools/t.py"):
             write("# FINDING\n" if path == "d.sh" else "#!/usr/bin/python3\nFINDING\n", self.top, path)
             status, said, _ = self.lint()
             self.assertEqual((status, said.splitlines(True)[-1]), (1, ALL))
@@ -49,13 +51,13 @@ class Lint(Case):
     def test_a_file_that_is_gone(self):
         os.remove(f"{self.top}/a")
         status, said, _ = self.lint()
-        self.assertEqual((status, said.splitlines()[-1]), (0, "9 files were looked at: 5 of shell, 4 of Python"))
+        self.assertEqual((status, said.splitlines()[-1]), (0, "11 files were looked at: 5 of shell, 6 of Python"))
 
     def test_words_and_what_is_missing(self):
         self.assertEqual(run("lint", "--all"), (3, "", "usage: bench/lint [FOLDER]\n"))
         with tempfile.TemporaryDirectory() as room:
             path = commands_in(room, "python3", "env", "git")
-            for command in ("shellcheck", "pyflakes3"):
+            for command in ("shellcheck", "pyflakes3", "mypy"):
                 self.assertEqual(run("lint", self.top, PATH=path), (
                     127, "", f"bench/lint: {command} is missing: apt-get install {command}\n"))
                 os.symlink("/bin/true", f"{path}/{command}")

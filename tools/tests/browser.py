@@ -168,7 +168,7 @@ def check_story(page):
     story = page.text("#panel")
     tell("opens a story", (page.text("#panel h2"), "ended 10 as Succeeded" in story), ("default/job", True))
     tell("lists the events", page.texts("#panel .event > button"),
-         ["0\nc started, attempt 0", "0\nc ready", "0\nphase Running", "10\nc died with code 0, attempt 0",
+         ["0\nc started (attempt 0)", "0\nc ready", "0\nphase Running", "10\nc died with code 0 (attempt 0)",
           "10\nc unready", "10\nphase Succeeded"])
     page.click("#panel .event > button", 3)
     tell("unfolds an event's why", page.text("#panel .why"),
@@ -238,7 +238,7 @@ def check_keys(page):
     page.press(Keys.ESCAPE, "/")
     found.append(page.script("document.activeElement.id"))
     tell("is used by keys", found, [
-        "default/late", "why: started, attempt 0", "why: evicted by nodefs.available soft, grace 15 s",
+        "default/late", "why: started (attempt 0)", "why: evicted by nodefs.available soft, grace 15 s",
         "10 – 30 (20 s)", "15 – 35 (20 s)", "1970-01-01 00:00:00Z – 1970-01-01 00:00:40Z (40 s)", "Keys",
         "filter"])
     page.press(Keys.ESCAPE)
@@ -322,7 +322,7 @@ def check_reasons(chromedriver, path):
         events = page.texts("#panel .event > button")
         died = next(place for place, event in enumerate(events) if "died" in event)
         tell("says why in an event", events[died].split("\n")[1],
-             "app died with code 137: OOMKilled, its memory limit is 32Mi, attempt 0")
+             "app died with code 137: OOMKilled, its memory limit is 32Mi (attempt 0)")
         page.click("#panel .event > button", died)
         tell("and what that means", page.text("#panel .why").split("\n")[0],
              "OOM-killed because it came to its memory limit, 32Mi (resources.limits.memory); the node had 4Gi of memory "
@@ -354,7 +354,7 @@ def check_gap(chromedriver, path):
         tell("says it in a chart", page.tip(chart, 50 / 81, 10), told)
         page.click(".pod .name", page.texts(".pod .name").index("shop/web"))
         tell("says in a story what is not known", [words in page.text("#panel") for words in (
-            "started, attempt 4 (by then, in the gap since 2026-01-01 00:00:40Z)",
+            "started (attempt 4) (by then, in the gap since 2026-01-01 00:00:40Z)",
             "restart backed off by 10 s (exits counted anew since 2026-01-01 00:00:20Z)")], [True, True])
         page.press(Keys.ESCAPE)
         tell("tells what was before it", page.tip(row, 36 / 81, 20).split("\n")[1], "app: running, attempt 2")

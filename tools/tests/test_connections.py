@@ -7,7 +7,6 @@ import signal
 import socket
 import ssl
 import subprocess
-import sys
 import tempfile
 import threading
 import time
@@ -15,8 +14,7 @@ from http.server import BaseHTTPRequestHandler, ThreadingHTTPServer
 
 from checks import HERE, LONGEST, TOOLS, expect, read, run
 
-sys.path.insert(0, f"{TOOLS}/lib")
-from record.connections import NotRead, settings_of  # noqa: E402
+from replay_tools.record.connections import NotRead, settings_of
 
 ANSWERS = f"{HERE}/recordings/crash_loop/1"
 PATHS = {"/pods": "pods.json", "/configz": "configz.json", "/stats/summary": "summary.json",

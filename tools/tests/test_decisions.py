@@ -6,14 +6,11 @@ import os
 import re
 import shutil
 import sqlite3
-import sys
 import tempfile
 
 from checks import HERE, TOOLS, expect, expect_kept, expect_refused, read, replayed, run
 
-sys.path.insert(0, f"{TOOLS}/lib")
-import kubelet as kubelets  # noqa: E402
-import trace as traces  # noqa: E402
+from replay_tools import kubelet as kubelets, traces
 
 FOLDER = f"{HERE}/whys/kubelet"
 TRACE = f"{FOLDER}/trace"

@@ -6,14 +6,12 @@ import os
 import shlex
 import shutil
 import subprocess
-import sys
 import tarfile
 import tempfile
 
-from checks import TOOLS, TOP, expect, expect_refused, read, run
+from checks import TOP, expect, expect_refused, read, run
 
-sys.path.insert(0, f"{TOOLS}/lib")
-from record.words import words_of  # noqa: E402
+from replay_tools.record.words import words_of
 
 DEPLOY = f"{TOP}/deploy"
 SHOWS = '#!/bin/sh\nprintf "%s\\n" "$@"\nif [ -n "${SHOWN-}" ]; then cat "$SHOWN"; fi\n'

@@ -4,13 +4,11 @@ import glob
 import io
 import os
 import shutil
-import sys
 import tempfile
 
 from checks import HERE, REPLAY, TOOLS, TOP, expect, expect_kept, expect_refused, read, run
 
-sys.path.insert(0, f"{TOOLS}/lib")
-from explain import answer, before, lines, manifest, node, search, table, tick, told, verdict  # noqa: E402
+from replay_tools.explain import answer, before, lines, manifest, node, search, table, tick, told, verdict
 
 EXPLAINED = f"{HERE}/explained"
 DATA = f"{TOP}/crates/case_runner/data"

@@ -16,7 +16,6 @@ import time
 
 from checks import HERE, REPLAY, TOOLS, TOP, expect, expect_kept, expect_refused, read, run
 
-sys.path.append(f"{TOP}/bench/lib")
 import fleet_runs
 import node_traces
 
@@ -332,13 +331,13 @@ def test_program_of_a_checkout():
     folder = tempfile.mkdtemp()
     built = f"{folder}/crates/replay_program/out/replay_program"
     os.makedirs(os.path.dirname(built))
-    shutil.copytree(f"{TOOLS}/lib", f"{folder}/tools/lib")
+    shutil.copytree(f"{TOOLS}/replay_tools", f"{folder}/tools/replay_tools")
     for path in (f"{folder}/kubelet_replay", built):
         with open(path, "w") as file:
             file.write("#!/bin/sh\nprintf 'node n1 pods=0 ticks=0\\n'\n")
         os.chmod(path, 0o755)
-    ask = [sys.executable, "-c", "import program; print(program.checked_path())"]
-    settings = {"PYTHONPATH": f"{folder}/tools/lib", "KUBELET_REPLAY": ""}
+    ask = [sys.executable, "-c", "from replay_tools import program; print(program.checked_path())"]
+    settings = {"PYTHONPATH": f"{folder}/tools", "KUBELET_REPLAY": ""}
     expect("the program of a checkout", run(ask, **settings), (0, f"{built}\n", ""))
     os.remove(built)
     expect("the program of a release", run(ask, **settings), (0, f"{folder}/kubelet_replay\n", ""))

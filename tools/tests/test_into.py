@@ -3,16 +3,14 @@ one before it ended."""
 
 import json
 import random
-import sys
 from concurrent.futures import ThreadPoolExecutor
 
 from chance import BEGIN, SECONDS, play_of
-from checks import HERE, TOOLS, expect, read
+from checks import HERE, expect, read
 from into_plays import Into, follows, laid, parts_of, probed_play, series
 from test_plays import quiet_node, report_of
 
-sys.path.insert(0, f"{TOOLS}/lib")
-from record.standing import Standing  # noqa: E402
+from replay_tools.record.standing import Standing
 
 PLAYS = 16
 TOLD = ("started", "died", "kill", "ready", "unready")

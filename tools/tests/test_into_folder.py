@@ -8,7 +8,6 @@ import json
 import os
 import random
 import signal
-import sys
 import time
 
 from chance import BEGIN, SECONDS
@@ -18,12 +17,11 @@ from test_into import told_in
 from test_plays import quiet_node, report_of
 from test_record import Recorder
 
-sys.path[:0] = [f"{TOOLS}/lib", f"{HERE}/commands"]
-from player import Play  # noqa: E402
-from record.folder import Folder  # noqa: E402
-from record.into import LastingRecording, Traces  # noqa: E402
-from record.sources import Sources  # noqa: E402
-from record.words import words_of  # noqa: E402
+from player import Play
+from replay_tools.record.folder import Folder
+from replay_tools.record.into import LastingRecording, Traces
+from replay_tools.record.sources import Sources
+from replay_tools.record.words import words_of
 
 
 # --- what goes ---

@@ -7,7 +7,6 @@ import json
 import os
 import random
 import shutil
-import sys
 import tempfile
 from concurrent.futures import ThreadPoolExecutor
 
@@ -16,9 +15,8 @@ from checks import HERE, REPLAY, TOOLS, TOP, expect, expect_kept, expect_refused
 from into_plays import Into, probed_play
 from joined_plays import Folder, hourly, records, restarted_play, restarting_play, stamp
 
-sys.path.insert(0, f"{TOOLS}/lib")
-import trace as lib_trace  # noqa: E402
-from joined import asked, join  # noqa: E402
+from replay_tools import traces as lib_trace
+from replay_tools.joined import asked, join
 
 try:
     import jsonschema

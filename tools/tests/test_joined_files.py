@@ -4,15 +4,13 @@ together or at all, reports, and traces that gzip has packed."""
 import gzip
 import os
 import shutil
-import sys
 import tempfile
 
 from chance import BEGIN
 from checks import HERE, REPLAY, TOOLS, expect, expect_refused, read, replayed, run
 from joined_plays import Folder
 
-sys.path.insert(0, f"{TOOLS}/lib")
-from joined import files, parts  # noqa: E402
+from replay_tools.joined import files, parts
 
 
 def test_time_of_traces():

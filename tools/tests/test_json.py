@@ -3,6 +3,7 @@
 import glob
 import json
 import os
+import re
 import shutil
 import sqlite3
 import stat
@@ -59,6 +60,33 @@ def test_schema():
     for wrong in ('{"record":"node"}', '{"record":"event","node":"n","number":0,"at":1,"event":"ready","pod":"a/b"}',
                   '{"record":"other"}', "[]"):
         expect(f"schema refuses {wrong}", validator.is_valid(json.loads(wrong)), False)
+
+
+# how docs/report.md writes the fields of an event
+WRITTEN = {"pod": "NAMESPACE/NAME", "delay_seconds": "DELAY", "grace_seconds": "GRACE", "probe": "startup",
+           "active": "active", "value": "True"}
+
+
+def test_events_of_the_documents():
+    """Each kind of event of the table stands in docs/report.md with the fields of its line."""
+    page, missing = read(f"{TOP}/docs/report.md"), []
+    for kind in json.loads(read(SCHEMA))["definitions"]["event"]["oneOf"]:
+        line = re.sub(r"\{(\w+)\}", lambda found: WRITTEN.get(found[1], found[1].upper()), kind["line"])
+        if f"`{line}`" not in page:
+            missing.append(kind["properties"]["event"]["const"])
+    expect("events without their line in docs/report.md", missing, ["unready"])
+    expect("the line of unready", "`NAMESPACE/NAME CONTAINER ready`, or `unready`" in page, True)
+
+
+def test_without_the_table():
+    """The tools of a folder without docs/ say what they lack."""
+    folder = tempfile.mkdtemp()
+    shutil.copytree(f"{TOOLS}/replay_tools", f"{folder}/tools/replay_tools")
+    shutil.copy(f"{TOOLS}/json", f"{folder}/tools")
+    expect_refused("json without docs/report.schema.json", run([f"{folder}/tools/json"],
+                                                               read(f"{LINES}/came_again.report")), 1,
+                   "/docs/report.schema.json, which has the words of events, can't be read")
+    shutil.rmtree(folder)
 
 
 def test_schema_and_tables_agree():

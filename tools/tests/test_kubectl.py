@@ -26,7 +26,7 @@ def make_folder():
     """A folder with the plugin beside stand-ins for the tools, a trace, a report, and a text that is refused."""
     folder = tempfile.mkdtemp()
     os.makedirs(f"{folder}/tools")
-    os.symlink(f"{TOOLS}/lib", f"{folder}/tools/lib")
+    os.symlink(f"{TOOLS}/replay_tools", f"{folder}/tools/replay_tools")
     for name in ("kubectl-replay", "kubectl_complete-replay"):
         shutil.copy(f"{TOOLS}/{name}", f"{folder}/tools")
     for name in TOOL_NAMES:

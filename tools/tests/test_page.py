@@ -62,6 +62,27 @@ def test_page_data():
     expect("page: a listing", pod["listings"][0][:12], [0, 0, 0, 0, 5, 0, 1, 0, 40, 1, 1, 0])
 
 
+def test_page_tells_events_as_why_does():
+    """The table of words that the page has gives the sentences of tools/why."""
+    for folder in (NODE, PROBES, KUBELET, REASONS):
+        data = data_in(page_of(read(f"{folder}/report"), f"{folder}/trace")[1])
+        for pod in data["podList"]:
+            heads = run([f"{TOOLS}/why", pod["key"], "--trace", f"{folder}/trace"], read(f"{folder}/report"))[1]
+            told = re.findall(r"^\d+  (.*)$", heads, re.M)
+            expect(f"page: events of {pod['key']} in the words of why", [each for each in told_in(data, pod)
+                                                                       if each not in told], [])
+
+
+def told_in(data, pod):
+    """The events of a pod as decode.js tells them."""
+    for _, place, word, *rest in pod["events"]:
+        fields, sentence = data["told"][data["words"][word]]
+        why = f": {data['causes'][rest[4]][0]}" if len(rest) > 4 else ""
+        given = {**dict(zip(fields, rest)), "why": why}
+        name = f"{pod['containers'][place]['name']} " if place >= 0 else ""
+        yield name + (sentence + (data["toldAttempt"] if "attempt" in given else "")).format(**given)
+
+
 def test_page_of_pods_of_one_name():
     """From the report alone a pod is gone by the first tick of the next one of its name; with the trace by the first
     tick without it, and it is known whether it had a tick at all."""

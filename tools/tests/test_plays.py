@@ -6,16 +6,14 @@ import json
 import os
 import random
 import shutil
-import sys
 import tempfile
 from concurrent.futures import ThreadPoolExecutor
 
 from chance import BEGIN, SECONDS, play_of
 from checks import HERE, LONGEST, REPLAY, TOOLS, expect, read, run
 
-sys.path.insert(0, f"{TOOLS}/lib")
-from report import read_report  # noqa: E402
-from trace import read_trace  # noqa: E402
+from replay_tools.report import read_report
+from replay_tools.traces import read_trace
 
 PLAYS = 32
 # how late a start or an exit may stand where all sources answer, as what shares a second stands in those after it

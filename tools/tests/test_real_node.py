@@ -13,14 +13,12 @@ import time
 
 from checks import HERE, REPLAY, TOP, expect, expect_kept, read, run
 
-PARTS = f"{TOP}/bench/lib/real_node"
-sys.path.insert(0, PARTS)
-sys.path.append(f"{TOP}/bench/lib")
-import beside  # noqa: E402
-import counted  # noqa: E402
-import ending  # noqa: E402
-import trimmed  # noqa: E402
+import beside
+import counted
+import ending
+import trimmed
 
+PARTS = f"{TOP}/bench/lib/real_node"
 RECORDING = f"{HERE}/recordings/real_node"
 EVICTIONS = f"{HERE}/recordings/real_evictions"
 PAGE = f"{TOP}/docs/real.md"

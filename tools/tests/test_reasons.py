@@ -5,7 +5,6 @@ import os
 import re
 import shutil
 import sqlite3
-import sys
 import tempfile
 import xml.dom.minidom
 
@@ -13,8 +12,7 @@ from checks import HERE, TOOLS, TOP, expect, expect_kept, read, replayed, run
 from test_json import SCHEMA, jsonschema
 from test_record import Recorder
 
-sys.path.insert(0, f"{TOOLS}/lib")
-import trace as traces  # noqa: E402
+from replay_tools import traces
 
 PLAYED = f"{HERE}/recordings/reasons"
 RECORDED = f"{TOP}/examples/recorded/out_of_memory"

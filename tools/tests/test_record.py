@@ -13,15 +13,14 @@ from concurrent.futures import ThreadPoolExecutor
 
 from checks import HERE, LONGEST, REPLAY, TOOLS, TOP, expect, expect_kept, expect_refused, read, replayed, run
 
-sys.path.insert(0, f"{TOOLS}/lib")
-from record import formats  # noqa: E402
-from record.node import node_line_of  # noqa: E402
-from record.pods import pods_of  # noqa: E402
-from record.program import Ended, Output  # noqa: E402
-from record.runtime import inspected_of, instances_of  # noqa: E402
-from record.sources import Failed  # noqa: E402
-from record.summary import summary_of  # noqa: E402
-from record.trace import STANDARD  # noqa: E402
+from replay_tools.record import formats
+from replay_tools.record.lines import STANDARD
+from replay_tools.record.node import node_line_of
+from replay_tools.record.pods import pods_of
+from replay_tools.record.program import Ended, Output
+from replay_tools.record.runtime import inspected_of, instances_of
+from replay_tools.record.sources import Failed
+from replay_tools.record.summary import summary_of
 
 RECORDINGS = f"{HERE}/recordings"
 COMMANDS = f"{HERE}/commands"

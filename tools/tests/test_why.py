@@ -3,17 +3,11 @@
 import glob
 import os
 import shutil
-import sys
 import tempfile
 
 from checks import HERE, REPLAY, TOOLS, TOP, expect, expect_kept, expect_refused, read, replayed, run
 
-sys.path.insert(0, f"{TOOLS}/lib")
-import amounts  # noqa: E402
-import report as reports  # noqa: E402
-import telling  # noqa: E402
-import trace as traces  # noqa: E402
-import why  # noqa: E402
+from replay_tools import amounts, report as reports, telling, traces, why
 
 WHYS = f"{HERE}/whys"
 TEXTS = f"{TOP}/crates/case_runner/data/texts"

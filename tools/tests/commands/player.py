@@ -5,7 +5,7 @@ import json
 import time
 from bisect import bisect
 
-from record.sources import Failed
+from replay_tools.record.sources import Failed
 
 RESULTS = {"success": "successful", "failure": "failed", "unknown": "unknown"}
 

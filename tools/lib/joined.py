@@ -1,0 +1,3 @@
+import names
+
+names.stand_for("joined", "joined")

@@ -1,0 +1,153 @@
+"""What is asked of a report with its trace: pods by name, with the nearest names where there is none, and why."""
+
+from __future__ import annotations
+
+import difflib
+from argparse import Namespace
+from collections.abc import Callable
+from dataclasses import dataclass
+from typing import Any
+
+from replay_tools import entry, kubelet as kubelets, naming, report as reports, traces, why as why_ticks, why_text
+from replay_tools.joined import asked, join, known
+
+
+@dataclass
+class Given:
+    """What a tool is given: a report, with its trace where one is named, or those of several."""
+
+    report: reports.Report
+    trace: traces.Trace | None
+    several: join.Joined | None = None
+    ticks: why_ticks.Ticks | None = None
+
+    def is_near(self, at: int) -> bool:
+        """Whether a moment is told, where one was asked for."""
+        return self.several is None or self.several.is_near(at)
+
+    def is_span_near(self, span: reports.Span) -> bool:
+        """Whether some moment of a span is told."""
+        return self.several is None or self.several.is_span_near(span)
+
+
+def add_words(words: entry.Words) -> None:
+    """Adds the words of a tool that takes several traces in place of a report."""
+    words.valued("--trace")
+    asked.add_words(words)
+
+
+def given(found: Namespace, gather: Callable[..., Any] | None = None) -> Given:
+    """What the words of a tool name: the traces of --traces, or the report of standard input with the trace of
+    --trace. `gather` makes of the report what takes the ticks of the trace (why.Ticks)."""
+    wanted = asked.asked_of(found)
+    several = None if wanted is None else join.joined(wanted)
+    report = entry.read_report() if several is None else several.report
+    ticks = gather and gather(report)
+    if several is None:
+        trace = None if found.trace is None else trace_of(report, found.trace, ticks and ticks.take_last)
+    else:
+        trace = several.trace
+    if several is not None and trace is not None:
+        tell_left(trace, report)
+        if ticks is not None:
+            of_whole_ticks(lambda: ticks.take_all(trace))
+    return Given(report, trace, several, ticks)
+
+
+def is_utc(found: Namespace, given_to: Given) -> bool:
+    """Whether moments are written as times: that was asked for, or a time was given."""
+    return found.utc or given_to.several is not None and given_to.several.is_utc
+
+
+def key_named(report: reports.Report, name: str, kubelet: kubelets.Kubelet | None = None) -> str:
+    """The key of a name that may be cut behind, as that of a Deployment's pod is known before its hashes, and may be
+    without its namespace; then it has to fit one pod, of the report or of what the kubelet did to pods without a line.
+    A name that fits none stays as it is."""
+    of_no_line = [] if kubelet is None else [each.pod for each, _ in kubelet.decisions() if each.number is None]
+    return naming.only_key(name, list(dict.fromkeys([*keys_of(report), *of_no_line]))) or name
+
+
+def keys_named(report: reports.Report, name: str) -> list[str]:
+    """The keys that a name means: those of a namespace, which ends with a slash, or the one that it fits."""
+    if not name.endswith("/"):
+        return [key_named(report, name)]
+    keys = [key for key in keys_of(report) if key.startswith(name)]
+    if not keys:
+        raise entry.Fault(f"the report has no pod in the namespace {name[:-1]}")
+    return keys
+
+
+def pods_named(report: reports.Report, name: str, others: str = "") -> list[reports.Pod]:
+    """The pods of a key, more than one where a pod came again under its name; none where something else is told."""
+    key = name if others else key_named(report, name)
+    found = [pod for pod in report.pods if pod.key == key]
+    if not found and not others:
+        raise entry.Fault(f"the report has no pod {name}; {nearest(report, name)}")
+    return found
+
+
+def keys_of(report: reports.Report) -> list[str]:
+    return list(dict.fromkeys(pod.key for pod in report.pods))
+
+
+def nearest(report: reports.Report, key: str) -> str:
+    """What to write in place of a key that no pod has."""
+    keys = keys_of(report)
+    names = {known.partition("/")[2]: known for known in keys}
+    near = difflib.get_close_matches(key, keys, 3) or [
+        names[name] for name in difflib.get_close_matches(key.rpartition("/")[2], list(names), 3)]
+    if near:
+        return f"the nearest: {', '.join(near)}"
+    return "a pod is NAMESPACE/NAME"
+
+
+def trace_of(report: reports.Report, path: str, watch: Callable[..., Any] | None = None) -> traces.Trace:
+    """The trace of a file, which has to belong to the report; `watch` as traces.trace_of has it."""
+    try:
+        trace = traces.read_trace(path, watch)
+        traces.check_belongs(trace, report, path)
+        tell_left(trace, report)
+        if trace.follows():
+            known.tell_known(report, trace.follows()["at"])
+    except traces.TraceFault as fault:
+        raise entry.Fault(str(fault)) from None
+    except (ValueError, TypeError, KeyError, AttributeError):
+        raise entry.Fault(f"{path} has a tick line that is none (tools/explain says which)") from None
+    return trace
+
+
+def tell_left(trace: traces.Trace, report: reports.Report) -> None:
+    """From now on each pod has left when the trace lets it go, whether another one of its name came or not."""
+    for ours, pod in zip(trace.pods, report.pods):
+        pod.left = trace.ticks[ours.gone].at if ours.gone is not None and ours.gone < len(trace.ticks) else None
+
+
+def kubelet_beside(trace: traces.Trace | None, report: reports.Report) -> kubelets.Kubelet | None:
+    """What the kubelet did, beside the report; None without a trace that says so."""
+    return None if trace is None else of_whole_ticks(lambda: kubelets.beside(trace, report))
+
+
+def without_line(kubelet: kubelets.Kubelet | None, key: str, show: Callable[[int], str]) -> str:
+    """What the kubelet did to pods of a key that have no line in the trace, as text."""
+    return kubelets.no_line_text(key, kubelet.of_no_line(key), show) if kubelet is not None else ""
+
+
+def why(trace: traces.Trace, report: reports.Report, pods: list[reports.Pod], show: Callable[[int], str],
+        kubelet: kubelets.Kubelet | None, is_near: Callable[..., Any] = why_text.always) -> str:
+    """What the trace holds around the events of some pods, those of moments that are near, and what the kubelet did to
+    them, as text."""
+    return "\n".join(f"why {pod.key} on {report.node}{reports.number_words(report, pod)}\n\n"
+                     + why_of(trace, report, pod, show, kubelet, is_near) for pod in pods)
+
+
+def why_of(trace: traces.Trace, report: reports.Report, pod: reports.Pod, show: Callable[[int], str],
+           kubelet: kubelets.Kubelet | None, is_near: Callable[..., Any]) -> str:
+    return of_whole_ticks(lambda: why_text.whole_text(trace, report, pod, show, kubelet, is_near))
+
+
+def of_whole_ticks(gather: Callable[..., Any]) -> Any:
+    """What is gathered of a trace, whose ticks are looked at only then."""
+    try:
+        return gather()
+    except (ValueError, TypeError, KeyError, AttributeError):
+        raise entry.Fault("the trace has a tick line that is none (tools/explain says which)") from None

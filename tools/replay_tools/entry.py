@@ -1,0 +1,211 @@
+"""What the entries of the tools have in common: their words, reading standard input, one line of a fault, writing an
+answer."""
+
+from __future__ import annotations
+
+import argparse
+import io
+import os
+import sys
+from collections.abc import Callable, Iterable
+from typing import Any, BinaryIO, TextIO
+
+from replay_tools import events, first_bytes, report as reports
+
+
+# the tool that runs, which says what it says under its name
+TOOL = ["kubelet-replay"]
+
+
+class Fault(Exception):
+    """What is said in one line on standard error, in one more what it means where that is known, and the status."""
+
+    def __init__(self, said: str, status: int = 2, means: str | None = None) -> None:
+        super().__init__(said)
+        self.status, self.means = status, means
+
+
+class Help(Exception):
+    """The help was asked for, which is the text."""
+
+
+class Words(argparse.ArgumentParser):
+    """Takes the words of a tool. Its help is a text of its own, and what is mistaken is a fault of one line."""
+
+    def __init__(self, text: str) -> None:
+        super().__init__(usage="", add_help=False, allow_abbrev=False, exit_on_error=False)
+        self.add_argument("-h", "--help", action=ShowHelp, text=text)
+
+    def flag(self, *names: str) -> None:
+        """Words without a value."""
+        for name in names:
+            self.add_argument(name, action="store_true")
+
+    def valued(self, *names: str) -> None:
+        """Words with a value, of which the last one counts; without it None."""
+        for name in names:
+            self.add_argument(name)
+
+    def taken(self, words: list[str]) -> argparse.Namespace:
+        """The values of the words, in whatever order they stand. Raises Fault and Help."""
+        try:
+            found, left = self.parse_known_intermixed_args(words)
+        except argparse.ArgumentError as fault:
+            raise Fault(f"{fault.argument_name} {said_of(fault.message)}") from None
+        if left:
+            raise Fault(f"{left[0]} is no word of it (--help says more)")
+        return found
+
+
+def said_of(message: str) -> str:
+    """What is said of a word that argparse refuses; what a kind of value says of one that is none stays."""
+    if message.startswith("expected one argument"):
+        return "wants a value (--help says more)"
+    if message.startswith("ignored explicit argument"):
+        return "takes no value (--help says more)"
+    return message
+
+
+class ShowHelp(argparse.Action):
+    """Ends the reading of words by the help."""
+
+    def __init__(self, option_strings: list[str], dest: str, text: str) -> None:
+        super().__init__(option_strings, argparse.SUPPRESS, nargs=0, default=argparse.SUPPRESS)
+        self.text = text
+
+    def __call__(self, *_: object) -> None:
+        raise Help(self.text)
+
+
+def whole_number(most: int) -> Callable[[str], int]:
+    """The kind of a word whose value is a whole number from 1 to a greatest one."""
+    def number(text: str) -> int:
+        if not (text.isascii() and text.isdigit() and len(text) < 8 and 1 <= int(text) <= most):
+            raise argparse.ArgumentTypeError(f"takes a whole number from 1 to {most}, not '{text}'")
+        return int(text)
+    return number
+
+
+def one_of(choices: Iterable[str]) -> Callable[[str], str]:
+    """The kind of a word whose value is one of some texts."""
+    def choice(text: str) -> str:
+        if text not in choices:
+            raise argparse.ArgumentTypeError(f"takes {', '.join(choices)}, not '{text}'")
+        return text
+    return choice
+
+
+def say(text: str) -> None:
+    """A line on standard error that is no fault."""
+    print(f"{TOOL[0]}: {visible(text)}", file=sys.stderr)
+
+
+def standard_input() -> BinaryIO:
+    """Standard input as bytes, where the shell has not closed it."""
+    if sys.stdin is None:
+        raise Fault("standard input is closed")
+    return sys.stdin.buffer
+
+
+def read_report() -> reports.Report:
+    """The report of standard input."""
+    text, given = b"", standard_input()
+    if given.isatty():
+        raise Fault("it wants a report on standard input, as kubelet_replay run TRACE > REPORT writes it: .. < REPORT")
+    try:
+        text = given.read()
+        return reports.read_report(text.decode("utf-8", "replace"))
+    except reports.ReportFault as fault:
+        raise Fault(first_bytes.instead_of_report(text) or str(fault)) from None
+    except OSError as fault:
+        raise Fault(f"standard input can't be read: {fault.strerror}") from None
+
+
+class OutputFault(OSError):
+    """Standard output takes no more."""
+
+
+class Output(io.FileIO):
+    """Standard output, with faults that can be told from those of other files."""
+
+    def write(self, data: Any) -> int:
+        try:
+            return super().write(data)
+        except BrokenPipeError:
+            raise
+        except OSError as fault:
+            raise OutputFault(fault.errno, fault.strerror) from None
+
+
+def standard_output() -> TextIO:
+    """Standard output with a buffer also where PYTHONUNBUFFERED takes it away: without one a write that is cut short,
+    as on a full disk, would be no fault."""
+    plain = sys.stdout
+    buffer = io.BufferedWriter(Output(plain.fileno(), "wb", closefd=False))
+    return io.TextIOWrapper(buffer, plain.encoding, plain.errors, line_buffering=plain.isatty())
+
+
+def run(tool: str, main: Callable[[list[str]], int]) -> int:
+    """The status of a tool: that of main, or of a fault, 1 where standard output takes no more or the system refuses
+    something that no tool expects."""
+    TOOL[0] = tool
+    if sys.stderr is None:
+        sys.stderr = open(os.devnull, "w", encoding="utf-8")
+    if sys.stdout is None:
+        print(f"{tool}: standard output is closed", file=sys.stderr)
+        return 1
+    sys.stdout = standard_output()
+    try:
+        status = version(tool) if is_version(sys.argv[1:]) else answered(main, sys.argv[1:])
+        sys.stdout.flush()
+        return status
+    except Fault as fault:
+        for said in filter(None, (str(fault), fault.means)):
+            print(f"{tool}: {visible(said)}", file=sys.stderr)
+        return fault.status
+    except BrokenPipeError:
+        # what is still held must not be written once more as the interpreter ends
+        os.dup2(os.open(os.devnull, os.O_WRONLY), sys.stdout.fileno())
+        return 1
+    except OSError as fault:
+        output = "standard output takes no more: " if isinstance(fault, OutputFault) else ""
+        os.dup2(os.open(os.devnull, os.O_WRONLY), sys.stdout.fileno())
+        print(f"{tool}: {output}{visible(str(fault.strerror or fault))}", file=sys.stderr)
+        return 1
+    except KeyboardInterrupt:
+        return 130
+
+
+def answered(main: Callable[[list[str]], int], words: list[str]) -> int:
+    """The status of a tool, with the answer or the help written."""
+    try:
+        return main(words)
+    except Help as text:
+        sys.stdout.write(str(text))
+        return 0
+    except events.NoTable as fault:
+        raise Fault(str(fault), 1) from None
+
+
+def is_version(words: list[str]) -> bool:
+    return words in (["--version"], ["-V"])
+
+
+def version(tool: str) -> int:
+    """Writes the version of the release, or of the checkout, that the tool is of; the status."""
+    top = os.path.dirname(os.path.dirname(os.path.dirname(os.path.realpath(__file__))))
+    with open(os.path.join(top, "VERSION"), encoding="utf-8") as file:
+        sys.stdout.write(f"{tool} {file.read()}")
+    return 0
+
+
+def visible(text: str) -> str:
+    """A text as one line that a terminal only shows, whatever names are in it: what can't be printed, as an escape byte
+    or the end of a line, is written as Python writes it."""
+    return "".join(each if each.isprintable() else each.encode("unicode_escape").decode("ascii") for each in text)
+
+
+def counted(count: int, what: str) -> str:
+    """A number of things, in words: 1 pod, 2 pods, 2 copies."""
+    several = f"{what[:-1]}ies" if what.endswith("y") else f"{what}s"
+    return f"{count} {what if count == 1 else several}"

@@ -1,0 +1,74 @@
+"""Answers that are kept beside the database, in a folder of their own: for each trace its rows and its report. A run
+that begins again takes them from there."""
+
+from __future__ import annotations
+
+import fcntl
+import gzip
+import hashlib
+import json
+import os
+import re
+from collections.abc import Iterator
+from typing import Any
+
+from replay_tools import entry
+
+
+# of which form the rows are: those of another one are no answers
+FORM = "3"
+
+
+class Kept:
+    """The folder of kept answers of one program; another program's are no answers."""
+
+    def __init__(self, folder: str, program_sum: str) -> None:
+        self.folder, self.program_sum = folder, program_sum
+        try:
+            os.makedirs(folder, exist_ok=True)
+            # held for as long as this process lives, and not by what it starts
+            self.lock = open(os.path.join(folder, "lock"), "a")
+            fcntl.lockf(self.lock, fcntl.LOCK_EX | fcntl.LOCK_NB)
+        except BlockingIOError:
+            raise entry.Fault(f"another run writes {folder}; wait until it has ended") from None
+        except OSError as fault:
+            raise entry.Fault(f"{folder} can't be written: {fault.strerror}") from None
+
+    def name(self, path: str) -> str:
+        """The name of a trace's files: what people call it, and a key of its path, of the program and of the form."""
+        plain = re.sub(r"[^A-Za-z0-9.-]", "_", os.path.basename(path).removesuffix(".gz").removesuffix(".trace"))[:80]
+        key = hashlib.sha256(f"{FORM}\n{self.program_sum}\n".encode() + os.fsencode(path)).hexdigest()[:16]
+        return f"{plain}-{key}"
+
+    def file(self, path: str, kind: str) -> str:
+        return os.path.join(self.folder, f"{self.name(path)}.{kind}.gz")
+
+    def known(self, path: str, until: int | None) -> str | None:
+        """The SHA-256 of the trace whose answer is kept, as one that says all up to a moment; or None."""
+        try:
+            trace = next(self.rows(path))
+            return trace["sha256"] if trace["until"] == until else None
+        except (OSError, EOFError, ValueError, KeyError, StopIteration):
+            return None
+
+    def rows(self, path: str) -> Iterator[dict[str, Any] | None]:
+        """The record of a trace, and those of its report."""
+        with gzip.open(self.file(path, "rows"), "rt", encoding="utf-8") as lines:
+            yield from map(json.loads, lines)
+
+    def keep(self, path: str, answer: dict[str, Any]) -> None:
+        """Takes an answer in. The rows come last, since they say that the answer is whole."""
+        if answer["rows"] is None:
+            return
+        if answer["report"] is not None:
+            self.write(self.file(path, "report"), answer["report"])
+        self.write(self.file(path, "rows"), answer["rows"])
+
+    def write(self, path: str, content: bytes) -> None:
+        part = path + ".part"
+        try:
+            with open(part, "wb") as file:
+                file.write(content)
+            os.replace(part, path)
+        except OSError as fault:
+            raise entry.Fault(f"{path} can't be written: {fault.strerror}") from None

@@ -1,0 +1,83 @@
+"""Which traces are meant by words: files, folders and patterns."""
+
+from __future__ import annotations
+
+import glob
+import gzip
+import json
+import os
+import zlib
+from typing import Any
+
+from replay_tools import entry, packed, traces
+
+ENDINGS = (".trace", ".trace.gz")
+LONGEST_LINE = 1 << 20
+
+
+def paths_of(words: list[str]) -> list[str]:
+    """The absolute paths of the traces that the words name, each once, in the order of their bytes."""
+    found: set[str] = set()
+    for word in words:
+        named = paths_named(word)
+        if not named:
+            raise entry.Fault(f"no trace found: {word} is no file, has no *.trace or *.trace.gz below it and "
+                              "matches nothing")
+        found.update(os.path.abspath(path) for path in named)
+    return sorted(found, key=os.fsencode)
+
+
+def paths_named(word: str) -> list[str]:
+    if os.path.isdir(word):
+        return paths_below(word)
+    if os.path.exists(word):
+        return [word]
+    matched = glob.glob(word, recursive=True)
+    return [path for path in matched if not os.path.isdir(path)]
+
+
+def paths_below(folder: str) -> list[str]:
+    """Every *.trace and *.trace.gz in a folder and in those below it."""
+    return [os.path.join(where, name) for where, _, names in os.walk(folder) for name in names
+            if name.endswith(ENDINGS)]
+
+
+def known_ends(paths: list[str]) -> dict[str, int]:
+    """By the path of a trace up to when it says all that happened, where one that follows it says so. Its own last tick
+    may be some seconds before that."""
+    by_name: dict[str, Any] = {}
+    for path in paths:
+        by_name.setdefault(plain_name(path), []).append(path)
+    ends = {}
+    for path in paths:
+        follows = follows_of(path)
+        named = by_name.get(plain_name(follows["trace"]), []) if follows else []
+        beside = [other for other in named if os.path.dirname(other) == os.path.dirname(path)]
+        for other in beside or named:
+            if other != path:
+                ends[other] = follows["until"]
+    return ends
+
+
+def plain_name(path: str) -> str:
+    return os.path.basename(path).removesuffix(".gz")
+
+
+def follows_of(path: str) -> dict[str, Any] | None:
+    """What the node line of a trace says of the one before it; None where it says nothing, or can't be read."""
+    if not os.path.isfile(path):
+        # a pipe would be waited for
+        return None
+    try:
+        with open(path, "rb") as plain:
+            head = plain.read(len(packed.GZIP))
+        with gzip.open(path, "rb") if packed.is_packed(head) else open(path, "rb") as file:
+            said = json.loads(file.readline(LONGEST_LINE)).get("follows")
+    except (OSError, EOFError, zlib.error, ValueError, AttributeError, RecursionError):
+        return None
+    return said if traces.is_follows(said) else None
+
+
+def shown(path: str) -> str:
+    """A path as text that a table can hold, where its bytes are no UTF-8 too."""
+    return os.fsencode(path).decode("utf-8", "replace")

@@ -1,0 +1,171 @@
+"""The work of one trace: it is read, replayed, and its report is made into records. What goes in and comes out are
+plain values, so that any process on any machine can do it."""
+
+from __future__ import annotations
+
+import functools
+import gzip
+import hashlib
+import io
+import json
+import os
+import re
+import stat
+import subprocess
+from collections.abc import Iterator
+from typing import Any
+
+from replay_tools import entry, kubelet as kubelets, packed, program as programs, records, report as reports, traces
+
+LONGEST_INPUT = 64 << 20
+# events are in the report alone: they would be most of the rows
+KINDS = ("node", "pod", "container", "condition", "eviction", "decision", "cause")
+# of what a trace may say beside what the formats read
+SIGNS = (b'"kubelet"', b'"reason"', b'"waiting"', b'"ended"')
+REFUSED_LINE = re.compile(r"line (\d+): (\d+) (\S.*)")
+
+
+class WorkFault(entry.Fault):
+    """This process can't do the work of any trace; the message says why."""
+
+
+def answer(program: str, program_sum: str, path: str, known: tuple[str | None, int | None]) -> dict[str, Any]:
+    """What became of the trace of a path: a dict of its record, its rows and its report, both as gzip or None. What is
+    known are the SHA-256 of the trace that was answered before, or None, and up to when it says all that happened,
+    where one that follows it says so. Where the trace is still the same there are neither rows nor report, and the
+    status is "known"."""
+    known_sum, until = known
+    check_program(program, program_sum)
+    try:
+        text, size = read_trace(path)
+    except OSError as fault:
+        return failed(path, f"can't be read: {fault.strerror}")
+    except packed.Damaged as fault:
+        return failed(path, str(fault))
+    trace_sum = hashlib.sha256(text).hexdigest()
+    if trace_sum == known_sum:
+        return answered(record_of(path, trace_sum, size, "known"))
+    words = ["run", "/dev/stdin", "--workers", "1", *programs.format_words(io.BytesIO(text))]
+    done = subprocess.run([program, *words], input=text, capture_output=True, check=False, start_new_session=True)
+    if done.returncode != 0:
+        said = done.stderr.decode("utf-8", "replace").split("\n")[0]
+        return answered(record_of(path, trace_sum, size, **refusal(done.returncode, said)) | {"until": until})
+    try:
+        report = reports.read_report(done.stdout.decode("utf-8", "replace"))
+    except reports.ReportFault as fault:
+        said = str(fault).replace("standard input", "the report")
+        return answered(record_of(path, trace_sum, size, "failed", fault=said))
+    trace, kubelet = beside(text, report)
+    span, begun = span_of(text), begun_of(text)
+    if span:
+        span = span[0] if begun is None else max(span[0], begun), max(span[1], until or 0)
+    made = records.records_of(report, kubelet, trace, span, records.NEVER if begun is None else begun)
+    rows = [record for record in made if record["record"] in KINDS]
+    return answered(record_of(path, trace_sum, size, "replayed") | {"until": until}, rows, done.stdout)
+
+
+def beside(text: bytes, report: reports.Report) -> tuple[traces.Trace | None, kubelets.Kubelet | None]:
+    """A trace and what it says that the kubelet did, beside its report; None for each where it says nothing that the
+    formats don't read, or can't be read as the tools read one."""
+    node_line = text.lstrip().split(b"\n", 1)[0]
+    if b'"recordsKubelet"' not in node_line and not any(sign in text for sign in SIGNS):
+        return None, None
+    try:
+        trace = traces.trace_of(text, "the trace")
+        traces.check_belongs(trace, report, "the trace")
+        return trace, kubelets.beside(trace, report)
+    except (traces.TraceFault, ValueError, TypeError, KeyError, AttributeError):
+        return None, None
+
+
+def begun_of(text: bytes) -> int | None:
+    """The moment behind which a trace that follows another one says what happened; None of any other."""
+    try:
+        said = json.loads(text.lstrip().split(b"\n", 1)[0]).get("follows")
+    except (ValueError, AttributeError, RecursionError):
+        return None
+    return said["at"] if traces.is_follows(said) else None
+
+
+def span_of(text: bytes) -> tuple[int, int] | None:
+    """The moments of the first and the last tick, of which the lines are looked for from both ends; None without."""
+    first, last = (next(filter(None, map(moment_of, lines)), None) for lines in (lines_from(text), lines_back(text)))
+    return None if first is None or last is None else (first["at"], last["at"])
+
+
+def lines_from(text: bytes) -> Iterator[bytes | None]:
+    begin = 0
+    while begin < len(text):
+        end = text.find(b"\n", begin)
+        end = len(text) if end < 0 else end
+        yield text[begin:end]
+        begin = end + 1
+
+
+def lines_back(text: bytes) -> Iterator[bytes | None]:
+    end = len(text)
+    while end > 0:
+        begin = text.rfind(b"\n", 0, end) + 1
+        yield text[begin:end]
+        end = begin - 1
+
+
+def moment_of(line: bytes) -> dict[str, Any] | None:
+    """A tick line as it is read, or None."""
+    if b'"tick"' not in line:
+        return None
+    found = json.loads(line)
+    return found if found.get("kind") == "tick" else None
+
+
+@functools.lru_cache
+def check_program(program: str, program_sum: str) -> None:
+    """Another program could give other bytes."""
+    try:
+        found = programs.sum_of(program)
+    except OSError as fault:
+        raise WorkFault(f"{program} can't be read where a worker is: {fault.strerror}") from None
+    if found != program_sum:
+        raise WorkFault(f"{program} is another program where a worker is")
+
+
+def read_trace(path: str) -> tuple[bytes, int]:
+    """The bytes of a trace, unpacked, one more than the longest at most, and how many it has."""
+    with open(os.open(path, os.O_RDONLY | os.O_NONBLOCK), "rb") as file:
+        found = os.fstat(file.fileno())
+        if not stat.S_ISREG(found.st_mode):
+            raise OSError(0, "it is no file")
+        data = file.read(LONGEST_INPUT + 1)
+    text = packed.unpacked(data, LONGEST_INPUT)
+    return text, found.st_size if text is data else len(text)
+
+
+def refusal(status: int, said: str) -> dict[str, Any]:
+    """The status, line, code and fault of a trace without a report."""
+    refused = REFUSED_LINE.fullmatch(said)
+    if status == 2 and refused:
+        return {"status": "refused", "line": int(refused[1]), "code": int(refused[2]), "fault": refused[3]}
+    if said == "input too long":
+        return {"status": "refused", "fault": said}
+    ended = f"the program ended by signal {-status}" if status < 0 else f"the program ended with status {status}"
+    return {"status": "failed", "fault": said or ended}
+
+
+def record_of(path: str, trace_sum: str | None, size: int | None, status: str, line: int | None = None,
+              code: int | None = None, fault: str | None = None) -> dict[str, str | int | None]:
+    return {"record": "trace", "path": os.fsencode(path).decode("utf-8", "replace"), "sha256": trace_sum,
+            "bytes": size, "status": status, "line": line, "code": code, "fault": fault, "until": None}
+
+
+def failed(path: str, said: str) -> dict[str, dict[str, str | None] | None]:
+    """The answer where there is not even a trace to name."""
+    return answered(record_of(path, None, None, "failed", fault=said))
+
+
+def answered(trace: dict[str, str | int | None], rows: list[dict[str, Any]] | tuple[Any, ...] = (),
+             report: bytes | None = None) -> dict[str, Any]:
+    if trace["status"] not in ("replayed", "refused"):
+        return {"trace": trace, "rows": None, "report": None}
+    lines = "".join(json.dumps(row, ensure_ascii=False, separators=(",", ":")) + "\n" for row in (trace, *rows))
+    return {"trace": trace, "rows": gzip.compress(lines.encode(), 6, mtime=0),
+            "report": None if report is None else gzip.compress(report, 6, mtime=0)}

@@ -1,0 +1,64 @@
+"""Where one part ends and the next begins: in the same second, or behind a gap of which nothing is known."""
+
+from __future__ import annotations
+
+
+from replay_tools import entry, report as reports
+from replay_tools.joined import files, parts
+
+
+def borders_of(found: list[parts.Part]) -> list[reports.Border]:
+    """The borders of parts in the order of their times, one fewer than there are parts."""
+    return [border_of(before, part) for before, part in zip(found, found[1:])]
+
+
+def border_of(before: parts.Part, part: parts.Part) -> reports.Border:
+    follows = part.follows
+    if follows is None:
+        at = first_behind(before, part)
+        return reports.Border(min(before.last, at), at, part.source.name)
+    if is_of(follows["trace"], before):
+        check_order(before, part, follows["at"])
+        return reports.Border(max(follows["until"], before.last), follows["at"], part.source.name)
+    check_order(before, part, follows["at"])
+    # the one that it follows may be the one before under another name: then its time says so
+    missing = None if follows["until"] <= before.last else follows["trace"]
+    return reports.Border(before.last if missing else follows["at"], follows["at"], part.source.name, missing)
+
+
+def is_of(name: str, before: parts.Part) -> bool:
+    """Whether the name of a trace is that of a part. Where its file is called otherwise here, the name still has the
+    second at which the trace begins, before which at most so many ticks show what was known."""
+    _, begun, number = files.parts_of(name)
+    if begun is None:
+        return name == before.source.name
+    if before.source.begun is not None:
+        return (begun, number) == (before.source.begun, before.source.number)
+    return before.first <= begun <= before.first + parts.MOST_CARRIED
+
+
+def first_behind(before: parts.Part, part: parts.Part) -> int:
+    """The first moment of a part behind the end of the one before. The first ticks of a recording show what was known
+    before it, and may lie some seconds before its begin."""
+    if part.trace is None:
+        check_order(before, part, part.first)
+        return part.first
+    check_order(before, part, part.first + parts.MOST_CARRIED)
+    if part.known_until > before.last:
+        return part.known_until
+    at = next((tick.at for tick in part.trace.ticks if tick.at > before.last), None)
+    if at is None:
+        raise overlap(before, part)
+    return at
+
+
+def check_order(before: parts.Part, part: parts.Part, at: int) -> None:
+    if at < before.last or part.last < before.last:
+        raise overlap(before, part)
+
+
+def overlap(before: parts.Part, part: parts.Part) -> entry.Fault:
+    is_utc = before.first > 10 ** 8
+    last, first = (reports.moment_text(at, is_utc) for at in (before.last, part.first))
+    return entry.Fault(f"{before.source.shown} and {part.source.shown} overlap: the one ends at {last}, the other "
+                       f"begins at {first}, so they are no story one behind the other")

@@ -1,0 +1,103 @@
+"""The traces of several parts as one, of the pods of the joined report."""
+
+from __future__ import annotations
+
+from dataclasses import dataclass, replace
+from typing import Any, TYPE_CHECKING
+
+from replay_tools import traces
+
+if TYPE_CHECKING:
+    from replay_tools import reasons, report as reports
+    from replay_tools.joined import parts
+
+
+@dataclass
+class Known(traces.Tick):
+    """The tick of a border: what its probes show was known before, and is no result of its own."""
+
+    @property
+    def entries(self) -> dict[str, dict[str, Any]]:
+        return {key: {name: value for name, value in entry.items() if name != "probes"}
+                for key, entry in self.lines.entries(self.begin, self.end).items()}
+
+
+def join_traces(found: list[parts.Part], borders: list[reports.Border], numbers: list[dict[int, int]]) -> traces.Trace:
+    """The trace of all parts; numbers has for each part those that its pods have in the joined report."""
+    made = traces.Trace(found[0].trace.node, found[-1].trace.settings, found[-1].trace.thresholds)
+    for part, border, of in zip(found, [None, *borders], numbers):
+        place = len(made.ticks)
+        dropped = take_ticks(made, part.trace, border)
+        take_pods(made, part.trace, of, place, dropped)
+        take_decisions(made, part.trace, of)
+        take_reasons(made, part.trace, of, border)
+    made.gaps = [(border.since, border.at) for border in borders if border.is_gap]
+    made.places = {tick.at: place for place, tick in enumerate(made.ticks)}
+    return made
+
+
+def take_ticks(made: traces.Trace, trace: traces.Trace, border: reports.Border | None) -> int:
+    """Takes the ticks behind a border, and that of the border where no tick stands there; gives how many ticks of the
+    trace come before these."""
+    if border is None:
+        made.ticks += trace.ticks
+        return 0
+    last = made.ticks[-1].at
+    kept = [tick for tick in trace.ticks if tick.at > border.at]
+    at = next((tick for tick in trace.ticks if tick.at == border.at), None)
+    if at is not None and at.at > last:
+        kept.insert(0, Known(at.at, at.lines, at.begin, at.end, at.signals, at.after_reclaim))
+    made.ticks += kept
+    return len(trace.ticks) - len(kept)
+
+
+def take_pods(made: traces.Trace, trace: traces.Trace, of: dict[int, int], begin: int, dropped: int) -> None:
+    """Takes the pods of a trace whose ticks, but the first ones, stand at a place; pods that are not in it have gone by
+    its first tick."""
+    def place(number: int) -> int:
+        return begin + max(number - dropped, 0)
+
+    going_on = {of[pod.number] for pod in trace.pods}
+    for pod in made.pods:
+        if pod.gone is None and pod.number not in going_on:
+            pod.gone = begin
+    for pod in trace.pods:
+        number = of[pod.number]
+        gone = None if pod.gone is None else place(pod.gone)
+        if number < len(made.pods):
+            made.pods[number].gone = gone
+        else:
+            made.pods.append(replace(pod, number=number, first=place(pod.first), gone=gone))
+
+
+def take_decisions(made: traces.Trace, trace: traces.Trace, of: dict[int, int]) -> None:
+    """A pod that the kubelet has evicted, and that is still there, is told once more at a border."""
+    told = {(one.kind, one.pod, one.at) for one in made.decisions}
+    for one in trace.decisions:
+        if (one.kind, one.pod, one.at) not in told:
+            made.decisions.append(replace(one, number=None if one.number is None else of[one.number]))
+
+
+def take_reasons(made: traces.Trace, trace: traces.Trace, of: dict[int, int], border: reports.Border | None) -> None:
+    for (number, name, attempt), end in trace.reasons.ends.items():
+        known = made.reasons.ends.setdefault((of[number], name, attempt), end)
+        known.reason, known.message = end.reason or known.reason, known.message or end.message
+    going_on = {(of[number], name) for number, name in trace.reasons.waits}
+    for place, waits in made.reasons.waits.items():
+        if waits[-1].until is None and (border.is_gap or place not in going_on):
+            waits[-1].until = border.since
+    for (number, name), waits in trace.reasons.waits.items():
+        take_waits(made.reasons.waits.setdefault((of[number], name), []), waits, border)
+
+
+def take_waits(known: list[reasons.Wait], waits: list[reasons.Wait], border: reports.Border | None) -> None:
+    """Takes the waits of a container; the one that lasts over a border is one."""
+    for wait in waits:
+        since = wait.since if border is None else max(wait.since, border.at)
+        before = known[-1] if known else None
+        if before is not None and before.until is None:
+            if since == border.at and before.reason == wait.reason:
+                before.until, before.message = wait.until, before.message or wait.message
+                continue
+            before.until = since
+        known.append(replace(wait, since=since))

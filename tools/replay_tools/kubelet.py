@@ -1,0 +1,279 @@
+"""What the kubelet did beside what the rules do: whom it evicted or refused stands in a trace of tools/record, and whom
+the rules evict over the samples that were recorded in its report."""
+
+from __future__ import annotations
+
+import re
+from collections.abc import Callable
+from dataclasses import dataclass, field
+
+from replay_tools import amounts, events, report as reports, traces, why
+
+# what is no further apart is one eviction, in seconds
+NEAR = 2
+# how far back the samples go that are shown beside what the kubelet did
+SAMPLE_SECONDS = 30
+RESOURCE = re.compile(r"The node was low on resource: ([a-z-]+)")
+USING = re.compile(r"Container (\S+) was using ([^\s,]+), "
+                   r"(?:which exceeds its request of|request is) ([^\s,]+?)[.,]?(?:\s|$)")
+CONDITION = re.compile(r"The node had condition: \[([^\]]*)\]")
+SIGNALS = {"memory": traces.SIGNALS[:1], "ephemeral-storage": traces.SIGNALS[1:3], "inodes": traces.SIGNALS[3:5],
+           "pids": traces.SIGNALS[5:]}
+
+
+@dataclass
+class Fact:
+    """One decision of the kubelet's, and what the rules do to the same pod."""
+
+    decision: traces.Decision
+    eviction: reports.Eviction | None
+    causes: list = field(default_factory=list)
+    """why they differ, as far as the trace shows: each as its parts, texts and moments as numbers"""
+
+    @property
+    def agrees(self) -> bool:
+        return self.eviction is not None and abs(self.eviction.at - self.decision.at) <= NEAR
+
+
+@dataclass
+class Alone:
+    """An eviction by the rules of a pod that the kubelet did not evict."""
+
+    eviction: reports.Eviction
+    causes: list
+
+
+@dataclass
+class Kubelet:
+    """All that the kubelet did in a trace, and the evictions that the rules alone make of it."""
+
+    evicted: list[Fact] = field(default_factory=list)
+    refused: list[traces.Decision] = field(default_factory=list)
+    alone: list[Alone] = field(default_factory=list)
+
+    def decisions(self) -> list[tuple[traces.Decision, Fact | None]]:
+        """Each decision with its fact, or None where it is no eviction, in order."""
+        all_of = [(fact.decision, fact) for fact in self.evicted] + [(each, None) for each in self.refused]
+        return sorted(all_of, key=lambda pair: pair[0].at)
+
+    def fact(self, number: int | None) -> Fact | None:
+        """The kubelet's eviction of a pod, or None."""
+        found = (fact for fact in self.evicted if number is not None and fact.decision.number == number)
+        return next(found, None)
+
+    def by_rules_alone(self, number: int | None) -> Alone | None:
+        return next((each for each in self.alone if each.eviction.number == number), None)
+
+    def of_no_line(self, key: str) -> list[traces.Decision]:
+        """What the kubelet did to pods of a key that have no line in the trace."""
+        return [each for each in [*(fact.decision for fact in self.evicted), *self.refused]
+                if each.number is None and each.pod == key]
+
+
+def beside(trace: traces.Trace, report: reports.Report) -> Kubelet | None:
+    """What the kubelet did beside the report; None where the trace does not say what it did."""
+    if not trace.tells():
+        return None
+    # over several traces the rules may evict a pod twice, of which the first is what they do
+    by_number = {eviction.number: eviction for eviction in reversed(report.evictions)}
+    found = Kubelet()
+    for decision in trace.decisions:
+        if decision.kind == "refused":
+            found.refused.append(decision)
+        else:
+            found.evicted.append(Fact(decision, by_number.get(decision.number)))
+    add_causes(trace, report, found.evicted)
+    numbers = {fact.decision.number for fact in found.evicted}
+    found.alone = [Alone(eviction, [[then(found.evicted, eviction)]]) for eviction in report.evictions
+                   if eviction.number not in numbers]
+    return found
+
+
+def then(facts: list[Fact], eviction: reports.Eviction) -> str:
+    """Whom the kubelet evicted when the rules did."""
+    near = [fact.decision for fact in facts if abs(fact.decision.at - eviction.at) <= NEAR]
+    return f"the kubelet evicted {near[0].pod} then" if near else "the kubelet evicted no pod then"
+
+
+# --- why they differ ---
+
+
+def add_causes(trace: traces.Trace, report: reports.Report, facts: list[Fact]) -> None:
+    others = [fact for fact in facts if not fact.agrees and trace.ticks]
+    usages = why.usages_at(trace, {place_of(trace, fact) for fact in others})
+    for fact in others:
+        if fact.decision.number is None:
+            fact.causes = [["the pod has no line in the trace"]]
+        elif fact.eviction is not None and fact.eviction.at < fact.decision.at:
+            fact.causes = [[then(facts, fact.eviction)]]
+        else:
+            fact.causes = causes_of(trace, report, fact.decision, usages[place_of(trace, fact)])
+
+
+def place_of(trace: traces.Trace, fact: Fact) -> int:
+    """The place of the last tick that is near a decision; the first one where all are later."""
+    latest = fact.decision.at + NEAR
+    return max((place for place, tick in enumerate(trace.ticks) if tick.at <= latest), default=0)
+
+
+def causes_of(trace: traces.Trace, report: reports.Report, decision: traces.Decision,
+              usages: dict[int, dict[str, int]]) -> list[list[str | int]]:
+    """Why the rules do not evict a pod when the kubelet did: each cause as its parts, of which numbers are moments."""
+    gone = trace.pods[decision.number].gone
+    if gone is not None and gone < len(trace.ticks) and trace.ticks[gone].at <= decision.at:
+        return [["the pod had gone from the trace before", trace.ticks[gone].at]]
+    resource = resource_of(decision)
+    signals = SIGNALS.get(resource, traces.SIGNALS)
+    limits = [limit for limit in trace.thresholds if limit.signal in signals]
+    if not limits:
+        return [[f"the trace has no threshold of {resource or 'any signal'}"]]
+    near = ticks_near(trace, decision.at)
+    thresholds = reports.Thresholds(report)
+    active: dict[tuple[str, str], int] = {}
+    for tick in near:
+        active |= thresholds.at(tick.at)
+    due = [limit for limit in limits if (limit.signal, limit.kind) in active]
+    if not due:
+        return [no_sample_below(limits, near)]
+    waits = [limit for limit in due if near[-1].at < active[limit.signal, limit.kind] + limit.grace]
+    if len(waits) == len(due):
+        since = active[due[0].signal, due[0].kind]
+        return [[f"{due[0].signal} was below the soft threshold since", since,
+                 f"in the samples, and its grace period of {due[0].grace} s was not over"]]
+    served = next(limit for limit in due if limit not in waits)
+    return other_causes(trace, report, decision, served, usages)
+
+
+def ticks_near(trace: traces.Trace, at: int) -> list[traces.Tick]:
+    """The ticks near a moment, or the last one before it, or the first."""
+    near = [tick for tick in trace.ticks if abs(tick.at - at) <= NEAR]
+    return near or [tick for tick in trace.ticks if tick.at < at][-1:] or trace.ticks[:1]
+
+
+def other_causes(trace: traces.Trace, report: reports.Report, decision: traces.Decision, limit: traces.Threshold,
+                 usages: dict[int, dict[str, int]]) -> list[list[str | int]]:
+    """The causes where a threshold was due."""
+    place = max(place for place, tick in enumerate(trace.ticks) if tick.at <= decision.at + NEAR)
+    before = [eviction for eviction in report.evictions if eviction.at <= trace.ticks[place].at]
+    candidates = why.candidates_of(trace, report, place, limit.signal, decision.number, usages)
+    ours = next((each for each in candidates if each.victim), None)
+    counts = ours is not None and ours.usage is None and ours.unsampled_at is None
+    found: list[list[str | int]] = [["the pod had no sample, which counts as 0"]] if counts else []
+    if before and before[-1].at >= decision.at - NEAR:
+        return [*found, [f"they evict {before[-1].pod} in its place, at", before[-1].at]]
+    if trace.pause() and before and trace.pause_end(before[-1]) > decision.at - NEAR:
+        over = " or until it has ended" if trace.pauses_until_gone() else ""
+        return [*found, [f"they had evicted {before[-1].pod} at", before[-1].at,
+                         f"and then evict no pod for {trace.pause()} s{over}"]]
+    if candidates and ours is not candidates[0]:
+        found.append([f"{candidates[0].pod.key} ranks first in the samples"])
+    return found
+
+
+def no_sample_below(limits: list[traces.Threshold], near: list[traces.Tick]) -> list[str | int]:
+    """That no sample of some ticks was below its threshold, with the least of them."""
+    found = []
+    for limit in limits:
+        values = [tick.signals[limit.signal] for tick in near if limit.signal in tick.signals]
+        of_bytes = limit.signal in traces.BYTE_SIGNALS
+        least = f"was {amounts.amount_text(min(values), of_bytes)}" if values else "had no sample"
+        found.append(f"{limit.signal} {least}, {limit.kind} threshold {amounts.amount_text(limit.limit, of_bytes)}")
+    return [f"no sample below the threshold was recorded ({'; '.join(found)})"]
+
+
+def around(trace: traces.Trace, report: reports.Report, decision: traces.Decision) -> why.Evicted | None:
+    """What the trace holds around the kubelet's eviction of a pod, as that around one by the rules, with the samples of
+    some seconds; None where no threshold is known that it was for."""
+    limits = [limit for limit in trace.thresholds if limit.signal in SIGNALS.get(resource_of(decision), ())]
+    place = max((place for place, tick in enumerate(trace.ticks) if tick.at <= decision.at + NEAR), default=None)
+    if not limits or place is None or decision.number is None:
+        return None
+    at = trace.ticks[place].at
+    active = reports.Thresholds(report).at(at)
+    limit = next((limit for limit in limits if (limit.signal, limit.kind) in active), limits[0])
+    since = active.get((limit.signal, limit.kind))
+    before = [eviction.at for eviction in report.evictions if eviction.at <= at]
+    first = next(tick.at for tick in trace.ticks if tick.at >= min(at, decision.at - SAMPLE_SECONDS))
+    candidates = why.candidates_of(trace, report, place, limit.signal, decision.number,
+                                   why.usages_at(trace, {place})[place])
+    return why.Evicted(limit.signal, limit, since, why.samples_of(trace, at, limit.signal, first), candidates,
+                       trace.pause(), trace.pauses_until_gone(), before[-1] if before else None)
+
+
+# --- in words ---
+
+
+def resource_of(decision: traces.Decision) -> str | None:
+    found = RESOURCE.search(decision.message)
+    return None if found is None else found[1]
+
+
+def why_words(decision: traces.Decision) -> str:
+    """Why the kubelet did it, in its own words, shortened where their form is known."""
+    if decision.kind == "refused":
+        found = CONDITION.search(decision.message)
+        return f"the node had {found[1]}" if found else decision.message or decision.reason
+    resource = resource_of(decision)
+    if resource is None:
+        return decision.message or decision.reason
+    using = [f"{name} was using {amount_of(used)}, request {amount_of(request)}"
+             for name, used, request in USING.findall(decision.message)]
+    return ", ".join([f"low on {resource}", *using])
+
+
+def amount_of(text: str) -> str:
+    try:
+        return amounts.amount_text(amounts.quantity(text), True)
+    except ValueError:
+        return text
+
+
+def event_words(decision: traces.Decision) -> str:
+    """What the kubelet did, as an event is told."""
+    return events.filled(events.decision_sentence(), {"decision": decision.kind, "why": why_words(decision)})
+
+
+def did_words(decision: traces.Decision, show: Callable[[int], str]) -> str:
+    """What the kubelet did, as a fact."""
+    never = "; it never ran" if decision.kind == "refused" else ""
+    return f"the kubelet {decision.kind} it at {show(decision.at)}: {why_words(decision)}{never}"
+
+
+def causes_text(causes: list[list[int | str]], show: Callable[[int], str]) -> str:
+    """The causes behind a semicolon each."""
+    told = (" ".join(show(part) if isinstance(part, int) else part for part in cause) for cause in causes)
+    return "".join(f"; {cause}" for cause in told)
+
+
+def rules_words(fact: Fact, show: Callable[[int], str]) -> str:
+    """What the rules do to the pod beside what the kubelet did."""
+    if fact.eviction is None:
+        return "the rules, over the recorded samples, differ: they do not evict it" + causes_text(fact.causes, show)
+    apart = fact.eviction.at - fact.decision.at
+    when = f", {abs(apart)} s {'after' if apart > 0 else 'before'}" if apart else ""
+    does = "agree" if fact.agrees else "differ"
+    return (f"the rules, over the recorded samples, {does}: they evict it at {show(fact.eviction.at)}{when}"
+            + causes_text(fact.causes, show))
+
+
+def alone_words(alone: Alone, show: Callable[[int], str]) -> str:
+    """That the rules alone evict a pod."""
+    return (f"the kubelet did not evict it; the rules, over the recorded samples, evict it at "
+            f"{show(alone.eviction.at)}" + causes_text(alone.causes, show))
+
+
+def lines_of(kubelet: Kubelet | None, number: int, show: Callable[[int], str]) -> list[str]:
+    """What the kubelet did to a pod of the trace, and what the rules do; none where neither did anything."""
+    if kubelet is None:
+        return []
+    fact, alone = kubelet.fact(number), kubelet.by_rules_alone(number)
+    if fact is not None:
+        return [did_words(fact.decision, show), rules_words(fact, show)]
+    refused = [did_words(each, show) for each in kubelet.refused if each.number == number]
+    return [*refused, *([alone_words(alone, show)] if alone is not None else [])]
+
+
+def no_line_text(key: str, decisions: list[traces.Decision], show: Callable[[int], str]) -> str:
+    """What is told of pods that have no line in the trace."""
+    return "".join(f"{key}: {did_words(each, show)}. It has no line in the trace: it is no candidate, and no eviction "
+                   "of the rules.\n" for each in decisions)

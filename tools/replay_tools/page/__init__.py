@@ -1,0 +1,1 @@
+"""Makes a page of a report: what it shows, and the file."""

@@ -1,0 +1,361 @@
+"""What a page shows, as plain values that become JSON: moments are counted from the first one, and lists of moments
+are differences, so that a page of many events stays small. `decode.js` reads it."""
+
+from __future__ import annotations
+
+from typing import Any
+
+from replay_tools import (events, kubelet as kubelets, reasons, records, report as reports, telling, traces, why,
+                          why_text)
+
+STATES = ("Waiting", "Running", "Terminated")
+RESULTS = ("success", "failure", "unknown")
+# what a page leaves out above these, and says so
+MOST_RUNS = 400000
+MOST_ROWS = 40
+WITHOUT_TRACE = ("the samples of signals, the results of probes and what the ticks list, since no trace was given: "
+                 "tools/page TRACE has them", "the moment of the last tick, which a report lacks")
+
+
+class Span:
+    """The first and the last moment that a page shows, and moments counted from the first."""
+
+    def __init__(self, report: reports.Report, trace: traces.Trace | None) -> None:
+        if trace and trace.ticks:
+            self.first, self.last = trace.ticks[0].at, trace.ticks[-1].at
+        else:
+            named = [event.at for event in report.events] + [condition.at for condition in report.conditions]
+            for pod in report.pods:
+                if reports.has_ticks(report, pod):
+                    named += [condition.at for condition in pod.conditions]
+            self.first, self.last = (min(named), max(named)) if report.tick_count else (0, 0)
+
+    def of(self, at: int | None) -> int | None:
+        return None if at is None else at - self.first
+
+
+def differences(moments: list[int]) -> list[int]:
+    """Each moment less the one before."""
+    return [at - before for before, at in zip([0, *moments], moments)]
+
+
+def data_of(report: reports.Report, trace: traces.Trace | None, ticks: why.Ticks, utc: bool) -> dict[str, Any]:
+    """All that the page shows; what a trace alone would tell is left out without one."""
+    span = Span(report, trace)
+    left = [] if trace else list(WITHOUT_TRACE)
+    budget, words = Budget(MOST_RUNS), Words(trace)
+    data: dict[str, Any] = {
+        "node": report.node, "utc": utc, "first": span.first, "last": span.of(span.last), "hasTrace": bool(trace),
+        **table_of_words(trace), "states": STATES, "results": RESULTS,
+        "pods": report.pod_count, "ticks": report.tick_count,
+        "tickSteps": repeated(differences([span.of(tick.at) for tick in trace.ticks])) if trace else [],
+        "signals": signals_of(trace), "active": active_of(report, span), "pressure": pressure_of(report, span),
+        "gaps": [[span.of(since), span.of(at)] for since, at in report.gaps],
+        "reclaims": [[span.of(event.at), *event.rest] for event in report.events if event.word == "reclaim"],
+        "evictions": evictions_of(report, trace, ticks, span, left), "kubelet": kubelet_of(report, trace, span),
+        "podList": [pod_of(report, trace, span, pod, ticks, budget, words) | notes_of(pod, utc)
+                    for pod in report.pods],
+        "causes": words.causes, "waits": words.waits,
+    }
+    refused = sorted({one["key"] for one in data["kubelet"]["refused"]} if data["kubelet"] else ())
+    if refused:
+        left.append(f"the pods that the kubelet refused under pressure, which never ran: {', '.join(refused)}")
+    left += not_known(report, utc)
+    if budget.refused:
+        left.append(f"the results of the probes of {budget.refused} containers, behind the first {MOST_RUNS} runs")
+    if trace:
+        left.append("the pods' usage but at evictions")
+    return data | {"left": left}
+
+
+def not_known(report: reports.Report, utc: bool) -> list[str]:
+    """What is not known between the traces that a report is joined of."""
+    def show(at: int) -> str:
+        return reports.moment_text(at, utc)
+
+    gaps = [f"the time from {show(since)} to {show(at)}, of which nothing was recorded" for since, at in report.gaps]
+    anew = [show(border.at) for border in report.borders if not border.is_gap]
+    return gaps + ([f"the exits, grace periods and pauses before {', '.join(anew)}, where traces begin: they are "
+                    "counted anew from there"] if anew else [])
+
+
+def table_of_words(trace: traces.Trace | None) -> dict[str, Any]:
+    """The words of events, and of each the fields that it has and the sentence in which it is told."""
+    is_beside = trace is not None and trace.tells()
+    told = {kind.word: [[field.name for field in kind.fields], kind.sentence_beside if is_beside else kind.sentence]
+            for kind in events.kinds().values() if kind.is_of_pod}
+    return {"words": list(told), "told": told | {"kubelet": [["decision", "why"], events.decision_sentence()]},
+            "toldAttempt": events.attempt_sentence()}
+
+
+class Budget:
+    """How many runs of results still go into the page, and how often there was no room."""
+
+    def __init__(self, most: int) -> None:
+        self.room, self.refused = most, 0
+
+    def takes(self, count: int) -> bool:
+        if count > self.room:
+            self.refused += 1
+            return False
+        self.room -= count
+        return True
+
+
+class Words:
+    """Why instances died and containers waited: each text once, by its place."""
+
+    def __init__(self, trace: traces.Trace | None) -> None:
+        self.trace = trace
+        self.causes: list[list[str]] = []
+        self.waits: list[str] = []
+        self.places: dict[tuple[int, str], int] = {}
+        self.kinds = [kind.word for kind in events.kinds().values() if kind.is_of_pod]
+
+    def cause(self, event: reports.Event) -> list[int]:
+        """A list of the place of what is known of why an instance died, with what it means; empty where its code says
+        as much."""
+        said = reasons.cause_words(event, int(event.rest[1]), self.trace, True)
+        because = reasons.because_lines(event, self.trace) if self.trace and said else []
+        return [self.place(self.causes, [said, *because])] if said else []
+
+    def wait(self, wait: reasons.Wait) -> int:
+        return self.place(self.waits, wait.words())
+
+    def place(self, texts: list[Any], said: list[str] | str) -> int:
+        key = id(texts), str(said)
+        if key not in self.places:
+            self.places[key] = len(texts)
+            texts.append(said)
+        return self.places[key]
+
+
+def repeated(values: list[Any]) -> list[Any]:
+    """Values with how often each stands in a row, one after the other in one list."""
+    found: list[Any] = []
+    for value in values:
+        if found and found[-2] == value:
+            found[-1] += 1
+        else:
+            found += [value, 1]
+    return found
+
+
+def units(thousandths: int | None) -> float | None:
+    """A whole number where it is one."""
+    if thousandths is None:
+        return None
+    return thousandths // 1000 if thousandths % 1000 == 0 else thousandths / 1000
+
+
+def signals_of(trace: traces.Trace | None) -> list[dict[str, Any]]:
+    """Each signal that has a sample or a threshold: its samples, tick by tick, and its thresholds."""
+    if trace is None:
+        return []
+    found = []
+    for name in traces.SIGNALS:
+        samples = [units(tick.signals.get(name)) for tick in trace.ticks]
+        limits = [{"kind": limit.kind, "limit": units(limit.limit), "clear": units(limit.limit + limit.reclaim),
+                   "text": limit.text, "grace": limit.grace} for limit in trace.thresholds if limit.signal == name]
+        if limits or any(sample is not None for sample in samples):
+            found.append({"name": name, "bytes": name in traces.BYTE_SIGNALS, "thresholds": limits,
+                          "samples": repeated(samples)})
+    return found
+
+
+def active_of(report: reports.Report, span: Span) -> list[list[Any]]:
+    """The spans in which thresholds were active: signal, kind, since, until."""
+    open_spans, found = {}, []
+    for event in report.events:
+        if event.word != "threshold":
+            continue
+        signal, kind, value = event.rest
+        if value == "active":
+            open_spans[signal, kind] = event.at
+        elif (signal, kind) in open_spans:
+            found.append([signal, kind, span.of(open_spans.pop((signal, kind))), span.of(event.at)])
+    return found + [[*named, span.of(since), None] for named, since in open_spans.items()]
+
+
+def pressure_of(report: reports.Report, span: Span) -> list[list[Any]]:
+    return [[kind, span.of(pressed.since), span.of(pressed.until)] for kind in reports.CONDITIONS
+            for pressed in reports.pressure_spans(report, kind)]
+
+
+def evictions_of(report: reports.Report, trace: traces.Trace | None, ticks: why.Ticks, span: Span,
+                 left: list[str]) -> list[dict[str, Any]]:
+    """The evictions, with a trace each with the table of its pods, of which a long one is cut."""
+    moments = {one.at for one in report.evictions}
+    gathered = why.gather_evictions(trace, report, moments, ticks.usages_at) if trace else {}
+    found, cut = [], 0
+    for eviction in report.evictions:
+        one = {"at": span.of(eviction.at), "pod": eviction.number, "signal": eviction.signal, "kind": eviction.kind,
+               "grace": eviction.grace}
+        if trace:
+            around = around_of(gathered[eviction.at], span)
+            cut += around["more"]
+            one["around"] = around
+        found.append(one)
+    if cut:
+        left.append(f"the rows behind the first {MOST_ROWS} of the evictions' tables, {cut} in all; tools/why has them")
+    return found
+
+
+def kubelet_of(report: reports.Report, trace: traces.Trace | None, span: Span) -> dict[str, list[Any]] | None:
+    """What the kubelet did, beside what the rules do; None where no trace says so."""
+    found = kubelets.beside(trace, report) if trace else None
+    if found is None:
+        return None
+    return {
+        "evicted": [decision_of(fact.decision, span) | {
+            "rules": span.of(fact.eviction.at) if fact.eviction else None, "agrees": fact.agrees,
+            "causes": causes_of(fact.causes, span)} for fact in found.evicted],
+        "refused": [decision_of(decision, span) for decision in found.refused],
+        "alone": [[each.eviction.number, causes_of(each.causes, span)] for each in found.alone],
+    }
+
+
+def decision_of(decision: traces.Decision, span: Span) -> dict[str, int | str | None]:
+    return {"at": span.of(decision.at), "pod": decision.number, "key": decision.pod, "kind": decision.kind,
+            "why": kubelets.why_words(decision)}
+
+
+def causes_of(causes: list[list[str | int]], span: Span) -> list[list[Any]]:
+    """Causes as their parts, with moments from the first one on."""
+    return [[span.of(part) if isinstance(part, int) else part for part in cause] for cause in causes]
+
+
+def around_of(evicted: why.Evicted, span: Span) -> dict[str, Any]:
+    """What the trace holds around an eviction, in the words of tools/why."""
+    of_bytes = evicted.signal in traces.BYTE_SIGNALS
+    rows = [why_text.candidate_row(place, candidate, of_bytes)
+            for place, candidate in enumerate(evicted.candidates[:MOST_ROWS], 1)]
+    with_requests = any(candidate.request is not None for candidate in evicted.candidates)
+    return {
+        "threshold": why_text.threshold_words(evicted, of_bytes),
+        "pause": why_text.pause_words(evicted) if evicted.pause else None, "before": span.of(evicted.before),
+        "since": span.of(evicted.since), "rows": rows,
+        "more": len(evicted.candidates) - len(rows),
+        "after": [[span.of(at), units(after)] for at, _, after in evicted.samples if after is not None][-MOST_ROWS:],
+        "order": why_text.order_words(evicted, with_requests), "first": evicted.is_victim_first,
+    }
+
+
+def pod_of(report: reports.Report, trace: traces.Trace | None, span: Span, pod: reports.Pod, ticks: why.Ticks,
+           budget: Budget, words: Words) -> dict[str, Any]:
+    """What the page shows of a pod: that of the report, and with a trace its listings and results."""
+    ended, seen = reports.end_of(pod), has_ticks(report, trace, pod)
+    found = {
+        "key": pod.key, "phase": pod.phase, "reason": records.none_of(pod.reason), "qos": pod.qos,
+        "first": span.of(reports.first_tick(pod)) if seen else None,
+        "end": [span.of(ended[0]), ended[1]] if ended else None, "gone": span.of(pod.left),
+        "unready": records.unready_seconds(pod, span.last) if seen else 0,
+        "ready": [[span.of(ready.since), int(ready.value == "True")]
+                  for ready in (reports.ready_spans(pod) if seen else [])],
+        "conditions": [[one.kind, one.value, span.of(one.at) if seen else None, one.reason] for one in pod.conditions],
+        "containers": [container_of(span, pod, container, seen) for container in pod.containers],
+        "events": events_of(span, pod, words),
+    }
+    if trace:
+        ours = trace.pods[pod.number]
+        of_pod = ticks.of(trace, ours)
+        found |= {"policy": ours.policy, "priority": ours.priority,
+                  "listings": [listings_of(span, of_pod, container.name) for container in pod.containers],
+                  "probes": probes_of(span, ours, of_pod, budget), "waits": waits_of(trace, span, pod, words)}
+    return found
+
+
+def notes_of(pod: reports.Pod, utc: bool) -> dict[str, Any]:
+    """What is not known of events of several traces, by the places of the events; nothing where all is."""
+    told = {str(place): telling.beside_words(pod, event, lambda at: reports.moment_text(at, utc))
+            for place, event in enumerate(pod.events)}
+    told = {place: words for place, words in told.items() if words}
+    return {"notes": told} if told else {}
+
+
+def waits_of(trace: traces.Trace, span: Span, pod: reports.Pod, words: Words) -> list[list[int | None]]:
+    """Why its containers waited: the container's place, since when, until when, and the place of the words."""
+    names = [container.name for container in pod.containers]
+    return [[names.index(name), span.of(wait.since), span.of(wait.until), words.wait(wait)]
+            for name, wait in trace.reasons.waits_of(pod)]
+
+
+def has_ticks(report: reports.Report, trace: traces.Trace | None, pod: reports.Pod) -> bool:
+    if trace is None:
+        return reports.has_ticks(report, pod)
+    ours = trace.pods[pod.number]
+    return ours.first < (len(trace.ticks) if ours.gone is None else ours.gone)
+
+
+def container_of(span: Span, pod: reports.Pod, container: reports.Container, seen: bool) -> dict[str, Any]:
+    """A container's status, and its states as differences of moments, states, attempts and codes in one list."""
+    states, moments = reports.state_spans(pod, container.name) if seen else [], []
+    flat = []
+    for state in states:
+        moments.append(span.of(state.since))
+        attempt, _, code = state.note.partition(" ")
+        flat += [moments[-1] - (moments[-2] if len(moments) > 1 else 0), STATES.index(state.value),
+                 int(attempt or 0), int(code or 0)]
+    return {"name": container.name, "state": container.state, "code": records.none_of(container.code),
+            "restarts": int(container.restarts), "ready": container.ready == "true",
+            "started": container.started == "true", "states": flat}
+
+
+def events_of(span: Span, pod: reports.Pod, words: Words) -> list[list[Any]]:
+    """Events, each with the difference of its moment, the place of its container (-1 without), that of its word, and
+    its words. A death has the number of its exit and its run behind its own, and the place of why, where that is
+    known."""
+    names = [container.name for container in pod.containers]
+    starts: dict[str, tuple[str, int]] = {}
+    exits: dict[str, list[why.Exit]] = {}
+    found, before = [], 0
+    for event in pod.events:
+        rest = [int(word) if word.lstrip("-").isdigit() else word for word in event.rest]
+        if event.word == "started":
+            starts[event.container] = (event.rest[0], event.at)
+        elif event.word == "died":
+            of_it = exits.setdefault(event.container, [])
+            why.add_exit(of_it, event, starts.get(event.container))
+            rest += [of_it[-1].number, of_it[-1].run, *words.cause(event)]
+        place = names.index(event.container) if event.container in names else -1
+        found.append([span.of(event.at) - before, place, words.kinds.index(event.word), *rest])
+        before = span.of(event.at)
+    return found
+
+
+def listings_of(span: Span, ticks: why.PodTicks, name: str) -> list[int]:
+    """What the ticks list of a container, where it changes: differences of moments, and attempt, state and code."""
+    flat, before = [], 0
+    for at, listing in zip(*ticks.listings[name]):
+        told = (-1, 0, 0) if listing is None else (
+            listing.attempt, traces.STATES.index(listing.state), 0 if listing.code is None else listing.code)
+        flat += [span.of(at) - before, *told]
+        before = span.of(at)
+    return flat
+
+
+def probes_of(span: Span, pod: traces.Pod, ticks: why.PodTicks, budget: Budget) -> list[list[Any]]:
+    """Of each probe its container's place, its kind, its thresholds, and its results, as the page has room for them."""
+    found = []
+    for place, container in enumerate(pod.containers):
+        for kind, probe in container.probes.items():
+            runs = result_runs(span, *ticks.results.get((container.name, kind), ([], [])))
+            kept = runs if budget.takes(len(runs) // 4) else None
+            found.append([place, kind, probe.failure_threshold, probe.success_threshold, probe.initial_delay,
+                          probe.period, kept])
+    return found
+
+
+def result_runs(span: Span, moments: list[int], results: list[str]) -> list[int]:
+    """Runs of one result at one distance: the difference of the first moment from the last one before, that distance,
+    how many, and the result, in one list."""
+    flat: list[int] = []
+    last = 0
+    for at, result in zip(moments, results):
+        at, said = span.of(at), RESULTS.index(result)
+        if flat and flat[-1] == said and (flat[-2] == 1 or at - last == flat[-3]):
+            flat[-3], flat[-2] = at - last, flat[-2] + 1
+        else:
+            flat += [at - last, 0, 1, said]
+        last = at
+    return flat

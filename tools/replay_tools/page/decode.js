@@ -1,0 +1,198 @@
+// The data of the page, with moments from lists of differences. Moments are seconds since the first one.
+const data = JSON.parse(document.getElementById('data').textContent);
+
+// The values of a list of values with how often each stands in a row.
+function spread(list) {
+  const found = [];
+  for (let place = 0; place < list.length; place += 2) {
+    for (let count = list[place + 1]; count > 0; count--) found.push(list[place]);
+  }
+  return found;
+}
+
+function sums(list) {
+  let sum = 0;
+  return list.map((value) => (sum += value));
+}
+
+const tickMoments = sums(spread(data.tickSteps));
+
+// Entries of a flat list of so many columns, the first of which is a difference of moments.
+function entries(list, columns) {
+  const found = [];
+  let at = 0;
+  for (let place = 0; place < list.length; place += columns) {
+    at += list[place];
+    found.push([at, ...list.slice(place + 1, place + columns)]);
+  }
+  return found;
+}
+
+function eventsOf(pod) {
+  let at = 0;
+  const events = pod.events.map((event, number) => {
+    at += event[0];
+    return {at, place: event[1], word: data.words[event[2]], rest: event.slice(3), number, pod};
+  });
+  if (!pod.fact) return events;
+  const did = {at: pod.fact.at, place: -1, word: 'kubelet', rest: [pod.fact.kind, pod.fact.why], number: events.length, pod};
+  return [...events, did].sort((a, b) => a.at - b.at);
+}
+
+// Results of a probe as runs of equal ones, from one moment until another.
+function resultRuns(flat, since, until) {
+  const runs = [];
+  let last = 0;
+  for (let place = 0; place < flat.length; place += 4) {
+    let at = last + flat[place];
+    const [step, count, said] = [flat[place + 1], flat[place + 2], data.results[flat[place + 3]]];
+    if (at > until) break;
+    for (let number = 0; number < count; number++) {
+      if (number > 0) at += step;
+      if (at >= since && at <= until) {
+        if (!runs.length || runs[runs.length - 1].said !== said) runs.push({said, moments: []});
+        runs[runs.length - 1].moments.push(at);
+      }
+    }
+    last = at;
+  }
+  return runs;
+}
+
+// A pod's decoded lists are made when they are first looked at.
+function lazily(pod, name, make) {
+  Object.defineProperty(pod, name, {configurable: true, get() {
+    const value = make();
+    Object.defineProperty(pod, name, {value});
+    return value;
+  }});
+}
+
+const keyCounts = new Map();
+data.podList.forEach((pod) => keyCounts.set(pod.key, (keyCounts.get(pod.key) || 0) + 1));
+
+data.podList.forEach((pod, number) => {
+  pod.number = number;
+  pod.name = keyCounts.get(pod.key) > 1 ? `${pod.key}, number ${number}` : pod.key;
+  pod.restarts = pod.containers.reduce((sum, container) => sum + container.restarts, 0);
+  pod.isReady = pod.conditions.some((one) => one[0] === 'Ready' && one[1] === 'True');
+  pod.eviction = data.evictions.find((one) => one.pod === number) || null;
+  pod.fact = data.kubelet && data.kubelet.evicted.find((one) => one.pod === number) || null;
+  pod.kills = pod.events.filter((event) => data.words[event[2]] === 'kill').length;
+  lazily(pod, 'list', () => eventsOf(pod));
+  pod.containers.forEach((container) => lazily(container, 'spans', () => entries(container.states, 4)));
+});
+data.signals.forEach((signal) => { signal.values = spread(signal.samples); });
+
+// The last place whose moment is not after a moment, by `of` at each place; -1 without one.
+function placeBefore(length, of, at) {
+  let [low, high] = [0, length];
+  while (low < high) {
+    const middle = (low + high) >> 1;
+    if (of(middle) <= at) low = middle + 1; else high = middle;
+  }
+  return low - 1;
+}
+
+// Whether the kubelet evicted a pod, where the trace says so, or else whether the rules do.
+function isEvicted(pod) {
+  return Boolean(data.kubelet ? pod.fact : pod.eviction);
+}
+
+function worth(pod) {
+  const failed = pod.phase === 'Failed' ? 1 : 0;
+  return [isEvicted(pod) ? 1 : 0, failed, pod.restarts + pod.kills, pod.unready];
+}
+
+function isWorse(left, right) {
+  const [a, b] = [worth(left), worth(right)];
+  const place = a.findIndex((value, at) => value !== b[at]);
+  return place < 0 ? left.number - right.number : b[place] - a[place];
+}
+
+// Words of moments and amounts.
+const view = {from: 0, to: Math.max(data.last, 1), utc: data.utc};
+const LAST_DATE = 253402300799;
+
+function moment(at) {
+  const whole = data.first + at;
+  if (!view.utc || whole > LAST_DATE) return String(whole);
+  return new Date(whole * 1000).toISOString().slice(0, 19).replace('T', ' ') + 'Z';
+}
+
+function shortMoment(at, step) {
+  const text = moment(at);
+  if (text.length !== 20) return text;
+  return step >= 86400 ? text.slice(5, 10) : text.slice(11, step < 60 ? 19 : 16);
+}
+
+function amount(units, isBytes) {
+  if (units === null) return 'no value';
+  if (!isBytes) return units.toLocaleString('en');
+  let place = 0;
+  while (Math.abs(units) >= 1024 && place < 6) { units /= 1024; place++; }
+  return `${Number(units.toFixed(2))}${['', 'Ki', 'Mi', 'Gi', 'Ti', 'Pi', 'Ei'][place]}`;
+}
+
+function seconds(count) {
+  if (count < 120) return `${count} s`;
+  if (count < 7200) return `${Number((count / 60).toFixed(1))} min`;
+  if (count < 172800) return `${Number((count / 3600).toFixed(1))} h`;
+  return `${Number((count / 86400).toFixed(1))} days`;
+}
+
+// Causes of a difference, behind a semicolon each; their numbers are moments.
+function causesWords(causes) {
+  return causes.map((cause) => `; ${cause.map((part) => typeof part === 'number' ? moment(part) : part).join(' ')}`)
+    .join('');
+}
+
+function rulesWords(fact) {
+  const does = `the rules, over the recorded samples, ${fact.agrees ? 'agree' : 'differ'}: they `;
+  if (fact.rules === null) return `${does}do not evict it${causesWords(fact.causes)}`;
+  const apart = fact.rules - fact.at;
+  const when = apart ? `, ${Math.abs(apart)} s ${apart > 0 ? 'after' : 'before'}` : '';
+  return `${does}evict it at ${moment(fact.rules)}${when}${causesWords(fact.causes)}`;
+}
+
+// What the kubelet did to a pod and what the rules do, as sentences; none where no trace says so.
+function kubeletWords(pod) {
+  if (pod.fact) return [`the kubelet evicted it at ${moment(pod.fact.at)}: ${pod.fact.why}`, rulesWords(pod.fact)];
+  const alone = data.kubelet && data.kubelet.alone.find((one) => one[0] === pod.number);
+  if (!alone) return [];
+  return [`the kubelet did not evict it; the rules, over the recorded samples, evict it at ${moment(pod.eviction.at)}`
+    + causesWords(alone[1])];
+}
+
+// Why an instance died, as far as it is known.
+function causeWords(event) {
+  return event.rest.length > 4 ? `: ${data.causes[event.rest[4]][0]}` : '';
+}
+
+// The one word of why it died, where a trace has it.
+function reasonOf(event) {
+  return (causeWords(event).match(/^: ([A-Z]\w+)/) || [])[1] || null;
+}
+
+// Why a container waits at a moment, or null; the moment may be the end, at which what has no end still waits.
+function waitAt(pod, place, at) {
+  return (pod.waits || []).find((one) => one[0] === place && one[1] <= at && (one[2] === null || at < one[2])) || null;
+}
+
+function waitWord(wait) {
+  return data.waits[wait[3]].split(':')[0];
+}
+
+// An event in words, with what several traces do not know of it.
+function told(event) {
+  return toldOf(event) + ((event.pod.notes || {})[event.number] || '');
+}
+
+// Its kind's sentence, of the table that all tools read, with the values of its fields; and its attempt, if it has one.
+function toldOf(event) {
+  const [fields, sentence] = data.told[event.word];
+  const values = {why: causeWords(event)};
+  fields.forEach((name, place) => { values[name] = event.rest[place]; });
+  const filled = (words) => words.replace(/\{(\w+)\}/g, (_, name) => values[name]);
+  return filled(sentence) + ('attempt' in values ? filled(data.toldAttempt) : '');
+}

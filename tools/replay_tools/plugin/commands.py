@@ -1,0 +1,148 @@
+"""Runs a command of kubectl replay and of kubelet-replay: the program, or the tool of its name."""
+
+from __future__ import annotations
+
+import os
+import re
+import subprocess
+import sys
+from dataclasses import dataclass
+from typing import IO, NoReturn
+
+from replay_tools import entry, program as programs
+from replay_tools.plugin import failing, files, several, words
+
+# beside the command that was called, which may be reached by a link
+TOOLS = os.path.dirname(os.path.realpath(sys.argv[0]))
+
+
+@dataclass(frozen=True)
+class Caller:
+    """The command that was called: its name, how it is typed, whether kubectl is what runs it, its help."""
+
+    name: str
+    typed: str
+    is_of_kubectl: bool
+    help: str
+
+
+def run(given: list[str], caller: Caller) -> int:
+    """Runs a command with its words, by the program or a tool; the status, where it comes back."""
+    if given[:1] == ["help"] and len(given) > 1:
+        given = [given[1], "--help"]
+    if not given or given[0] in ("-h", "--help", "help"):
+        (sys.stdout if given else sys.stderr).write(caller.help)
+        return 0 if given else 2
+    name, *rest = given
+    if name not in words.COMMANDS:
+        raise entry.Fault(f"{name} is no command of it: {', '.join(words.COMMANDS)} (--help says more)")
+    if "--help" in rest or "-h" in rest:
+        return show_help(name, caller)
+    if rest in (["--version"], ["-V"]):
+        files.run_on(programs.path() if name in ("run", "check") else os.path.join(TOOLS, name), ["--version"])
+    command = words.COMMANDS[name]
+    if not command.takes_file:
+        files.run_on(os.path.join(TOOLS, name), rest)
+    found = words.words_of(command, rest, caller.is_of_kubectl)
+    if found.waiting:
+        raise entry.Fault(f"{found.waiting} wants a value (--help says more)")
+    found.files = [files.kept_input() if file == "-" else file for file in found.files]
+    if name in ("run", "check"):
+        return run_program(name, found, caller)
+    if name == "explain":
+        files.run_on(os.path.join(TOOLS, name), [*([found.file] if found.file else []), *found.plain, *found.rest])
+    if command.takes_several and several.is_meant(found):
+        return several.run(name, command, found, os.path.join(TOOLS, name))
+    return run_tool(name, command, found)
+
+
+def show_help(name: str, caller: Caller) -> int:
+    """Shows a command's help, with its name as it is typed here."""
+    if name in ("run", "check"):
+        files.run_on(programs.path(), ["help", name])
+    tool = os.path.join(TOOLS, name)
+    try:
+        done = subprocess.run([tool, "--help"], stdout=subprocess.PIPE, check=False)
+    except OSError as fault:
+        raise entry.Fault(f"{tool} is missing or can't be started: {fault.strerror}", 127) from None
+    sys.stdout.write(named(done.stdout.decode("utf-8", "replace"), name, caller.typed))
+    return done.returncode
+
+
+def named(text: str, name: str, typed: str) -> str:
+    """A tool's help in which the commands are named as they are typed; the usage stays in its columns."""
+    usage, blank, rest = text.partition("\n\n")
+    further = " " * (len(f"{typed} {name}") - len(f"tools/{name}"))
+    lines = [line if not line.startswith("        ") else further + line for line in usage.split("\n")]
+    commands = "|".join(words.COMMANDS)
+    return re.sub(rf"\btools/({commands})\b(?![-/])", rf"{typed} \1", "\n".join(lines) + blank + rest) \
+        .replace("./kubelet_replay", "kubelet_replay")
+
+
+def run_program(name: str, found: words.Words, caller: Caller) -> int:
+    """Runs the program, with the option for the format that the node line of the trace says; its status."""
+    rest, kinds = without_fail_on(found.rest)
+    traces, copy = [*([found.file] if found.file else []), *found.plain], None
+    option: list[str] = []
+    traces = ["/dev/stdin" if trace == "-" else trace for trace in traces]
+    traces = [files.plain(traces[0])] if len(traces) == 1 else traces
+    path = traces[0] if len(traces) == 1 else None
+    if path and "--extended" not in rest:
+        traces[0], copy, option = files.with_format(path)
+        path = files.path_of(copy) if copy else path
+    if kinds and path is None:
+        raise entry.Fault(f"{failing.WORD} wants one trace, not {len(traces)} (--help says more)")
+    if kinds:
+        return failing.run([name, *traces, *rest, *option], path, copy, caller.name, kinds)
+    return files.run_beside(programs.path(), [name, *traces, *rest, *option], path, copy, caller.name)
+
+
+def without_fail_on(rest: list[str]) -> tuple[list[str], dict[str, None] | None]:
+    """The words for the program, and what a run is to fail on."""
+    if failing.WORD not in rest:
+        return rest, None
+    place = rest.index(failing.WORD)
+    return rest[:place] + rest[place + 2 :], failing.kinds_of(rest[place + 1])
+
+
+def run_tool(name: str, command: words.Command, found: words.Words) -> NoReturn:
+    """Becomes a tool, with the words that it takes in place of kubectl's."""
+    if name == "what-if":
+        report = open_trace(found.file) if found.file else None
+    else:
+        report = files.open_report(found.file)
+    pods = found.plain
+    if command.pods != "none":
+        pods, report = keys(command, found, report)
+    trace = trace_words(name, found, pods)
+    files.run_on(os.path.join(TOOLS, name), [*found.rest, *pods, *trace], report)
+
+
+def keys(command: words.Command, found: words.Words, report: IO[bytes]) -> tuple[list[str], IO[bytes]]:
+    """The pods that are meant, and the report, which was read where a namespace alone says which."""
+    named = words.pods_meant(command, found)
+    if named is not None:
+        return named, report
+    report = files.whole(report)
+    named = files.pods_in(report, found.namespace)
+    if not named:
+        raise entry.Fault(f"the report has no pod in the namespace {found.namespace}")
+    return named, report
+
+
+def trace_words(name: str, found: words.Words, pods: list[str]) -> list[str]:
+    """The words that hand the trace on to a tool that looks into it, or that tells what the kubelet did."""
+    if found.file is None or files.is_report(found.file):
+        return []
+    if name == "story" and "--trace" not in found.rest:
+        has_pod = bool(pods) and not pods[0].endswith("/")
+        return ["--trace", found.file, *(["--without-why"] if has_pod else [])]
+    if name in ("why", "timeline", "json") and "--trace" not in found.rest:
+        return ["--trace", found.file]
+    return [found.file] if name == "page" and not found.plain else []
+
+
+def open_trace(path: str) -> IO[bytes]:
+    if files.is_report(path):
+        raise entry.Fault(f"{path} is a report, and it wants a trace")
+    return open(path, "rb")

@@ -1,0 +1,230 @@
+"""The file of -f: a trace, of which the report is made, or a report."""
+
+from __future__ import annotations
+
+import io
+import json
+import os
+import signal
+import stat
+import subprocess
+import sys
+import tempfile
+from typing import Any, IO, NoReturn
+
+from replay_tools import entry, packed, program as programs, report as reports, traces
+from replay_tools.explain import beside
+from replay_tools.joined import files as traces_of
+
+# a longer one is no line of a trace
+LONGEST_LINE = 1 << 21
+PIECE = 1 << 16
+# files without names, which go when nobody holds them
+KEPT = []
+# how the operator knows what was copied, by the copy's path
+NAMES = {}
+
+
+def is_report(path: str) -> bool:
+    """Whether a file begins as a report. One that can't be read, or not twice, is a fault."""
+    if os.path.exists(path) and not (os.path.isfile(path) or os.path.isdir(path)):
+        raise entry.Fault(f"{path} is a device or a pipe; a report may come on standard input")
+    try:
+        with open(path, "rb") as file:
+            return file.read(5) == b"node "
+    except OSError as fault:
+        raise entry.Fault(f"{path} can't be read: {fault.strerror}") from None
+
+
+def plain(path: str) -> str:
+    """The path of a trace as the program takes it: of one that is packed that of a copy which is not."""
+    try:
+        if not os.path.isfile(path) or not packed.is_packed_file(path):
+            return path
+        text = packed.read(path, traces.LONGEST_TRACE)
+    except OSError:
+        return path
+    except packed.Damaged as fault:
+        raise entry.Fault(f"{path}: {fault}") from None
+    copy = path_of(whole(io.BytesIO(text)))
+    NAMES[copy] = shown(path)
+    return copy
+
+
+def open_report(path: str | None) -> IO[bytes]:
+    """A file that holds the report: of the file that was named, or of standard input without one."""
+    if path is None:
+        given = entry.standard_input()
+        if given.isatty():
+            raise entry.Fault("it wants -f FILE, a trace or a report, or a report on standard input")
+        return given
+    if is_report(path):
+        return open(path, "rb")
+    return replayed(path)
+
+
+def temporary() -> IO[bytes]:
+    """A file without a name."""
+    try:
+        return tempfile.TemporaryFile()
+    except OSError as fault:
+        raise no_room(fault.strerror) from None
+
+
+def no_room(said: str) -> entry.Fault:
+    """That what is kept for a tool has no place."""
+    folder = os.environ.get("TMPDIR") or "/tmp"
+    return entry.Fault(f"what it has to keep has no place in {folder}: {said} (TMPDIR names another folder)", 1)
+
+
+def replayed(path: str) -> IO[bytes]:
+    """The report of a trace, as a file without a name."""
+    path = plain(path)
+    program, report = programs.path(), temporary()
+    option = format_words(path)
+    words = ["run", path, *option]
+    try:
+        done = subprocess.run([program, *words], stdout=report, stderr=subprocess.PIPE, check=False)
+    except OSError as fault:
+        raise entry.Fault(f"{program} is missing or can't be started: {fault.strerror}", 127) from None
+    if done.returncode != 0:
+        said = done.stderr.decode("utf-8", "replace").split("\n")[0] or f"status {done.returncode}"
+        if said == "write failed":
+            raise no_room("it takes no more")
+        if done.returncode == 2:
+            raise entry.Fault(f"{shown(path)} is refused: {said}", means=beside.meaning(path, bool(option)))
+        raise entry.Fault(f"{shown(path)} can't be replayed: {said}", done.returncode if done.returncode == 127 else 1)
+    report.seek(0)
+    return report
+
+
+def format_words(path: str) -> list[str]:
+    try:
+        with open(path, "rb") as file:
+            return format_words_of(file)
+    except OSError as fault:
+        raise entry.Fault(f"{path} can't be read: {fault.strerror}") from None
+
+
+def format_words_of(file: IO[bytes]) -> list[str]:
+    return programs.format_words(iter(lambda: file.readline(LONGEST_LINE), b""))
+
+
+def with_format(path: str) -> tuple[str, IO[bytes] | None, list[str]]:
+    """The path of a trace, a copy of it that is to be standard input where it can be read but once, and the words for
+    its format. What can't be read the program has to say."""
+    try:
+        with open(path, "rb") as file:
+            if stat.S_ISREG(os.fstat(file.fileno()).st_mode):
+                return path, None, format_words_of(file)
+            text = packed.unpacked(file.read(traces.LONGEST_TRACE + 1), traces.LONGEST_TRACE)
+    except OSError:
+        return path, None, []
+    except packed.Damaged as fault:
+        raise entry.Fault(f"{path}: {fault}") from None
+    copy = whole(io.BytesIO(text))
+    return "/dev/stdin", copy, format_words_of(copy)
+
+
+def pods_in(report: IO[bytes], namespace: str) -> list[str]:
+    """The keys of the pods of a namespace in an open report, each once; the report can be read once more after that."""
+    try:
+        found = reports.read_report(report.read().decode("utf-8", "replace"))
+    except reports.ReportFault as fault:
+        raise entry.Fault(str(fault)) from None
+    report.seek(0)
+    return list(dict.fromkeys(pod.key for pod in found.pods if pod.key.startswith(namespace + "/")))
+
+
+def whole(report: IO[bytes]) -> IO[bytes]:
+    """The same as a file that can be read twice."""
+    copy = temporary()
+    try:
+        copy.write(report.read())
+        copy.seek(0)
+    except OSError as fault:
+        raise no_room(fault.strerror) from None
+    KEPT.append(copy)
+    return copy
+
+
+def keys_of(path: str) -> list[str]:
+    """The keys of the pods that a trace or a report names, or the last trace of a folder, for a completion: without one
+    where it can't be read."""
+    try:
+        if os.path.isdir(path):
+            path = os.path.join(path, max(name for name in os.listdir(path) if name.endswith(traces_of.ENDINGS)))
+        if is_report(path):
+            with open(path, encoding="utf-8") as file:
+                return [pod.key for pod in reports.read_report(file.read()).pods]
+        lines = packed.read(path, traces.LONGEST_TRACE).decode().split("\n")
+        manifests = [json.loads(line)["pod"]["metadata"] for line in lines if '"metadata"' in line]
+    except (OSError, ValueError, KeyError, TypeError, packed.Damaged, entry.Fault, reports.ReportFault):
+        return []
+    return [f"{found.get('namespace') or 'default'}/{found.get('name')}" for found in manifests]
+
+
+def run_beside(program: str, words: list[str], path: str, given: IO[bytes] | None, caller: str,
+               output: IO[bytes] | None = None) -> Any:
+    """Runs the program on a trace, with a file as its standard input, and one as its standard output where that is not
+    this one's; its status. Where it refuses the trace, what that means is said in one more line."""
+    if given is not None:
+        os.lseek(given.fileno(), 0, os.SEEK_SET)
+    to_pipe = output is None and stat.S_ISFIFO(os.fstat(1).st_mode)
+    try:
+        process = subprocess.Popen([program, *words], stdin=given, stdout=subprocess.PIPE if to_pipe else output)
+    except OSError as fault:
+        raise entry.Fault(f"{program} is missing or can't be started: {fault.strerror}", 127) from None
+    if to_pipe:
+        hand_on(process.stdout)
+    status = process.wait()
+    if status in (1, 2) and path is not None:
+        means = beside.meaning(path, "--extended" in words)
+        if means:
+            print(f"{caller}: {means}", file=sys.stderr)
+    return status if status >= 0 else 128 - status
+
+
+def hand_on(source: IO[bytes]) -> None:
+    """Writes what the program writes; what a reader that has gone, as head, does not take is let go, where the program
+    would say that it can't write."""
+    is_read = True
+    while piece := os.read(source.fileno(), PIECE):
+        while piece and is_read:
+            try:
+                piece = piece[os.write(1, piece) :]
+            except BrokenPipeError:
+                is_read = False
+
+
+def path_of(file: IO[bytes]) -> str:
+    """The path of an open file without a name, also for the programs that this one starts or becomes."""
+    os.set_inheritable(file.fileno(), True)
+    return f"/proc/{os.getpid()}/fd/{file.fileno()}"
+
+
+def shown(path: str) -> str:
+    """A path as the operator knows it."""
+    return NAMES.get(path) or ("standard input" if path.startswith(f"/proc/{os.getpid()}/fd/") else path)
+
+
+def kept_input() -> str:
+    """Standard input as a file that can be read twice."""
+    given = entry.standard_input()
+    if given.isatty():
+        raise entry.Fault("-f - wants a trace or a report on standard input")
+    return path_of(whole(given))
+
+
+def run_on(tool: str, words: list[str], report: IO[bytes] | None = None) -> NoReturn:
+    """Becomes a tool, with a file as its standard input. It does not come back."""
+    if report is not None and report.fileno() != 0:
+        os.lseek(report.fileno(), 0, os.SEEK_SET)
+        os.dup2(report.fileno(), 0)
+    sys.stdout.flush()
+    # Python ignores it, and a tool would begin so
+    signal.signal(signal.SIGPIPE, signal.SIG_DFL)
+    try:
+        os.execv(tool, [tool, *words])
+    except OSError as fault:
+        raise entry.Fault(f"{tool} is missing or can't be started: {fault.strerror}", 127) from None

@@ -1,0 +1,75 @@
+"""A tool that is to tell of several traces: those of files and folders, or those that a cluster's recorder holds."""
+
+from __future__ import annotations
+
+import glob
+import os
+import subprocess
+import sys
+import tempfile
+from collections.abc import Callable
+
+from replay_tools import entry
+from replay_tools.cluster import fetching, recorders
+from replay_tools.joined import asked
+from replay_tools.plugin import files, words
+
+
+def is_meant(found: words.Words) -> bool:
+    """Whether the words are of several traces, or of a time of them."""
+    return (len(found.files) > 1 or any(os.path.isdir(file) or is_pattern(file) for file in found.files)
+            or any(word in found.rest for word in words.SEVERAL))
+
+
+def is_pattern(file: str) -> bool:
+    return glob.has_magic(file) and not os.path.exists(file)
+
+
+def run(name: str, command: words.Command, found: words.Words, tool: str) -> int:
+    """Runs a tool on several traces; its status, where it comes back."""
+    pods = found.plain if command.pods == "none" else words.pods_meant(command, found)
+    if pods is None:
+        pods = [f"{found.namespace}/"]
+    rest = [*found.rest, *(["--without-why"] if name == "story" and pods and not pods[0].endswith("/")
+                           and "--without-why" not in found.rest else [])]
+    named = [word for file in found.files for word in (asked.TRACES, file)]
+    if named or asked.TRACES in found.rest:
+        if words.RECORDERS in found.rest:
+            raise entry.Fault(f"{words.RECORDERS} is for the traces of a cluster, and files are named")
+        files.run_on(tool, [*rest, *pods, *named])
+    node = found.value("--node")
+    if node is None:
+        raise entry.Fault("it wants -f FILE or FOLDER for traces that are here, or --node NODE for those of a cluster")
+    return run_fetched(found, node, lambda folder: [tool, *without(rest, words.RECORDERS), *pods, asked.TRACES,
+                                                    folder])
+
+
+def without(rest: list[str], name: str) -> list[str]:
+    """The words without one of them and its value."""
+    places = [place for place, word in enumerate(rest) if word == name]
+    return [word for place, word in enumerate(rest) if place not in places and place - 1 not in places]
+
+
+def run_fetched(found: words.Words, node: str, words_for: Callable[[str], list[str]]) -> int:
+    """Fetches the traces of a node into a folder that goes again, and runs a tool on them; its status."""
+    cluster = recorders.Cluster(found.context, found.value(words.RECORDERS) or recorders.NAMESPACE)
+    first, last = asked.span_of(found.value("--since"), found.value("--at"), fetching.now())
+    [recorder] = recorders.on_nodes(cluster.recorders(), [node])
+    try:
+        folder = tempfile.TemporaryDirectory(prefix="kubelet-replay-")
+    except OSError as fault:
+        raise files.no_room(fault.strerror) from None
+    with folder as path:
+        [came] = fetching.fetched(cluster, [recorder], path, first, last)
+        if came.fault and not came.copied:
+            raise entry.Fault(f"{node}: {came.fault}", 1)
+        if came.fault:
+            entry.say(f"{node}: {came.fault}")
+        sys.stdout.flush()
+        process = subprocess.Popen(words_for(path), stdin=subprocess.DEVNULL)
+        try:
+            status = process.wait()
+        except KeyboardInterrupt:
+            # the tool has it too, and must not outlive the folder
+            status = process.wait()
+        return status if status >= 0 else 128 - status

@@ -1,0 +1,53 @@
+"""The program that replays traces: where it is, and whether it answers."""
+
+from __future__ import annotations
+
+import hashlib
+import json
+import os
+import subprocess
+from collections.abc import Iterable
+
+from replay_tools import entry
+
+TOP = os.path.dirname(os.path.dirname(os.path.dirname(os.path.realpath(__file__))))
+# in a checkout ./kubelet_replay is a script that builds this program, and looks at each run whether it is current
+BUILT = "crates/replay_program/out/replay_program"
+SMALLEST = b'{"kind":"node","name":"n1"}\n'
+
+
+def path() -> str:
+    """The absolute path of the program: KUBELET_REPLAY, or ./kubelet_replay beside the tools."""
+    return os.path.abspath(os.environ.get("KUBELET_REPLAY") or os.path.join(TOP, "kubelet_replay"))
+
+
+def checked_path() -> str:
+    """The path of a program that writes reports. In a checkout this builds it where that is due, once and before
+    many processes ask for it; so what it says is not held back. What is given is then the built program itself, whose
+    sum is another one where it is another program."""
+    found = path()
+    try:
+        done = subprocess.run([found, "run", "/dev/stdin"], input=SMALLEST, stdout=subprocess.PIPE, check=False)
+    except OSError as fault:
+        raise entry.Fault(f"{found} is missing or can't be started: {fault.strerror}", 127) from None
+    if done.returncode != 0 or not done.stdout.startswith(b"node n1 "):
+        raise entry.Fault(f"{found} writes no report (status {done.returncode})", 127)
+    built = os.path.join(TOP, BUILT)
+    return built if found == os.path.join(TOP, "kubelet_replay") and os.access(built, os.X_OK) else found
+
+
+def format_words(lines: Iterable[bytes]) -> list[str]:
+    """The words for the format of a trace, of which the lines are given as bytes: --extended where its node line says
+    version 3. Whatever else it says, the program has to say why it is refused."""
+    node_line = next((line for line in lines if line.strip(b" \t\r\n")), b"")
+    try:
+        node = json.loads(node_line)
+    except (ValueError, RecursionError):
+        return []
+    return ["--extended"] if isinstance(node, dict) and node.get("version") == 3 else []
+
+
+def sum_of(found: str) -> str:
+    """The SHA-256 of the program's file, in hexadecimal digits."""
+    with open(found, "rb") as file:
+        return hashlib.sha256(file.read()).hexdigest()

@@ -1,0 +1,177 @@
+"""Why instances ended and why containers wait, as a recording says it beside what the formats read. A report has codes
+alone, and 137 also for an instance that a tick just leaves out."""
+
+from __future__ import annotations
+
+from dataclasses import dataclass
+from typing import Any, TYPE_CHECKING
+
+from replay_tools import amounts, entry
+
+if TYPE_CHECKING:
+    from replay_tools import report as reports, traces
+
+LOST = 137
+OUT_OF_MEMORY = "OOMKilled"
+# what a runtime says where it knows no more than the code
+PLAIN = "Error"
+# a start that failed
+NEVER_RAN = ("StartError", "ContainerCannotRun", "CreateContainerError", "RunContainerError")
+# a tick line without one of them says no reason
+SIGNS = (b'"reason"', b'"waiting"', b'"ended"', b"\\u")
+
+
+@dataclass
+class End:
+    """How an instance ended: its code, and why, where that was said."""
+
+    code: int | None
+    reason: str | None = None
+    message: str | None = None
+
+
+@dataclass
+class Wait:
+    """Why a container did not run, from the first tick that says so until the first that does not; None where all to
+    the last one do."""
+
+    since: int
+    until: int | None
+    reason: str
+    message: str | None = None
+
+    def words(self) -> str:
+        return f"{self.reason}: {self.message}" if self.message else self.reason
+
+
+class Reasons:
+    """What the ticks of a trace say, which are taken one after the other."""
+
+    def __init__(self) -> None:
+        self.ends: dict[tuple[int, str, int], End] = {}
+        """by the pod's number, the container and the attempt"""
+        self.waits: dict[tuple[int, str], list[Wait]] = {}
+        """lists by the pod's number and the container, in order"""
+        self.open: dict[tuple[int, str], Wait] = {}
+
+    def take(self, line: bytes, at: int, entries: dict[str, dict[str, Any]], present: dict[str, traces.Pod]) -> None:
+        """What a tick says, by its bytes and its entries."""
+        if not self.open and not any(sign in line for sign in SIGNS):
+            return
+        waiting = {}
+        for key, found in entries.items():
+            number = present[key].number
+            for listed in dicts_at(found, "containers"):
+                for said in (listed if "reason" in listed else None, listed.get("ended")):
+                    if isinstance(said, dict):
+                        self.take_end(number, listed.get("name"), said)
+            for each in dicts_at(found, "waiting"):
+                reason = text_at(each, "reason")
+                if reason and isinstance(each.get("container"), str):
+                    waiting[number, each["container"]] = reason, text_at(each, "message")
+        self.take_waits(at, waiting)
+
+    def take_end(self, number: int, name: str, said: dict[str, int | str]) -> None:
+        """A later reason is the better one, and a message stands in the first tick alone."""
+        reason, code, attempt = text_at(said, "reason"), said.get("exitCode"), said.get("attempt", 0)
+        if not isinstance(code, int) or not isinstance(name, str) or not isinstance(attempt, int):
+            return
+        end = self.ends.setdefault((number, name, attempt), End(code))
+        end.reason = reason or end.reason
+        end.message = end.message or text_at(said, "message")
+
+    def take_waits(self, at: int, waiting: dict[tuple[int, str], tuple[str, str | None]]) -> None:
+        for place, wait in list(self.open.items()):
+            said = waiting.get(place)
+            if said is None or said[0] != wait.reason or said[1] not in (None, wait.message):
+                wait.until = at
+                del self.open[place]
+        for place, (reason, message) in waiting.items():
+            if place not in self.open:
+                self.open[place] = Wait(at, None, reason, message)
+                self.waits.setdefault(place, []).append(self.open[place])
+
+    def end_of(self, event: reports.Event) -> End | None:
+        """How the instance of a death ended; None where the trace does not say it."""
+        return self.ends.get((event.number, event.container, int(event.rest[0])))
+
+    def waits_of(self, pod: reports.Pod) -> list[tuple[str, Wait]]:
+        """The waits of a pod of the report, with their containers, by their moments."""
+        found = [(container.name, wait) for container in pod.containers
+                 for wait in self.waits.get((pod.number, container.name), [])]
+        return sorted(found, key=lambda pair: pair[1].since)
+
+
+def dicts_at(found: dict[str, Any], name: str) -> list[dict[str, Any]]:
+    """The objects of an array; none where it is no array, since the formats may not read it."""
+    value = found.get(name)
+    return [each for each in value if isinstance(each, dict)] if isinstance(value, list) else []
+
+
+def text_at(found: dict[str, int | str], name: str) -> str | None:
+    value = found.get(name)
+    return entry.visible(value) if isinstance(value, str) and value else None
+
+
+# --- in words ---
+
+
+def cause_words(event: reports.Event, code: int, trace: traces.Trace | None, is_whole: bool) -> str:
+    """Why an instance died, as far as it is known; the whole with its message."""
+    end = trace.reasons.end_of(event) if trace is not None else None
+    if end is not None and end.reason:
+        return reason_words(event, end, trace, is_whole)
+    if code != LOST:
+        return ""
+    if trace is None:
+        return "killed, or unknown"
+    if is_known(event, trace):
+        return "killed, or it exited so; the trace has no reason"
+    return "it was no longer listed, its own code is not known"
+
+
+def reason_words(event: reports.Event, end: End, trace: traces.Trace, is_whole: bool) -> str | None:
+    if end.reason == OUT_OF_MEMORY:
+        limit = trace.memory_limit(event.number, event.container)
+        return f"{OUT_OF_MEMORY}, {f'its memory limit is {limit}' if limit else 'it has no memory limit'}"
+    if end.reason == PLAIN and end.code == LOST:
+        return f"{PLAIN}, as signal 9 leaves it"
+    return f"{end.reason}: {end.message}" if end.message and is_whole else end.reason
+
+
+def because_lines(event: reports.Event, trace: traces.Trace) -> list[str]:
+    """What the reason of a death means, as lines; none where the code says as much."""
+    end = trace.reasons.end_of(event)
+    if end is None or not end.reason:
+        return []
+    if end.reason == OUT_OF_MEMORY:
+        limit = trace.memory_limit(event.number, event.container)
+        because = f"it came to its memory limit, {limit} (resources.limits.memory)" if limit else \
+            "memory ran out, and it has no limit of its own"
+        return [f"OOM-killed because {because}{left_words(event, trace)}"]
+    if end.reason == PLAIN and end.code == LOST:
+        return [f"the runtime says {PLAIN} and not {OUT_OF_MEMORY}: it was killed, as at the end of a grace period, or "
+                f"exited with {LOST} itself"]
+    if end.reason in NEVER_RAN:
+        return [f"the runtime could not start it{f': {end.message}' if end.message else ''}"]
+    return []
+
+
+def left_words(event: reports.Event, trace: traces.Trace) -> str:
+    """What memory the node had left by the last sample, which tells a limit from a node that ran out of it."""
+    left = trace.ticks[trace.places[event.at]].signals.get("memory.available")
+    return "" if left is None else f"; the node had {amounts.amount_text(left, True)} of memory available"
+
+
+def is_known(event: reports.Event, trace: traces.Trace) -> bool:
+    """Whether the code of a death is that of the instance, and not that of one that a tick just leaves out."""
+    return int(event.rest[1]) != LOST or trace.reasons.end_of(event) is not None or is_listed(event, trace)
+
+
+def is_listed(event: reports.Event, trace: traces.Trace) -> bool:
+    """Whether the tick of a death lists that instance as exited, so that the code is the runtime's."""
+    try:
+        listing = trace.listing(trace.pods[event.number], event.container, trace.places[event.at])
+    except ValueError:
+        return False
+    return listing is not None and (listing.attempt, listing.state) == (int(event.rest[0]), "CONTAINER_EXITED")

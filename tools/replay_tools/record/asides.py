@@ -1,0 +1,75 @@
+"""What the ticks of a trace say beside what the formats read: why instances ended, and why containers wait."""
+
+from __future__ import annotations
+
+from typing import Any, TYPE_CHECKING
+
+from .formats import without_nones
+from .reasons import better
+from .runtime import RUNNING
+
+if TYPE_CHECKING:
+    from .pods import Pod
+    from .reasons import Reason
+    from .runtime import Listing
+
+
+class Asides:
+    """What stands at the last tick, and what was told of it: a reason stands in each tick, its message in the first."""
+
+    def __init__(self) -> None:
+        self.ends: dict[Any, Any] = {}
+        self.waits: dict[str, dict[str, Any]] = {}
+        self.told: dict[Any, Any] = {}
+
+    def copied(self) -> Asides:
+        copied = Asides()
+        copied.ends, copied.waits, copied.told = dict(self.ends), dict(self.waits), dict(self.told)
+        return copied
+
+    def take_end(self, uid: str, name: str, attempt: int, reason: Reason | None) -> None:
+        """What is known now of why the newest instance of a container ended."""
+        self.ends[uid, name] = attempt, reason
+
+    def take_waits(self, uid: str, waits: dict[str, Reason]) -> None:
+        self.waits[uid] = waits
+
+    def depart(self, uid: str) -> None:
+        self.waits.pop(uid, None)
+        for kept in (self.ends, self.told):
+            for place in [place for place in kept if place[0] == uid]:
+                del kept[place]
+
+    def of_listing(self, uid: str, name: str, listing: Listing) -> dict[str, Any]:
+        """The members of a listing: why the instance ended, and how the one before it did, whose exit its tick says."""
+        said: dict[str, Any] = {}
+        if listing.exit_code is not None:
+            attempt, newest = self.ends.get((uid, name), (None, None))
+            reason = better(listing.reason, newest) if attempt == listing.attempt else listing.reason
+            said = self.members((uid, name), listing.attempt, reason)
+        ended = listing.ended
+        if ended is not None and self.is_new((uid, name, "ended"), ended):
+            said["ended"] = {"attempt": ended.attempt, "exitCode": ended.exit_code,
+                             **self.members((uid, name), ended.attempt, ended.reason)}
+        return said
+
+    def of_waits(self, pod: Pod, listings: dict[str, Listing]) -> list[dict[str, str]] | None:
+        """The member of an entry: the containers that wait, but for those that have begun to run since; None where none
+        does."""
+        waits = self.waits.get(pod.uid, {})
+        waiting = [name for name in pod.containers() if name in waits
+                   and (name not in listings or listings[name].state != RUNNING)]
+        for name in set(pod.containers()).difference(waiting):
+            self.told.pop((pod.uid, name, "waits"), None)
+        return [{"container": name, **self.members((pod.uid, name, "waits"), None, waits[name])}
+                for name in waiting] or None
+
+    def members(self, place: tuple[str, ...], what: int | None, reason: Reason | None) -> dict[str, str]:
+        if reason is None:
+            return {}
+        message = reason.message if self.is_new(place, (what, reason)) else None
+        return without_nones({"reason": reason.word, "message": message})
+
+    def is_new(self, place: tuple[str, ...], said: Any) -> bool:
+        before, self.told[place] = self.told.get(place), said
+        return said != before

@@ -1,0 +1,94 @@
+"""What --check says: whether each source works, and what is to be done about one that does not."""
+
+from __future__ import annotations
+
+from collections.abc import Callable
+from typing import Any, TYPE_CHECKING
+
+from .formats import shown
+from .node import node_line_of
+from .pods import pods_of
+from .probes import counters_of
+from .runtime import inspected_of, instances_of
+from .sources import Failed
+from .summary import Summary, summary_of
+
+if TYPE_CHECKING:
+    from .lines import Format
+    from .sources import Sources
+
+PROXY = "it wants the permission to get nodes/proxy, and the node's name in the cluster as --node"
+PORT = "it is at the kubelet's port 10250, and wants the permission to get nodes/{what}"
+
+
+class NotAsked(Exception):
+    """A source that can't be asked; its text says why."""
+
+
+def counted(count: int, what: str) -> str:
+    return f"{count} {what}{'' if count == 1 else 's'}"
+
+
+def wish(sources: Sources, what: str) -> str:
+    """What a source at the kubelet wants."""
+    return PROXY if sources.kubelet is None else PORT.replace("{what}", what)
+
+
+def runtime_checks(sources: Sources) -> list[tuple[str, Callable[..., Any], str]]:
+    """What asks the runtime: its list, and then the newest container of it."""
+    wanted = "it wants root, on the node, and the runtime's socket (crictl --runtime-endpoint, /etc/crictl.yaml)"
+    listed = []
+
+    def list_them() -> str:
+        listed.extend(instances_of(sources.listed()))
+        return counted(len(listed), "container")
+
+    def inspect_one() -> str:
+        if not listed:
+            raise NotAsked("there is no container to ask for")
+        newest = listed[-1]
+        started = inspected_of(sources.inspected(newest.id), newest).started
+        return f"{newest.container} " + ("has not started" if started is None else f"started at {int(started)}")
+
+    return [("crictl ps", list_them, wanted), ("crictl inspect", inspect_one, wanted)]
+
+
+def node_checks(sources: Sources, node: str, trace_format: Format) -> list[tuple[str, Callable[..., Any], str]]:
+    """What asks the kubelet for the node line, which takes the capacities from the summary."""
+    summaries = [Summary({}, False, {}, {})]
+
+    def summarize() -> str:
+        summaries.append(summary_of(sources.summary()))
+        return f"{counted(len(summaries[-1].pods), 'pod')}, signals {' '.join(summaries[-1].signals)}"
+
+    def configure() -> str:
+        made = node_line_of(sources.configuration(), node, summaries[-1], trace_format)
+        return f"evictionHard {shown(made.fields['evictionHard'])}"
+
+    own = "; the read-only port 10255 does not serve it; --node-line FILE takes its place"
+    return [("/stats/summary", summarize, wish(sources, "stats")),
+            ("/configz", configure, wish(sources, "proxy") + own)]
+
+
+def checks_of(sources: Sources, node: str, trace_format: Format) -> list[tuple[str, Callable[..., Any], str]]:
+    """Each source with how it is asked and what it wants: (name, ask, wish)."""
+    pods = wish(sources, "proxy") if sources.kubelet else "it wants the permission to list pods of all namespaces"
+    return [*runtime_checks(sources),
+            (sources.pods_name(), lambda: counted(len(pods_of(sources.pods(), sources.pods_name())), "pod"), pods),
+            ("/metrics/probes", lambda: f"{counted(len(counters_of(sources.probes())), 'probe')} with results",
+             wish(sources, "metrics")),
+            *node_checks(sources, node, trace_format)]
+
+
+def check(sources: Sources, node: str, trace_format: Format, show: Callable[[str], None]) -> bool:
+    """Asks each source once and shows a line of each; whether all work."""
+    works = True
+    for name, ask, wanted in checks_of(sources, node, trace_format):
+        try:
+            show(f"works    {name}: {ask()}")
+        except NotAsked as reason:
+            show(f"unasked  {name}: {reason}")
+        except Failed as failed:
+            works = False
+            show(f"missing  {failed}; {wanted}")
+    return works

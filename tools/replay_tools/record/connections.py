@@ -1,0 +1,336 @@
+"""Connections that are kept: to a kubelet's port, as a file of curl says it, or to a proxy of kubectl's on a socket in
+a folder of its own. So no command is started for an answer but crictl."""
+
+from __future__ import annotations
+
+import ctypes
+import http.client
+import json
+import os
+import re
+import shutil
+import signal
+import socket
+import ssl
+import subprocess
+import tempfile
+import time
+from collections.abc import Callable
+from dataclasses import dataclass, field
+from typing import Any, Optional
+from urllib.parse import urlsplit
+
+from .sources import ENDPOINT_SECONDS, Failed, Sources
+
+PART_BYTES = 1 << 16
+# what an answer fails with: of the connection, and of an address or a header that can't be sent
+FAULTS = (http.client.HTTPException, OSError, ValueError)
+# the longest answer that is read
+MOST_BYTES = 1 << 28
+LINE = re.compile(r"(?:--)?(?P<name>[a-z-]+)(?:\s*[=:]\s*|\s+|$)(?P<value>.*)|-(?P<letter>[A-Za-z])\s*(?P<rest>.*)")
+LETTERS = {"H": "header", "k": "insecure", "E": "cert", "s": "silent"}
+ESCAPES = {"t": "\t", "n": "\n", "r": "\r", "v": "\v"}
+DEATH_SIGNAL = 1
+
+
+class NotRead(Exception):
+    """A file of curl's settings that has more than is read here; its text says what."""
+
+
+@dataclass
+class Settings:
+    """What a file of curl says of a connection."""
+    headers: dict = field(default_factory=dict)
+    is_insecure: bool = False
+    authority: Optional[str] = None
+    certificate: Optional[str] = None
+    key: Optional[str] = None
+
+
+def settings_of(text: str) -> Settings:
+    """The settings of a file of curl. Raises NotRead where it has others than those of a token and certificates."""
+    found = Settings()
+    for line in filter(None, map(str.strip, text.split("\n"))):
+        parts = LINE.fullmatch(line)
+        if line.startswith("#"):
+            continue
+        if parts is None:
+            raise NotRead(f"the line '{line.split()[0]}'")
+        name = parts["name"] or LETTERS.get(parts["letter"], f"-{parts['letter']}")
+        take(found, name, unquoted(parts["value"] or parts["rest"] or ""))
+    return found
+
+
+def unquoted(value: Any) -> str:
+    if not value.startswith('"'):
+        return value.split(" ")[0]
+    quoted = re.match(r'"((?:[^"\\]|\\.)*)"', value)
+    if quoted is None:
+        raise NotRead("a text without its end")
+    return re.sub(r"\\(.)", lambda escaped: ESCAPES.get(escaped[1], escaped[1]), quoted[1])
+
+
+def take(settings: Any, name: str, value: Any) -> None:
+    """Takes one setting of a file of curl."""
+    if name == "header" and ":" in value and not value.startswith("@"):
+        header, _, said = value.partition(":")
+        settings.headers[header.strip()] = said.strip()
+    elif name == "insecure" and not value:
+        settings.is_insecure = True
+    elif name == "cacert":
+        settings.authority = value
+    elif name == "cert" and ":" not in value:
+        settings.certificate = value
+    elif name == "key":
+        settings.key = value
+    elif name not in ("silent", "show-error", "fail"):
+        raise NotRead(f"'{name}'")
+
+
+class Kept:
+    """One connection that is kept from one answer to the next, and opened anew where it was closed."""
+
+    def __init__(self, connect: Callable[..., Any]) -> None:
+        self.connect = connect
+        self.connection: http.client.HTTPConnection | None = None
+
+    def get(self, path: str, headers: dict[str, str]) -> str:
+        """The text of an answer; Failed where none comes."""
+        is_kept = self.connection is not None
+        try:
+            return self.asked(path, headers)
+        except FAULTS as error:
+            self.close()
+            # the other side may have closed what was idle
+            if not is_kept or isinstance(error, TimeoutError):
+                raise self.failed(error) from None
+        try:
+            return self.asked(path, headers)
+        except FAULTS as error:
+            raise self.failed(error) from None
+
+    def failed(self, error: Any) -> Failed:
+        self.close()
+        if isinstance(error, TimeoutError):
+            return Failed(f"gave no answer within {ENDPOINT_SECONDS} s")
+        said = getattr(error, "verify_message", None) or getattr(error, "strerror", None) or error
+        return Failed(f"gave no answer: {said}")
+
+    def asked(self, path: str, headers: dict[str, str]) -> str:
+        until = time.monotonic() + ENDPOINT_SECONDS
+        if self.connection is None:
+            self.connection = self.connect()
+        self.connection.request("GET", path, headers=headers)
+        answer = self.connection.getresponse()
+        text = self.text_of(answer, until)
+        if answer.will_close:
+            self.close()
+        if answer.status != 200:
+            raise Failed(f"answered with {answer.status} {answer.reason}: {said_in(text)}")
+        return text
+
+    def text_of(self, answer: http.client.HTTPResponse, until: float) -> str:
+        parts, count = [], 0
+        while part := answer.read(PART_BYTES):
+            parts.append(part)
+            count += len(part)
+            if time.monotonic() > until:
+                raise TimeoutError
+            if count > MOST_BYTES:
+                self.close()
+                raise Failed(f"answered with more than {MOST_BYTES >> 20} MiB")
+        return b"".join(parts).decode("utf-8", "replace")
+
+    def close(self) -> None:
+        if self.connection is not None:
+            self.connection.close()
+            self.connection = None
+
+
+def said_in(text: str) -> str:
+    """Why an answer is a refusal, in one line: an API server writes an object with a message."""
+    try:
+        answer = json.loads(text)
+        text = answer["message"] if isinstance(answer, dict) and "message" in answer else text
+    except (ValueError, RecursionError):
+        pass
+    return " ".join(str(text).split())[:300]
+
+
+class Kubelet:
+    """A kubelet at its URL, with the settings of a file of curl, which is read again where it has changed, as a token
+    does. Raises NotRead for settings that it does not know."""
+
+    def __init__(self, url: str, curl_file: str | None) -> None:
+        self.url, self.curl_file = urlsplit(url), curl_file
+        self.text: str | None = None
+        self.kept = Kept(self.connected)
+        self.read()
+
+    def read(self) -> None:
+        text = ""
+        if self.curl_file is not None:
+            with open(self.curl_file, encoding="utf-8") as file:
+                text = file.read()
+        if text != self.text:
+            self.settings, self.text = settings_of(text), text
+            self.kept.close()
+
+    def connected(self) -> http.client.HTTPConnection:
+        host, port = self.url.hostname, self.url.port
+        if self.url.scheme == "http":
+            return http.client.HTTPConnection(host, port or 80, timeout=ENDPOINT_SECONDS)
+        context = ssl.create_default_context(cafile=self.settings.authority)
+        if self.settings.is_insecure:
+            context.check_hostname, context.verify_mode = False, ssl.CERT_NONE
+        if self.settings.certificate is not None:
+            context.load_cert_chain(self.settings.certificate, self.settings.key)
+        return http.client.HTTPSConnection(host, port or 443, timeout=ENDPOINT_SECONDS, context=context)
+
+    def endpoint(self, path: str) -> str:
+        try:
+            self.read()
+        except (OSError, UnicodeDecodeError) as error:
+            raise Failed(f"can't be asked: {self.curl_file} can't be read: {error}") from None
+        except NotRead as other:
+            raise Failed(f"can't be asked: {self.curl_file} has {other}, which is not read") from None
+        return self.kept.get(f"/{path}", self.settings.headers)
+
+    def pods(self) -> Any:
+        return self.endpoint("pods")
+
+    def works(self) -> bool:
+        """Whether it is asked."""
+        return True
+
+    def close(self) -> None:
+        self.kept.close()
+
+
+class SocketConnection(http.client.HTTPConnection):
+    """A connection to a socket of a folder."""
+
+    def __init__(self, path: str) -> None:
+        super().__init__("localhost", timeout=ENDPOINT_SECONDS)
+        self.path = path
+
+    def connect(self) -> None:
+        self.sock = socket.socket(socket.AF_UNIX, socket.SOCK_STREAM)
+        self.sock.settimeout(self.timeout)
+        self.sock.connect(self.path)
+
+
+def dies_with_its_parent() -> None:
+    """The proxy is not left behind by a recorder that is killed."""
+    try:
+        ctypes.CDLL(None).prctl(DEATH_SIGNAL, signal.SIGTERM)
+    except (OSError, AttributeError):
+        pass
+
+
+class Proxy:
+    """A `kubectl proxy` of the recorder's own, on a socket in a folder that others can't enter. It is started with the
+    first question, and again where it has ended."""
+
+    def __init__(self, node: str, say: Callable[..., None]) -> None:
+        self.node = node
+        self.say = say
+        self.does_start: bool | None = None
+        self.folder: str | None = None
+        self.process: subprocess.Popen | None = None
+        self.kept = Kept(lambda: SocketConnection(self.socket()))
+
+    def socket(self) -> str:
+        return os.path.join(self.folder, "proxy")
+
+    def start(self) -> None:
+        """Starts it; Failed where it does not come up."""
+        self.close()
+        try:
+            self.folder = tempfile.mkdtemp(prefix="record-")
+        except OSError as error:
+            folder = f"{os.environ.get('TMPDIR') or '/tmp'} (TMPDIR names another folder)"
+            raise Failed(f"kubectl proxy has no place in {folder}: {error.strerror}") from None
+        words = ["kubectl", "proxy", f"--unix-socket={self.socket()}"]
+        try:
+            # a session of its own, so that an interrupt at the terminal is the recorder's alone
+            self.process = subprocess.Popen(words, stdin=subprocess.DEVNULL, stdout=subprocess.DEVNULL,
+                                            stderr=subprocess.PIPE, start_new_session=True,
+                                            preexec_fn=dies_with_its_parent)
+            self.wait_for_socket()
+        except OSError as error:
+            self.close()
+            raise Failed(f"kubectl proxy can't be started: {error.strerror}") from None
+        except Failed:
+            self.close()
+            raise
+
+    def listens(self) -> bool:
+        """Whether it takes a connection: its socket is there some moments before that."""
+        with socket.socket(socket.AF_UNIX, socket.SOCK_STREAM) as tried:
+            return tried.connect_ex(self.socket()) == 0
+
+    def wait_for_socket(self) -> None:
+        until = time.monotonic() + ENDPOINT_SECONDS
+        while not self.listens():
+            if self.process.poll() is not None:
+                said = self.process.stderr.read().decode("utf-8", "replace").split("\n")[0]
+                raise Failed(f"kubectl proxy failed with status {self.process.returncode}: {said}")
+            if time.monotonic() > until:
+                raise Failed(f"kubectl proxy did not start within {ENDPOINT_SECONDS} s")
+            time.sleep(0.02)
+
+    def works(self) -> bool:
+        """Whether it is asked: not where it did not start at first, which is said."""
+        if self.does_start is None:
+            try:
+                self.start()
+                self.does_start = True
+            except Failed as failed:
+                self.does_start = False
+                self.say(f"{failed}: kubectl is started for each answer")
+        return self.does_start
+
+    def get(self, path: str) -> str:
+        if self.process is None or self.process.poll() is not None:
+            try:
+                self.start()
+            except Failed as failed:
+                raise Failed(f"gave no answer: {failed}") from None
+        return self.kept.get(path, {})
+
+    def endpoint(self, path: str) -> str:
+        return self.get(f"/api/v1/nodes/{self.node}/proxy/{path}")
+
+    def pods(self) -> str:
+        return self.get(f"/api/v1/pods?fieldSelector=spec.nodeName%3D{self.node}")
+
+    def close(self) -> None:
+        """Ends the proxy, and takes its folder away."""
+        self.kept.close()
+        if self.process is not None:
+            self.process.terminate()
+            try:
+                self.process.wait(2)
+            except subprocess.TimeoutExpired:
+                self.process.kill()
+                self.process.wait()
+            self.process.stderr.close()
+            self.process = None
+        if self.folder is not None:
+            shutil.rmtree(self.folder, ignore_errors=True)
+            self.folder = None
+
+
+def kept_sources(node: str, kubelet: str | None, curl_file: str | None, say: Callable[..., None]) -> Sources:
+    """The sources of a node, of which crictl alone is a command for each answer. Where a file of curl has more than is
+    read here, curl is one too."""
+    if kubelet is None:
+        return Sources(node, keeps=Proxy(node, say))
+    try:
+        return Sources(node, kubelet, curl_file, keeps=Kubelet(kubelet, curl_file))
+    except NotRead as other:
+        say(f"{curl_file} has {other}, which is not read here: curl is started for each answer")
+    except (OSError, UnicodeDecodeError) as error:
+        say(f"{curl_file} can't be read: {error}")
+    return Sources(node, kubelet, curl_file)

@@ -1,0 +1,340 @@
+"""Traces of one node, one behind the other: `--into FOLDER`. Each is whole by itself, and begins in the second in which
+the one before it ends."""
+
+from __future__ import annotations
+
+import json
+from collections.abc import Callable, Iterator
+from typing import Any, TYPE_CHECKING
+
+from .folder import FULL, Folder, Refused, why
+from .formats import MOST_BYTES, MOST_PODS
+from .lasting import LastingRecorder, forget_strangers, set_back
+from .lines import line_of
+from .program import Output, Recording, watch
+from .standing import Standing
+
+if TYPE_CHECKING:
+    from .folder import Part
+    from .sources import Sources
+    from .words import Words
+
+# a clock that goes back by less stands still until its time comes again
+BACK_SECONDS = 60
+# two looks are that far apart where the clock went forward, or the recorder stood still
+FORWARD_SECONDS = 120
+# a trace has at most one of so many parts of the bytes that are kept
+PARTS = 4
+POD_LINE = '{"kind":"pod"'
+# a trace with so many times what it begins with is long
+SHORT = 2
+AGAIN_SECONDS = 5
+
+
+def say_again(say: Callable[..., None], text: str) -> None:
+    """Says a line that may have been said before."""
+    say(text, object())
+
+
+class Traces(Output):
+    """What is written, as traces in a folder that end and begin; each has at most so many seconds and ticks."""
+
+    def __init__(self, folder: Folder, each: Any, most_ticks: int, say: Callable[..., None]) -> None:
+        super().__init__(float("inf"))
+        self.folder = folder
+        self.each = each
+        self.most_ticks = most_ticks
+        self.most_bytes = min(MOST_BYTES, folder.most // PARTS)
+        self.say = say
+        self.standing = Standing()
+        # what the pods' statuses say at the first look
+        self.probed: dict[str, Any] = {}
+        self.part: Part | None = None
+        # the second at which the newest trace begins, its name, and up to when it has all that happened
+        self.begun: int | None = None
+        self.last: str | None = None
+        self.until: int | None = None
+        # parts that have ended, with their bytes
+        self.unpacked: dict[str, int] = {}
+        self.is_lost = self.has_turned = False
+        self.tried_at = float("-inf")
+
+    # --- what comes ---
+
+    def write(self, lines: list[str]) -> None:
+        """The node line; that of a trace is written with its first tick."""
+        for line in lines:
+            self.standing.take(json.loads(line))
+
+    def write_due(self, due: Iterator[Any]) -> None:
+        for lines, _ in due:
+            if lines:
+                self.take(lines)
+
+    def take(self, lines: list[str]) -> None:
+        """Takes the lines of a second, one of which is a tick."""
+        records = [json.loads(line) for line in lines]
+        place = next(place for place, record in enumerate(records) if record["kind"] == "tick")
+        if self.standing.at is None:
+            self.take_first(records[:place + 1], lines[:place + 1])
+            records, lines = records[place + 1:], lines[place + 1:]
+        self.take_next(records, "".join(f"{line}\n" for line in lines).encode())
+
+    def take_first(self, records: list[dict[str, Any]], lines: list[str]) -> None:
+        """Takes the lines up to the first tick of all. It shows what was before it too, where the pods' statuses say
+        that."""
+        for record in records:
+            self.standing.take(record)
+        has_past = self.standing.assume(self.probed)
+        self.begin(self.standing.at, None if has_past else [line_of(self.standing.node), *lines])
+
+    def take_next(self, records: list[dict[str, Any]], data: bytes) -> None:
+        ticks = [record["at"] for record in records if record["kind"] == "tick"]
+        second = ticks[0] if ticks else self.standing.at
+        arrivals = sum(record["kind"] == "pod" for record in records)
+        if self.part is not None:
+            border = self.border(second)
+            if border is not None:
+                self.turn(border)
+            elif self.is_full(len(data), arrivals):
+                self.turn(self.standing.at)
+        else:
+            self.go_on(second)
+        if self.part is not None and self.put(data, second):
+            self.part.ticks += len(ticks)
+            self.part.pods += arrivals
+            self.until = second
+        for record in records:
+            self.standing.take(record)
+
+    def settle(self, second: float) -> None:
+        """All before a second is written: a trace whose time is over ends, though nothing happens."""
+        border = None if self.part is None else self.border(second)
+        if border is not None:
+            self.turn(border)
+        elif self.is_lost:
+            self.go_on(second)
+
+    def write_ahead(self, due: list[tuple[list[str], bool]]) -> None:
+        """Writes what is seen and not settled, so that a crash loses nothing of it; where there is room for it."""
+        lines = [line for lines, _ in due for line in lines]
+        data = "".join(f"{line}\n" for line in lines).encode()
+        arrivals, ticks = sum(line.startswith(POD_LINE) for line in lines), sum(has_tick for _, has_tick in due)
+        if self.part is not None:
+            fits = not self.is_full(len(data), arrivals, ticks) and self.has_room_for(len(data))
+            self.part.write_ahead(data if fits else b"")
+
+    def border(self, second: Any) -> int | None:
+        """The newest border before a second, behind the begin of the trace; or None."""
+        border = (second - 1) // self.each * self.each
+        return border if border > self.begun else None
+
+    def is_full(self, size: int, arrivals: int, ticks: int = 1) -> bool:
+        part = self.part
+        return (part.ticks + ticks > self.most_ticks or part.size + size > self.most_bytes
+                or part.pods + arrivals > MOST_PODS)
+
+    # --- traces end and begin ---
+
+    def turn(self, second: int) -> None:
+        """The trace ends, and the next one begins at this second."""
+        self.until = max(self.until, second)
+        self.end()
+        self.begin(second)
+        self.has_turned = True
+
+    def turn_back(self, second: Any, before: Any) -> None:
+        """The clock said the one second, and now says an earlier one."""
+        if self.part is not None:
+            self.until = max(self.until, before)
+            self.end()
+            self.begin(second)
+        self.standing.at, self.has_turned = second, True
+
+    def end(self) -> None:
+        """Ends the trace that is written, if one is."""
+        if self.part is None:
+            return
+        self.leave()
+        self.pack()
+        self.folder.prune(self.until, self.each, (PARTS - 2) * self.most_bytes)
+
+    def leave(self) -> None:
+        """Closes the part; where it has a tick it is to be packed."""
+        part, self.part = self.part, None
+        part.close()
+        if part.ticks:
+            self.last = f"{part.name}.gz"
+            self.unpacked[part.name] = part.size
+        else:
+            self.folder.drop(part.name)
+
+    def pack(self) -> None:
+        """Packs what has ended."""
+        self.unpacked = {name: size for name, size in self.unpacked.items() if not self.is_packed(name, size)}
+
+    def is_packed(self, name: str, size: int) -> bool:
+        """Packs one part; whether that is done. Where there is no room the oldest traces go."""
+        while True:
+            try:
+                self.folder.pack(name, size)
+                return True
+            except FileNotFoundError:
+                self.say(f"{name}.part is no longer there")
+                return True
+            except OSError as error:
+                if error.errno not in FULL or not self.folder.give_way():
+                    self.say(f"{name}.part can't be packed yet: {why(error)}")
+                    return False
+
+    def begin(self, second: int, lines: list[str] | None = None) -> None:
+        """Begins a trace at a second, with what is known then, or with these lines."""
+        follows = None if self.until is None else {"trace": self.last, "until": self.until, "at": second}
+        lines = lines or list(self.standing.beginning(second, follows))
+        data = "".join(f"{line}\n" for line in lines).encode()
+        if self.open(second) and self.put(data, second):
+            self.part.pods, self.part.head = len(self.standing.pods), len(data)
+            self.part.ticks = len(lines) - 1 - self.part.pods
+            self.until = second
+
+    def open(self, second: int) -> bool:
+        """Makes the file of a trace; whether it could be made."""
+        while True:
+            try:
+                self.part = self.folder.part(second)
+            except OSError as error:
+                if error.errno in FULL and self.folder.give_way():
+                    continue
+                self.lose(second, why(error))
+                return False
+            self.begun = second
+            return True
+
+    # --- room ---
+
+    def put(self, data: bytes, second: int) -> bool:
+        """Writes whole lines into the trace; whether they were. Where there is no room it is cut short, then the oldest
+        traces go, and where there is none of these what comes is lost until there is room."""
+        while True:
+            reason = "the file system has no room to spare"
+            try:
+                if self.folder.has_room(len(data)):
+                    self.part.write(data)
+                    return True
+                is_full = True
+            except OSError as error:
+                is_full, reason = error.errno in FULL, why(error)
+            if not is_full or not (self.is_cut_short() or self.folder.give_way()):
+                self.lose(second, reason)
+            if self.part is None:
+                return False
+
+    def is_cut_short(self) -> bool:
+        """Where there is no room the trace ends, if it is long: packed it is a small part of what it was."""
+        if self.part is None or self.part.size <= SHORT * self.part.head:
+            return False
+        self.turn(self.standing.at)
+        return True
+
+    def lose(self, second: Any, reason: Any) -> None:
+        """From a second on nothing is written; what is whole by then ends as a trace."""
+        if not self.is_lost:
+            say_again(self.say, f"{second}: nothing is written into '{self.folder.path}' until it can be: {reason}")
+        self.is_lost, self.tried_at = True, second
+        if self.part is not None:
+            self.leave()
+
+    def go_on(self, second: Any) -> None:
+        """Begins a trace where nothing could be written."""
+        if not 0 <= second - self.tried_at < AGAIN_SECONDS:
+            self.tried_at = second
+            self.pack()
+            if self.can_write():
+                self.begin(self.standing.at)
+        if self.part is not None and self.is_lost:
+            self.is_lost = False
+            say_again(self.say, f"{second}: there is room again, and a trace begins")
+
+    def has_room_for(self, size: int) -> bool:
+        try:
+            return self.folder.has_room(size)
+        except OSError:
+            return False
+
+    def can_write(self) -> Any:
+        try:
+            return self.folder.has_room_again()
+        except OSError:
+            return False
+
+
+class LastingRecording(Recording):
+    """A run of the recorder that goes on from one trace to the next."""
+
+    output: Traces
+    recorder: LastingRecorder
+
+    def __init__(self, words: Words, sources: Sources, clock: Any, output: Traces, say: Callable[..., None]) -> None:
+        super().__init__(words, sources, clock, output, say)
+        self.say = say
+        self.recorder = LastingRecorder(words.format, words.every, say)
+
+    def begin(self) -> None:
+        super().begin()
+        self.output.probed = {pod.key: pod.probed for pod in self.recorder.listed}
+
+    def go_on(self) -> None:
+        moment = self.begun
+        while not self.output.is_stopped and not self.is_over(moment):
+            self.clock.wait(min(max(moment + self.words.look - self.clock.now(), 0), self.words.look))
+            before, moment = moment, self.clock.now()
+            with self.output.undisturbed():
+                self.see_clock(before, moment)
+            seen = self.observer.look(moment)
+            with self.output.undisturbed():
+                self.recorder.take(seen)
+                self.output.write_due(self.recorder.due(moment))
+                self.output.settle(self.recorder.timeline.next_second)
+                self.output.write_ahead(self.recorder.foreseen(moment))
+                self.forget()
+
+    def see_clock(self, before: float, moment: float) -> None:
+        """What the clock says at a look, behind the look before."""
+        if moment < before - BACK_SECONDS:
+            say_again(self.say, f"{int(before)}: the clock went back by {round(before - moment)} s, and the next trace "
+                                f"begins at {int(moment)}")
+            self.output.write_due(self.recorder.rest(before))
+            self.output.turn_back(int(moment), int(before))
+            self.recorder.begin_at(moment)
+            self.begun -= before - moment
+            set_back(self.observer, moment)
+        elif moment > before + self.words.look + FORWARD_SECONDS:
+            say_again(self.say, f"{int(moment)}: the look before was {round(moment - before)} s ago: the clock went "
+                                "forward, or the recorder stood still")
+
+    def forget(self) -> None:
+        """Behind each border what is over is forgotten, so that the recorder stays as small as it is."""
+        if self.output.has_turned:
+            self.output.has_turned = False
+            self.recorder.forget()
+            forget_strangers(self.observer)
+
+    def run(self) -> None:
+        try:
+            super().run()
+        finally:
+            with self.output.undisturbed():
+                self.output.end()
+                self.output.pack()
+
+
+def recorded_into(words: Words, sources: Sources, clock: Any, say: Callable[..., None]) -> int:
+    """Records traces one behind the other; the status."""
+    try:
+        folder = Folder(words.into.folder, words.node, words.into.keep, words.into.most, say)
+        folder.end_left()
+    except Refused as refused:
+        say(str(refused))
+        return 1
+    output = Traces(folder, words.into.each, words.ticks, say)
+    return watch(output, LastingRecording(words, sources, clock, output, say), say)

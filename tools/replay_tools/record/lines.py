@@ -1,0 +1,97 @@
+"""The lines of a trace, in one of its formats."""
+
+from __future__ import annotations
+
+from dataclasses import dataclass, replace
+from typing import Any, Optional, TYPE_CHECKING
+
+from .formats import LONGEST_LINE, shown, without_nones
+from .runtime import CREATED, RUNNING, UNKNOWN
+
+if TYPE_CHECKING:
+    from .asides import Asides
+    from .decisions import Decision
+    from .pods import Pod
+    from .runtime import Listing
+
+
+class TooLong(Exception):
+    """A line is longer than the formats take."""
+
+
+@dataclass(frozen=True)
+class Format:
+    """A version of the formats: whether it says that a pod has gone or has no sample, and for how many seconds no pod
+    is evicted after an eviction unless the evicted one has ended (None where it can't say so)."""
+    version: int
+    says_gone: bool
+    eviction_pause: Optional[int]
+
+
+STANDARD = Format(2, False, None)
+# so long a kubelet waits at most for the pod that it evicted
+EVICTION_PAUSE = 30
+
+
+def extended(eviction_pause: int = EVICTION_PAUSE) -> Format:
+    return Format(3, True, eviction_pause)
+
+
+# what is written without a word; extended() where the program reads that
+DEFAULT = STANDARD
+
+
+def line_of(fields: dict[str, Any]) -> str:
+    text = shown(fields)
+    if len(text.encode()) > LONGEST_LINE:
+        raise TooLong("a line would be longer than the formats take")
+    return text
+
+
+def pod_line(pod: Pod) -> str:
+    return line_of({"kind": "pod", "pod": pod.manifest})
+
+
+def gone_line(pod: Pod) -> str:
+    return line_of({"kind": "gone", "pod": pod.key})
+
+
+def unknown(listing: Listing) -> Listing:
+    """A listing of what might have changed since."""
+    return replace(listing, state=UNKNOWN) if listing.state in (CREATED, RUNNING) else listing
+
+
+def container_fields(name: str, listing: Listing) -> dict[str, int | str]:
+    """What a tick lists of a container."""
+    return without_nones({"name": name, "attempt": listing.attempt, "state": listing.state,
+                          "exitCode": listing.exit_code})
+
+
+def entry_of(pod: Pod, listings: dict[str, Listing], results: dict[tuple[str, str], str], usage: dict[str, int] | None,
+             is_unsampled: bool, asides: Asides) -> dict[str, Any] | None:
+    """One pod's entry of a tick: {container: listing}, {(container, probe): result}, its usage or None, whether it has
+    no sample from here on, and what stands beside; None where there is nothing to say of it."""
+    containers = [container_fields(name, listing) | asides.of_listing(pod.uid, name, listing)
+                  for name, listing in sorted(listings.items())]
+    probes = [{"container": name, "probe": probe, "result": results[name, probe]}
+              for name in pod.containers() for probe in ("startup", "liveness", "readiness")
+              if (name, probe) in results]
+    waiting = asides.of_waits(pod, listings)
+    if not containers and not probes and not usage and not is_unsampled and not waiting:
+        return None
+    return without_nones({"pod": pod.key, "containers": containers, "probes": probes or None, "usage": usage,
+                          "unsampled": is_unsampled or None, "waiting": waiting})
+
+
+def told(second: int, decisions: list[tuple[str, Decision, bool]]) -> dict[str, list[dict[str, Any]]] | None:
+    """What the kubelet did in a tick, which the formats don't read: {"evicted" or "refused": [..]}, or None."""
+    found: dict[str, Any] = {}
+    for key, decision, is_left_out in decisions:
+        found.setdefault(decision.kind, []).append(decision.told(key, second, is_left_out))
+    return found or None
+
+
+def tick_line(second: int, entries: list[dict[str, Any]], signals: dict[str, int],
+              kubelet: dict[str, list[dict[str, Any]]] | None = None) -> str:
+    return line_of(without_nones({"kind": "tick", "at": second, "pods": entries, "signals": signals,
+                                  "kubelet": kubelet}))

@@ -1,0 +1,262 @@
+"""Looks at a node: asks each source as often as it changes, and goes on without one that fails."""
+
+from __future__ import annotations
+
+from collections.abc import Callable
+from dataclasses import replace
+from typing import Any, TYPE_CHECKING
+
+from .near import Nearness
+from .pods import pods_of
+from .probes import counters_of
+from .reasons import better
+from .recorder import Seen
+from .runtime import CREATED, EXITED, RUNNING, inspected_of, instances_of
+from .sources import Failed
+from .summary import summary_of
+
+if TYPE_CHECKING:
+    from .pods import Pod
+    from .reasons import Reason
+    from .runtime import Instance
+    from .sources import Sources
+    from .summary import Summary
+
+# the kubelet samples its node and its pods about as often, and its node for each decision about evictions
+SUMMARY_SECONDS = 10
+PODS_SECONDS = 10
+# under pressure a pod without a running container may be evicted, which the runtime shows late: the kubelet is asked at
+# each look, and the API server less often
+PRESSED_PODS_SECONDS = {True: 1, False: 5}
+# where nothing has happened for some seconds the runtime is asked again after more than one, as its moments are exact
+STILL_SECONDS = 30
+LIST_SECONDS = 1.5
+# how long the end of an instance that the runtime has removed is looked for in its pod's status, which may come later
+STATUS_SECONDS = 3
+# a list is asked for anew so often where a container has gone between it and `crictl inspect`
+MOST_LISTS = 3
+RUNTIME, PROBES, PODS, SUMMARY = "crictl ps", "/metrics/probes", "the list of pods", "/stats/summary"
+MEANWHILE = {
+    RUNTIME: "ticks wait for it up to 30 s, and then list containers as unknown",
+    PROBES: "ticks wait for it up to 30 s; its results are written once it answers",
+    PODS: "the pods stand as they were",
+    SUMMARY: "signals stand as last sampled, up to 60 s",
+}
+
+
+class Observer:
+    """Asks the sources of a node, the summary every some seconds where it does not count more; `say` takes what is said
+    of those that fail."""
+
+    def __init__(self, sources: Sources, summary_seconds: int, say: Callable[..., None]) -> None:
+        self.sources = sources
+        self.say = say
+        self.seconds = {PODS: PODS_SECONDS, SUMMARY: max(SUMMARY_SECONDS, summary_seconds)}
+        self.near = Nearness()
+        self.decided: set[str] = set()
+        self.asked_at: dict[str, float] = {}
+        self.silent: dict[str, Any] = {}
+        self.details: dict[str, Any] = {}
+        self.states: dict[str, Any] = {}
+        # the instances whose code is not known yet, and since when the runtime has them no more
+        self.unended: dict[str, Any] = {}
+        self.missed_at: dict[str, float] = {}
+        self.listed_pods: dict[str, Pod] = {}
+        self.instances: dict[str, list[Instance]] | None = None
+        self.counters: dict | None = None
+        self.listed_at: float = 0
+        self.moved_at: float = 0
+        self.known: set[str] = set()
+        self.strangers: set[str] = set()
+
+    def first_look(self, moment: float) -> Seen:
+        """A look that needs all sources; Failed where one of them gives no answer."""
+        counters = counters_of(self.sources.probes())
+        listed = instances_of(self.sources.listed())
+        pods = self.take_pods(moment)
+        summary = self.take_summary(moment)
+        self.listed_at = self.moved_at = moment
+        self.may_have_changed_pods(listed)
+        self.decided = {pod.uid for pod in pods if pod.decision is not None}
+        self.pass_over(listed)
+        return Seen(moment, self.resolved(listed, moment), counters, pods, summary)
+
+    def pass_over(self, listed: list[Instance]) -> None:
+        """Of the pods that are there at the first look no start is asked for, and of instances that were replaced no
+        code: what a tick shows of them is the newest alone."""
+        newest = {(each.uid, each.container): each for each in listed}
+        for each in filter(lambda each: each.uid in self.known, listed):
+            if newest[each.uid, each.container].id != each.id:
+                self.details[each.id] = replace(each, exit_code=0)
+            elif each.state == RUNNING:
+                self.details[each.id] = each
+
+    def look(self, moment: float) -> Seen:
+        """What the sources show at a moment; a source that is silent shows nothing."""
+        seen = Seen(moment)
+        # the probes come first: a result that is counted was found on an instance that the list then shows
+        seen.counters = self.attempt(PROBES, moment, lambda: counters_of(self.sources.probes()))
+        if not self.wants_list(seen.counters, moment):
+            listed, seen.instances = None, self.instances
+        else:
+            self.listed_at = moment
+            listed = self.attempt(RUNTIME, moment, lambda: instances_of(self.sources.listed()), is_whole=False)
+        if self.wants_pods(moment) or (listed is not None and self.may_have_changed_pods(listed)):
+            seen.pods = self.attempt(PODS, moment, lambda: self.take_pods(moment))
+        if listed is not None:
+            seen.instances = self.attempt(RUNTIME, moment, lambda: self.resolved(listed, moment))
+            self.moved_at = self.moved_at if seen.instances == self.instances and not self.missed_at else moment
+            self.instances = seen.instances
+        if self.wants_summary(seen.pods, moment):
+            seen.summary = self.attempt(SUMMARY, moment, lambda: self.take_summary(moment))
+        seen.is_summary_silent, seen.low = SUMMARY in self.silent, self.near.low
+        return seen
+
+    def wants_pods(self, moment: float) -> bool:
+        """Whether the pods are asked for, though the runtime shows nothing new."""
+        often = PRESSED_PODS_SECONDS[self.sources.kubelet is not None]
+        return self.is_due(PODS, moment, often if self.near.is_pressed(moment) else None)
+
+    def wants_list(self, counters: dict[tuple[str, str, str], dict[str, int]] | None, moment: float) -> bool:
+        """Whether the runtime is asked at a look: not at each where nothing happens and no probe finds anything."""
+        is_still = counters is not None and counters == self.counters and moment - self.moved_at > STILL_SECONDS
+        self.counters = counters
+        is_sure = self.instances is not None and not self.near.is_near(moment)
+        return not (is_still and is_sure and 0 <= moment - self.listed_at < LIST_SECONDS)
+
+    def attempt(self, source: str, moment: float, ask: Callable[..., Any], is_whole: bool = True) -> Any:
+        """An answer, or None; that a source is silent is said once, and so is that its whole answer is there again."""
+        try:
+            answer = ask()
+        except Failed as failed:
+            if source not in self.silent:
+                self.silent[source] = moment
+                self.say(f"{int(moment)}: {failed}; {MEANWHILE[source]}", (source, moment))
+            return None
+        since = self.silent.pop(source, None) if is_whole else None
+        if since is not None:
+            self.say(f"{int(moment)}: {source} answers again, after {round(moment - since)} s",
+                     (source, moment, "again"))
+        return answer
+
+    def is_due(self, source: str, moment: float, seconds: int | None = None) -> bool:
+        """Whether so many whole seconds have passed since a source was asked, also where it gave no answer."""
+        asked = self.asked_at.get(source)
+        seconds = self.seconds[source] if seconds is None or source in self.silent else seconds
+        return asked is None or int(moment) < int(asked) or int(moment) - int(asked) >= seconds
+
+    def wants_summary(self, pods: list[Pod] | None, moment: float) -> bool:
+        """Whether the summary is asked for: at each look while the kubelet may evict a pod, at once where it is seen
+        that it has, and else from time to time, as one that gives no answer."""
+        decided = {pod.uid for pod in pods or () if pod.decision is not None}
+        has_decided = not decided <= self.decided
+        self.decided |= decided
+        if has_decided:
+            self.near.decide(moment)
+        counts = SUMMARY not in self.silent and (has_decided or self.near.is_near(moment))
+        return counts or self.is_due(SUMMARY, moment)
+
+    def take_summary(self, moment: float) -> Summary:
+        self.asked_at[SUMMARY] = moment
+        summary = summary_of(self.sources.summary())
+        self.near.sample({signal: sample.value for signal, sample in summary.signals.items()}, moment)
+        return summary
+
+    def take_pods(self, moment: float) -> list[Pod]:
+        self.asked_at[PODS] = moment
+        pods = pods_of(self.sources.pods(), self.sources.pods_name())
+        # a pod that is no longer listed stays known, since its containers may have yet to exit
+        self.listed_pods = {pod.uid: pod for pod in pods}
+        self.known |= set(self.listed_pods)
+        return pods
+
+    def may_have_changed_pods(self, listed: list[Instance]) -> bool:
+        """Whether the runtime has a pod that is not known, or an instance has exited or gone: then pods may have come
+        or gone. Each is asked for once."""
+        uids = {each.uid for each in listed}
+        has_stranger = bool(uids - self.known - self.strangers)
+        self.strangers |= uids
+        now = {each.id: each.state for each in listed}
+        has_exited = any(state in (CREATED, RUNNING) and now.get(identity) not in (CREATED, RUNNING)
+                        for identity, state in self.states.items())
+        has_gone = not set(self.states) <= set(now)
+        self.states = now
+        return has_stranger or has_exited or has_gone
+
+    # --- instances ---
+
+    def resolved(self, listed: list[Instance], moment: float) -> dict[str, list[Instance]]:
+        """The instances by their pods' uids, with the moments and codes that `crictl inspect` says. One that it does
+        not know is asked for by a fresh list, in which it is no more."""
+        for _ in range(MOST_LISTS):
+            failures = [failed for failed in map(self.inspect, filter(self.wants_inspection, listed)) if failed]
+            if not failures:
+                break
+            listed = instances_of(self.sources.listed())
+        else:
+            self.say(f"{int(moment)}: {failures[0]}; it is asked again at each look", ("inspect", str(failures[0])))
+        listed = self.with_removed(listed, moment)
+        there = {each.id for each in listed}
+        self.details = {identity: detail for identity, detail in self.details.items() if identity in there}
+        by_uid: dict[str, list[Instance]] = {}
+        for instance in map(self.detailed, listed):
+            by_uid.setdefault(instance.uid, []).append(instance)
+            if instance.exit_code is None and instance.uid in self.known:
+                self.unended[instance.id] = instance
+            else:
+                self.unended.pop(instance.id, None)
+        return by_uid
+
+    def with_removed(self, listed: list[Instance], moment: float) -> list[Instance]:
+        """A list of the runtime with the instances that it removed before their codes were known: as ended where the
+        status of their pod says so, and for some seconds with no code where it may say so yet."""
+        there = {each.id for each in listed}
+        removed = [each for identity, each in self.unended.items() if identity not in there]
+        self.missed_at = {each.id: self.missed_at.get(each.id, moment) for each in removed}
+        found = [self.ended(each, moment) for each in removed]
+        return sorted([*listed, *filter(None, found)], key=lambda each: (each.created, each.attempt))
+
+    def ended(self, instance: Instance, moment: float) -> Instance | None:
+        """An instance that the runtime has no more, by its pod's status, else since when it is missed; None where that
+        won't say how it ended."""
+        pod = self.listed_pods.get(instance.uid)
+        ends = None if pod is None else pod.ends
+        if ends is not None and instance.id in ends:
+            self.details[instance.id] = ends[instance.id].of(instance)
+        elif ends is None or moment - self.missed_at[instance.id] > STATUS_SECONDS:
+            del self.unended[instance.id]
+            return None
+        else:
+            self.asked_at.pop(PODS, None)
+        return replace(instance, state=EXITED, finished=self.missed_at[instance.id])
+
+    def reason(self, instance: Instance) -> Reason | None:
+        """Why an instance ended: what the runtime says, or its pod's status where that says more."""
+        pod = self.listed_pods.get(instance.uid)
+        end = (pod.ends or {}).get(instance.id) if pod is not None else None
+        return better(instance.reason, end and end.reason)
+
+    def wants_inspection(self, instance: Instance) -> bool:
+        if instance.uid not in self.known:
+            return False
+        detail = self.details.get(instance.id)
+        if instance.state == EXITED:
+            return detail is None or detail.exit_code is None
+        return instance.state == RUNNING and detail is None
+
+    def inspect(self, instance: Instance) -> Failed | None:
+        """Keeps what the runtime says of an instance; else why not."""
+        try:
+            detail = inspected_of(self.sources.inspected(instance.id), instance)
+        except Failed as failed:
+            return failed
+        self.details[instance.id] = detail
+        return None
+
+    def detailed(self, instance: Instance) -> Instance:
+        detail = self.details.get(instance.id)
+        if detail is None:
+            return instance
+        if instance.state == EXITED and detail.exit_code is not None:
+            return replace(detail, state=EXITED, reason=self.reason(detail))
+        return replace(instance, started=detail.started)

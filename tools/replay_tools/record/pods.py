@@ -1,0 +1,204 @@
+"""Pods, of `kubectl get pods -o json` or the kubelet's /pods. A manifest is written with the fields that the formats
+read and no others, so neither its status nor what a container is told in its environment."""
+
+from __future__ import annotations
+
+from collections.abc import Iterator
+from dataclasses import dataclass, field
+from typing import Any, Optional
+
+from .decisions import Decision, decision_of
+from .formats import (at_place, first_fault, label_fault, name_fault, quantity_fault, whole_fault, without_nones)
+from .reasons import reason_of, waits_in
+from .runtime import End, code_fault, moment_of
+from .sources import Failed, read_json, reads
+
+PROBES = {"startup": "startupProbe", "liveness": "livenessProbe", "readiness": "readinessProbe"}
+PROBE_FIELDS = ("initialDelaySeconds", "periodSeconds", "timeoutSeconds", "successThreshold", "failureThreshold")
+RESOURCES = ("cpu", "memory", "ephemeral-storage")
+MOST_CONTAINERS = 16
+MOST_SECONDS = 2 ** 31 - 1
+
+
+@dataclass(frozen=True)
+class Pod:
+    """A pod as a source lists it; `fault` says why the formats do not take its manifest, or is None. `decision` is what
+    the kubelet did to it, `is_deleted` that it was told to go; `ends` has the instances that its status says have
+    ended, by their ids, and is None where its status has no container; `waits` why its containers wait, by their
+    names; `probed` has of each container that runs its restarts, whether it has started, and whether it is ready."""
+    key: str
+    uid: str
+    manifest: dict
+    fault: Optional[str]
+    local_volumes: frozenset
+    decision: Optional[Decision] = None
+    is_deleted: bool = False
+    ends: Optional[dict] = field(default=None, compare=False)
+    waits: dict = field(default_factory=dict, compare=False)
+    probed: dict = field(default_factory=dict, compare=False)
+
+    def containers(self) -> list[str]:
+        """The names of its containers, init containers first."""
+        return [container["name"] for container in all_containers(self.manifest)]
+
+    def probe(self, container_name: str, probe: str) -> dict[str, int]:
+        """The fields of a container's probe; none where it has none."""
+        containers = {container["name"]: container for container in all_containers(self.manifest)}
+        return containers.get(container_name, {}).get(PROBES[probe], {})
+
+    def period(self, container_name: str, probe: str) -> int:
+        """Seconds from one result of a probe to the next."""
+        return self.probe(container_name, probe).get("periodSeconds", 10)
+
+    def initial_delay(self, container_name: str, probe: str) -> int:
+        return self.probe(container_name, probe).get("initialDelaySeconds", 0)
+
+    def successes_wanted(self, container_name: str, probe: str) -> int:
+        return self.probe(container_name, probe).get("successThreshold", 1)
+
+
+@reads("pods")
+def pods_of(text: str, what: str) -> list[Pod]:
+    """The pods of an answer, by their keys."""
+    answer = read_json(text, what)
+    items = answer.get("items") if isinstance(answer, dict) else None
+    if items is None and isinstance(answer, dict) and str(answer.get("kind", "")).endswith("List"):
+        items = []
+    if not isinstance(items, list):
+        raise Failed(f"{what}: no list of pods in the answer")
+    return sorted(map(pod_of, items), key=lambda pod: pod.key)
+
+
+def pod_of(item: Any) -> Pod:
+    """A pod as its source lists it, with why the formats refuse its manifest, if they do."""
+    metadata = item.get("metadata") or {}
+    status = item.get("status") or {}
+    try:
+        manifest, volumes = manifest_of(item), local_volumes(item)
+        fault = manifest_fault(manifest)
+    except (KeyError, TypeError, AttributeError):
+        manifest, volumes, fault = {}, frozenset(), "no manifest"
+    return Pod(f"{metadata.get('namespace') or 'default'}/{metadata.get('name')}", str(uid_of(metadata)), manifest,
+               fault, volumes, decision_of(status), metadata.get("deletionTimestamp") is not None, ends_in(status),
+               waits_in(item), probed_in(status))
+
+
+def ends_in(status: dict[str, Any]) -> dict[str, End] | None:
+    """The ends that a status has of its containers' instances: the newest and the one before. A message of theirs may
+    be the container's own words, and is not read."""
+    listed = [*(status.get("initContainerStatuses") or []), *(status.get("containerStatuses") or [])]
+    ended = [(container.get(state) or {}).get("terminated") for container in listed for state in ("lastState", "state")]
+    found = {end["containerID"].rpartition("//")[2]: End(moment_of(end.get("startedAt")),
+                                                         moment_of(end.get("finishedAt")), end["exitCode"],
+                                                         reason_of({"reason": end.get("reason")}))
+             for end in ended if end and end.get("containerID") and not code_fault(end.get("exitCode"))}
+    return found if listed else None
+
+
+def probed_in(status: dict[str, Any]) -> dict[str, tuple[int | None, bool, bool]]:
+    """What a status says that the probes of its containers have come to: {name: (restarts, started, ready)}."""
+    listed = [*(status.get("initContainerStatuses") or []), *(status.get("containerStatuses") or [])]
+    return {each.get("name"): (each.get("restartCount"), each.get("started") is True, each.get("ready") is True)
+            for each in listed if (each.get("state") or {}).get("running") is not None}
+
+
+def uid_of(metadata: dict[str, Any]) -> str:
+    """The runtime knows a static pod by the hash of its file; the API server's copy has another uid."""
+    return (metadata.get("annotations") or {}).get("kubernetes.io/config.mirror") or metadata.get("uid")
+
+
+def local_volumes(item: Any) -> frozenset[str]:
+    """The names of the volumes that the kubelet counts as the node's own storage."""
+    return frozenset(volume.get("name") for volume in (item.get("spec") or {}).get("volumes") or []
+                     if volume.get("gitRepo") or volume.get("configMap")
+                     or (volume.get("emptyDir") is not None and not volume["emptyDir"].get("medium")))
+
+
+def all_containers(manifest: Any) -> list[dict[str, Any]]:
+    return (manifest["spec"].get("initContainers") or []) + manifest["spec"]["containers"]
+
+
+def picked(fields: dict[str, Any] | None, names: tuple[str, ...]) -> dict[str, float | str] | None:
+    return None if fields is None else without_nones({name: fields.get(name) for name in names})
+
+
+def resources_of(resources: dict[str, dict[str, float | str]] | None) -> dict[str, dict[str, float | str]] | None:
+    if resources is None:
+        return None
+    return without_nones({side: picked(resources.get(side), RESOURCES) for side in ("requests", "limits")})
+
+
+def container_of(container: dict[str, Any]) -> dict[str, Any]:
+    return without_nones({
+        "name": container["name"], "restartPolicy": container.get("restartPolicy"),
+        "resources": resources_of(container.get("resources")),
+        **{field: picked(container.get(field), PROBE_FIELDS) for field in PROBES.values()}})
+
+
+def manifest_of(item: Any) -> dict[str, dict[str, Any]]:
+    spec, inits = item["spec"], item["spec"].get("initContainers")
+    return {"metadata": {"name": item["metadata"]["name"], "namespace": item["metadata"].get("namespace") or "default"},
+            "spec": without_nones({
+                "restartPolicy": spec.get("restartPolicy"), "priority": spec.get("priority"),
+                "terminationGracePeriodSeconds": spec.get("terminationGracePeriodSeconds"),
+                "initContainers": None if inits is None else list(map(container_of, inits)),
+                "containers": list(map(container_of, spec["containers"]))})}
+
+
+# --- what the formats do not take ---
+
+
+def whole_field_fault(fields: dict[str, Any], name: str, least: int, most: int) -> str | None:
+    return at_place(name, whole_fault(fields[name], least, most)) if name in fields else None
+
+
+def probe_fault(container: dict[str, Any], probe: str) -> str | None:
+    """What the formats refuse of a container's probe, if it has one."""
+    fields = container.get(PROBES[probe])
+    if fields is None:
+        return None
+    most_successes = MOST_SECONDS if probe == "readiness" else 1
+    return at_place(PROBES[probe], first_fault([
+        whole_field_fault(fields, "initialDelaySeconds", 0, MOST_SECONDS),
+        whole_field_fault(fields, "periodSeconds", 1, MOST_SECONDS),
+        whole_field_fault(fields, "timeoutSeconds", 1, MOST_SECONDS),
+        whole_field_fault(fields, "successThreshold", 1, most_successes),
+        whole_field_fault(fields, "failureThreshold", 1, MOST_SECONDS)]))
+
+
+def resource_faults(container: dict[str, Any]) -> Iterator[str | None]:
+    for side, amounts in (container.get("resources") or {}).items():
+        for resource, amount in amounts.items():
+            yield at_place(f"resources.{side}.{resource}", quantity_fault(amount))
+
+
+def policy_fault(container: dict[str, Any], is_init: bool) -> str | None:
+    policy = container.get("restartPolicy")
+    return None if policy is None or (is_init and policy == "Always") else f"restartPolicy {policy} of its own"
+
+
+def init_probe_fault(container: dict[str, Any], is_init: bool) -> str | None:
+    """An init container has no probes, but where its own policy makes it a sidecar."""
+    has_probe = any(field in container for field in PROBES.values())
+    return "a probe of an init container" if is_init and "restartPolicy" not in container and has_probe else None
+
+
+def container_fault(container: dict[str, Any], is_init: bool) -> str | None:
+    return at_place(f"container {container['name']}", first_fault([
+        label_fault(container["name"]), policy_fault(container, is_init), *resource_faults(container),
+        init_probe_fault(container, is_init), *(probe_fault(container, probe) for probe in PROBES)]))
+
+
+def manifest_fault(manifest: Any) -> str | None:
+    """Why the formats do not take a manifest, or None."""
+    spec, policy = manifest["spec"], manifest["spec"].get("restartPolicy")
+    return first_fault([
+        name_fault(manifest["metadata"]["name"]),
+        label_fault(manifest["metadata"]["namespace"]),
+        None if policy in (None, "Always", "OnFailure", "Never") else f"restartPolicy {policy}",
+        whole_field_fault(spec, "priority", -2 ** 31, 2 ** 31 - 1),
+        whole_field_fault(spec, "terminationGracePeriodSeconds", 0, 2 ** 40 - 1),
+        None if spec["containers"] else "no container",
+        "more than 16 containers" if len(all_containers(manifest)) > MOST_CONTAINERS else None,
+        *(container_fault(container, True) for container in spec.get("initContainers") or []),
+        *(container_fault(container, False) for container in spec["containers"])])

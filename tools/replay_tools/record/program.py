@@ -1,0 +1,238 @@
+"""Runs the recorder: looks until the end, and writes the lines as they are settled."""
+
+from __future__ import annotations
+
+import os
+import signal
+import sys
+from collections.abc import Callable, Iterator
+from contextlib import contextmanager
+from dataclasses import replace
+from typing import Any, TYPE_CHECKING
+
+from .check import check
+from .clock import Clock
+from .connections import kept_sources
+from .formats import MOST_BYTES
+from .lines import TooLong
+from .node import node_line_of, own_node_line
+from .observer import Observer
+from .recorder import Recorder
+from .sources import Failed
+from .words import BadWord, help_text, missing_commands, words_of
+
+if TYPE_CHECKING:
+    from .into import LastingRecording, Traces
+    from .sources import Sources
+    from .words import Words
+
+INTERRUPTS = (signal.SIGINT, signal.SIGTERM, signal.SIGHUP)
+# a recorder that goes on for ever does not grow by what it has said
+MOST_REMEMBERED = 10000
+
+
+class Stopped(Exception):
+    """An interrupt, while the sources are asked or nothing is done."""
+
+
+class Ended(Exception):
+    """The recording ends, with a status, for a reason or none."""
+
+    def __init__(self, status: int, reason: str | None = None) -> None:
+        super().__init__(reason)
+        self.status = status
+        self.reason = reason
+
+
+class Says:
+    """Says a line on standard error, once of each subject, or once of its text, as far back as it remembers."""
+
+    def __init__(self) -> None:
+        self.said: dict[Any, bool] = {}
+
+    def __call__(self, text: str, subject: str | tuple[str | float, ...] | None = None) -> None:
+        subject = text if subject is None else subject
+        if subject not in self.said:
+            self.said[subject] = True
+            if len(self.said) > MOST_REMEMBERED:
+                del self.said[next(iter(self.said))]
+            print(f"record: {text}", file=sys.stderr, flush=True)
+
+
+class Output:
+    """Standard output: whole lines, up to the most that a trace takes."""
+
+    def __init__(self, most_ticks: float, most_bytes: int = MOST_BYTES) -> None:
+        self.ticks_left = most_ticks
+        self.bytes_left = most_bytes
+        self.is_busy = False
+        self.is_stopped = False
+
+    def interrupt(self, *_: object) -> None:
+        self.is_stopped = True
+        if not self.is_busy:
+            raise Stopped
+
+    @contextmanager
+    def undisturbed(self) -> Iterator[None]:
+        """No interrupt ends what is done here; it ends the recording after it."""
+        self.is_busy = True
+        try:
+            yield
+        finally:
+            self.is_busy = False
+
+    def write(self, lines: list[str]) -> None:
+        """Writes whole lines, all of them or none where they reach the most that a trace takes."""
+        data = "".join(f"{line}\n" for line in lines).encode()
+        self.bytes_left -= len(data)
+        if self.bytes_left < 0:
+            raise Ended(0, "the trace has reached 64 MiB, the most that one takes")
+        try:
+            while data:
+                data = data[os.write(1, data):]
+        except OSError:
+            raise Ended(1, "standard output takes no more") from None
+
+    def write_due(self, due: Iterator[Any]) -> None:
+        """Writes what is settled, up to the last tick that is asked for."""
+        for lines, has_tick in due:
+            if self.ticks_left == 0:
+                break
+            self.write(lines)
+            self.ticks_left -= has_tick
+
+
+class Recording:
+    """One run of the recorder."""
+
+    def __init__(self, words: Words, sources: Sources, clock: Any, output: Traces | Output,
+                 say: Callable[..., None]) -> None:
+        self.words = words
+        self.sources = sources
+        self.clock = clock
+        self.output = output
+        self.observer = Observer(sources, words.every, say)
+        self.recorder = Recorder(words.format, words.every, say)
+        self.begun: float | None = None
+
+    def begin(self) -> None:
+        """The first look and the node line; they need every source."""
+        moment = self.clock.now()
+        try:
+            seen = self.observer.first_look(moment)
+            if self.words.node_line is not None:
+                node_line = own_node_line(self.words.node_line, self.words.format)
+            else:
+                node_line = node_line_of(self.sources.configuration(), self.words.node, seen.summary, self.words.format)
+            first = self.recorder.begin(node_line)
+            self.observer.near.know(node_line.fields)
+        except (Failed, TooLong) as failed:
+            raise Ended(1, f"nothing recorded: {failed} (--check says which sources work)") from None
+        with self.output.undisturbed():
+            self.output.write([first])
+            self.recorder.take(seen)
+            self.begun = moment
+
+    def has_all(self) -> bool:
+        """Whether all ticks that are asked for are written or wanted."""
+        return self.recorder.timeline.planned() >= self.output.ticks_left
+
+    def is_over(self, moment: float) -> bool:
+        """Whether the next look would come too late."""
+        duration = self.words.duration
+        return duration is not None and moment + self.words.look - self.begun > duration
+
+    def go_on(self) -> None:
+        """Looks until the end."""
+        moment = self.begun
+        while not self.has_all() and not self.output.is_stopped and not self.is_over(moment):
+            self.clock.wait(min(max(moment + self.words.look - self.clock.now(), 0), self.words.look))
+            moment = self.clock.now()
+            seen = self.observer.look(moment)
+            with self.output.undisturbed():
+                self.recorder.take(seen)
+                self.output.write_due(self.recorder.due(moment))
+
+    def run(self) -> None:
+        """Records to the end; what is seen is written also where an interrupt ends it."""
+        try:
+            self.begin()
+            self.go_on()
+        except Stopped:
+            pass
+        if self.begun is not None:
+            with self.output.undisturbed():
+                self.output.write_due(self.recorder.rest(self.clock.now()))
+
+
+def recorded(words: Words, sources: Sources, clock: Any, say: Callable[..., None]) -> int:
+    """Records as the words ask for; the status."""
+    if words.into is not None:
+        from .into import recorded_into  # which stands on what is here
+        return recorded_into(words, sources, clock, say)
+    output = Output(words.ticks)
+    return watch(output, Recording(words, sources, clock, output, say), say)
+
+
+def watch(output: Traces | Output, recording: LastingRecording | Recording, say: Callable[..., None]) -> int:
+    """Runs a recording until its end or an interrupt; the status."""
+    for number in INTERRUPTS:
+        signal.signal(number, output.interrupt)
+    try:
+        recording.run()
+    except Stopped:
+        return 0
+    except TooLong as failed:
+        say(str(failed))
+        return 1
+    except Ended as ended:
+        if ended.reason is not None:
+            say(ended.reason)
+        return ended.status
+    return 0
+
+
+def version() -> Any:
+    """That of the release, or of the checkout, with the end of its line."""
+    with open(os.path.join(os.path.dirname(os.path.realpath(__file__)), "../../../VERSION"), encoding="utf-8") as file:
+        return file.read()
+
+
+def checked(words: Words, sources: Sources, say: Callable[..., None]) -> int:
+    """Shows which sources work; the status."""
+    try:
+        works = check(sources, words.node, words.format, lambda line: print(line, flush=True))
+    except OSError:
+        say("standard output takes no more")
+        return 1
+    return 0 if works else 1
+
+
+def main(arguments: list[str], clock: Any = None, make_sources: Callable[..., Any] | None = None) -> int:
+    """The program, with a clock and sources that tests can stand in for; its status."""
+    say = Says()
+    if "--help" in arguments or "-h" in arguments:
+        print(help_text(), end="")
+        return 0
+    if arguments in (["--version"], ["-V"]):
+        print(f"record {version()}", end="")
+        return 0
+    try:
+        words = words_of(arguments)
+    except BadWord as bad:
+        say(f"{bad} (--help says more)")
+        return 2
+    asked = words.node, words.kubelet, words.curl_file
+    sources = kept_sources(*asked, say) if make_sources is None else make_sources(*asked)
+    sources = replace(sources, crictl=words.crictl)
+    try:
+        missing = missing_commands(sources.commands())
+        if missing and not words.is_check:
+            say(f"not on the PATH: {', '.join(missing)} (--check asks the other sources)")
+            return 127
+        if words.is_check:
+            return checked(words, sources, say)
+        return recorded(words, sources, clock or Clock(), say)
+    finally:
+        sources.close()

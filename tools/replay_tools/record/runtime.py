@@ -1,0 +1,242 @@
+"""The container runtime's instances, of `crictl ps -a` and `crictl inspect`, and what became of them between looks."""
+
+from __future__ import annotations
+
+import calendar
+import re
+from collections.abc import Callable
+from dataclasses import dataclass, replace
+from typing import Any, Optional
+
+from .formats import whole_fault
+from .reasons import OUT_OF_MEMORY, Reason, environment_of_process, reason_of
+from .sources import Failed, read_json, reads
+
+CREATED, RUNNING, EXITED, UNKNOWN = ("CONTAINER_CREATED", "CONTAINER_RUNNING", "CONTAINER_EXITED", "CONTAINER_UNKNOWN")
+MOMENT = re.compile(r"(\d{4})-(\d\d)-(\d\d)T(\d\d):(\d\d):(\d\d)([.]\d+)?(Z|([+-])(\d\d):(\d\d))")
+CONTAINER_ID = re.compile(r"[0-9A-Za-z]+")
+# the code of an exit that the formats take from an instance that is no longer listed
+LOST_CODE = 137
+
+
+@dataclass(frozen=True)
+class Instance:
+    """One instance of a container. Moments are seconds since 1970, and None where the runtime did not say them."""
+    id: str
+    uid: str
+    container: str
+    attempt: int
+    state: str
+    created: int
+    started: Optional[float] = None
+    finished: Optional[float] = None
+    exit_code: Optional[int] = None
+    reason: Optional[Reason] = None
+
+
+@dataclass(frozen=True)
+class End:
+    """How an instance ended, as its pod's status says it; moments as those of an instance."""
+    started: Optional[float]
+    finished: Optional[float]
+    exit_code: int
+    reason: Optional[Reason]
+
+    def of(self, instance: Instance) -> Instance:
+        """The instance as it ended, which the runtime may know no more."""
+        started = self.started if instance.started is None else instance.started
+        return replace(instance, state=EXITED, started=started, finished=self.finished, exit_code=self.exit_code,
+                       reason=self.reason)
+
+
+@dataclass(frozen=True)
+class Listing:
+    """What a tick lists of a container; None stands for no listing. `ended` is the instance before, where the tick of
+    this one's start says its exit too."""
+    attempt: int
+    state: str
+    exit_code: Optional[int] = None
+    reason: Optional[Reason] = None
+    ended: Optional[Listing] = None
+
+
+@dataclass(frozen=True)
+class Change:
+    """From a moment on a container is listed so. A quiet change is written with the next tick, and wants none."""
+    moment: float
+    listing: Optional[Listing]
+    is_quiet: bool = False
+
+    @property
+    def is_out_of_memory(self) -> bool:
+        """What ran out of memory was not ended by the kubelet, which sees it some time after."""
+        reason = None if self.listing is None else self.listing.reason
+        return reason is not None and reason.word == OUT_OF_MEMORY
+
+
+def moment_of(text: str | None) -> float | None:
+    """The seconds since 1970 of a moment as Go writes it, or None for its zero."""
+    parts = MOMENT.fullmatch(text or "")
+    if parts is None:
+        return None
+    seconds = calendar.timegm(tuple(map(int, parts.groups()[:6])))
+    if parts[9]:
+        shift = int(parts[10]) * 3600 + int(parts[11]) * 60
+        seconds += -shift if parts[9] == "+" else shift
+    return seconds + float(parts[7] or 0) if seconds > 0 else None
+
+
+def code_fault(code: int) -> str | None:
+    return whole_fault(code, -2 ** 31, 2 ** 31 - 1)
+
+
+def instance_of(item: Any) -> Instance:
+    """A container of the runtime's list. Raises Failed where the list is none that the runtime gives."""
+    labels, metadata = item.get("labels") or {}, item.get("metadata") or {}
+    state, identity = item.get("state"), item.get("id")
+    if state not in (CREATED, RUNNING, EXITED, UNKNOWN):
+        raise Failed(f"crictl ps: a container's state is {state}")
+    if not isinstance(identity, str) or not CONTAINER_ID.fullmatch(identity):
+        raise Failed(f"crictl ps: a container's id is {identity}")
+    attempt = metadata.get("attempt") or 0
+    if whole_fault(attempt, 0, 2 ** 31 - 1):
+        raise Failed(f"crictl ps: a container's attempt is {attempt}")
+    return Instance(identity, str(labels.get("io.kubernetes.pod.uid", "")),
+                    str(labels.get("io.kubernetes.container.name") or metadata.get("name") or ""),
+                    attempt, state, int(item.get("createdAt") or 0))
+
+
+@reads("crictl ps")
+def instances_of(text: str) -> list[Instance]:
+    """The instances of a list, in the order in which they were created."""
+    answer = read_json(text, "crictl ps")
+    containers = answer.get("containers") if isinstance(answer, dict) else None
+    if not isinstance(containers, list):
+        raise Failed("crictl ps: no list of containers in the answer")
+    return sorted(map(instance_of, containers), key=lambda instance: (instance.created, instance.attempt))
+
+
+@reads("crictl inspect")
+def inspected_of(text: str, instance: Instance) -> Instance:
+    """An instance with what `crictl inspect` says of it. A code of 0 may be left out of an answer."""
+    answer: Any = read_json(text, f"crictl inspect {instance.id}")
+    answer = answer[0] if isinstance(answer, list) and answer else answer
+    status = answer.get("status") if isinstance(answer, dict) else None
+    if not isinstance(status, dict) or status.get("id") != instance.id:
+        raise Failed(f"crictl inspect {instance.id}: the answer is of another container")
+    started = moment_of(status.get("startedAt"))
+    if status.get("state") != EXITED:
+        return replace(instance, started=started)
+    code = status.get("exitCode") or 0
+    if code_fault(code):
+        raise Failed(f"crictl inspect {instance.id}: the exit code is {code}")
+    return replace(instance, state=EXITED, started=started, finished=moment_of(status.get("finishedAt")),
+                   exit_code=code, reason=reason_of(status, environment_of_process(answer)))
+
+
+class Container:
+    """What was seen of one container of a recorded pod: its newest instance, and how its attempts are written."""
+
+    def __init__(self, place: str, say: Callable[..., None]) -> None:
+        self.place = place
+        self.say = say
+        self.newest: Instance | None = None
+        self.is_listed = False
+        self.has_started = False
+        self.is_unknown = False
+        self.attempt: int | None = None
+        self.shift = 0
+        # since when the runtime no longer has the newest, where its pod's status may have its code yet
+        self.missed_since: float | None = None
+
+    def first_changes(self, instances: list[Instance], moment: float) -> list[Change]:
+        """What the first look shows of it: its newest instance alone, as it is at that moment."""
+        newest = instances[-1]
+        self.begin(newest)
+        self.newest, self.has_started = newest, newest.state != CREATED
+        self.is_unknown = newest.state == UNKNOWN
+        return [Change(moment, Listing(self.attempt, newest.state, newest.exit_code, newest.reason))]
+
+    def changes(self, instances: list[Instance], moment: float) -> list[Change]:
+        """What became of it since the last look, by its instances in the order of their creation."""
+        if self.newest is None:
+            newer = instances
+        else:
+            newer = [each for each in instances if (each.created, each.attempt) >= self.order()]
+        made = self.vanished(newer, moment)
+        for instance in newer:
+            if instance.state == EXITED and instance.exit_code is None:
+                self.missed_since = instance.finished
+                break
+            made += self.of_instance(instance, moment)
+        return made
+
+    def order(self) -> tuple[int, int]:
+        return self.newest.created, self.newest.attempt
+
+    def vanished(self, newer: list[Instance], moment: float) -> list[Change]:
+        """The newest instance so far is no longer listed. Where it had not exited its code is lost; the successor's
+        listing says so, or that none is there."""
+        if not self.is_listed or any(each.id == self.newest.id for each in newer):
+            return []
+        self.is_listed = False
+        has_exited = self.newest.state == EXITED
+        if not has_exited:
+            self.say(f"{self.place}: attempt {self.attempt} was removed before its exit code was known, which counts "
+                     f"as {LOST_CODE}")
+        moment = moment if has_exited or self.missed_since is None else self.missed_since
+        return [] if newer else [Change(moment, None, has_exited)]
+
+    def begin(self, instance: Instance) -> None:
+        """Another instance is the newest. The formats want a greater attempt for each."""
+        number = instance.attempt + self.shift
+        if self.attempt is not None and number <= self.attempt:
+            self.say(f"{self.place}: attempt {instance.attempt} after {self.attempt} is written as {self.attempt + 1}")
+            number = self.attempt + 1
+        missed = 0 if self.attempt is None else number - self.attempt - 1
+        if missed:
+            instances = "instance" if missed == 1 else "instances"
+            self.say(f"{self.place}: {missed} {instances} before attempt {number} came and went unseen")
+        self.shift = number - instance.attempt
+        self.attempt = number
+        self.newest, self.is_listed, self.missed_since = replace(instance, state=CREATED), True, None
+        self.has_started = self.is_unknown = False
+
+    def of_instance(self, instance: Instance, moment: float) -> list[Change]:
+        """The changes that an instance shows, which may be the newest or one more."""
+        was_replaced = self.newest is not None
+        if not self.is_listed or self.newest.id != instance.id or self.has_come_back(instance):
+            self.begin(instance)
+        before, self.newest = self.newest, instance
+        if before.state == EXITED:
+            return []
+        if instance.state == CREATED:
+            # shown where nothing else was: until it runs, the one before it stands as it exited
+            made = instance.created / 1e9 or moment
+            return [] if was_replaced else [Change(made, Listing(self.attempt, CREATED), True)]
+        if instance.state == UNKNOWN:
+            self.newest = before
+        return self.unknown(instance, moment) + self.started(instance, moment) + self.exited(instance, moment)
+
+    def has_come_back(self, instance: Instance) -> bool:
+        return self.newest.state == EXITED and instance.state != EXITED
+
+    def unknown(self, instance: Instance, moment: float) -> list[Any]:
+        """The runtime no longer knows its state, or knows it again."""
+        was_unknown, self.is_unknown = self.is_unknown, instance.state == UNKNOWN
+        if self.is_unknown == was_unknown or instance.state == EXITED:
+            return []
+        return [Change(moment, Listing(self.attempt, instance.state), True)]
+
+    def started(self, instance: Instance, moment: float) -> list[Change]:
+        has_run = instance.state == RUNNING or instance.started is not None
+        if self.has_started or not has_run:
+            return []
+        self.has_started = True
+        return [Change(moment if instance.started is None else instance.started, Listing(self.attempt, RUNNING))]
+
+    def exited(self, instance: Instance, moment: float) -> list[Change]:
+        if instance.state != EXITED:
+            return []
+        return [Change(moment if instance.finished is None else instance.finished,
+                       Listing(self.attempt, EXITED, instance.exit_code, instance.reason))]

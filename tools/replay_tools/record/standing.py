@@ -1,0 +1,325 @@
+"""What is known at a border between two traces. It is read from the lines that were written, by the rules that the
+replay has for them, so that the next trace begins where the replay of the one before it ends."""
+
+from __future__ import annotations
+
+from collections.abc import Iterator
+from typing import Any
+
+from .formats import without_nones
+from .lines import line_of
+from .runtime import EXITED, LOST_CODE, RUNNING, UNKNOWN
+
+FIELDS = {"startup": "startupProbe", "liveness": "livenessProbe", "readiness": "readinessProbe"}
+DELAY = "initialDelaySeconds"
+# a run of results that is longer counts as one of so many
+MOST_CARRIED = 100
+
+
+class Run:
+    """What the results of one probe have shown since its instance started."""
+
+    def __init__(self, probe: dict[str, int]) -> None:
+        self.delay = probe.get(DELAY, 0)
+        self.failures_wanted = probe.get("failureThreshold", 3)
+        self.successes_wanted = probe.get("successThreshold", 1)
+        self.successes = self.failures = 0
+        # startup has passed, or the instance is ready by this probe
+        self.holds = False
+        # a kill was ordered
+        self.is_over = False
+
+    def take(self, result: str) -> None:
+        """A result that is known and counts."""
+        if self.is_over:
+            return
+        self.successes, self.failures = (self.successes + 1, 0) if result == "success" else (0, self.failures + 1)
+        if self.successes >= self.successes_wanted:
+            self.holds = True
+        elif self.failures >= self.failures_wanted:
+            self.holds = False
+
+    def order(self) -> None:
+        """Of a probe whose failures order a kill: whether they have."""
+        self.is_over = self.is_over or self.failures >= self.failures_wanted
+
+    def results(self, probe: str) -> list[str]:
+        """The fewest results that show the same once more. A kill that was ordered stands until the next instance, so
+        that failures behind it order none."""
+        if self.is_over:
+            return ["failure"] * self.failures_wanted
+        if probe == "startup":
+            return ["success"] if self.holds else ["failure"] * self.failures
+        if probe == "liveness":
+            return ["failure"] * self.failures
+        return ["success"] * (self.successes_wanted if self.holds else self.successes) \
+            + ["failure"] * (self.failures if self.holds else 0)
+
+
+class Container:
+    """One container of a pod: its newest instance as it was listed, since when, and its probes."""
+
+    def __init__(self, fields: dict[str, Any], is_sidecar: bool) -> None:
+        self.fields = fields
+        self.is_sidecar = is_sidecar
+        # whether some instance of a sidecar was started, without which its pod is pending
+        self.was_started = False
+        # the newest instance, and the one before it as it ended
+        self.listing: dict[str, Any] | None = None
+        self.previous: dict[str, Any] | None = None
+        self.since: int | None = None
+        self.is_listed = False
+        self.begin()
+
+    def begin(self) -> None:
+        """Another instance begins without any result."""
+        self.runs = {probe: Run(self.fields[field]) for probe, field in FIELDS.items()
+                     if self.fields.get(field) is not None}
+        self.started: int | None = None
+        self.passed: int | None = None
+
+    def is_running(self) -> bool:
+        return self.listing is not None and self.listing["state"] == RUNNING
+
+    def show(self, listing: dict[str, Any] | None, second: int) -> None:
+        """What a tick lists of it, or None. The first state of an exit counts, and what is not known changes none."""
+        self.is_listed = listing is not None
+        if listing is None:
+            if self.listing is not None and self.listing["state"] != EXITED:
+                self.change(self.lost(), second)
+        elif self.listing is None or listing["attempt"] != self.listing["attempt"]:
+            has_ended = self.listing is None or self.listing["state"] == EXITED
+            self.previous = self.listing if has_ended else self.lost()
+            self.begin()
+            self.change(listing, second)
+        elif self.listing["state"] == EXITED:
+            # why it ended may be known later than its code
+            self.listing |= {name: listing[name] for name in ("reason", "message") if name in listing}
+        elif listing["state"] not in (UNKNOWN, self.listing["state"]):
+            self.change(listing, second)
+
+    def lost(self) -> dict[str, int | str]:
+        """Its newest instance, as one that is no longer listed ended."""
+        return {"name": self.listing["name"], "attempt": self.listing["attempt"], "state": EXITED,
+                "exitCode": LOST_CODE}
+
+    def change(self, listing: dict[str, Any], second: int) -> None:
+        """It is listed otherwise from a second on; of its exit before that tells, and no later one."""
+        self.listing, self.since = {name: value for name, value in listing.items() if name != "ended"}, second
+        if listing["state"] == RUNNING:
+            self.started = second
+
+    def end_tick(self) -> None:
+        """All of a tick is taken."""
+        if self.is_running() and ("startup" not in self.runs or self.runs["startup"].holds):
+            self.was_started = True
+
+    def has_started_before(self) -> bool:
+        """Whether it is a sidecar of which an instance was started, and the newest does not show that: it has exited,
+        or its startup has not passed."""
+        if not self.is_sidecar or not self.was_started:
+            return False
+        return self.listing["state"] == EXITED or (self.previous is not None and "startup" in self.runs
+                                                   and not self.runs["startup"].holds)
+
+    def history(self) -> list[dict[str, int | str]]:
+        """The listings before the newest that show that, the last one first."""
+        if not self.has_started_before():
+            return []
+        ended = [] if self.listing["state"] == EXITED else [self.previous]
+        of = ended[0] if ended else self.listing
+        return [*ended, {"name": of["name"], "attempt": of["attempt"], "state": RUNNING}]
+
+    def take(self, probe: str, result: str, second: int) -> None:
+        """A result of a tick, behind what the tick lists."""
+        run = self.runs.get(probe)
+        if run is None or result == "unknown" or not self.is_listed or not self.is_running():
+            return
+        if second - self.started < run.delay:
+            return
+        startup = self.runs.get("startup")
+        if probe != "startup" and startup is not None and (self.passed is None or self.passed >= second):
+            return
+        if probe == "startup" and run.holds:
+            return
+        run.take(result)
+        if probe != "readiness":
+            run.order()
+        if probe == "startup" and run.holds:
+            self.passed = second
+
+    def go_over(self) -> None:
+        """A border is passed: what runs has its start before it, so no delay counts any more."""
+        for run in self.runs.values() if self.is_running() else ():
+            run.delay = 0
+
+    def assume(self, restarts: Any, is_started: bool, is_ready: bool, second: int) -> bool:
+        """What its pod's status says of it where it is met running, whose results were before the recording; whether
+        that changes what is known."""
+        if not self.is_running() or self.listing["attempt"] != restarts:
+            return False
+        held = [run for run, holds in ((self.runs.get("startup"), is_started), (self.runs.get("readiness"), is_ready))
+                if run is not None and holds and not run.holds]
+        for run in held:
+            run.holds = True
+        if "startup" in self.runs and is_started:
+            self.passed = second - 1
+        return bool(held) or any(run.delay for run in self.runs.values())
+
+    def carried(self) -> list[dict[str, str]]:
+        """The results that show once more what is known, one behind the other: a list of {probe: result}."""
+        before: list[dict[str, Any]] = [{} for _ in self.history()]
+        if before and "startup" in self.runs:
+            before[0] = {"startup": "success"}
+        newest = self.carried_of_newest()
+        return before + (newest or [{}]) if before else newest
+
+    def carried_of_newest(self) -> list[dict[str, str]]:
+        if not self.is_running():
+            return []
+        found = {probe: run.results(probe)[-MOST_CARRIED:] for probe, run in self.runs.items()}
+        early, has_startup = found.pop("startup", []), "startup" in self.runs
+        # the others count in the ticks behind the one in which startup passed
+        late = {} if has_startup and not self.runs["startup"].holds else found
+        count = max(map(len, late.values()), default=0)
+        rows = [{probe: results[place - count + len(results)] for probe, results in late.items()
+                 if place >= count - len(results)} for place in range(count)]
+        return [{"startup": result} for result in early] + rows
+
+    def listed(self, second: int, back: int) -> dict[str, int | str]:
+        """What a tick that stands so many before the border lists of it: what was before where that counts."""
+        before, place = self.history(), back - max(len(self.carried_of_newest()), 1)
+        if before and place >= 0:
+            return before[min(place, len(before) - 1)]
+        return without_nones({**self.listing, "since": self.since if self.since < second + back else None})
+
+    def manifest(self) -> dict[str, Any]:
+        """Its part of the manifest. The kubelet itself has waited for the delay of a probe of what runs, and its start
+        is not in the next trace, so that delay is left out."""
+        if not self.is_running() and not self.has_started_before():
+            return self.fields
+        probes = {field: {name: value for name, value in self.fields[field].items() if name != DELAY}
+                  for field in FIELDS.values() if self.fields.get(field) is not None}
+        return {**self.fields, **probes}
+
+
+class Pod:
+    """A pod that is there, as its line has it."""
+
+    def __init__(self, manifest: Any) -> None:
+        metadata, spec = manifest["metadata"], manifest["spec"]
+        self.key = f"{metadata['namespace']}/{metadata['name']}"
+        self.fields = manifest
+        inits = spec.get("initContainers") or []
+        self.containers = {each["name"]: Container(each, each in inits and each.get("restartPolicy") == "Always")
+                           for each in inits + spec["containers"]}
+        self.usage: dict[str, Any] = {}
+        self.is_unsampled = False
+        self.waiting: dict[str, Any] = {}
+        self.decisions: list[Any] = []
+
+    def take(self, entry: Any, second: int) -> None:
+        """What a tick has of it."""
+        listed = {each["name"]: each for each in entry.get("containers") or []}
+        for name, container in self.containers.items():
+            container.show(listed.get(name), second)
+        for each in entry.get("probes") or []:
+            self.containers[each["container"]].take(each["probe"], each["result"], second)
+        for container in self.containers.values():
+            container.end_tick()
+        if entry.get("usage"):
+            self.usage, self.is_unsampled = {**self.usage, **entry["usage"]}, False
+        elif entry.get("unsampled"):
+            self.usage, self.is_unsampled = {}, True
+        # a message stands in the first tick alone
+        before, self.waiting = self.waiting, {}
+        for each in entry.get("waiting") or []:
+            known = before.get(each["container"], {})
+            self.waiting[each["container"]] = known | each if known.get("reason") == each.get("reason") else each
+
+    def manifest(self) -> dict[str, dict[str, Any]]:
+        spec = self.fields["spec"]
+        made = {name: [self.containers[each["name"]].manifest() for each in spec[name]]
+                for name in ("initContainers", "containers") if spec.get(name)}
+        return {**self.fields, "spec": {**spec, **made}}
+
+    def entry(self, second: int, back: int) -> dict[str, Any] | None:
+        """Its entry of a tick that stands so many before the border: usage, and why it waits, are in that of the border
+        alone."""
+        containers = [each.listed(second, back) for _, each in sorted(self.containers.items())
+                      if each.listing is not None]
+        rows = [(name, each.carried()) for name, each in self.containers.items()]
+        probes = [{"container": name, "probe": probe, "result": result} for name, carried in rows
+                  if len(carried) > back for probe, result in carried[-1 - back].items()]
+        said: dict[str, Any] = {"probes": probes or None}
+        if back == 0:
+            said |= {"usage": self.usage or None, "unsampled": self.is_unsampled or None,
+                     "waiting": list(self.waiting.values()) or None}
+        if not containers and not any(said.values()):
+            return None
+        return without_nones({"pod": self.key, "containers": containers, **said})
+
+
+class Standing:
+    """What the lines so far say of the node, and of the pods that are there."""
+
+    def __init__(self) -> None:
+        self.node: dict[str, Any] | None = None
+        self.pods: dict[str, Any] = {}
+        self.signals: dict[str, Any] = {}
+        # the second of the last tick
+        self.at: int | None = None
+
+    def take(self, record: dict[str, Any]) -> None:
+        """A line that is written, or would be where there was room."""
+        kind = record["kind"]
+        if kind == "node":
+            self.node = record
+        elif kind == "pod":
+            pod = Pod(record["pod"])
+            self.pods[pod.key] = pod
+        elif kind == "gone":
+            self.pods.pop(record["pod"], None)
+        else:
+            self.take_tick(record)
+
+    def take_tick(self, tick: dict[str, Any]) -> None:
+        self.at, self.signals = tick["at"], tick.get("signals") or {}
+        entries = {entry["pod"]: entry for entry in tick["pods"]}
+        for key, pod in self.pods.items():
+            pod.take(entries.get(key, {}), self.at)
+        for kind, decisions in (tick.get("kubelet") or {}).items():
+            for decision in decisions:
+                if decision["pod"] in self.pods and not decision.get("leftOut"):
+                    self.pods[decision["pod"]].decisions.append((kind, decision))
+
+    def assume(self, probed: dict[str, dict[str, tuple[None, bool, bool]]]) -> bool:
+        """Takes what the statuses of the pods say at the first tick, {key: {container: (restarts, started, ready)}};
+        whether that is more than the tick shows."""
+        return any([container.assume(*probed[key][name], self.at) for key, pod in self.pods.items()
+                    for name, container in pod.containers.items() if name in probed.get(key, {})])
+
+    def beginning(self, second: int, follows: dict[str, Any] | None) -> Iterator[str]:
+        """The lines that a trace begins with at a border, or at the first tick of all: its node and pods, and the ticks
+        that show what is known, the last of which is that of the border. It has one, but where what probes have shown
+        wants more."""
+        containers = [each for pod in self.pods.values() for each in pod.containers.values()]
+        for container in containers:
+            container.go_over()
+        count = max([1, *(len(container.carried()) for container in containers)])
+        yield line_of(without_nones({**self.node, "follows": follows}))
+        for pod in self.pods.values():
+            yield line_of({"kind": "pod", "pod": pod.manifest()})
+        for back in reversed(range(count)):
+            yield self.tick(second - back, back)
+
+    def tick(self, second: int, back: int) -> str:
+        """One of the ticks that show what is known; signals, and what the kubelet did, are in that of the border."""
+        entries = [pod.entry(second, back) for pod in self.pods.values()]
+        told: dict[str, Any] = {}
+        for pod in self.pods.values():
+            for kind, decision in pod.decisions if back == 0 else ():
+                told.setdefault(kind, []).append(decision)
+        return line_of(without_nones({
+            "kind": "tick", "at": second, "pods": [entry for entry in entries if entry is not None],
+            "signals": self.signals if back == 0 else {}, "kubelet": told or None}))

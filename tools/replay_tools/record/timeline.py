@@ -1,0 +1,324 @@
+"""Puts what happened on the seconds of a trace.
+
+A tick lists one instance of a container and one result of a probe, and the moments of ticks rise by whole seconds. So
+what happened stands at the second of its moment, with all else of that second, or at the first later one at which the
+formats read it as it was: a start before its exit, a result before the exit that it led to, a startup's result before
+the others, and each result of one probe at a second of its own.
+
+A success behind as many as its probe wants changes nothing, so it wants no tick: the next one has it, once."""
+
+from __future__ import annotations
+
+import copy
+from collections.abc import Iterator
+from dataclasses import dataclass, field, replace
+from typing import Any, TYPE_CHECKING
+
+from .asides import Asides
+from .decisions import EVICTED
+from .formats import without_nones
+from .lines import EVICTION_PAUSE, entry_of, gone_line, pod_line, tick_line, told, unknown
+from .near import Nearness
+from .runtime import CREATED, EXITED, LOST_CODE, RUNNING, Change
+
+if TYPE_CHECKING:
+    from .lines import Format
+    from .pods import Pod
+    from .probes import Result
+    from .reasons import Reason
+    from .recorder import Recorded
+
+# a pod's sync that kills a container starts its successor; what the kubelet shows has nothing between the two
+SYNC_SECONDS = 1.0
+# a start that had to stand later must not bring a result before the probe's initial delay
+ROUNDING_SECONDS = 2
+
+
+@dataclass
+class Tick:
+    """What changes at one second; it is written as a tick if it is wanted, else with the next one."""
+    is_wanted: bool = False
+    arrivals: list = field(default_factory=list)
+    listings: dict = field(default_factory=dict)
+    results: dict = field(default_factory=dict)
+    usages: dict = field(default_factory=dict)
+    unsampled: set = field(default_factory=set)
+    waits: dict = field(default_factory=dict)
+    signals: dict = field(default_factory=dict)
+    decisions: list = field(default_factory=list)
+    departures: list = field(default_factory=list)
+
+
+def is_seamless(item: Any, after: Result | Change) -> bool:
+    """An exit with the code 137 whose successor starts in the same sync: the start's tick says that exit and that code
+    too, since it no longer lists the one before, and shows no moment at which the container was not ready. What ran out
+    of memory exits by itself, and another sync starts its successor."""
+    return (isinstance(item, Change) and not item.is_out_of_memory and isinstance(after, Change)
+            and item.listing is not None and after.listing is not None
+            and item.listing.state == EXITED and item.listing.exit_code == LOST_CODE
+            and after.listing.state == RUNNING and after.moment - item.moment < SYNC_SECONDS)
+
+
+def without_seamless_exits(items: list[Result | Change]) -> list[Result | Change]:
+    """Without the exits that the ticks of their successors' starts say, which keep them."""
+    kept: list[Any] = []
+    item: Any
+    for item in items:
+        kept.append(keeping(item, kept.pop()) if kept and is_seamless(kept[-1], item) else item)
+    return kept
+
+
+def keeping(start: Change, exit_before: Change) -> Change:
+    return replace(start, listing=replace(start.listing, ended=exit_before.listing))
+
+
+def is_exit(change: Change) -> bool:
+    return change.listing is None or change.listing.state == EXITED
+
+
+def is_start(change: Change) -> bool:
+    return change.listing is not None and change.listing.state == RUNNING
+
+
+def woven(changes: list[Change], results: list[Result]) -> list[Result | Change]:
+    """Changes and results of one container between two looks, in the order in which they are written. Where an
+    instance exited between the looks a failure stands before that exit, and where another one started any other result
+    stands behind that start."""
+    first_exit = next((place for place, change in enumerate(changes) if is_exit(change)), None)
+    if first_exit is None:
+        return [*changes, *results]
+    is_followed = any(map(is_start, changes[first_exit:]))
+    early = [result for result in results if result.result == "failure" or not is_followed]
+    # the last of them has a second of its own before that of the exit
+    over = max((result.moment for result in early), default=0) - (changes[first_exit].moment - 1)
+    early = [replace(result, moment=result.moment - max(over, 0)) for result in early]
+    late = [result for result in results if result.result != "failure" and is_followed]
+    return [*changes[:first_exit], *early, *changes[first_exit:], *late]
+
+
+class Timeline:
+    """The ticks that are not written yet, and what stands at the last one that was."""
+
+    def __init__(self, trace_format: Format) -> None:
+        self.format = trace_format
+        self.ticks: dict[int, Tick] = {}
+        self.next_second: float = 0
+        self.latest: int | None = None
+        self.last_placed: dict[tuple[str, ...], int] = {}
+        self.successes: dict[tuple[str, ...], Any] = {}
+        self.present: list[Pod] = []
+        self.listings: dict[str, dict[str, Any]] = {}
+        self.results: dict[tuple[str, ...], str] = {}
+        self.usages: dict[str, dict[str, Any]] = {}
+        self.unsampled: set[str] = set()
+        self.signals: dict[str, int] = {}
+        # when the kubelet evicted a pod last, and the signals that were not sampled since
+        self.evicted_at: int | None = None
+        self.outdated: set[str] = set()
+        self.near = Nearness()
+        self.asides = Asides()
+
+    def tick(self, second: int, is_wanted: bool) -> Tick:
+        tick = self.ticks.setdefault(second, Tick())
+        if is_wanted:
+            tick.is_wanted = True
+            self.latest = second if self.latest is None else max(self.latest, second)
+        return tick
+
+    def second_of(self, moment: float, *after: Any) -> int:
+        """The first second that can still be written, at or after a moment and all the seconds given."""
+        return max([int(moment), self.next_second, *after])
+
+    # --- what is placed ---
+
+    def place_look(self, moment: float) -> None:
+        """A tick that is wanted where nothing happened."""
+        self.tick(self.second_of(moment), True)
+
+    def place_arrival(self, pod: Pod, moment: float) -> int:
+        second = self.second_of(moment)
+        self.tick(second, True).arrivals.append(pod)
+        return second
+
+    def place_departure(self, pod: Pod, moment: float) -> int:
+        """A pod goes, after all that happened in it; the second behind which it is no more."""
+        # where no line says it, the pod is in no tick of that second any more
+        behind = 0 if self.format.says_gone else 1
+        last = [second + behind for (uid, *_), second in self.last_placed.items() if uid == pod.uid]
+        second = self.second_of(moment, *last)
+        self.tick(second, True).departures.append(pod)
+        return second
+
+    def place_decision(self, pod: Pod, moment: float, recorded: Recorded | None) -> int:
+        """What the kubelet did to a pod, which is recorded or left out; the second of its tick."""
+        second = self.second_of(moment, *([] if recorded is None else [recorded.arrived]))
+        self.tick(second, True).decisions.append((pod.key, pod.decision, recorded is None))
+        return second
+
+    def place_signal(self, moment: float, signal: str, value: Any, is_wanted: bool) -> None:
+        """A sample of what the node has left, or None where it has no value from then on."""
+        second = self.second_of(moment, self.last_placed.get(("signal", signal), 0))
+        self.tick(second, is_wanted).signals[signal] = value
+        self.last_placed["signal", signal] = second
+
+    def place_waits(self, pod: Pod, moment: float, waits: dict[str, Reason]) -> None:
+        """Why the containers of a pod wait from a moment on; that wants no tick."""
+        self.tick(self.second_of(moment), False).waits[pod.uid] = waits
+
+    def place_usage(self, pod: Pod, moment: float, resource: str, value: Any) -> None:
+        tick = self.tick(self.second_of(moment), False)
+        tick.usages.setdefault(pod.uid, {})[resource] = value
+        tick.unsampled.discard(pod.uid)
+
+    def place_unsampled(self, pod: Pod, moment: float) -> None:
+        """From this moment on a pod has no sample, until one comes."""
+        tick = self.tick(self.second_of(moment), False)
+        tick.usages.pop(pod.uid, None)
+        tick.unsampled.add(pod.uid)
+
+    def place_container(self, pod: Pod, container: str, changes: list[Change], results: list[Result],
+                        arrived: int) -> None:
+        """What happened to one container of a pod that arrived at a second."""
+        for item in without_seamless_exits(woven(changes, results)):
+            if isinstance(item, Change):
+                self.place_change(pod, container, item, arrived)
+            else:
+                self.place_result(pod, container, item, arrived)
+
+    def place_change(self, pod: Pod, container: str, change: Change, arrived: int) -> None:
+        """Gives a change its second, in which no other listing of the container is, nor a result from before it."""
+        key = pod.uid, container
+        change = self.without_exit_before(key, change)
+        self.successes = {place: run for place, run in self.successes.items() if place[:2] != key}
+        last = [self.last_placed.get((*key, kind), -1) + 1 for kind in ("listing", "startup", "liveness", "readiness")]
+        second = self.second_of(change.moment, arrived, *last)
+        self.tick(second, not change.is_quiet).listings[key] = change
+        # a start in the same second takes the place of what was only made
+        if change.listing is None or change.listing.state != CREATED:
+            self.last_placed[(*key, "listing")] = second
+
+    def without_exit_before(self, key: tuple[str, str], change: Change) -> Change:
+        """The change; an exit that is not written yet goes where its successor's start, known only now, says it too."""
+        second = self.last_placed.get((*key, "listing"))
+        before = self.ticks[second].listings.get(key) if second in self.ticks else None
+        if before is not None and is_seamless(before, change):
+            del self.ticks[second].listings[key]
+            self.last_placed[(*key, "listing")] = second - 1
+            return keeping(change, before)
+        return change
+
+    def place_result(self, pod: Pod, container: str, result: Result, arrived: int) -> None:
+        """Gives a result its second: not before the start of what it was found on, and with no other of its probe."""
+        key = pod.uid, container
+        listed = self.last_placed.get((*key, "listing"), 0)
+        after = [listed, self.last_placed.get((*key, result.probe), -1) + 1]
+        if result.probe != "startup":
+            after.append(self.last_placed.get((*key, "startup"), -1) + 1)
+        may_come = listed + pod.initial_delay(container, result.probe)
+        if may_come - result.moment <= ROUNDING_SECONDS:
+            after.append(may_come)
+        second = self.second_of(result.moment, arrived, *after)
+        self.tick(second, not self.is_repeated(pod, key, result)).results[(*key, result.probe)] = result.result
+        self.last_placed[(*key, result.probe)] = second
+
+    def is_repeated(self, pod: Pod, key: tuple[str, str], result: Result) -> bool:
+        """Whether a result is a success behind as many as its probe wants. Each instance begins at none."""
+        run = self.successes.get((*key, result.probe), 0) + 1 if result.result == "success" else 0
+        self.successes[(*key, result.probe)] = run
+        return run > pod.successes_wanted(key[1], result.probe)
+
+    # --- what is written ---
+
+    def planned(self) -> int:
+        """How many ticks are wanted that are not written yet."""
+        return sum(tick.is_wanted for tick in self.ticks.values())
+
+    def due(self, before: float, silent_from: int | None = None) -> Iterator[tuple[list[str], bool]]:
+        """The lines of each second before one, as (lines, whether a tick is among them). From a second on at which the
+        runtime was silent containers are listed as unknown."""
+        for second in sorted(each for each in self.ticks if each < before):
+            tick = self.ticks.pop(second)
+            self.next_second = second + 1
+            yield self.lines_of(second, tick, silent_from is not None and second >= silent_from), tick.is_wanted
+        self.next_second = max(self.next_second, before)
+
+    def foreseen(self, moment: float, silent_from: int | None = None) -> list[tuple[list[str], bool]]:
+        """What would be due if nothing came any more, with a tick at a moment. All stays as it is."""
+        copied = copy.copy(self)
+        copied.ticks = {second: replace(tick) for second, tick in self.ticks.items()}
+        copied.present, copied.results = list(self.present), dict(self.results)
+        copied.listings = {uid: dict(listings) for uid, listings in self.listings.items()}
+        copied.usages = {uid: dict(usages) for uid, usages in self.usages.items()}
+        copied.asides = self.asides.copied()
+        copied.place_look(moment)
+        return list(copied.due(float("inf"), silent_from))
+
+    def lines_of(self, second: int, tick: Tick, is_silent: bool) -> list[str]:
+        """The lines of a second: the pods that come, the tick if one is wanted, the pods that go."""
+        lines = [pod_line(pod) for pod in tick.arrivals]
+        self.present += tick.arrivals
+        if not self.format.says_gone:
+            self.depart(tick.departures)
+        for (uid, container), change in tick.listings.items():
+            self.listings.setdefault(uid, {})[container] = change.listing
+            # what was found on an instance that is no more changes nothing, and must not count for the next one
+            self.results = {place: result for place, result in self.results.items() if place[:2] != (uid, container)}
+        self.results.update(tick.results)
+        self.take_usages(tick)
+        for uid, waits in tick.waits.items():
+            self.asides.take_waits(uid, waits)
+        self.signals = without_nones({**self.signals, **tick.signals})
+        signals = self.shown_signals(second, tick)
+        if tick.is_wanted:
+            changed = set(tick.listings) if is_silent else None
+            entries = [self.entry(pod, changed) for pod in self.present]
+            entries = [entry for entry in entries if entry is not None]
+            lines.append(tick_line(second, entries, signals, told(second, tick.decisions)))
+            self.results, self.usages, self.unsampled = {}, {}, set()
+        if self.format.says_gone:
+            lines += [gone_line(pod) for pod in tick.departures]
+            self.depart(tick.departures)
+        return lines
+
+    def shown_signals(self, second: int, tick: Tick) -> dict[str, int]:
+        """The signals of a tick, as last sampled. What was left before the kubelet evicted a pod is not what is left
+        behind it, and the kubelet takes a new sample before it evicts the next: until then a signal has no value, or
+        that of the new sample where a threshold goes on over the gap."""
+        if self.format.says_gone and any(decision.kind == EVICTED for _, decision, _ in tick.decisions):
+            self.evicted_at, outdated = second, set(self.signals) - set(tick.signals)
+            self.outdated = set(self.signals)
+        else:
+            is_late = self.evicted_at is not None and second - self.evicted_at > EVICTION_PAUSE
+            self.outdated = outdated = set() if is_late else self.outdated - set(tick.signals)
+        return without_nones({**self.signals, **{signal: self.ahead(second, signal) for signal in outdated}})
+
+    def ahead(self, second: int, signal: str) -> int | None:
+        """The value of a signal between an eviction and its next sample, or None."""
+        later = (self.ticks[each].signals.get(signal) for each in sorted(self.ticks) if each > second)
+        following = next((value for value in later if value is not None), None)
+        if not self.near.outlasts_gap(signal, following):
+            return None
+        return self.signals[signal] if following is None else following
+
+    def take_usages(self, tick: Tick) -> None:
+        """The samples of a second, and the pods that have none from it on."""
+        for uid in tick.unsampled:
+            self.usages.pop(uid, None)
+        self.unsampled = (self.unsampled - set(tick.usages)) | tick.unsampled
+        for uid, usage in tick.usages.items():
+            self.usages.setdefault(uid, {}).update(usage)
+
+    def depart(self, pods: list[Pod]) -> None:
+        for pod in pods:
+            self.present.remove(pod)
+            self.listings.pop(pod.uid, None)
+            self.asides.depart(pod.uid)
+
+    def entry(self, pod: Pod, changed: set[tuple[str, str]] | None) -> dict[str, Any] | None:
+        """A pod's entry. Where the runtime is silent `changed` has the containers whose listing is of this tick; what
+        else is listed is as it was, and may have changed since."""
+        listings = {name: listing if changed is None or (pod.uid, name) in changed else unknown(listing)
+                    for name, listing in self.listings.get(pod.uid, {}).items() if listing is not None}
+        of_pod = {(container, probe): result for (uid, container, probe), result in self.results.items()
+                  if uid == pod.uid}
+        return entry_of(pod, listings, of_pod, self.usages.get(pod.uid), pod.uid in self.unsampled, self.asides)

@@ -1,0 +1,253 @@
+"""The words of tools/record: what they mean, what is wrong with them, and its help."""
+
+from __future__ import annotations
+
+import json
+import os
+import re
+import shlex
+import shutil
+from dataclasses import dataclass
+from typing import Any, Optional
+
+from . import lines
+from .formats import MOST_TICKS, name_fault
+
+HELP = """\
+usage: tools/record [--node NAME] [--every SECONDS] [--look SECONDS] [--ticks N] [--for SECONDS]
+                    [--kubelet URL [--curl FILE]] [--crictl WORDS] [--node-line FILE]
+                    [--standard | --extended [--eviction-pause N]] > TRACE
+       tools/record --into FOLDER [--each 1h] [--keep 48h] [--most 2Gi], and the other words but --standard
+       tools/record --check [--node NAME] [--kubelet URL [--curl FILE]]
+
+Records a node as the lines of a trace (docs/formats.md). It looks at the container runtime and at the results of probes
+every --look seconds (1), and writes a tick for each second in which something happened, and else after --every seconds
+(10). It ends after N ticks (20000, the most that a trace takes), after --for seconds, or at an interrupt, at the end
+of a line. NAME is the node's name in the cluster (uname -n). --check asks each source once, those too whose command
+is there where another one is missing, says what works and what is missing, and ends.
+--crictl has the words that start crictl, as 'chroot /host crictl'.
+
+--into FOLDER writes traces of the extended format one behind the other, as NODE.2026-11-27T05-00-00Z.trace.gz, until it
+is interrupted (docs/recorder.md). Each begins where the one before it ends: after --each (1h, by UTC), or earlier at
+--ticks, 64 MiB or 256 pods. While it is written it is .trace.part; what a crash leaves is ended at the next start. It
+keeps traces for --keep (48h), and at most --most bytes of them (2Gi), and takes the oldest away where the disk is full.
+Where none is left it waits for room. A second recorder of one folder is refused.
+
+It needs python3, crictl (as root, on the node) and
+  kubectl  that may get nodes/proxy and list pods, which it starts once, as a proxy on a socket of its own; or
+  a kubelet's port, with --kubelet URL, as https://127.0.0.1:10250; FILE is a curl configuration, with a line for the
+           token, as in: header = "Authorization: Bearer ..", and one for the certificate: cacert = "..", or insecure;
+           where it has more than that curl is started for each answer
+/configz is served at port 10250, which wants a permission, and by the API server's proxy; the read-only port 10255 does
+not serve it. --node-line FILE has a node line in its place.
+
+It asks                                  how often              for
+  crictl ps -a -o json                   --look; where nothing  attempts and states
+                                         happens twice that
+  crictl inspect                         once a start, an exit  startedAt, finishedAt, exitCode, reason, message
+  /metrics/probes                        --look                 results of probes, as what the counters grew by
+  kubectl get pods -o json, or /pods     10 s, and where an     the pods, without their environment; whom the kubelet
+                                         instance exited or     evicted or refused; the codes of what the runtime has
+                                         went                   removed; why containers wait
+  /stats/summary                         10 s, or --every; at   capacity, signals and usage, at the moments at which the
+                                         each look where the    kubelet sampled them
+                                         kubelet may evict
+  /configz                               once                   thresholds, graces and periods
+
+The kubelet may evict while a signal is below twice its threshold, and while the node is under pressure. What it did,
+why instances ended and why containers wait stands in the ticks, for the tools; the program does not read it.
+
+--standard writes version 2, --extended version 3 with a line for a pod that goes, its new line where its name comes
+again, evictionPauseSeconds (30, or --eviction-pause) until the evicted pod has ended, and which pods a summary has no
+sample of, which a kubelet evicts first; without either it is --{default}.
+
+It leaves out
+  - an instance that came and went between two looks and was removed by then, and the code of an exit that neither the
+    runtime nor the pod's status knows, which counts as 137: standard error names it;
+  - the order of several results of one probe between two looks: failures stand before the success that ends them;
+  - afterReclaim, so no threshold is reclaimed in the replay; thresholds on other signals, and percentages of a signal
+    without a capacity; mergeDefaultEvictionSettings;
+  - ephemeral containers, and of a pod's manifest every field that the formats do not read, as its environment;
+  - a pod that the formats refuse, the 257th pod, one that the kubelet refused or had evicted before it was seen; in the
+    standard format that a pod has gone, and a pod from the moment on that it was made anew under its name.
+A file system for images of the same size as the node's is taken for the same one. On standard error it says what it
+leaves out, writes otherwise or infers, and each source that gives no answer with what stands in its place.
+
+Status 0: ended as asked, or all that --check asked works; 1: nothing could be recorded, or not written, as where the
+folder of --into can't be or has its recorder, or a source of --check does not work; 2: a bad word; 127: a command is
+missing.
+"""
+
+# word: what its value is
+NUMBERS = {"--every": 86400, "--look": 3600, "--ticks": MOST_TICKS, "--for": 31622400}
+LASTING = ("--each", "--keep", "--most")
+TEXTS = ("--node", "--kubelet", "--curl", "--crictl", "--node-line", "--eviction-pause", "--into", *LASTING, *NUMBERS)
+SWITCHES = ("--standard", "--extended", "--check")
+MOST_PAUSE = 2 ** 31 - 1
+UNITS = {"s": 1, "m": 60, "h": 3600, "d": 86400}
+SIZES = {"": 1, "k": 10 ** 3, "M": 10 ** 6, "G": 10 ** 9, "T": 10 ** 12, "Ki": 2 ** 10, "Mi": 2 ** 20, "Gi": 2 ** 30,
+         "Ti": 2 ** 40}
+LONGEST = 400 * 86400
+
+
+class BadWord(Exception):
+    """Words that are mistaken; its text says what to do."""
+
+
+@dataclass(frozen=True)
+class Into:
+    """Where traces stand one behind the other, for how many seconds each, and how many seconds and bytes are kept."""
+    folder: str
+    each: int
+    keep: int
+    most: int
+
+
+@dataclass(frozen=True)
+class Words:
+    """What the operator asked for; moments and periods in seconds."""
+    node: str
+    kubelet: Optional[str]
+    curl_file: Optional[str]
+    node_line: Optional[dict]
+    every: int
+    look: int
+    ticks: int
+    duration: Optional[int]
+    format: lines.Format
+    is_check: bool
+    into: Optional[Into]
+    crictl: tuple
+
+
+def help_text() -> Any:
+    return HELP.replace("{default}", "extended" if lines.DEFAULT.says_gone else "standard")
+
+
+def split(arguments: list[str]) -> dict[str, Any]:
+    """The values of words, {word: text or True}."""
+    given: dict[str, Any] = {}
+    rest = list(arguments)
+    while rest:
+        word = rest.pop(0)
+        if word in SWITCHES:
+            given[word] = True
+        elif word not in TEXTS:
+            raise BadWord(f"{word} is no word of it")
+        elif not rest:
+            raise BadWord(f"{word} wants a value")
+        else:
+            given[word] = rest.pop(0)
+    return given
+
+
+def number(given: dict[str, Any], word: str, default: int | None) -> int | None:
+    text = given.get(word)
+    if text is None:
+        return default
+    if not re.fullmatch("[1-9][0-9]{0,7}", text) or int(text) > NUMBERS[word]:
+        what = "number" if word == "--ticks" else "number of seconds"
+        raise BadWord(f"{word} takes a whole {what} from 1 to {NUMBERS[word]}, not '{text}'")
+    return int(text)
+
+
+def trace_format(given: dict[str, Any]) -> lines.Format:
+    """The format that the words ask for. Raises BadWord where they ask for two."""
+    text = given.get("--eviction-pause")
+    if "--standard" in given and "--extended" in given:
+        raise BadWord("--standard and --extended are two formats: give one")
+    if "--standard" in given and "--into" in given:
+        raise BadWord("--into writes the extended format, and not the standard one")
+    is_extended = ({"--extended", "--into"} & set(given)
+                   or ("--standard" not in given and lines.DEFAULT.says_gone))
+    if text is None:
+        return lines.extended() if is_extended else lines.STANDARD
+    if not is_extended:
+        raise BadWord("--eviction-pause goes with --extended")
+    if not re.fullmatch("0|[1-9][0-9]{0,9}", text) or int(text) > MOST_PAUSE:
+        raise BadWord(f"--eviction-pause takes a whole number of seconds from 0 to {MOST_PAUSE}, not '{text}'")
+    return lines.extended(int(text))
+
+
+def node_line(given: dict[str, Any]) -> dict[str, Any] | None:
+    """The operator's own node line, or None."""
+    path = given.get("--node-line")
+    if path is None:
+        return None
+    try:
+        with open(path, encoding="utf-8") as file:
+            fields = json.load(file)
+    except OSError:
+        raise BadWord(f"--node-line: '{path}' can't be read") from None
+    except ValueError:
+        fields = None
+    if not isinstance(fields, dict):
+        raise BadWord(f"--node-line: '{path}' has no JSON object, or more than one")
+    return fields
+
+
+def duration(given: dict[str, Any], word: str, default: str) -> int:
+    """A span of time, in seconds."""
+    found = re.fullmatch("([1-9][0-9]{0,8})([smhd])", given.get(word, default))
+    seconds = int(found[1]) * UNITS[found[2]] if found else 0
+    if not 10 <= seconds <= LONGEST:
+        raise BadWord(f"{word} takes a time from 10s to {LONGEST // 86400}d, as {default}, not '{given[word]}'")
+    return seconds
+
+
+def size(given: dict[str, Any], word: str, default: str) -> int:
+    """A number of bytes."""
+    found = re.fullmatch("([1-9][0-9]{0,14})([kMGT]|[KMGT]i|)", given.get(word, default))
+    count = int(found[1]) * SIZES[found[2]] if found else 0
+    if not 2 ** 20 <= count < 2 ** 60:
+        raise BadWord(f"{word} takes a number of bytes of at least 1Mi, as {default}, not '{given[word]}'")
+    return count
+
+
+def into(given: dict[str, Any], node: str) -> Into | None:
+    """Where and how traces stand one behind the other, or None where they don't."""
+    alone = [word for word in LASTING if word in given]
+    if "--into" not in given:
+        if alone:
+            raise BadWord(f"{alone[0]} goes with --into")
+        return None
+    if not os.path.isdir(given["--into"]):
+        raise BadWord(f"--into: '{given['--into']}' is no folder")
+    if name_fault(node) is not None:
+        raise BadWord(f"--into wants --node with a name of the formats, not '{node}'")
+    return Into(given["--into"], duration(given, "--each", "1h"), duration(given, "--keep", "48h"),
+                size(given, "--most", "2Gi"))
+
+
+def crictl_words(given: dict[str, Any]) -> tuple[str, ...]:
+    """The words that start crictl."""
+    try:
+        words = shlex.split(given.get("--crictl", "crictl"))
+    except ValueError:
+        words = []
+    if not words:
+        raise BadWord(f"--crictl takes words as 'chroot /host crictl', not '{given['--crictl']}'")
+    return tuple(words)
+
+
+def words_of(arguments: list[str]) -> Words:
+    """What the arguments ask for; BadWord where they are mistaken."""
+    given = split(arguments)
+    node, curl_file = given.get("--node", os.uname().nodename), given.get("--curl")
+    if not re.fullmatch("[a-z0-9.-]+", node):
+        raise BadWord(f"--node takes a node's name, not '{node}'")
+    if curl_file is not None and "--kubelet" not in given:
+        raise BadWord("--curl goes with --kubelet")
+    if curl_file is not None and not os.access(curl_file, os.R_OK):
+        raise BadWord(f"--curl: '{curl_file}' can't be read")
+    kubelet = given.get("--kubelet")
+    if kubelet is not None and not re.fullmatch("https?://[^/ ]+/?", kubelet):
+        raise BadWord(f"--kubelet takes a URL as https://127.0.0.1:10250, not '{kubelet}'")
+    return Words(node, kubelet.rstrip("/") if kubelet else None, curl_file, node_line(given),
+                 number(given, "--every", 10), number(given, "--look", 1), number(given, "--ticks", MOST_TICKS),
+                 number(given, "--for", None), trace_format(given), "--check" in given, into(given, node),
+                 crictl_words(given))
+
+
+def missing_commands(commands: list[str]) -> list[str]:
+    return [command for command in commands if shutil.which(command) is None]

@@ -1,0 +1,244 @@
+"""A report as records: dicts of plain values by name, as docs/report.schema.json says. Moments and lengths are in
+seconds of the trace. What a record does not have is left out of it; what is there and unknown is None."""
+
+from __future__ import annotations
+
+from collections.abc import Iterator
+from typing import Any, TYPE_CHECKING
+
+from replay_tools import events, kubelet as kubelets, reasons, report as reports
+
+if TYPE_CHECKING:
+    from replay_tools import traces
+
+
+# a moment before all others
+NEVER = -1
+
+
+def records_of(report: reports.Report, kubelet: kubelets.Kubelet | None = None, trace: traces.Trace | None = None,
+               span: tuple[int, int] | None = None, known: int = NEVER) -> Iterator[dict[str, Any]]:
+    """Each record of a report: the node, its events, its pods with their containers and conditions, its own
+    conditions, and the evictions; then what the kubelet did, and why instances died and containers waited, where a
+    trace said so. The span are the moments of the trace's first and last tick, where they are known. What is by the
+    moment `known` was so in the trace that this one follows, and is counted there."""
+    if span is None and trace is not None and trace.ticks:
+        span = trace.ticks[0].at, trace.ticks[-1].at
+    last = span[1] if span else last_moment(report)
+    yield node_record(report, span[0] if span else first_moment(report), last, known) | (
+        {} if kubelet is None else {"tells_kubelet": True})
+    for number, event in enumerate(report.events):
+        yield event_record(report, number, event) | reason_fields(event, trace)
+    for number, border in enumerate(report.borders):
+        yield border_record(report, number, border)
+    for pod in report.pods:
+        yield pod_record(report, pod, last, known)
+        for container in pod.containers:
+            yield container_record(report, pod, container, known)
+        for condition in pod.conditions:
+            yield condition_record(report, condition, pod)
+    for condition in report.conditions:
+        yield condition_record(report, condition, None)
+    for number, eviction in enumerate(report.evictions):
+        yield eviction_record(report, number, eviction, kubelet)
+    decisions = kubelet.decisions() if kubelet is not None else ()
+    for number, (decision, fact) in enumerate(each for each in decisions if each[0].at > known):
+        yield decision_record(report, number, decision, fact)
+    if trace is not None:
+        yield from cause_records(report, trace, last or 0, known)
+
+
+def first_moment(report: reports.Report) -> int | None:
+    """The first moment that the report names, which is that of the first tick; None without a tick."""
+    named = [event.at for event in report.events] + [condition.at for condition in report.conditions]
+    named += [reports.first_tick(pod) for pod in report.pods if reports.has_ticks(report, pod)]
+    return min(named) if report.tick_count else None
+
+
+def last_moment(report: reports.Report) -> int | None:
+    """The last moment that the report names, which is no later than that of the last tick; None without a tick."""
+    return max(reports.moments(report)) if report.tick_count else None
+
+
+def node_record(report: reports.Report, first: int, last: int, known: int = NEVER) -> dict[str, Any]:
+    updates, events, orders = report.totals
+    return {
+        "record": "node", "node": report.node, "pods": report.pod_count, "ticks": report.tick_count,
+        "first_moment": first, "last_moment": last, "updates": updates, "pod_events": events, "orders": orders,
+        "restarts": sum(int(container.restarts) for pod in report.pods for container in pod.containers),
+        "evictions": len(report.evictions),
+        **{PRESSURES[kind]: pressure_seconds(report, kind, last, known) for kind in reports.CONDITIONS},
+    }
+
+
+PRESSURES = {"MemoryPressure": "memory_pressure_seconds", "DiskPressure": "disk_pressure_seconds",
+             "PIDPressure": "pid_pressure_seconds"}
+
+
+def pressure_seconds(report: reports.Report, kind: str, last: int, known: int = NEVER) -> int:
+    """For how long a condition of the node was True, until the last moment."""
+    return seconds_of(reports.pressure_spans(report, kind), last, known)
+
+
+def seconds_of(spans: list[reports.Span], last: int, known: int) -> int:
+    """The seconds of spans behind a moment, of those that are open to the last one."""
+    ends = [(span, last if span.until is None else min(span.until, last)) for span in spans]
+    return sum(max(end - max(span.since, known), 0) for span, end in ends)
+
+
+def border_record(report: reports.Report, number: int, border: reports.Border) -> dict[str, Any]:
+    """Where the next of several traces begins."""
+    return {"record": "border", "node": report.node, "number": number, "since": border.since, "at": border.at,
+            "is_gap": border.is_gap, "trace": border.name, "missing": border.missing}
+
+
+def event_record(report: reports.Report, number: int, event: reports.Event) -> dict[str, Any]:
+    record = {"record": "event", "node": report.node, "number": number, "at": event.at, "event": event.word}
+    if event.pod is not None:
+        record.update(pod=event.pod, pod_number=event.number)
+    if event.container is not None:
+        record["container"] = event.container
+    if event.was_so:
+        record["so_before"] = True
+    kind = events.kinds()[event.word]
+    if event.anew is not None and kind.is_counted:
+        record["counted_anew_since"] = event.anew
+    return record | kind.values(event.rest)
+
+
+def reason_fields(event: reports.Event, trace: traces.Trace | None) -> dict[str, Any]:
+    """Of a death why, as a trace says it: whether the code is the instance's own, the reason, the message."""
+    if event.word != "died" or trace is None:
+        return {}
+    end = trace.reasons.end_of(event)
+    return {"code_is_known": reasons.is_known(event, trace), "reason": end.reason if end else None,
+            "message": end.message if end else None}
+
+
+def pod_record(report: reports.Report, pod: reports.Pod, last: int, known: int = NEVER) -> dict[str, Any]:
+    """A pod, with what its events come to."""
+    namespace, _, name = pod.key.partition("/")
+    ended, ready, seen = reports.end_of(pod), pod.condition("Ready"), reports.has_ticks(report, pod)
+    evicted = next((eviction for eviction in report.evictions if eviction.number == pod.number), None)
+    return {
+        "record": "pod", "node": report.node, "number": pod.number, "pod": pod.key, "namespace": namespace,
+        "name": name, "phase": pod.phase, "reason": none_of(pod.reason), "qos": pod.qos,
+        "ready": ready.value == "True", "ready_since": ready.at if seen else None,
+        "first_tick": reports.first_tick(pod) if seen else None,
+        "ended_at": ended[0] if ended else None, "ended_as": ended[1] if ended else None,
+        "restarts": sum(int(container.restarts) for container in pod.containers),
+        "deaths": count(pod, "died", known=known), "kills": count(pod, "kill", known=known),
+        "backoffs": count(pod, "backoff", known=known), "became_unready": became_unready(pod, known),
+        "unready_seconds": unready_seconds(pod, last, known) if seen else 0,
+        "evicted_at": evicted.at if evicted else None, "evicted_signal": evicted.signal if evicted else None,
+        "evicted_kind": evicted.kind if evicted else None,
+    }
+
+
+def became_unready(pod: reports.Pod, known: int = NEVER) -> int:
+    """How often Ready went from True to False, the pod's end included."""
+    spans = reports.ready_spans(pod)
+    return sum(before.value == "True" and after.value == "False" and after.since > known
+               for before, after in zip(spans, spans[1:]))
+
+
+def unready_seconds(pod: reports.Pod, last: int, known: int = NEVER) -> int:
+    """For how long the pod was not Ready, from its first tick until its end, or until it was gone, or else until the
+    last moment."""
+    end = reports.end_of_spans(pod)
+    spans = [span for span in reports.ready_spans(pod) if span.value == "False"]
+    return seconds_of(spans, last if end is None else end, known)
+
+
+def count(pod: reports.Pod, word: str, name: str | None = None, known: int = NEVER) -> int:
+    return sum(event.word == word and name in (None, event.container) and event.at > known for event in pod.events)
+
+
+def came_again(pod: reports.Pod, name: str) -> int:
+    """How many instances of a container came after another one, as far as they were recorded."""
+    seen = {event.rest[0] for event in pod.events if event.container == name and event.word in ("started", "died")}
+    return max(len(seen) - 1, 0)
+
+
+def none_of(text: str) -> str | None:
+    return None if text == "-" else text
+
+
+def container_record(report: reports.Report, pod: reports.Pod, container: reports.Container,
+                     known: int = NEVER) -> dict[str, Any]:
+    """A container, with how often each event was of it."""
+    return {
+        "record": "container", "node": report.node, "pod": pod.key, "pod_number": pod.number, "name": container.name,
+        "state": container.state, "code": None if container.code == "-" else int(container.code),
+        "restarts": int(container.restarts), "ready": container.ready == "true",
+        "started": container.started == "true", "starts": count(pod, "started", container.name, known),
+        "deaths": count(pod, "died", container.name, known), "kills": count(pod, "kill", container.name, known),
+        "backoffs": count(pod, "backoff", container.name, known), "came_again": came_again(pod, container.name),
+    }
+
+
+def condition_record(report: reports.Report, condition: reports.Condition, pod: reports.Pod | None) -> dict[str, Any]:
+    return {
+        "record": "condition", "node": report.node, "pod": pod.key if pod else None,
+        "pod_number": pod.number if pod else None, "condition": condition.kind, "value": condition.value == "True",
+        "since": condition.at, "reason": condition.reason,
+    }
+
+
+def cause_records(report: reports.Report, trace: traces.Trace, last: int,
+                  known: int = NEVER) -> Iterator[dict[str, Any]]:
+    """Of each container why its instances died and why it waited: a record for each reason and code, and for each
+    reason of waiting."""
+    for pod in report.pods:
+        found: dict[tuple[Any, ...], dict[str, Any]] = {}
+        for event in pod.events:
+            if event.word == "died" and event.at > known:
+                end = trace.reasons.end_of(event)
+                code = int(event.rest[1]) if reasons.is_known(event, trace) else None
+                add_cause(found, (event.container, "died", end.reason if end else None, code), event.at, None,
+                          end.message if end else None)
+        for name, wait in trace.reasons.waits_of(pod):
+            if wait.until is None or wait.until > known:
+                seconds = (last if wait.until is None else wait.until) - max(wait.since, known)
+                add_cause(found, (name, "waited", wait.reason, None), max(wait.since, known), seconds, wait.message,
+                          wait.since > known)
+        for (name, cause, reason, code), rest in found.items():
+            yield {"record": "cause", "node": report.node, "pod": pod.key, "pod_number": pod.number, "container": name,
+                   "cause": cause, "reason": reason, "code": code} | rest
+
+
+def add_cause(found: dict[Any, Any], key: tuple[Any, ...], at: int, seconds: int | None, message: str | None,
+              begins: bool = True) -> None:
+    """Counts one more death or wait of a cause, or the seconds alone of a wait that did not begin there; of the
+    messages the last one is kept."""
+    rest = found.setdefault(key, {"times": 0, "seconds": None, "first_at": at, "last_at": at, "message": None})
+    rest["times"] += begins
+    rest["last_at"] = at
+    rest["seconds"] = None if seconds is None else (rest["seconds"] or 0) + seconds
+    rest["message"] = message or rest["message"]
+
+
+def eviction_record(report: reports.Report, number: int, eviction: reports.Eviction,
+                    kubelet: kubelets.Kubelet | None) -> dict[str, Any]:
+    record = {
+        "record": "eviction", "node": report.node, "number": number, "at": eviction.at, "pod": eviction.pod,
+        "pod_number": eviction.number, "signal": eviction.signal, "kind": eviction.kind,
+        "grace_seconds": eviction.grace,
+    }
+    if kubelet is None:
+        return record
+    fact = kubelet.fact(eviction.number)
+    return record | {"kubelet_at": fact.decision.at if fact else None}
+
+
+def decision_record(report: reports.Report, number: int, decision: traces.Decision,
+                    fact: kubelets.Fact | None) -> dict[str, Any]:
+    """What the kubelet did to a pod, and whether the rules agree; a refused pod is none that they evict."""
+    record = {"record": "decision", "node": report.node, "number": number, "at": decision.at, "pod": decision.pod,
+              "pod_number": decision.number, "decision": decision.kind, "reason": decision.reason,
+              "message": decision.message, "rules_at": None, "agrees": None, "causes": None}
+    if fact is not None:
+        causes = kubelets.causes_text(fact.causes, str).removeprefix("; ")
+        record |= {"rules_at": fact.eviction.at if fact.eviction else None, "agrees": fact.agrees,
+                   "causes": causes or None}
+    return record

@@ -1,0 +1,456 @@
+"""Reads a report of the program, as docs/report.md says, and what it tells over time."""
+
+from __future__ import annotations
+
+import functools
+import re
+from collections.abc import Iterable
+from dataclasses import dataclass, field
+from datetime import datetime, timezone
+from typing import Any
+
+from replay_tools import events
+
+CONDITIONS = ("MemoryPressure", "DiskPressure", "PIDPressure")
+POD_CONDITIONS = ("PodScheduled", "Initialized", "ContainersReady", "Ready")
+# the last moment that has a date of four digits
+LAST_DATE = 253402300799
+
+
+class ReportFault(Exception):
+    """The text is no report; the message says where."""
+
+
+@dataclass
+class Event:
+    at: int
+    pod: str | None
+    container: str | None
+    word: str
+    rest: list[str]
+    number: int | None = None
+    """that of its pod, where it has one"""
+    anew: int | None = None
+    """the moment of a border behind which what it counts began anew"""
+    was_so: bool = False
+    """it was so in the trace before, which is not there"""
+
+
+@dataclass
+class Condition:
+    kind: str
+    value: str
+    at: int
+    reason: str | None
+
+
+@dataclass
+class Container:
+    name: str
+    state: str
+    code: str
+    restarts: str
+    ready: str
+    started: str
+
+
+@dataclass
+class Pod:
+    number: int
+    key: str
+    phase: str
+    reason: str
+    qos: str
+    conditions: list[Condition] = field(default_factory=list)
+    containers: list[Container] = field(default_factory=list)
+    events: list[Event] = field(default_factory=list)
+    left: int | None = None
+    """the moment by which it was gone: the first tick of the next pod of its key, or with the trace the first tick
+    without it; None where there is none"""
+    gaps: list[tuple[int, int]] = field(default_factory=list)
+    """spans of moments of which nothing is known"""
+    anew: int = 0
+    """the place of the event from which on it is told anew, since only the rules had ended it before"""
+
+    def condition(self, kind: str) -> Condition:
+        return next((found for found in self.conditions if found.kind == kind), None)
+
+    def own_gaps(self) -> list[tuple[int, int]]:
+        """The gaps that begin before it was gone."""
+        return [(since, until) for since, until in self.gaps if self.left is None or since < self.left]
+
+
+@dataclass
+class Eviction:
+    at: int
+    pod: str
+    signal: str
+    kind: str
+    grace: int
+    number: int | None = None
+    """that of the pod"""
+    anew: int | None = None
+    """the moment of a border behind which its grace period or the pause began anew"""
+
+
+@dataclass
+class Border:
+    """Where the report of one trace ends and that of the next begins, of those of several traces."""
+
+    since: int
+    """up to when the one says all that happened"""
+    at: int
+    """from when on the other does; what it says up to then was so before"""
+    name: str
+    """the trace that begins"""
+    missing: str | None = None
+    """the trace that lies between, where it is not there"""
+
+    @property
+    def is_gap(self) -> bool:
+        return self.since < self.at
+
+
+@dataclass
+class Report:
+    node: str
+    pod_count: int
+    tick_count: int
+    events: list[Event] = field(default_factory=list)
+    pods: list[Pod] = field(default_factory=list)
+    conditions: list[Condition] = field(default_factory=list)
+    evictions: list[Eviction] = field(default_factory=list)
+    totals: tuple[int, ...] = ()
+    """updates, events, orders"""
+    borders: list[Border] = field(default_factory=list)
+    """of one that is joined of several"""
+
+    @property
+    def gaps(self) -> list[tuple[int, int]]:
+        """The spans of moments in which nothing was recorded."""
+        return [(border.since, border.at) for border in self.borders if border.is_gap]
+
+
+@dataclass
+class Span:
+    """From one moment until another, to the end where `until` is None, and from an unknown one without `since`."""
+
+    value: str
+    since: int | None
+    until: int | None
+    note: str = ""
+
+
+# of events the words that they may have stand in their table
+FORMS = {
+    "node": r"node (\S+) pods=(\d+) ticks=(\d+)",
+    "node event": r"event (\d+) node ({node}) (\S.*)",
+    "event": r"event (\d+) (\S+/\S+) (\S+) ({pod})((?: \S+)*)",
+    "pod": r"pod (\d+) (\S+/\S+) phase=(Pending|Running|Succeeded|Failed) reason=(\S+) "
+           r"qos=(Guaranteed|Burstable|BestEffort)",
+    "condition": r"condition (\d+) (\S+) (True|False) (\d+)(?: (\S+))?",
+    "container": r"container (\d+) (\S+) state=(Waiting|Running|Terminated) code=(-|-?\d+) restarts=(\d+) "
+                 r"ready=(true|false) started=(true|false)",
+    "node condition": r"nodecondition (\S+) (True|False) (\d+)",
+    "eviction": r"eviction (\d+) (\S+/\S+) (\S+) (hard|soft) (\d+)",
+    "totals": r"totals updates=(\d+) events=(\d+) orders=(\d+)",
+}
+
+
+@functools.cache
+def forms() -> dict[str, re.Pattern[str]]:
+    """The form of each kind of line."""
+    kinds = events.kinds().values()
+    words = {"node": [kind.word for kind in kinds if kind.subject == "node"],
+             "pod": [kind.word for kind in kinds if kind.subject != "node"]}
+    return {name: re.compile(form.replace("{node}", "|".join(words["node"])).replace("{pod}", "|".join(words["pod"])),
+                             re.ASCII) for name, form in FORMS.items()}
+
+
+def parts_of(line: str) -> tuple[str | None, tuple[Any, ...]]:
+    """What kind of line it is, with its parts."""
+    for kind, form in forms().items():
+        found = form.fullmatch(line)
+        if found:
+            return kind, found.groups()
+    return None, ()
+
+
+def read_report(text: str) -> Report:
+    """The report of a text. Raises ReportFault."""
+    lines = text.split("\n")
+    if lines.pop() != "" or not lines:
+        raise ReportFault("standard input has no whole report: its last line is cut or missing")
+    if lines[0].startswith("pod "):
+        raise ReportFault("standard input has the pod lines of a report alone, without its events")
+    report: Report | None = None
+    ended = False
+    for number, line in enumerate(lines, 1):
+        kind, parts = parts_of(line)
+        if kind is None or ended or (report is None) != (kind == "node"):
+            raise ReportFault(f"line {number} of standard input is no line of a report there")
+        if kind == "node":
+            report = Report(parts[0], int(parts[1]), int(parts[2]))
+        elif kind == "totals":
+            report.totals, ended = tuple(map(int, parts)), True
+        else:
+            try:
+                add_line(report, kind, parts)
+            except (IndexError, ValueError):
+                raise ReportFault(f"line {number} of standard input is no line of a report there") from None
+    if not ended:
+        raise ReportFault("standard input has no whole report: the line of totals is missing")
+    check_whole(report)
+    named = pods_by_key(report)
+    tell_left(named)
+    tell_pods(report, named)
+    return report
+
+
+def tell_pods(report: Report, named: dict[str, list[Pod]]) -> None:
+    """Gives each event and each eviction the pod that it is of, and each pod its events."""
+    both: list[Event | Eviction] = [*report.events, *report.evictions]
+    for said in both:
+        pod = pod_at(named.get(said.pod, ()), said.at)
+        said.number = pod.number if pod else None
+        if pod and isinstance(said, Event):
+            pod.events.append(said)
+
+
+def pods_by_key(report: Report) -> dict[str, list[Pod]]:
+    """The pods of each key, one after the other."""
+    named: dict[str, list[Pod]] = {}
+    for pod in report.pods:
+        named.setdefault(pod.key, []).append(pod)
+    return named
+
+
+def tell_left(named: dict[str, list[Pod]]) -> None:
+    """Of pods of one key, one after the other, each has left by the first tick of the next one."""
+    for pods in named.values():
+        following = None
+        for pod in reversed(pods):
+            pod.left = following
+            following = first_tick(pod) or following
+
+
+def pod_at(pods: Iterable[Pod], at: int) -> Pod | None:
+    """Of pods of one key, one after the other, that which was there at the moment of an event: the last whose first
+    tick was by then. A pod without ticks has the moment 0 as its first, and its lines say that nothing happened."""
+    begun = [pod for pod in pods if first_tick(pod) <= at]
+    return max(begun, key=lambda pod: (first_tick(pod), was_seen(pod), -pod.number), default=None)
+
+
+def was_seen(pod: Pod) -> bool:
+    """Whether a pod's own lines show that something happened in it."""
+    ran = any(container.state != "Waiting" or container.restarts != "0" for container in pod.containers)
+    return ran or (pod.phase, pod.reason) != ("Pending", "-")
+
+
+def number_words(report: Report, pod: Pod) -> str:
+    """What tells a pod from the others of its key, where there are others."""
+    return f", number {pod.number}" if sum(other.key == pod.key for other in report.pods) > 1 else ""
+
+
+def check_whole(report: Report) -> None:
+    """Raises ReportFault where something is missing that each report has."""
+    if [condition.kind for condition in report.conditions] != list(CONDITIONS):
+        raise ReportFault("standard input has no whole report: a condition of the node is missing")
+    if len(report.pods) != report.pod_count:
+        raise ReportFault(f"standard input has no whole report: it has {len(report.pods)} pods and says "
+                          f"{report.pod_count}")
+    for pod in report.pods:
+        if [condition.kind for condition in pod.conditions[:4]] != list(POD_CONDITIONS):
+            raise ReportFault(f"standard input has no whole report: a condition of {pod.key} is missing")
+
+
+def add_line(report: Report, kind: str, parts: tuple[Any, ...]) -> None:
+    """Adds what a line says. Raises IndexError or ValueError where it is none of this report."""
+    if kind == "event":
+        at, pod, container, word, rest = parts
+        report.events.append(checked(Event(int(at), pod, None if container == "-" else container, word, rest.split())))
+    elif kind == "node event":
+        at, word, rest = parts
+        rest = rest.split()
+        report.events.append(checked(Event(int(at), rest[0] if word == "evicted" else None, None, word, rest)))
+    elif kind == "pod":
+        if int(parts[0]) != len(report.pods):
+            raise ValueError
+        report.pods.append(Pod(int(parts[0]), *parts[1:]))
+    elif kind == "condition":
+        report.pods[int(parts[0])].conditions.append(Condition(parts[1], parts[2], int(parts[3]), parts[4]))
+    elif kind == "container":
+        report.pods[int(parts[0])].containers.append(Container(*parts[1:]))
+    elif kind == "node condition":
+        report.conditions.append(Condition(parts[0], parts[1], int(parts[2]), None))
+    else:
+        at, pod, signal, kind, grace = parts
+        report.evictions.append(Eviction(int(at), pod, signal, kind, int(grace)))
+
+
+def checked(event: Event) -> Event:
+    if not events.kinds()[event.word].form.fullmatch(" ".join(event.rest)):
+        raise ValueError
+    return event
+
+
+def moment_text(at: int, utc: bool) -> str:
+    """A moment as its seconds, or as a UTC time, which says so, where that was asked for and there is one."""
+    if not utc or at > LAST_DATE:
+        return str(at)
+    return datetime.fromtimestamp(at, timezone.utc).strftime("%Y-%m-%d %H:%M:%SZ")
+
+
+def first_tick(pod: Pod) -> int:
+    """The moment of a pod's first tick, since which it is scheduled."""
+    return pod.condition("PodScheduled").at
+
+
+def has_ticks(report: Report, pod: Pod) -> bool:
+    """Whether some tick came after the pod's line, as far as the report tells: a pod without one has the moment 0. Pods
+    come in the order of their lines, so one with 0 behind one with more has none, and so has one beside whose key
+    another began at 0."""
+    if first_tick(pod) > 0 or pod.events:
+        return True
+    if any(other.key == pod.key and other.events and first_tick(other) == 0 for other in report.pods):
+        return False
+    changed = {event.rest[0] for event in report.events if event.word == "pressure"}
+    begun = max((condition.at for condition in report.conditions if condition.kind not in changed), default=0)
+    return report.tick_count > 0 and begun == 0 and all(first_tick(other) == 0 for other in report.pods[: pod.number])
+
+
+def end_of(pod: Pod) -> tuple[int, str] | None:
+    """The moment at which a pod ended, and as what; None where it did not."""
+    for event in pod.events[pod.anew :]:
+        if event.word == "evicted":
+            return event.at, "Evicted"
+        if event.word == "phase" and event.rest[0] in ("Succeeded", "Failed"):
+            later = [other for other in pod.events if other.word == "evicted" and other.at == event.at]
+            return event.at, "Evicted" if later else event.rest[0]
+    return None
+
+
+def spans_of(changes: list[tuple[int, str]], first: int, value: str) -> list[Span]:
+    """Spans of a value from its first moment on, by (moment, value) in order; of one moment the last counts."""
+    spans = [Span(value, first, None)]
+    for at, value in changes:
+        last = spans[-1]
+        if value == last.value:
+            continue
+        if last.since == at:
+            spans.pop()
+            if spans and spans[-1].value == value:
+                spans[-1].until = None
+                continue
+        else:
+            last.until = at
+        spans.append(Span(value, at, None))
+    return spans
+
+
+def without_gaps(spans: list[Span], gaps: list[tuple[int, int]]) -> list[Span]:
+    """The same spans without what lies in gaps, of which nothing is known."""
+    for since, until in gaps:
+        spans = [piece for span in spans for piece in beside_gap(span, since, until)]
+    return spans
+
+
+def beside_gap(span: Span, since: int, until: int) -> list[Span]:
+    """A span as what of it lies before a gap and behind it."""
+    begun = until if span.since is None else span.since
+    if begun >= until or (span.until is not None and span.until <= since):
+        return [span]
+    before = [Span(span.value, span.since, since, span.note)] if begun < since else []
+    is_longer = span.until is None or span.until > until
+    return before + ([Span(span.value, until, span.until, span.note)] if is_longer else [])
+
+
+def end_of_spans(pod: Pod) -> int | None:
+    """Until when a pod's last states lasted: it ended, or it was gone by then; None where neither is known."""
+    end = end_of(pod)
+    return end[0] if end else pod.left
+
+
+def ready_spans(pod: Pod) -> list[Span]:
+    """The spans of Ready, which is ContainersReady here."""
+    final, spans = pod.condition("Ready"), changes_of_ready(pod)
+    if (spans[-1].value, spans[-1].since) != (final.value, final.at):
+        spans = [Span(final.value, final.at, None)]
+    return without_gaps(spans, pod.own_gaps())
+
+
+def changes_of_ready(pod: Pod) -> list[Span]:
+    """The spans of Ready by the pod's events. Containers that are never ready are init containers, or the pod was never
+    ready; which of both the condition's own line says."""
+    first, end = first_tick(pod), end_of(pod)
+    ever = {event.container for event in pod.events if event.word == "ready"}
+    now, changes = set(), []
+    for index, event in enumerate(pod.events):
+        if event.word == "ready":
+            now.add(event.container)
+        elif event.word == "unready":
+            now.discard(event.container)
+        following = pod.events[index + 1 : index + 2]
+        if not following or following[0].at != event.at:
+            ended = end is not None and end[0] <= event.at
+            changes.append((event.at, "True" if ever and now == ever and not ended else "False"))
+    return spans_of(changes, first, "False")
+
+
+def condition_spans(pod: Pod, condition: Condition) -> list[Span]:
+    """The spans of a condition as far as the report tells them."""
+    if condition.kind in ("Ready", "ContainersReady"):
+        return ready_spans(pod)
+    last = Span(condition.value, condition.at, None)
+    if condition.kind == "Initialized" and condition.at > first_tick(pod):
+        before = Span("False" if condition.value == "True" else "True", None, condition.at)
+        return without_gaps([before, last], pod.own_gaps())
+    return without_gaps([last], pod.own_gaps())
+
+
+def state_spans(pod: Pod, name: str) -> list[Span]:
+    """The spans of a container's state. An instance that is only created makes no event, so it is seen as a state
+    only where it is the first one."""
+    changes = []
+    for event in pod.events:
+        if event.container == name and event.word == "started":
+            changes.append((event.at, f"Running {event.rest[0]}"))
+        elif event.container == name and event.word == "died":
+            changes.append((event.at, f"Terminated {event.rest[0]} {event.rest[1]}"))
+    spans = spans_of(changes, first_tick(pod), "Waiting")
+    spans[-1].until = end_of_spans(pod)
+    for span in spans:
+        span.value, _, span.note = span.value.partition(" ")
+    return without_gaps(spans, pod.own_gaps())
+
+
+def pressure_spans(report: Report, kind: str) -> list[Span]:
+    """The spans in which a condition of the node was True."""
+    changes = [(event.at, event.rest[1]) for event in report.events
+               if event.word == "pressure" and event.rest[0] == kind]
+    return without_gaps([span for span in spans_of(changes, 0, "False") if span.value == "True"], report.gaps)
+
+
+class Thresholds:
+    """The thresholds that are active after the tick of a moment, of moments that rise."""
+
+    def __init__(self, report: Report) -> None:
+        self.later = [event for event in reversed(report.events) if event.word == "threshold"]
+        self.active: dict[tuple[str, str], int] = {}
+
+    def at(self, moment: int) -> dict[tuple[str, str], int]:
+        """Each with the moment since which it is active, by signal and kind."""
+        while self.later and self.later[-1].at <= moment:
+            event = self.later.pop()
+            signal, kind, value = event.rest
+            if value == "active":
+                self.active[signal, kind] = event.at
+            else:
+                self.active.pop((signal, kind), None)
+        return self.active
+
+
+def moments(report: Report) -> list[int]:
+    """Every moment that a report names."""
+    named = [event.at for event in report.events] + [condition.at for condition in report.conditions]
+    return named + [condition.at for pod in report.pods for condition in pod.conditions]

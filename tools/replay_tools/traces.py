@@ -1,0 +1,497 @@
+"""Reads a trace's lines into records. It takes what the program takes, and does not look for every fault that the
+program refuses."""
+
+from __future__ import annotations
+
+import json
+from collections.abc import Callable, Iterator
+from dataclasses import dataclass, field
+from typing import Any, TYPE_CHECKING
+
+from replay_tools import amounts, first_bytes, packed
+from replay_tools.reasons import Reasons
+
+if TYPE_CHECKING:
+    from replay_tools import report as reports
+
+STATES = ("CONTAINER_CREATED", "CONTAINER_RUNNING", "CONTAINER_EXITED", "CONTAINER_UNKNOWN")
+PROBES = ("startup", "liveness", "readiness")
+# the order in which thresholds are served
+SIGNALS = ("memory.available", "nodefs.available", "imagefs.available", "nodefs.inodesFree", "imagefs.inodesFree",
+           "pid.available")
+BYTE_SIGNALS = SIGNALS[:3]
+DEFAULT_HARD = {"memory.available": "100Mi", "nodefs.available": "10%", "imagefs.available": "15%",
+                "nodefs.inodesFree": "5%", "imagefs.inodesFree": "5%"}
+# what the program takes
+LONGEST_TRACE = 64 << 20
+USAGES = ("memory", "volumes", "logs", "writable", "inodes", "pids")
+
+
+class TraceFault(Exception):
+    """The text is no trace, or not the one that was asked for; the message says where."""
+
+
+@dataclass
+class Probe:
+    initial_delay: int
+    period: int
+    timeout: int
+    success_threshold: int
+    failure_threshold: int
+
+
+@dataclass
+class Container:
+    name: str
+    role: str
+    """app, sidecar or init"""
+    probes: dict[str, Probe]
+    requests: dict[str, int]
+    """thousandths by resource; a limit without a request stands for it"""
+    memory_limit: int | None = None
+    """thousandths of a byte"""
+
+
+@dataclass
+class Pod:
+    number: int
+    key: str
+    policy: str
+    priority: int
+    grace: int
+    """terminationGracePeriodSeconds"""
+    containers: list[Container]
+    first: int
+    """the place of its first tick"""
+    gone: int | None = None
+    """the place of the first tick at which it is not present any more"""
+
+    def is_present(self, place: int) -> bool:
+        return self.first <= place and (self.gone is None or place < self.gone)
+
+    def request(self, resource: str) -> int:
+        """The effective request, in thousandths: what runs at one time, or the greatest init container."""
+        together = sum(container.requests.get(resource, 0) for container in self.containers if container.role != "init")
+        alone = (container.requests.get(resource, 0) for container in self.containers if container.role == "init")
+        return max(together, *alone, 0)
+
+
+@dataclass
+class Listing:
+    attempt: int
+    state: str
+    code: int | None
+
+
+@dataclass
+class Decision:
+    """What the kubelet did to a pod, as a recording of it says; the formats do not read that."""
+
+    kind: str
+    """evicted or refused"""
+    at: int
+    pod: str
+    number: int | None
+    """that of the pod; None where it has no line in the trace"""
+    reason: str
+    message: str
+
+
+class Lines:
+    """The bytes of a trace. Its ticks together take many times that as they are read, so the entries of one are read
+    where they are looked at, and those that were looked at last are kept."""
+
+    def __init__(self, text: bytes) -> None:
+        self.text = text
+        self.newest: tuple[int | None, dict[str, dict[str, Any]]] = None, {}
+
+    def __iter__(self) -> Iterator[tuple[int, int, int] | None]:
+        """Where each line begins and ends, with its number."""
+        begin, number = 0, 1
+        while begin <= len(self.text):
+            end = self.text.find(b"\n", begin)
+            end = len(self.text) if end < 0 else end
+            yield number, begin, end
+            begin, number = end + 1, number + 1
+
+    def read(self, begin: int, end: int) -> dict[str, Any]:
+        """The JSON value of a line; its entries are kept, where it is a tick's."""
+        found = json.loads(self.text[begin:end].decode())
+        if isinstance(found, dict) and found.get("kind") == "tick":
+            self.newest = begin, entries_of(found)
+        return found
+
+    def entries(self, begin: int, end: int) -> dict[str, dict[str, Any]]:
+        if self.newest[0] != begin:
+            self.read(begin, end)
+        return self.newest[1]
+
+
+@dataclass
+class Tick:
+    at: int
+    lines: Lines
+    begin: int
+    end: int
+    """where its line is"""
+    signals: dict[str, int]
+    """thousandths by signal"""
+    after_reclaim: dict[str, int]
+
+    @property
+    def entries(self) -> dict[str, dict[str, Any]]:
+        """By the pod's key, as they are written."""
+        return self.lines.entries(self.begin, self.end)
+
+    def may_have(self, name: bytes) -> bool:
+        """Whether a member of this name may be in its line, where it may be written with escapes."""
+        return any(self.lines.text.find(sign, self.begin, self.end) >= 0 for sign in (name, b"\\u"))
+
+
+@dataclass
+class Threshold:
+    signal: str
+    kind: str
+    text: str
+    limit: int
+    """thousandths"""
+    reclaim: int
+    """thousandths, above the limit"""
+    grace: int
+
+
+@dataclass
+class Trace:
+    node: str
+    settings: dict
+    thresholds: list[Threshold]
+    """in the order in which they are served"""
+    pods: list[Pod] = field(default_factory=list)
+    ticks: list[Tick] = field(default_factory=list)
+    places: dict[int, int] = field(default_factory=dict)
+    """the place of a tick by its moment"""
+    decisions: list[Decision] = field(default_factory=list)
+    """what the kubelet did, in the order of the ticks"""
+    reasons: Reasons = field(default_factory=Reasons)
+    """why instances ended and containers wait"""
+    gaps: list[tuple[int, int]] = field(default_factory=list)
+    """of one that is joined of several, the spans in which nothing was recorded"""
+
+    def entry(self, pod: Pod, place: int) -> dict[str, Any] | None:
+        """What a tick has of a pod, as it is written; None where the pod is not in it."""
+        return self.ticks[place].entries.get(pod.key) if pod.is_present(place) else None
+
+    def listing(self, pod: Pod, name: str, place: int) -> Listing | None:
+        """The instance of a container that a tick lists, or None."""
+        for found in list_at(self.entry(pod, place) or {}, "containers"):
+            if found.get("name") == name:
+                return listing_of(found)
+        return None
+
+    def memory_limit(self, number: int, name: str) -> str | None:
+        """The memory limit of a container of the pod of a number, as a text; None where it has none."""
+        found = next((one.memory_limit for one in self.pods[number].containers if one.name == name), None)
+        return amounts.amount_text(found, True) if found else None
+
+    def pause(self) -> int:
+        """evictionPauseSeconds, which version 3 alone has."""
+        return number_at(self.settings, "evictionPauseSeconds", 0) if self.settings.get("version") == 3 else 0
+
+    def pauses_until_gone(self) -> bool:
+        """Whether the pause is over once the evicted pod has ended or gone."""
+        return self.pause() > 0 and self.settings.get("evictionPauseUntilGone") is True
+
+    def pause_end(self, eviction: reports.Eviction) -> int:
+        """The moment from which on the rules may evict again after an eviction."""
+        end = eviction.at + self.pause()
+        for place in range(self.places[eviction.at] + 1, len(self.ticks)) if self.pauses_until_gone() else ():
+            if self.ticks[place].at >= end:
+                break
+            if self.is_over(self.pods[eviction.number], place):
+                return self.ticks[place].at
+        return end
+
+    def is_over(self, pod: Pod, place: int) -> bool:
+        """Whether a pod is gone at a tick, or all its containers are listed as exited there or not at all."""
+        listed = (self.listing(pod, container.name, place) for container in pod.containers)
+        return not pod.is_present(place) or all(one is None or one.state == STATES[2] for one in listed)
+
+    def heeds_unsampled(self) -> bool:
+        """Whether an entry may say that its pod has no sample."""
+        return self.settings.get("version") == 3
+
+    def tells(self) -> bool:
+        """Whether the trace says what the kubelet did: where it then says nothing, the kubelet did nothing."""
+        return self.settings.get("recordsKubelet") is True or bool(self.decisions)
+
+    def follows(self) -> dict[str, Any] | None:
+        """What its node line says of the trace before it: its name, `until`, up to when that says all, and `at`, up to
+        when this one shows what was so before; None where it says nothing of this form."""
+        said = self.settings.get("follows")
+        return said if is_follows(said) else None
+
+    def dedicated(self) -> bool:
+        return value_at(self.settings, "dedicatedImagefs", False)
+
+
+def is_follows(said: Any) -> bool:
+    return (isinstance(said, dict) and isinstance(said.get("trace"), str)
+            and all(isinstance(said.get(name), int) for name in ("until", "at")))
+
+
+def present_at_each(trace: Trace) -> Iterator[dict[str, Pod]]:
+    """The pods that are present, by key, at each tick in turn; the same dict each time."""
+    present: dict[str, Pod] = {}
+    arriving = sorted(trace.pods, key=lambda pod: pod.first, reverse=True)
+    leaving = sorted((pod for pod in trace.pods if pod.gone is not None), key=lambda pod: pod.gone, reverse=True)
+    for place in range(len(trace.ticks)):
+        while leaving and leaving[-1].gone <= place:
+            present.pop(leaving.pop().key, None)
+        while arriving and arriving[-1].first <= place:
+            pod = arriving.pop()
+            if pod.is_present(place):
+                present[pod.key] = pod
+        yield present
+
+
+def value_at(found: dict[str, Any], name: str, otherwise: Any = None) -> Any:
+    """A field's value, where null counts as absent."""
+    value = found.get(name)
+    return otherwise if value is None else value
+
+
+def list_at(found: dict[str, Any], name: str) -> list[dict[str, Any]]:
+    value = found.get(name)
+    if value is None:
+        return []
+    if not isinstance(value, list):
+        raise ValueError(name)
+    for item in value:
+        if not isinstance(item, dict):
+            raise ValueError(name)
+    return value
+
+
+def dict_at(found: dict[str, Any], name: str) -> dict[str, Any]:
+    value = value_at(found, name, {})
+    if not isinstance(value, dict):
+        raise ValueError(name)
+    return value
+
+
+def number_at(found: dict[str, Any], name: str, otherwise: int) -> int:
+    value = value_at(found, name, otherwise)
+    if not isinstance(value, int) or isinstance(value, bool):
+        raise ValueError(name)
+    return value
+
+
+def text_at(found: dict[str, Any], name: str, otherwise: str | None = None) -> str:
+    value = value_at(found, name, otherwise)
+    if not isinstance(value, str):
+        raise ValueError(name)
+    return value
+
+
+def listing_of(found: dict[str, Any]) -> Listing:
+    state = value_at(found, "state")
+    if isinstance(state, int) and 0 <= state < len(STATES):
+        state = STATES[state]
+    if state not in STATES:
+        raise ValueError("state")
+    code = number_at(found, "exitCode", 0) if state == "CONTAINER_EXITED" else None
+    return Listing(number_at(found, "attempt", 0), state, code)
+
+
+def read_trace(path: str, watch: Callable[..., Any] | None = None) -> Trace:
+    """The trace of a file, which may be packed. Raises TraceFault."""
+    return trace_of(text_of(path), path, watch)
+
+
+def text_of(path: str) -> bytes:
+    """The bytes of a trace of a file, unpacked. Raises TraceFault."""
+    try:
+        text = packed.read(path, LONGEST_TRACE)
+    except OSError as fault:
+        raise TraceFault(f"{path} can't be read: {fault.strerror}") from None
+    except packed.Damaged as fault:
+        raise TraceFault(f"{path}: {fault}") from None
+    if len(text) > LONGEST_TRACE:
+        raise TraceFault(f"{path} is no trace: it has more than 64 MiB")
+    return text
+
+
+def trace_of(text: bytes, path: str, watch: Callable[..., Any] | None = None) -> Trace:
+    """The trace of a text, which a path names where it is none. `watch` is called with the trace and the pods that are
+    present behind each tick, whose entries need not be read once more then. Raises TraceFault."""
+    other = first_bytes.instead_of_trace(text, path)
+    if other:
+        raise TraceFault(other)
+    trace: Trace | None = None
+    present: dict[str, Pod] = {}
+    lines = Lines(text)
+    for number, begin, end in lines:
+        if not text[begin:end].strip(b" \t\r"):
+            continue
+        try:
+            before = 0 if trace is None else len(trace.ticks)
+            trace = trace_with(trace, present, lines, begin, end)
+            if watch is not None and len(trace.ticks) > before:
+                watch(trace, present)
+        except (ValueError, TypeError, KeyError, AttributeError, RecursionError):
+            raise TraceFault(f"{path}: line {number} is no line of a trace there "
+                             "(tools/explain says what it lacks)") from None
+    if trace is None:
+        raise TraceFault(f"{path} is no trace: it has no line")
+    return trace
+
+
+def trace_with(trace: Trace | None, present: dict[str, Pod], lines: Lines, begin: int, end: int) -> Trace:
+    """The trace with one more line; present has its pods by key."""
+    found = lines.read(begin, end)
+    kind = found["kind"]
+    if (trace is None) != (kind == "node"):
+        raise ValueError("kind")
+    if kind == "node":
+        return Trace(text_at(found, "name"), found, thresholds_of(found))
+    if kind == "pod":
+        pod = pod_of(len(trace.pods), found["pod"], len(trace.ticks))
+        if pod.key in present:
+            raise ValueError("pod")
+        present[pod.key] = pod
+        trace.pods.append(pod)
+    elif kind == "gone":
+        present.pop(found["pod"]).gone = len(trace.ticks)
+    elif kind == "tick":
+        add_tick(trace, present, tick_of(found, lines, begin, end))
+        trace.decisions += decisions_of(trace, found)
+        trace.reasons.take(lines.text[begin:end], found["at"], trace.ticks[-1].entries, present)
+    else:
+        raise ValueError("kind")
+    return trace
+
+
+def add_tick(trace: Trace, present: dict[str, Pod], tick: Tick) -> None:
+    if (trace.ticks and tick.at <= trace.ticks[-1].at) or not tick.entries.keys() <= present.keys():
+        raise ValueError("tick")
+    trace.places[tick.at] = len(trace.ticks)
+    trace.ticks.append(tick)
+
+
+def tick_of(found: dict[str, Any], lines: Lines, begin: int, end: int) -> Tick:
+    return Tick(found["at"] + 0, lines, begin, end, samples(found, "signals"), samples(found, "afterReclaim"))
+
+
+def entries_of(found: dict[str, Any]) -> dict[str, dict[str, Any]]:
+    entries = {entry.get("pod"): entry for entry in list_at(found, "pods")}
+    if not all(isinstance(key, str) for key in entries):
+        raise ValueError("pod")
+    return entries
+
+
+def decisions_of(trace: Trace, found: dict[str, Any]) -> Iterator[Decision]:
+    """What a tick says that the kubelet did, to the last pod of a key unless it is left out. Since the formats do not
+    read it, what has another shape says nothing."""
+    told = found.get("kubelet")
+    for kind in ("evicted", "refused"):
+        each_of = told.get(kind) if isinstance(told, dict) else None
+        for each in each_of if isinstance(each_of, list) else []:
+            if isinstance(each, dict) and isinstance(each.get("pod"), str):
+                at, key = each.get("at"), each["pod"]
+                pods = [] if each.get("leftOut") is True else [pod for pod in trace.pods if pod.key == key]
+                yield Decision(kind, at if isinstance(at, int) else found["at"], key, pods[-1].number if pods else None,
+                               str(each.get("reason") or ""), str(each.get("message") or ""))
+
+
+def samples(found: dict[str, Any], name: str) -> dict[str, int]:
+    return {signal: amounts.quantity(value) for signal, value in dict_at(found, name).items() if value is not None}
+
+
+def pod_of(number: int, manifest: dict[str, Any], first: int) -> Pod:
+    metadata, spec = manifest["metadata"], manifest["spec"]
+    key = f"{text_at(metadata, 'namespace', 'default')}/{text_at(metadata, 'name')}"
+    containers = [container_of(found, "sidecar" if value_at(found, "restartPolicy") == "Always" else "init")
+                  for found in list_at(spec, "initContainers")]
+    containers += [container_of(found, "app") for found in list_at(spec, "containers")]
+    return Pod(number, key, text_at(spec, "restartPolicy", "Always"), number_at(spec, "priority", 0),
+               number_at(spec, "terminationGracePeriodSeconds", 30), containers, first)
+
+
+def container_of(found: dict[str, Any], role: str) -> Container:
+    probes = {kind: probe_of(found[f"{kind}Probe"]) for kind in PROBES if value_at(found, f"{kind}Probe") is not None}
+    resources = dict_at(found, "resources")
+    requests = {resource: amounts.quantity(value) for named in ("limits", "requests")
+                for resource, value in dict_at(resources, named).items()
+                if resource in ("memory", "ephemeral-storage") and value is not None and amounts.quantity(value)}
+    memory_limit = value_at(dict_at(resources, "limits"), "memory")
+    return Container(text_at(found, "name"), role, probes, requests,
+                     None if memory_limit is None else amounts.quantity(memory_limit))
+
+
+def probe_of(found: dict[str, Any]) -> Probe:
+    return Probe(number_at(found, "initialDelaySeconds", 0), number_at(found, "periodSeconds", 10),
+                 number_at(found, "timeoutSeconds", 1), number_at(found, "successThreshold", 1),
+                 number_at(found, "failureThreshold", 3))
+
+
+def thresholds_of(settings: dict[str, Any]) -> list[Threshold]:
+    """The thresholds that a node line sets, in the order in which they are served."""
+    capacity = {signal: amounts.quantity(value) for signal, value in dict_at(settings, "capacity").items()
+                if value is not None}
+    hard, soft = value_at(settings, "evictionHard", DEFAULT_HARD), dict_at(settings, "evictionSoft")
+    graces, reclaims = dict_at(settings, "evictionSoftGracePeriod"), dict_at(settings, "evictionMinimumReclaim")
+    found = []
+    for signal in SIGNALS:
+        reclaim = amounts.limit(value_at(reclaims, signal, 0), capacity.get(signal)) or 0
+        for kind, limits in (("hard", hard), ("soft", soft)):
+            text = value_at(limits, signal)
+            amount = None if text is None or is_off(text) else amounts.limit(text, capacity.get(signal))
+            if amount is not None:
+                grace = amounts.duration(graces[signal]) if kind == "soft" else 0
+                found.append(Threshold(signal, kind, str(text), amount, reclaim, grace))
+    return found
+
+
+def is_off(text: int | str) -> bool:
+    return isinstance(text, str) and text.endswith("%") and amounts.hundredths(text) in (0, 10000)
+
+
+def check_belongs(trace: Trace, report: reports.Report, path: str) -> None:
+    """Raises TraceFault unless the report can be one of the trace."""
+    for what, here, there in (
+        ("node", trace.node, report.node),
+        ("number of pods", len(trace.pods), report.pod_count),
+        ("number of ticks", len(trace.ticks), report.tick_count),
+    ):
+        if here != there:
+            raise TraceFault(f"{path} does not belong to the report: its {what} is {here}, the report's {there}")
+    check_pods(trace, report, path)
+    check_events(trace, report, path)
+
+
+def check_pods(trace: Trace, report: reports.Report, path: str) -> None:
+    """Raises TraceFault unless each pod is the report's, with its containers."""
+    for ours, theirs in zip(trace.pods, report.pods):
+        named = [container.name for container in theirs.containers]
+        if ours.key != theirs.key or [container.name for container in ours.containers] != named:
+            raise TraceFault(f"{path} does not belong to the report: pod {ours.number} is {ours.key} with other "
+                             f"containers than the report's {theirs.key}" if ours.key == theirs.key else
+                             f"{path} does not belong to the report: pod {ours.number} is {ours.key}, the report's "
+                             f"{theirs.key}")
+
+
+def check_events(trace: Trace, report: reports.Report, path: str) -> None:
+    """Raises TraceFault unless each event is at a tick, and each start is of what that lists."""
+    for event in report.events:
+        if event.at not in trace.places:
+            raise TraceFault(f"{path} does not belong to the report: it has no tick at {event.at}")
+        if event.word == "started" and not is_listed(trace, event):
+            raise TraceFault(f"{path} does not belong to the report: at {event.at} it does not list attempt "
+                             f"{event.rest[0]} of {event.container} of {event.pod} as running")
+
+
+def is_listed(trace: Trace, event: reports.Event) -> bool:
+    if event.number is None:
+        return False
+    found = trace.listing(trace.pods[event.number], event.container, trace.places[event.at])
+    return found is not None and (found.attempt, found.state) == (int(event.rest[0]), "CONTAINER_RUNNING")

@@ -1,0 +1,243 @@
+"""Tells what a trace holds around the events of a pod, as lines of text."""
+
+from __future__ import annotations
+
+from collections.abc import Callable
+from typing import Any, TYPE_CHECKING
+
+from replay_tools import entry, events, kubelet as kubelets, reasons, traces, why
+from replay_tools.amounts import amount_text
+from replay_tools.telling import beside_words, event_words, table
+
+if TYPE_CHECKING:
+    from replay_tools import report as reports
+
+MOST_ROWS = 12
+MOST_MOMENTS = 6
+ORDERS = {True: "usage above the request first, then lower priority, then more usage above it, then lower number",
+          False: "lower priority first, then greater usage, then lower number"}
+
+
+def always(_: int) -> bool:
+    return True
+
+
+def whole_text(trace: traces.Trace, report: reports.Report, pod: reports.Pod, show: Callable[[int], str],
+               kubelet: kubelets.Kubelet | None = None, is_near: Callable[..., Any] = always) -> str:
+    """The lines for each event of a pod of the report, and for what the kubelet did to it, of moments that are near;
+    show writes a moment."""
+    parts = [(around.event.at, [heading(around.event, show, kubelet, trace) + beside_words(pod, around.event, show),
+                                *beside(pod, around, show, kubelet),
+                                *told(trace, pod, around, show)]) for around in why.around_events(trace, report, pod)]
+    parts += kubelet_parts(trace, report, pod, show, kubelet) + wait_parts(trace, pod, show)
+    lines, kept = [], [part for part in parts if is_near(part[0])]
+    for _, (head, *rest) in sorted(kept, key=lambda part: part[0]):
+        lines += [head, *(f"  {line}".rstrip() for line in rest), ""]
+    if len(kept) < len(parts):
+        count = len(parts) - len(kept)
+        lines += [f"{entry.counted(count, 'event')} further from the moment that was asked for "
+                  f"{'is' if count == 1 else 'are'} left out", ""]
+    lines = lines or ["no event", ""]
+    gone = trace.pods[pod.number].gone
+    if gone is not None:
+        last = show(trace.ticks[gone].at) if gone < len(trace.ticks) else "the end of the trace"
+        lines += [f"The trace lets the pod go before {last}.", ""]
+    return "\n".join(lines[:-1]) + "\n"
+
+
+def beside(pod: reports.Pod, around: why.Around, show: Callable[[int], str],
+           kubelet: kubelets.Kubelet | None) -> list[str]:
+    """What the kubelet did, below an eviction by the rules."""
+    return kubelets.lines_of(kubelet, pod.number, show) if around.event.word == "evicted" else []
+
+
+def kubelet_parts(trace: traces.Trace, report: reports.Report, pod: reports.Pod, show: Callable[[int], str],
+                  kubelet: kubelets.Kubelet | None) -> list[tuple[int, list[str]]]:
+    """What the kubelet did to a pod, beside what the rules do, by moment."""
+    fact = kubelet and kubelet.fact(pod.number)
+    if not fact:
+        return []
+    head = f"{show(fact.decision.at)}  {kubelets.event_words(fact.decision)}"
+    lines = [kubelets.rules_words(fact, show)]
+    is_over = fact.eviction is not None and fact.eviction.at <= fact.decision.at + kubelets.NEAR
+    around = None if is_over else kubelets.around(trace, report, fact.decision)
+    if around is not None:
+        lines += evicted_lines(around, show, True)
+    return [(fact.decision.at, [head, *lines])]
+
+
+def wait_parts(trace: traces.Trace, pod: reports.Pod, show: Callable[[int], str]) -> list[tuple[int, list[str]]]:
+    """Why the containers of a pod waited, by moment."""
+    return [(wait.since, [f"{show(wait.since)}  {name} waits: {wait.words()}",
+                          f"until {'the end of the trace' if wait.until is None else show(wait.until)}"])
+            for name, wait in trace.reasons.waits_of(pod)]
+
+
+def heading(event: reports.Event, show: Callable[[int], str], kubelet: kubelets.Kubelet | None = None,
+            trace: traces.Trace | None = None) -> str:
+    attempt, what = event_words(event, kubelet is not None, trace)
+    said = " ".join(filter(None, [event.container, what]))
+    return f"{show(event.at)}  {said}{events.attempt_words(attempt)}"
+
+
+def told(trace: traces.Trace, pod: reports.Pod, around: why.Around, show: Callable[[int], str]) -> list[str]:
+    """The lines below the heading of an event."""
+    word = around.event.word
+    if word in ("started", "died"):
+        because = reasons.because_lines(around.event, trace) if word == "died" else []
+        return because + listed_lines(around.listed[0][1], show)
+    if word == "phase":
+        return table("the tick lists:", ["container", "attempt", "state", "code"],
+                     [[name, *listing_cells(listed.now)] for name, listed in around.listed])[:-1]
+    if word in ("backoff", "restart"):
+        return exit_lines(trace, pod, around, show)
+    if word == "evicted":
+        return evicted_lines(around.evicted, show)
+    if around.died:
+        return ["it died at this tick"]
+    if not around.results:
+        return ["it has no startup and no readiness probe"]
+    return [line for results in around.results for line in result_lines(results, show)]
+
+
+def listing_cells(listing: traces.Listing | None) -> list[str]:
+    if listing is None:
+        return ["-", "not listed", "-"]
+    return [str(listing.attempt), listing.state, "-" if listing.code is None else str(listing.code)]
+
+
+def listing_words(listing: traces.Listing | None) -> str:
+    if listing is None:
+        return "did not list it"
+    code = "" if listing.code is None else f" with code {listing.code}"
+    return f"listed attempt {listing.attempt} as {listing.state}{code}"
+
+
+def listed_lines(listed: why.Listed, show: Callable[[int], str]) -> list[str]:
+    lines = [f"this tick {listing_words(listed.now)}"]
+    if listed.before_at is None:
+        return [*lines, "no tick before it listed anything else"]
+    return [*lines, f"until {show(listed.before_at)} the ticks {listing_words(listed.before)}"]
+
+
+def result_lines(results: why.Results, show: Callable[[int], str]) -> list[str]:
+    """A probe with its thresholds, and the results that count towards them."""
+    probe = results.probe
+    since = "the first tick" if results.since is None else show(results.since)
+    head = f"{results.kind} results since the instance started at {since}:"
+    kept = results.runs[-MOST_ROWS:]
+    rows = [[result, str(len(moments)), moments_text(moments, show)] for result, moments in kept]
+    lines = [f"{results.kind}Probe: failureThreshold {probe.failure_threshold}, "
+             f"successThreshold {probe.success_threshold}, initialDelaySeconds {probe.initial_delay}, "
+             f"periodSeconds {probe.period}"]
+    lines += table(head, ["result", "in a row", "moments"], rows)[:-1]
+    return lines + left_out(len(results.runs) - len(kept), "earlier runs of results")
+
+
+def moments_text(moments: list[int], show: Callable[[int], str]) -> str:
+    if len(moments) <= MOST_MOMENTS:
+        return ", ".join(map(show, moments))
+    return ", ".join([*map(show, moments[:2]), "..", show(moments[-1])])
+
+
+def left_out(count: int, what: str) -> list[str]:
+    return [f"{count} {what} are left out"] if count > 0 else []
+
+
+def exit_lines(trace: traces.Trace, pod: reports.Pod, around: why.Around, show: Callable[[int], str]) -> list[str]:
+    kept = around.exits[-MOST_ROWS:]
+    policy, most = trace.pods[pod.number].policy, traces.value_at(trace.settings, "maxRestartDelay", 300)
+    name = around.event.container
+    rows = [[str(found.number), str(found.attempt), "-" if found.started is None else show(found.started),
+             show(found.died), f"{found.run} s", str(found.code), reason_of(trace, pod, name, found)] for found in kept]
+    # a trace that says no reason has no such column
+    kept_columns = 7 if any(row[6] != "-" for row in rows) else 6
+    lines = table(f"exits that count (policy {policy}, greatest delay {most} s):",
+                  ["number", "attempt", "started", "died", "run", "code", "reason"][:kept_columns],
+                  [row[:kept_columns] for row in rows])[:-1]
+    return lines + left_out(len(around.exits) - len(kept), "earlier exits")
+
+
+def reason_of(trace: traces.Trace, pod: reports.Pod, name: str | None, found: why.Exit) -> str:
+    end = trace.reasons.ends.get((pod.number, name, found.attempt))
+    return end.reason if end is not None and end.reason else "-"
+
+
+def evicted_lines(evicted: why.Evicted, show: Callable[[int], str], is_kubelets: bool = False) -> list[str]:
+    """The threshold of an eviction, its samples, and the pods in the order in which the rules rank them."""
+    of_bytes = evicted.signal in traces.BYTE_SIGNALS
+    lines = threshold_lines(evicted, of_bytes, show) + pause_lines(evicted, show, is_kubelets)
+    lines += sample_lines(evicted, of_bytes, show, is_kubelets)
+    with_requests = any(candidate.request is not None for candidate in evicted.candidates)
+    rows = [candidate_row(place, candidate, of_bytes, show) for place, candidate in enumerate(evicted.candidates, 1)]
+    lines += table("pods that were present and had not ended:",
+                   ["place", "pod", "usage", "request", "above", "priority", "class", ""], rows)[:-1]
+    lines += [f"their order: {order_words(evicted, with_requests)}"]
+    if not evicted.is_victim_first:
+        lines += ["the evicted pod does not come first in it"]
+    return lines
+
+
+def threshold_lines(evicted: why.Evicted, of_bytes: bool, show: Callable[[int], str]) -> list[str]:
+    since = "" if evicted.since is None or evicted.threshold is None else f"; active since {show(evicted.since)}"
+    return [threshold_words(evicted, of_bytes) + since]
+
+
+def pause_lines(evicted: why.Evicted, show: Callable[[int], str], is_kubelets: bool) -> list[str]:
+    if not evicted.pause:
+        return []
+    whose = "the rules' eviction" if is_kubelets else "the eviction"
+    before = "no eviction before" if evicted.before is None else f"{whose} before was at {show(evicted.before)}"
+    return [f"{pause_words(evicted)}; {before}"]
+
+
+def pause_words(evicted: why.Evicted) -> str:
+    return f"evictionPauseSeconds {evicted.pause}{', or until the evicted pod has ended' if evicted.until_gone else ''}"
+
+
+def order_words(evicted: why.Evicted, with_requests: bool) -> str:
+    """How the rules rank the pods; of processes the priority goes before that there is no sample."""
+    has_one = any(candidate.unsampled_at is not None for candidate in evicted.candidates)
+    first = "without a sample first, then " if has_one and evicted.signal != "pid.available" else ""
+    return first + ORDERS[with_requests]
+
+
+def threshold_words(evicted: why.Evicted, of_bytes: bool) -> str:
+    """The threshold as the node line sets it, with what that comes to in bytes or numbers."""
+    threshold = evicted.threshold
+    if threshold is None:
+        return f"the trace sets no such threshold for {evicted.signal}"
+    amount = amount_text(threshold.limit, of_bytes)
+    written = "" if threshold.text == amount else f" ({threshold.text})"
+    cleared = amount_text(threshold.limit + threshold.reclaim, of_bytes)
+    return (f"{threshold.signal} {threshold.kind}: below {amount}{written}, cleared at {cleared}, "
+            f"grace {threshold.grace} s")
+
+
+def sample_lines(evicted: why.Evicted, of_bytes: bool, show: Callable[[int], str], is_kubelets: bool) -> list[str]:
+    """The first sample and the last ones."""
+    samples = evicted.samples
+    kept = samples if len(samples) <= MOST_ROWS else [samples[0], *samples[1 - MOST_ROWS :]]
+    with_reclaim = any(after is not None for _, _, after in kept)
+    rows = [[show(at), amount_text(value, of_bytes), *([amount_text(after, of_bytes)] if with_reclaim else [])]
+            for at, value, after in kept]
+    heads = ["moment", evicted.signal, *(["after reclaim"] if with_reclaim else [])]
+    title = f"samples of the {kubelets.SAMPLE_SECONDS} s before:" if is_kubelets else "samples since it became active:"
+    lines = table(title, heads, rows)[:-1]
+    least = min((value for _, value, _ in samples if value is not None), default=None)
+    if len(samples) > len(kept):
+        lines.append(f"{len(samples) - len(kept)} samples behind the first are left out; the least of all is "
+                     f"{amount_text(least, of_bytes)}")
+    return lines
+
+
+def candidate_row(place: int, candidate: why.Candidate, of_bytes: bool,
+                  show: Callable[[int], str] | None = None) -> list[str]:
+    """A pod's row; `show` makes the moment from which on it has no sample a text."""
+    request = "-" if candidate.request is None else amount_text(candidate.request, of_bytes)
+    above = "-" if candidate.request is None else amount_text(candidate.above, of_bytes)
+    usage = "no sample" if candidate.usage is None else amount_text(candidate.usage, of_bytes)
+    if candidate.unsampled_at is not None:
+        usage = "none any more" if show is None else f"none since {show(candidate.unsampled_at)}"
+    return [str(place), candidate.pod.key, usage, request, above,
+            str(candidate.pod.priority), candidate.qos, "evicted" if candidate.victim else ""]
