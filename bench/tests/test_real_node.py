@@ -7,7 +7,7 @@ import tempfile
 
 from common import TOP, Case, read, run, write
 
-sys.path[:0] = [os.path.join(TOP, "bench/lib/real_node"), os.path.join(TOP, "tools/lib")]
+sys.path[:0] = [os.path.join(TOP, "bench/lib/real_node"), os.path.join(TOP, "tools")]
 import chained  # noqa: E402
 import counted  # noqa: E402
 import deployed  # noqa: E402

@@ -7,14 +7,14 @@ import unittest
 
 from common import TOP, Case, run
 
-sys.path.insert(0, os.path.join(TOP, "tools/lib"))
+sys.path.insert(0, os.path.join(TOP, "tools"))
 import quiet_node
-from record.node import node_line_of
-from record.pods import pods_of
-from record.probes import counters_of
-from record.runtime import inspected_of, instances_of
-from record.summary import summary_of
-from record.trace import extended
+from replay_tools.record.node import node_line_of
+from replay_tools.record.pods import pods_of
+from replay_tools.record.probes import counters_of
+from replay_tools.record.runtime import inspected_of, instances_of
+from replay_tools.record.summary import summary_of
+from replay_tools.record.lines import extended
 
 BEGUN = 1767225600
 LINES = r"""30 pods, 3 s, no words

@@ -7,9 +7,8 @@ import sys
 HERE = os.path.dirname(os.path.realpath(__file__))
 TOOLS = os.path.dirname(HERE)
 TOP = os.path.dirname(TOOLS)
-# the tools' package, stand-ins, and the modules of bench/, which find the package by lib/
-sys.path[1:1] = [TOOLS, f"{TOOLS}/lib"]
-sys.path += [f"{HERE}/commands", f"{TOP}/bench/lib", f"{TOP}/bench/lib/real_node"]
+# the tools' package, stand-ins, and the modules of bench/
+sys.path += [TOOLS, f"{HERE}/commands", f"{TOP}/bench/lib", f"{TOP}/bench/lib/real_node"]
 REPLAY = os.environ.get("KUBELET_REPLAY", f"{TOP}/kubelet_replay")
 # a recorder that goes on by mistake ends all the same
 LONGEST = 60

@@ -7,8 +7,8 @@ import time
 
 HERE = os.path.dirname(os.path.realpath(__file__))
 sys.dont_write_bytecode = True
-sys.path.insert(0, os.path.join(HERE, "..", "..", "..", "tools", "lib"))
-from record import program, sources  # noqa: E402
+sys.path.insert(0, os.path.join(HERE, "..", "..", "..", "tools"))
+from replay_tools.record import program, sources  # noqa: E402
 
 
 class KeptClock:

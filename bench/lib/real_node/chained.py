@@ -10,8 +10,8 @@ from dataclasses import dataclass
 
 from beside import NEAR, at
 from counted import KINDS, false_codes, read_run, row_of, said_facts, table_of
-from joined import asked, join
 from kit import read
+from replay_tools.joined import asked, join
 
 # each of these has to be in a trace within two seconds, once
 WANTED = ("starts", "exits with their codes", "kills by a liveness probe", "ready", "unready")

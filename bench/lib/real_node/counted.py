@@ -7,9 +7,8 @@ import re
 import time
 from dataclasses import dataclass
 
-import report as reports
-import trace as traces
 from beside import NEAR, Fact, at, instance_facts, kill_facts, ready_facts, statuses_of
+from replay_tools import report as reports, traces
 
 # what is further apart is another thing, in seconds
 FAR = 30

@@ -1,3 +1,0 @@
-import names
-
-names.stand_for("trace", "traces")
