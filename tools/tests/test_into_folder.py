@@ -360,7 +360,8 @@ def test_ends():
                 ["trace.gz" if number == signal.SIGTERM else "trace.part"]))
         if number == signal.SIGKILL:
             process = recorder.start(*words)
-            wait_until(lambda: os.path.exists(f"{folder}/{made[0].replace('.part', '.gz')}"))
+            ended = f"{folder}/{made[0].replace('.part', '.gz')}"
+            wait_until(lambda: os.path.exists(ended) and glob.glob(f"{folder}/*.part"))
             process.send_signal(signal.SIGTERM)
             said = process.communicate(timeout=LONGEST)[1].decode()
             expect(f"{name}: the next one ends it", f"{made[0]} was left by a recorder that did not end" in said, True)
