@@ -1,6 +1,7 @@
 //! Replays over memory.
 
 ghost use Rattle.std.specs.Prelude.{◌<◌, ◌≤◌};
+ghost use Rattle.worker_count.specs.rule.Limit.{most_workers};
 
 use crate::plays::{LAST_FIRST, MISTAKEN, STOLEN};
 use anyhow::{Context, Result, bail};
@@ -46,7 +47,7 @@ fn replayed(
     workers: usize,
 ) -> Result<Answer>
     requires some { 0 < workers }
-    requires most { workers ≤ 64 }
+    requires most { workers ≤ most_workers }
 {
     let mut room = vec![in rt.alloc(); 0u8; ROOM]?;
     let mut input = MemSource::new(trace, STEP);
@@ -64,7 +65,7 @@ fn played(
     steps: &[Step],
 ) -> Result<Answer>
     requires some { 0 < workers }
-    requires most { workers ≤ 64 }
+    requires most { workers ≤ most_workers }
 {
     let mut room = vec![in alloc; 0u8; ROOM]?;
     let mut input = MemSource::new(trace, STEP);

@@ -9,6 +9,7 @@ use Rattle.json.specs.Token.{Token}
 use Rattle.json.specs.Tree.{json_tokens, depth}
 use Rattle.json.proofs.Printed.Trees.{value-json_tokens}
 use Rattle.json.proofs.Unique.Spelling.{tokens-document}
+use Rattle.serde_json.specs.Read.{max_depth}
 use Rattle.json_fields.specs.state.Borrowed.{data_of}
 use Rattle.json_fields.specs.state.Tape.{data_at, fits}
 use Rattle.json_fields.proofs.Fitting.{fits-json}
@@ -28,14 +29,14 @@ ended j ts room le is =
     ap (λ us. option_and_then (λ p. if_last p.0 p.1) (value room us)) (is ∙ sym (append-nil (json_tokens j)))
     ∙ ap (option_and_then (λ p. if_last p.0 p.1)) (value-json_tokens j room [] le)
 
-pub tape_said : (line : List ℕ) → IsUtf8 line → IsSome (document line) → fits 127 (tokens line) ≡ true
+pub tape_said : (line : List ℕ) → IsUtf8 line → IsSome (document line) → fits max_depth (tokens line) ≡ true
     → is_tick (data_at (tokens line)) ≡ true
     → said_in line ≡ Tick (moment_at (data_at (tokens line))) (tick_line_of (data_at (tokens line)))
 tape_said line utf8 some fit tick =
     let found = there_is (document line) some in
     let spelled : tokens line ≡ json_tokens found.0 = tokens-document line found.0 found.1 in
     let whole = spelled ∙ sym (append-nil (json_tokens found.0)) in
-    let f = fits-json found.0 127 [] (ap (fits 127) (sym whole) ∙ fit) in
+    let f = fits-json found.0 max_depth [] (ap (fits max_depth) (sym whole) ∙ fit) in
     let data_is : data_at (tokens line) ≡ data_of found.0 = ap data_at whole ∙ data_of_tokens found.0 [] in
     rw data_is
-    (plain_said line found.0 utf8 (ended found.0 (tokens line) 127 f.1 spelled) f.0 (ap is_tick (sym data_is) ∙ tick))
+    (plain_said line found.0 utf8 (ended found.0 (tokens line) max_depth f.1 spelled) f.0 (ap is_tick (sym data_is) ∙ tick))

@@ -19,7 +19,7 @@ use std::alloc::{AllocError, Global};
 pub const LONGEST_TAPE: usize = 262_144;
 
 /// The tape of a text, if it is a tick line, each of its numbers is one that digits alone write, below 2^64, and
-/// nothing in it nests deeper than 127.
+/// nothing in it nests deeper than `json_fields::MAX_DEPTH`.
 #[tactic(auto, using(crate::proofs::OnTape::tape_said, crate::proofs::Blanks::some_not_blank))]
 fn tape_in<'a>(
     alloc: Global,
