@@ -1,4 +1,5 @@
-"""The page docs/planted.md, of bench/planted.tsv: what `rt plant` was run over, and what of it was proved all the same."""
+"""The page docs/planted.md, of bench/planted.tsv: what `rt plant` was run over, and what of it was proved all the
+same."""
 import csv
 import io
 
@@ -7,6 +8,7 @@ from paragraphs import wrapped
 COLUMNS = ("crate", "what", "refused", "proved", "not judged", "not writable", "since", "date",
            "why what is proved is right")
 COUNTS = COLUMNS[2:6]
+LONGEST_LINE = 120
 HEAD = ("""
 `bench/planted` writes this page from `bench/planted.tsv`. `rt plant`, run by hand, puts mistakes into the bodies of a
 crate's functions, one after the other, and checks each: it is refused, or proved, or could not be judged; some it could
@@ -32,7 +34,8 @@ def rows_in(text):
             if row[column] and not row[column].isdigit():
                 raise ValueError(f"bench/planted.tsv:{number}: {row[column]} is no number of {column}")
         if int(row["proved"] or 0) and not row[COLUMNS[-1]]:
-            raise ValueError(f"bench/planted.tsv:{number}: what is proved of {row['crate']} has no reason that it is right")
+            raise ValueError(f"bench/planted.tsv:{number}: what is proved of {row['crate']} has no reason that it is "
+                             "right")
         rows.append(row)
     return rows
 
@@ -41,15 +44,28 @@ def line_of(cells):
     return f"| {' | '.join(cells)} |"
 
 
+def line_of_row(row, notes):
+    """A row's line. Markdown breaks none, so of one that is too long a note says what was planted."""
+    crates, cells = [f"`{crate}`" for crate in row["crate"].split()], [row[column] for column in COLUMNS[1:-1]]
+    line = line_of([", ".join(crates), *cells])
+    if len(line) <= LONGEST_LINE:
+        return line
+    notes.append(wrapped(f"{', '.join(crates)}: {row['what']}.", f"{len(notes) + 1}. ", "   "))
+    named = crates[0] if len(crates) == 1 else f"{len(crates)} crates"
+    return line_of([named, f"note {len(notes)}", *cells[1:]])
+
+
 def page_of(rows):
     """The text of the page."""
     sums = {column: sum(int(row[column] or 0) for row in rows) for column in COUNTS}
     head = [wrapped(paragraph.format(**sums)) for paragraph in HEAD]
     titles = [column.capitalize() for column in COLUMNS[:-1]]
     table = [line_of(titles), line_of(["---"] * len(titles))]
-    table += [line_of([", ".join(f"`{crate}`" for crate in row["crate"].split()),
-                       *(row[column] for column in COLUMNS[1:-1])]) for row in rows]
+    notes = []
+    table += [line_of_row(row, notes) for row in rows]
     reasons = [wrapped(f"`{row['crate']}`, {row['what']}: {row[COLUMNS[-1]]}.", "- ", "  ") for row in rows
                if row[COLUMNS[-1]]]
-    parts = ["# What was planted", *head, "\n".join(table), "What was proved all the same:", "\n".join(reasons)]
+    noted = ["The notes, of rows that are longer than a line:", "\n".join(notes)] if notes else []
+    parts = ["# What was planted", *head, "\n".join(table), *noted,
+             "What was proved all the same:", "\n".join(reasons)]
     return "\n\n".join(parts) + "\n"

@@ -28,6 +28,17 @@ class Planted(Case):
         self.assertEqual(self.planted(HEAD, ROW, ROW, words=["--check"]), (
             1, "", "bench/planted: docs/planted.md is stale: run bench/planted\n"))
 
+    def test_a_row_that_is_too_long_for_a_line(self):
+        what = "all, of `b` as it was, " + "and half of what it plants in it, " * 4 + "and no more"
+        rows = ROW.replace("all", what), ROW.replace("a b\tall", f"c\t{what}")
+        self.assertEqual(self.planted(HEAD, *rows), (0, "", ""))
+        text = read(self.top, "docs/planted.md")
+        self.assertIn("| 2 crates | note 1 | 3 | 1 |  | 2 |  | 2026-11-27 |\n", text)
+        self.assertIn("| `c` | note 2 | 3 | 1 |  | 2 |  | 2026-11-27 |\n\nThe notes, ", text)
+        self.assertIn("\n1. `a`, `b`: all, of `b` as it was, and half ", text)
+        self.assertIn("and no more.\n2. `c`: all, of `b` as it was, ", text)
+        self.assertLessEqual(max(len(line) for line in text.splitlines()), planted_page.LONGEST_LINE)
+
     def test_faults(self):
         for lines, said in ((["crate"], f": the columns are not {', '.join(planted_page.COLUMNS)}"),
                             ([HEAD, "a\tall"], ":2: 2 cells, not 9"),
