@@ -1,5 +1,13 @@
 //! Why the program did not do what it was asked.
 
+ghost use Rattle.std.specs.Prelude.{◌≡◌};
+ghost use Rattle.std.specs.IoError.{error_kind};
+ghost use Rattle.std.specs.Process.{exit_status};
+ghost use Rattle.kubelet_replay.specs.declared.fault.RunFault.TheVariants as runs;
+ghost use Rattle.kubelet_replay.specs.state.Run.{read_fault_of};
+ghost use Rattle.replay_program.specs.declared.fault.Fault.TheVariants.{Run, Steps};
+ghost use Rattle.replay_program.specs.state.Fault.{of_kind, of_usage};
+
 use kubelet_replay::{
     RunFault, StepsFault, UsageFault, fault_line, status_of, steps_fault_line, steps_status_of,
 };
@@ -25,18 +33,25 @@ pub(crate) enum Fault {
 }
 
 impl From<RunFault> for Fault {
+    ghost from_gives = { λ fault e. e ≡ Run fault };
+
     fn from(fault: RunFault) -> Fault {
         Fault::Run(fault)
     }
 }
 
 impl From<StepsFault> for Fault {
+    ghost from_gives = { λ fault e. e ≡ Steps fault };
+
     fn from(fault: StepsFault) -> Fault {
         Fault::Steps(fault)
     }
 }
 
 impl From<UsageFault> for Fault {
+    ghost from_gives = { λ fault e. e ≡ of_usage fault };
+
+    #[tactic(auto, unfolding(crate::specs::state::Fault::of_usage))]
     fn from(fault: UsageFault) -> Fault {
         match fault {
             UsageFault::OutOfMemory => Fault::Run(RunFault::OutOfMemory),
@@ -45,14 +60,11 @@ impl From<UsageFault> for Fault {
     }
 }
 
-impl From<AllocError> for Fault {
-    fn from(_: AllocError) -> Fault {
-        Fault::Run(RunFault::OutOfMemory)
-    }
-}
-
 /// A word or a file could not be had.
 impl From<io::Error> for Fault {
+    ghost from_gives = { λ error e. e ≡ of_kind (error_kind error) };
+
+    #[tactic(auto, unfolding(crate::specs::state::Fault::of_kind))]
     fn from(error: io::Error) -> Fault {
         match error.kind() {
             ErrorKind::OutOfMemory => Fault::Run(RunFault::OutOfMemory),
@@ -63,6 +75,8 @@ impl From<io::Error> for Fault {
 }
 
 impl From<ReadAllFault> for Fault {
+    ghost from_gives = { λ fault e. e ≡ Run (read_fault_of fault) };
+
     fn from(fault: ReadAllFault) -> Fault {
         match fault {
             ReadAllFault::Read => Fault::Run(RunFault::Read),
@@ -80,38 +94,47 @@ fn tell(rt: &impl Eprint, line: Result<String, AllocError>) {
 }
 
 impl Fault {
-    /// Tells the user, and gives the status of the program. A wish for help is no mistake.
-    pub(crate) fn told(&self, rt: &(impl Print + Eprint + AllocGlobal)) -> ExitCode {
+    ghost use Rattle.replay_program.specs.state.Fault.{status, EndsWith};
+
+    /// Tells the user, and answers whether clap's text was printed, where that is what there is to tell.
+    fn tell(&self, rt: &(impl Print + Eprint + AllocGlobal)) -> bool {
         let alloc: Global = rt.alloc();
         match self {
-            Fault::Run(fault) => {
-                tell(rt, fault_line(alloc, fault));
-                ExitCode::from(status_of(fault))
-            }
-            Fault::Steps(fault) => {
-                tell(rt, steps_fault_line(alloc, fault));
-                ExitCode::from(steps_status_of(fault))
-            }
+            Fault::Run(fault) => tell(rt, fault_line(alloc, fault)),
+            Fault::Steps(fault) => tell(rt, steps_fault_line(alloc, fault)),
             Fault::Usage(UsageFault::Refused(error)) => {
-                let printed = error.print(rt);
-                if error.use_stderr() {
-                    return ExitCode::from(USAGE);
+                let printed = error.print(rt).is_ok();
+                if !printed && !error.use_stderr() {
+                    tell(rt, fault_line(alloc, &RunFault::Write));
                 }
-                match printed {
-                    Ok(()) => ExitCode::SUCCESS,
-                    Err(_) => {
-                        tell(rt, fault_line(alloc, &RunFault::Write));
-                        ExitCode::from(status_of(&RunFault::Write))
-                    }
-                }
+                return printed;
             }
-            Fault::Usage(UsageFault::OutOfMemory) => ExitCode::from(status_of(
-                &RunFault::OutOfMemory,
-            )),
-            Fault::Argument => {
-                tell(rt, String::from_str(alloc, "argument is not valid UTF-8"));
-                ExitCode::from(USAGE)
-            }
+            Fault::Usage(UsageFault::OutOfMemory) => {}
+            Fault::Argument => tell(rt, String::from_str(alloc, "argument is not valid UTF-8")),
         }
+        true
+    }
+
+    /// The status of the program, where clap's text was printed or was not. A wish for help is no mistake.
+    fn status(&self, printed: bool) -> u8
+        ensures { result ≡ status self.now printed }
+    {
+        match self {
+            Fault::Run(fault) => status_of(fault),
+            Fault::Steps(fault) => steps_status_of(fault),
+            Fault::Usage(UsageFault::Refused(error)) if error.use_stderr() => USAGE,
+            Fault::Usage(UsageFault::Refused(_)) if printed => 0,
+            Fault::Usage(UsageFault::Refused(_)) => status_of(&RunFault::Write),
+            Fault::Usage(UsageFault::OutOfMemory) => status_of(&RunFault::OutOfMemory),
+            Fault::Argument => USAGE,
+        }
+    }
+
+    /// Tells the user, and gives the status of the program.
+    pub(crate) fn told(&self, rt: &(impl Print + Eprint + AllocGlobal)) -> ExitCode
+        ensures { EndsWith self.now (exit_status result) }
+    {
+        let printed = self.tell(rt);
+        ExitCode::from(self.status(printed))
     }
 }

@@ -3,40 +3,33 @@
 #![tactic(auto)]
 
 mod fault;
+mod outside;
 mod progress;
 
-ghost use Rattle.std.specs.Prelude.{◌<◌, ◌≤◌, ◌^◌};
+ghost use Rattle.std.specs.Prelude.{◌<◌, ◌≤◌, ◌^◌, IfOk, IfErr, OnOk, map, string_bytes};
 ghost use Rattle.worker_count.specs.rule.Limit.{most_workers};
+ghost use Rattle.kubelet_replay.specs.rule.Run.{IsReportIn, IsCheckIn};
 ghost use Rattle.replay_program.specs.state.Jobs.{HasFewWorkers};
+ghost use Rattle.replay_program.specs.state.Answers.{AnswersFile, FailsFile, AnswersPlay, FailsPlay, Answers, Fails};
+ghost use Rattle.replay_program.specs.state.Answers.{AnswersAsked, FailsAsked, AnswersAll, FailsAll};
+ghost use Rattle.replay_program.specs.state.Answers.{HasShortText, FailsText};
 
 use fault::Fault;
 use kubelet_replay::{
     Counted, Format, Job, LONGEST_STEPS_FILE, Sink, Source, Spawner, Step, check_in, job_of,
     read_steps, replay, replay_in, replay_play_in,
 };
+use outside::Outside;
 use progress::{Input, Output, Progress};
 use replay_stream::read_all;
-use std::alloc::AllocError;
-use std::env;
-use std::env::Env;
-use std::fs::File;
 use std::process::ExitCode;
-use std::rt::Files;
 
 /// The number of workers where no word says how many, as `--workers` has it.
 const DEFAULT_WORKERS: usize = 4;
 
-/// The program's words, the program's own name first.
-fn words_of(rt: &(impl Env + AllocGlobal)) -> Result<Vec<String>, Fault> {
-    let mut words = Vec::new(rt.alloc());
-    for word in env::args(rt)? {
-        words.push(word).map_err(|_| AllocError)?;
-    }
-    Ok(words)
-}
-
 /// Replays the file of this path by this many workers.
-fn run<H: Files + Eprint + AllocGlobal + Spawner, W: Sink>(
+#[tactic(auto, using(crate::proofs::Failing::file_refused))]
+fn run<H: Outside + Eprint + AllocGlobal + Spawner, W: Sink>(
     rt: &H,
     progress: &Progress<'_, H>,
     format: Format,
@@ -47,15 +40,20 @@ fn run<H: Files + Eprint + AllocGlobal + Spawner, W: Sink>(
     requires some { 0 < workers }
     requires most { workers ≤ most_workers }
     requires writes { W.failures output.old < 2 ^ 63 }
+    ensures ok { OnOk result (AnswersFile (H.opened rt.now path.now) (IsReportIn format) (W.written output.old)
+        (W.written output.new)) }
+    ensures err { IfErr result (FailsFile (H.opened rt.now path.now) format (IsReportIn format) (W.written output.old)
+        (W.written output.new)) }
 {
-    let mut input = Counted::new(Input::new(progress, File::open(rt, path)?));
+    let mut input = Counted::new(Input::new(progress, rt.open(path)?));
     let done = replay_in(rt, format, &mut input, output, workers, progress);
     drop(input);
-    done.map_err(Fault::from)
+    Ok(done?)
 }
 
 /// Says whether the file of this path is a trace.
-fn check<H: Files + Eprint + AllocGlobal, W: Sink>(
+#[tactic(auto, using(crate::proofs::Failing::file_refused))]
+fn check<H: Outside + Eprint + AllocGlobal, W: Sink>(
     rt: &H,
     progress: &Progress<'_, H>,
     format: Format,
@@ -63,23 +61,31 @@ fn check<H: Files + Eprint + AllocGlobal, W: Sink>(
     output: &mut W,
 ) -> Result<(), Fault>
     requires { W.failures output.old < 2 ^ 63 }
+    ensures ok { OnOk result (AnswersFile (H.opened rt.now path.now) (IsCheckIn format) (W.written output.old)
+        (W.written output.new)) }
+    ensures err { IfErr result (FailsFile (H.opened rt.now path.now) format (IsCheckIn format) (W.written output.old)
+        (W.written output.new)) }
 {
-    let mut input = Counted::new(Input::new(progress, File::open(rt, path)?));
+    let mut input = Counted::new(Input::new(progress, rt.open(path)?));
     let done = check_in(rt.alloc(), format, &mut input, output);
     drop(input);
-    done.map_err(Fault::from)
+    Ok(done?)
 }
 
 /// The text of a steps file.
-fn steps_text<H: Files + AllocGlobal>(rt: &H, path: &str) -> Result<Vec<u8>, Fault> {
-    let mut input = Counted::new(File::open(rt, path)?);
+fn steps_text<H: Outside + AllocGlobal>(rt: &H, path: &str) -> Result<Vec<u8>, Fault>
+    ensures ok { IfOk result (λ text. HasShortText (H.opened rt.now path.now) text.items) }
+    ensures err { IfErr result (FailsText (H.opened rt.now path.now)) }
+{
+    let mut input = Counted::new(rt.open(path)?);
     let text = read_all(rt.alloc(), &mut input, LONGEST_STEPS_FILE);
     drop(input);
     Ok(text?)
 }
 
 /// Replays the file of this path by this many workers that take these steps.
-fn play<H: Files + AllocGlobal, W: Sink>(
+#[tactic(auto, using(crate::proofs::Failing::file_refused))]
+fn play_steps<H: Outside + AllocGlobal, W: Sink>(
     rt: &H,
     format: Format,
     path: &str,
@@ -90,15 +96,44 @@ fn play<H: Files + AllocGlobal, W: Sink>(
     requires some { 0 < workers }
     requires most { workers ≤ most_workers }
     requires writes { W.failures output.old < 2 ^ 63 }
+    ensures ok { OnOk result (AnswersFile (H.opened rt.now path.now) (IsReportIn format) (W.written output.old)
+        (W.written output.new)) }
+    ensures err { IfErr result (FailsFile (H.opened rt.now path.now) format (IsReportIn format) (W.written output.old)
+        (W.written output.new)) }
 {
-    let mut input = Counted::new(File::open(rt, path)?);
+    let mut input = Counted::new(rt.open(path)?);
     let done = replay_play_in(rt.alloc(), format, &mut input, output, workers, steps);
     drop(input);
-    done.map_err(Fault::from)
+    Ok(done?)
+}
+
+/// Replays the file of this path by this many workers that take the steps of the file of the other path.
+#[tactic(auto, using(crate::proofs::Failing::play_stepless, crate::proofs::Failing::play_traceless))]
+fn play<H: Outside + AllocGlobal, W: Sink>(
+    rt: &H,
+    format: Format,
+    trace: &str,
+    steps: &str,
+    workers: usize,
+    output: &mut W,
+) -> Result<(), Fault>
+    requires some { 0 < workers }
+    requires most { workers ≤ most_workers }
+    requires writes { W.failures output.old < 2 ^ 63 }
+    ensures ok { OnOk result (AnswersPlay (H.opened rt.now steps.now) (H.opened rt.now trace.now) format
+        (W.written output.old) (W.written output.new)) }
+    ensures err { IfErr result (FailsPlay (H.opened rt.now steps.now) (H.opened rt.now trace.now) format
+        (W.written output.old) (W.written output.new)) }
+{
+    let text = steps_text(rt, steps)?;
+    let steps = read_steps(rt.alloc(), &text)?;
+    let done = play_steps(rt, format, trace, workers, steps.as_slice(), output);
+    drop(steps);
+    done
 }
 
 /// Does this job, and writes the answer.
-fn work<H: Files + Eprint + AllocGlobal + Spawner, W: Sink>(
+fn work<H: Outside + Eprint + AllocGlobal + Spawner, W: Sink>(
     rt: &H,
     progress: &Progress<'_, H>,
     job: Job<'_>,
@@ -106,6 +141,8 @@ fn work<H: Files + Eprint + AllocGlobal + Spawner, W: Sink>(
 ) -> Result<(), Fault>
     requires few { HasFewWorkers job }
     requires writes { W.failures output.old < 2 ^ 63 }
+    ensures ok { OnOk result (Answers (H.opened rt.now) job.entry (W.written output.old) (W.written output.new)) }
+    ensures err { IfErr result (Fails (H.opened rt.now) job.entry (W.written output.old) (W.written output.new)) }
 {
     match job {
         Job::Run {
@@ -119,31 +156,30 @@ fn work<H: Files + Eprint + AllocGlobal + Spawner, W: Sink>(
             steps,
             workers,
             format,
-        } => {
-            let text = steps_text(rt, steps)?;
-            let steps = read_steps(rt.alloc(), &text)?;
-            let done = play(rt, format, trace, workers, steps.as_slice(), output);
-            drop(steps);
-            done
-        }
+        } => play(rt, format, trace, steps, workers, output),
     }
 }
 
 /// Does what the words ask for, and writes the answer.
-fn do_asked<H: Files + Eprint + AllocGlobal + Spawner, W: Sink>(
+#[tactic(auto, using(crate::proofs::Failing::asked_mistaken, crate::proofs::Failing::asked_undone))]
+fn do_asked<H: Outside + Eprint + AllocGlobal + Spawner, W: Sink>(
     rt: &H,
     progress: &Progress<'_, H>,
     words: &[String],
     output: &mut W,
 ) -> Result<(), Fault>
     requires { W.failures output.old < 2 ^ 63 }
+    ensures ok { OnOk result (AnswersAsked (H.opened rt.now) (map string_bytes words.now) (W.written output.old)
+        (W.written output.new)) }
+    ensures err { IfErr result (FailsAsked (H.opened rt.now) (map string_bytes words.now) (W.written output.old)
+        (W.written output.new)) }
 {
     let job = job_of(rt.alloc(), words)?;
     work(rt, progress, job, output)
 }
 
 /// Does what the program's words ask for. Without any it replays what the input has.
-fn answer<H: Files + Env + Eprint + AllocGlobal + Spawner, R: Source, W: Sink>(
+fn answer<H: Outside + Eprint + AllocGlobal + Spawner, R: Source, W: Sink>(
     rt: &H,
     progress: &Progress<'_, H>,
     input: &mut R,
@@ -151,12 +187,16 @@ fn answer<H: Files + Env + Eprint + AllocGlobal + Spawner, R: Source, W: Sink>(
 ) -> Result<(), Fault>
     requires reads { R.failures input.old < 2 ^ 63 }
     requires writes { W.failures output.old < 2 ^ 63 }
+    ensures ok { OnOk result (AnswersAll (H.asked rt.now) (H.opened rt.now) (R.left input.old) (W.written output.old)
+        (W.written output.new)) }
+    ensures err { IfErr result (FailsAll (H.asked rt.now) (H.opened rt.now) (R.left input.old) (W.written output.old)
+        (W.written output.new)) }
 {
-    let words = words_of(rt)?;
+    let words = rt.words()?;
     if words.len() > 1 {
         do_asked(rt, progress, &words, output)
     } else {
-        replay(rt, input, output, DEFAULT_WORKERS, progress).map_err(Fault::from)
+        Ok(replay(rt, input, output, DEFAULT_WORKERS, progress)?)
     }
 }
 

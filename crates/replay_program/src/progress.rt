@@ -1,5 +1,7 @@
 //! How far a replay of a long input has come, told on a terminal.
 
+ghost use Rattle.std.specs.Prelude.{◌≡◌};
+
 use kubelet_replay::Gate;
 use std::io::{self, IsTerminal, Read, Write};
 use std::sync::atomic::{AtomicUsize, Ordering};
@@ -91,7 +93,9 @@ pub(crate) struct Input<'p, E, R: Drop> {
 }
 
 impl<'p, E, R: Drop> Input<'p, E, R> {
-    pub(crate) fn new(progress: &'p Progress<'p, E>, inner: R) -> Input<'p, E, R> {
+    pub(crate) fn new(progress: &'p Progress<'p, E>, inner: R) -> Input<'p, E, R>
+        ensures { result.inner ≡ inner }
+    {
         Input { progress, inner }
     }
 }
