@@ -7,6 +7,7 @@ use Rattle.node_config.specs.declared.node.Format.{Format}
 use Rattle.replay_stream.specs.declared.fault.ReadAllFault.{ReadAllFault}
 use Rattle.replay_stream.specs.declared.fault.ReadAllFault.TheVariants.{Read, TooLong, OutOfMemory}
 use Rattle.round_steps.specs.declared.fault.StepsFault.{StepsFault}
+use Rattle.round_steps.specs.declared.step.Step.{Step}
 use Rattle.round_steps.specs.state.Steps.{longest_steps_file, Refuses as RefusesSteps}
 use Rattle.commands.specs.declared.fault.UsageFault.{UsageFault}
 use Rattle.commands.specs.declared.job.Job.{Job}
@@ -17,7 +18,7 @@ use Rattle.kubelet_replay.specs.state.Run.{read_fault_of}
 use Rattle.replay_program.specs.declared.fault.Fault.{Fault}
 use Rattle.replay_program.specs.declared.fault.Fault.TheVariants.{Run, Steps}
 use Rattle.replay_program.specs.state.Answers.{Bytes, FailsFile, HasShortText, IsUnread, FailsText, FailsPlay}
-use Rattle.replay_program.specs.state.Answers.{AnswersAsked, FailsAsked, Fails, AnswersAll, FailsAll}
+use Rattle.replay_program.specs.state.Answers.{AnswersAsked, FailsAsked, Fails, FailsInput, AnswersAll, FailsAll}
 use Rattle.replay_program.specs.state.Answers as answers
 use Rattle.replay_program.specs.state.Fault.{of_kind, of_usage}
 
@@ -102,14 +103,22 @@ pub all_wordless : {V : Type 0} (Asked : List Text → Type 0) (Opened : List �
 all_wordless Asked Opened input old (Ok v) kind is = tt
 all_wordless Asked Opened input old (Err fault) kind is = answers.wordless kind is refl
 
+-- the input is refused
+pub input_refused : {V : Type 0} (input old new : Bytes) (result : Result V Fault) (why : RunFault)
+    → IsRefusal IsReportOfText input old new why → IsErrAnd result (λ fault. fault ≡ Run why)
+    → IfErr result (FailsInput input old new)
+input_refused input old new (Ok v) why refuses is = tt
+input_refused input old new (Err fault) why refuses is = record { why = why; fault_is = is; refuses = refuses }
+
 -- with words behind the program's name, the answer is theirs
-pub all_of_words : {V : Type 0} (Asked : List Text → Type 0) (Opened : List ℕ → Bytes → Type 0) (input old new : Bytes)
-    (words : List Text) (result : Result V Fault) → Asked words → 1 < length words
-    → OnOk result (AnswersAsked Opened words old new) → OnOk result (AnswersAll Asked Opened input old new)
-all_of_words Asked Opened input old new words (Err fault) asked some answers = tt
-all_of_words Asked Opened input old new [] (Ok v) asked some answers = absurd (omega arith)
-all_of_words Asked Opened input old new (name ∷ []) (Ok v) asked some answers = absurd (omega arith)
-all_of_words Asked Opened input old new (name ∷ word ∷ words) (Ok v) asked some answers =
+pub all_of_words : {V : Type 0} (Asked : List Text → Type 0) (Opened : List ℕ → Bytes → Type 0)
+    (Played : ℕ → List Step → Type 0) (input old new : Bytes) (words : List Text) (result : Result V Fault)
+    → Asked words → 1 < length words → OnOk result (AnswersAsked Opened Played words old new)
+    → OnOk result (AnswersAll Asked Opened Played input old new)
+all_of_words Asked Opened Played input old new words (Err fault) asked some answers = tt
+all_of_words Asked Opened Played input old new [] (Ok v) asked some answers = absurd (omega arith)
+all_of_words Asked Opened Played input old new (name ∷ []) (Ok v) asked some answers = absurd (omega arith)
+all_of_words Asked Opened Played input old new (name ∷ word ∷ words) (Ok v) asked some answers =
     record { words = name ∷ word ∷ words; asked = asked; answers = answers }
 
 pub all_failed : {V : Type 0} (Asked : List Text → Type 0) (Opened : List ℕ → Bytes → Type 0) (input old new : Bytes)
@@ -122,23 +131,23 @@ all_failed Asked Opened input old new (name ∷ word ∷ words) (Err fault) aske
     answers.unanswered (name ∷ word ∷ words) asked fails
 
 -- without any, it is the report of the input
-pub all_of_input : (Asked : List Text → Type 0) (Opened : List ℕ → Bytes → Type 0) (input old new : Bytes)
-    (words : List Text) → Asked words → length words ≤ 1 → Writes IsReportOfText input old new
-    → AnswersAll Asked Opened input old new
-all_of_input Asked Opened input old new [] asked none writes =
+pub all_of_input : {V : Type 0} (Asked : List Text → Type 0) (Opened : List ℕ → Bytes → Type 0)
+    (Played : ℕ → List Step → Type 0) (input old new : Bytes) (words : List Text) (result : Result V Fault)
+    → Asked words → length words ≤ 1 → OnOk result (Writes IsReportOfText input old new)
+    → OnOk result (AnswersAll Asked Opened Played input old new)
+all_of_input Asked Opened Played input old new words (Err fault) asked none writes = tt
+all_of_input Asked Opened Played input old new [] (Ok v) asked none writes =
     record { words = []; asked = asked; answers = writes }
-all_of_input Asked Opened input old new (name ∷ []) asked none writes =
+all_of_input Asked Opened Played input old new (name ∷ []) (Ok v) asked none writes =
     record { words = name ∷ []; asked = asked; answers = writes }
-all_of_input Asked Opened input old new (name ∷ word ∷ words) asked none writes = absurd (omega arith)
-
-pub input_refused : {V : Type 0} (Asked : List Text → Type 0) (Opened : List ℕ → Bytes → Type 0)
-    (input old new : Bytes) (words : List Text) (result : Result V Fault) (why : RunFault) → Asked words
-    → length words ≤ 1 → IsRefusal IsReportOfText input old new why → IsErrAnd result (λ fault. fault ≡ Run why)
-    → IfErr result (FailsAll Asked Opened input old new)
-input_refused Asked Opened input old new words (Ok v) why asked none refuses is = tt
-input_refused Asked Opened input old new [] (Err fault) why asked none refuses is =
-    answers.unanswered [] asked (record { why = why; fault_is = is; refuses = refuses })
-input_refused Asked Opened input old new (name ∷ []) (Err fault) why asked none refuses is =
-    answers.unanswered (name ∷ []) asked (record { why = why; fault_is = is; refuses = refuses })
-input_refused Asked Opened input old new (name ∷ word ∷ words) (Err fault) why asked none refuses is =
+all_of_input Asked Opened Played input old new (name ∷ word ∷ words) (Ok v) asked none writes =
     absurd (omega arith)
+
+pub all_unread : {V : Type 0} (Asked : List Text → Type 0) (Opened : List ℕ → Bytes → Type 0) (input old new : Bytes)
+    (words : List Text) (result : Result V Fault) → Asked words → length words ≤ 1
+    → IfErr result (FailsInput input old new) → IfErr result (FailsAll Asked Opened input old new)
+all_unread Asked Opened input old new words (Ok v) asked none fails = tt
+all_unread Asked Opened input old new [] (Err fault) asked none fails = answers.unanswered [] asked fails
+all_unread Asked Opened input old new (name ∷ []) (Err fault) asked none fails =
+    answers.unanswered (name ∷ []) asked fails
+all_unread Asked Opened input old new (name ∷ word ∷ words) (Err fault) asked none fails = absurd (omega arith)

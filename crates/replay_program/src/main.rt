@@ -4,22 +4,24 @@
 
 mod fault;
 mod outside;
+mod plays;
 mod progress;
 
 ghost use Rattle.std.specs.Prelude.{◌<◌, ◌≤◌, ◌^◌, IfOk, IfErr, OnOk, map, string_bytes};
 ghost use Rattle.worker_count.specs.rule.Limit.{most_workers};
-ghost use Rattle.kubelet_replay.specs.rule.Run.{IsReportIn, IsCheckIn};
+ghost use Rattle.kubelet_replay.specs.rule.Run.{IsReportIn, IsReportOfText, IsCheckIn, Writes};
 ghost use Rattle.replay_program.specs.state.Jobs.{HasFewWorkers};
 ghost use Rattle.replay_program.specs.state.Answers.{AnswersFile, FailsFile, AnswersPlay, FailsPlay, Answers, Fails};
 ghost use Rattle.replay_program.specs.state.Answers.{AnswersAsked, FailsAsked, AnswersAll, FailsAll};
-ghost use Rattle.replay_program.specs.state.Answers.{HasShortText, FailsText};
+ghost use Rattle.replay_program.specs.state.Answers.{HasShortText, FailsText, FailsInput};
 
 use fault::Fault;
 use kubelet_replay::{
     Counted, Format, Job, LONGEST_STEPS_FILE, Sink, Source, Spawner, Step, check_in, job_of,
-    read_steps, replay, replay_in, replay_play_in,
+    read_steps, replay, replay_in,
 };
 use outside::Outside;
+use plays::Plays;
 use progress::{Input, Output, Progress};
 use replay_stream::read_all;
 use std::process::ExitCode;
@@ -77,15 +79,15 @@ fn steps_text<H: Outside + AllocGlobal>(rt: &H, path: &str) -> Result<Vec<u8>, F
     ensures ok { IfOk result (λ text. HasShortText (H.opened rt.now path.now) text.items) }
     ensures err { IfErr result (FailsText (H.opened rt.now path.now)) }
 {
-    let mut input = Counted::new(rt.open(path)?);
-    let text = read_all(rt.alloc(), &mut input, LONGEST_STEPS_FILE);
-    drop(input);
+    let mut file = Counted::new(rt.open(path)?);
+    let text = read_all(rt.alloc(), &mut file, LONGEST_STEPS_FILE);
+    drop(file);
     Ok(text?)
 }
 
 /// Replays the file of this path by this many workers that take these steps.
 #[tactic(auto, using(crate::proofs::Failing::file_refused))]
-fn play_steps<H: Outside + AllocGlobal, W: Sink>(
+fn play_steps<H: Outside + Plays, W: Sink>(
     rt: &H,
     format: Format,
     path: &str,
@@ -98,18 +100,19 @@ fn play_steps<H: Outside + AllocGlobal, W: Sink>(
     requires writes { W.failures output.old < 2 ^ 63 }
     ensures ok { OnOk result (AnswersFile (H.opened rt.now path.now) (IsReportIn format) (W.written output.old)
         (W.written output.new)) }
+    ensures played { OnOk result (H.played rt.now workers steps.now) }
     ensures err { IfErr result (FailsFile (H.opened rt.now path.now) format (IsReportIn format) (W.written output.old)
         (W.written output.new)) }
 {
     let mut input = Counted::new(rt.open(path)?);
-    let done = replay_play_in(rt.alloc(), format, &mut input, output, workers, steps);
+    let done = rt.play(format, &mut input, output, workers, steps);
     drop(input);
     Ok(done?)
 }
 
 /// Replays the file of this path by this many workers that take the steps of the file of the other path.
 #[tactic(auto, using(crate::proofs::Failing::play_stepless, crate::proofs::Failing::play_traceless))]
-fn play<H: Outside + AllocGlobal, W: Sink>(
+fn play<H: Outside + Plays + AllocGlobal, W: Sink>(
     rt: &H,
     format: Format,
     trace: &str,
@@ -120,8 +123,8 @@ fn play<H: Outside + AllocGlobal, W: Sink>(
     requires some { 0 < workers }
     requires most { workers ≤ most_workers }
     requires writes { W.failures output.old < 2 ^ 63 }
-    ensures ok { OnOk result (AnswersPlay (H.opened rt.now steps.now) (H.opened rt.now trace.now) format
-        (W.written output.old) (W.written output.new)) }
+    ensures ok { OnOk result (AnswersPlay (H.opened rt.now steps.now) (H.opened rt.now trace.now)
+        (H.played rt.now workers) format (W.written output.old) (W.written output.new)) }
     ensures err { IfErr result (FailsPlay (H.opened rt.now steps.now) (H.opened rt.now trace.now) format
         (W.written output.old) (W.written output.new)) }
 {
@@ -133,7 +136,7 @@ fn play<H: Outside + AllocGlobal, W: Sink>(
 }
 
 /// Does this job, and writes the answer.
-fn work<H: Outside + Eprint + AllocGlobal + Spawner, W: Sink>(
+fn work<H: Outside + Plays + Eprint + AllocGlobal + Spawner, W: Sink>(
     rt: &H,
     progress: &Progress<'_, H>,
     job: Job<'_>,
@@ -141,7 +144,8 @@ fn work<H: Outside + Eprint + AllocGlobal + Spawner, W: Sink>(
 ) -> Result<(), Fault>
     requires few { HasFewWorkers job }
     requires writes { W.failures output.old < 2 ^ 63 }
-    ensures ok { OnOk result (Answers (H.opened rt.now) job.entry (W.written output.old) (W.written output.new)) }
+    ensures ok { OnOk result (Answers (H.opened rt.now) (H.played rt.now) job.entry (W.written output.old)
+        (W.written output.new)) }
     ensures err { IfErr result (Fails (H.opened rt.now) job.entry (W.written output.old) (W.written output.new)) }
 {
     match job {
@@ -162,15 +166,15 @@ fn work<H: Outside + Eprint + AllocGlobal + Spawner, W: Sink>(
 
 /// Does what the words ask for, and writes the answer.
 #[tactic(auto, using(crate::proofs::Failing::asked_mistaken, crate::proofs::Failing::asked_undone))]
-fn do_asked<H: Outside + Eprint + AllocGlobal + Spawner, W: Sink>(
+fn do_asked<H: Outside + Plays + Eprint + AllocGlobal + Spawner, W: Sink>(
     rt: &H,
     progress: &Progress<'_, H>,
     words: &[String],
     output: &mut W,
 ) -> Result<(), Fault>
     requires { W.failures output.old < 2 ^ 63 }
-    ensures ok { OnOk result (AnswersAsked (H.opened rt.now) (map string_bytes words.now) (W.written output.old)
-        (W.written output.new)) }
+    ensures ok { OnOk result (AnswersAsked (H.opened rt.now) (H.played rt.now) (map string_bytes words.now)
+        (W.written output.old) (W.written output.new)) }
     ensures err { IfErr result (FailsAsked (H.opened rt.now) (map string_bytes words.now) (W.written output.old)
         (W.written output.new)) }
 {
@@ -178,8 +182,9 @@ fn do_asked<H: Outside + Eprint + AllocGlobal + Spawner, W: Sink>(
     work(rt, progress, job, output)
 }
 
-/// Does what the program's words ask for. Without any it replays what the input has.
-fn answer<H: Outside + Eprint + AllocGlobal + Spawner, R: Source, W: Sink>(
+/// Replays what the input has.
+#[tactic(auto, using(crate::proofs::Failing::input_refused))]
+fn replay_input<H: Eprint + AllocGlobal + Spawner, R: Source, W: Sink>(
     rt: &H,
     progress: &Progress<'_, H>,
     input: &mut R,
@@ -187,8 +192,23 @@ fn answer<H: Outside + Eprint + AllocGlobal + Spawner, R: Source, W: Sink>(
 ) -> Result<(), Fault>
     requires reads { R.failures input.old < 2 ^ 63 }
     requires writes { W.failures output.old < 2 ^ 63 }
-    ensures ok { OnOk result (AnswersAll (H.asked rt.now) (H.opened rt.now) (R.left input.old) (W.written output.old)
-        (W.written output.new)) }
+    ensures ok { OnOk result (Writes IsReportOfText (R.left input.old) (W.written output.old) (W.written output.new)) }
+    ensures err { IfErr result (FailsInput (R.left input.old) (W.written output.old) (W.written output.new)) }
+{
+    Ok(replay(rt, input, output, DEFAULT_WORKERS, progress)?)
+}
+
+/// Does what the program's words ask for. Without any it replays what the input has.
+fn answer<H: Outside + Plays + Eprint + AllocGlobal + Spawner, R: Source, W: Sink>(
+    rt: &H,
+    progress: &Progress<'_, H>,
+    input: &mut R,
+    output: &mut W,
+) -> Result<(), Fault>
+    requires reads { R.failures input.old < 2 ^ 63 }
+    requires writes { W.failures output.old < 2 ^ 63 }
+    ensures ok { OnOk result (AnswersAll (H.asked rt.now) (H.opened rt.now) (H.played rt.now) (R.left input.old)
+        (W.written output.old) (W.written output.new)) }
     ensures err { IfErr result (FailsAll (H.asked rt.now) (H.opened rt.now) (R.left input.old) (W.written output.old)
         (W.written output.new)) }
 {
@@ -196,7 +216,7 @@ fn answer<H: Outside + Eprint + AllocGlobal + Spawner, R: Source, W: Sink>(
     if words.len() > 1 {
         do_asked(rt, progress, &words, output)
     } else {
-        Ok(replay(rt, input, output, DEFAULT_WORKERS, progress)?)
+        replay_input(rt, progress, input, output)
     }
 }
 

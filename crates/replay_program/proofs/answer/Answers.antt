@@ -1,7 +1,7 @@
 use Rattle.std.proofs.Common.{◌<◌, ◌≤◌, length, map, string_bytes, arith}
 use Rattle.std.proofs.lemmas.List.{length-map}
 use Rattle.std.specs.IoError.{error_kind}
-use Rattle.replay_program.proofs.Failing.{all_wordless, all_of_words, all_failed, all_of_input, input_refused}
+use Rattle.replay_program.proofs.Failing.{all_wordless, all_of_words, all_failed, all_of_input, all_unread}
 use Rattle.replay_program.proofs.answer.Goals as goal
 
 pub returns-in_err-words-clause-err : goal.returns-in_err-words-clause-err
@@ -12,7 +12,7 @@ pub returns-then-len-gt1-clause-ok : goal.returns-then-len-gt1-clause-ok
 returns-then-len-gt1-clause-ok g c =
     let words = map string_bytes c.in_ok-words.words.items in
     let some : 1 < length words = omega (arith, length-map c.in_ok-words.words.items string_bytes) in
-    all_of_words _ _ _ _ _ words _ c.in_ok-words.ensures some (rw c.deref.ensures.value at c.do_asked.ensures.ok)
+    all_of_words _ _ _ _ _ _ words _ c.in_ok-words.ensures some (rw c.deref.ensures.value at c.do_asked.ensures.ok)
 
 pub returns-then-len-gt1-clause-err : goal.returns-then-len-gt1-clause-err
 returns-then-len-gt1-clause-err g c =
@@ -20,15 +20,14 @@ returns-then-len-gt1-clause-err g c =
     let some : 1 < length words = omega (arith, length-map c.in_ok-words.words.items string_bytes) in
     all_failed _ _ _ _ _ words _ c.in_ok-words.ensures some (rw c.deref.ensures.value at c.do_asked.ensures.err)
 
-pub returns-in_err-replay-clause-err : goal.returns-in_err-replay-clause-err
-returns-in_err-replay-clause-err g c =
-    let words = map string_bytes c.in_ok-words.words.items in
-    let none : length words ≤ 1 = omega (arith, length-map c.in_ok-words.words.items string_bytes) in
-    input_refused _ _ _ _ _ words _ _ c.in_ok-words.ensures none c.in_err-replay.ensures.err
-    c.from_residual-in_err-replay.ensures.1
-
 pub returns-clause-ok : goal.returns-clause-ok
 returns-clause-ok g c =
     let words = map string_bytes c.in_ok-words.words.items in
     let none : length words ≤ 1 = omega (arith, length-map c.in_ok-words.words.items string_bytes) in
-    all_of_input _ _ _ _ _ words c.in_ok-words.ensures none c.in_ok-replay.ensures.ok
+    all_of_input _ _ _ _ _ _ words _ c.in_ok-words.ensures none c.replay_input.ensures.ok
+
+pub returns-clause-err : goal.returns-clause-err
+returns-clause-err g c =
+    let words = map string_bytes c.in_ok-words.words.items in
+    let none : length words ≤ 1 = omega (arith, length-map c.in_ok-words.words.items string_bytes) in
+    all_unread _ _ _ _ _ words _ c.in_ok-words.ensures none c.replay_input.ensures.err

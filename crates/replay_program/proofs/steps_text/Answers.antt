@@ -8,6 +8,6 @@ returns-in_err-open-clause-err g c =
 
 pub returns-in_err-text-clause-err : goal.returns-in_err-text-clause-err
 returns-in_err-text-clause-err g c =
-    let longer = rw c.new-input.ensures.inner at c.read_all-text.ensures.too_long in
+    let longer = rw c.new-file.ensures.inner at c.read_all-text.ensures.too_long in
     text_unread _ _ _ _ c.in_ok-open.ensures (is_unread _ _ _ c.in_err-text.was longer)
     c.from_residual-in_err-text.ensures.1

@@ -77,10 +77,12 @@ pub data FailsSteps (Opened : Bytes → Type 0) (fault : Fault) : Type 0 where
   steps_refused : (text : List ℕ) (why : StepsFault) → HasShortText Opened text → fault ≡ Steps why
       → RefusesSteps text why → FailsSteps Opened fault
 
--- a steps file has steps, and a trace's file is answered
-pub record AnswersPlay (OpenedSteps OpenedTrace : Bytes → Type 0) (format : Format) (old new : Bytes) : Type 0 where
+-- a steps file has steps, which are played, and a trace's file is answered
+pub record AnswersPlay (OpenedSteps OpenedTrace : Bytes → Type 0) (Played : List Step → Type 0) (format : Format)
+    (old new : Bytes) : Type 0 where
   pub steps : List Step
   pub said : HasSteps OpenedSteps steps
+  pub played : Played steps
   pub answers : AnswersFile OpenedTrace (IsReportIn format) old new
 
 -- a steps file has no steps, and nothing is written; or a trace's file is not answered
@@ -90,11 +92,13 @@ pub data FailsPlay (OpenedSteps OpenedTrace : Bytes → Type 0) (format : Format
   traceless : FailsFile OpenedTrace format (IsReportIn format) old new fault
       → FailsPlay OpenedSteps OpenedTrace format old new fault
 
--- what is written for a job: the report of its trace in its format, or the line of the check
-abbrev pub Answers : (List ℕ → Bytes → Type 0) → Job → Bytes → Bytes → Type 0
-Answers Opened (jobs.Run trace workers format) = AnswersFile (Opened trace.now) (IsReportIn format)
-Answers Opened (jobs.Check trace format) = AnswersFile (Opened trace.now) (IsCheckIn format)
-Answers Opened (jobs.Play trace steps workers format) = AnswersPlay (Opened steps.now) (Opened trace.now) format
+-- what is written for a job: the report of its trace in its format, or the line of the check; where there is a steps
+-- file, its steps are played by the job's workers
+abbrev pub Answers : (List ℕ → Bytes → Type 0) → (ℕ → List Step → Type 0) → Job → Bytes → Bytes → Type 0
+Answers Opened Played (jobs.Run trace workers format) = AnswersFile (Opened trace.now) (IsReportIn format)
+Answers Opened Played (jobs.Check trace format) = AnswersFile (Opened trace.now) (IsCheckIn format)
+Answers Opened Played (jobs.Play trace steps workers format) =
+    AnswersPlay (Opened steps.now) (Opened trace.now) (Played workers) format
 
 -- why a job is not done
 abbrev pub Fails : (List ℕ → Bytes → Type 0) → Job → Bytes → Bytes → Fault → Type 0
@@ -103,10 +107,11 @@ Fails Opened (jobs.Check trace format) = FailsFile (Opened trace.now) format (Is
 Fails Opened (jobs.Play trace steps workers format) = FailsPlay (Opened steps.now) (Opened trace.now) format
 
 -- the words ask for a job, and what is written is its answer
-pub record AnswersAsked (Opened : List ℕ → Bytes → Type 0) (words : List Text) (old new : Bytes) : Type 0 where
+pub record AnswersAsked (Opened : List ℕ → Bytes → Type 0) (Played : ℕ → List Step → Type 0) (words : List Text)
+    (old new : Bytes) : Type 0 where
   pub job : Job
   pub asked : IsAskedBy words job
-  pub answers : Answers Opened job old new
+  pub answers : Answers Opened Played job old new
 
 -- the words are refused, and nothing is written; or they ask for a job that is not done
 pub data FailsAsked (Opened : List ℕ → Bytes → Type 0) (words : List Text) (old new : Bytes) (fault : Fault)
@@ -116,10 +121,11 @@ pub data FailsAsked (Opened : List ℕ → Bytes → Type 0) (words : List Text)
   undone : (job : Job) → IsAskedBy words job → Fails Opened job old new fault → FailsAsked Opened words old new fault
 
 -- what the words are answered; where there is none behind the program's name, it is the report of the input's text
-abbrev pub AnswersWords : (List ℕ → Bytes → Type 0) → Bytes → List Text → Bytes → Bytes → Type 0
-AnswersWords Opened input (name ∷ word ∷ words) = AnswersAsked Opened (name ∷ word ∷ words)
-AnswersWords Opened input (name ∷ []) = Writes IsReportOfText input
-AnswersWords Opened input [] = Writes IsReportOfText input
+abbrev pub AnswersWords : (List ℕ → Bytes → Type 0) → (ℕ → List Step → Type 0) → Bytes → List Text → Bytes → Bytes
+    → Type 0
+AnswersWords Opened Played input (name ∷ word ∷ words) = AnswersAsked Opened Played (name ∷ word ∷ words)
+AnswersWords Opened Played input (name ∷ []) = Writes IsReportOfText input
+AnswersWords Opened Played input [] = Writes IsReportOfText input
 
 -- the input's text is refused
 pub record FailsInput (input old new : Bytes) (fault : Fault) : Type 0 where
@@ -134,11 +140,11 @@ FailsWords Opened input (name ∷ []) = FailsInput input
 FailsWords Opened input [] = FailsInput input
 
 -- the program has these words, and what is written is what they are answered
-pub record AnswersAll (Asked : List Text → Type 0) (Opened : List ℕ → Bytes → Type 0) (input old new : Bytes)
-    : Type 0 where
+pub record AnswersAll (Asked : List Text → Type 0) (Opened : List ℕ → Bytes → Type 0) (Played : ℕ → List Step → Type 0)
+    (input old new : Bytes) : Type 0 where
   pub words : List Text
   pub asked : Asked words
-  pub answers : AnswersWords Opened input words old new
+  pub answers : AnswersWords Opened Played input words old new
 
 -- the program's words could not be had, and nothing is written; or they are not answered
 pub data FailsAll (Asked : List Text → Type 0) (Opened : List ℕ → Bytes → Type 0) (input old new : Bytes)
