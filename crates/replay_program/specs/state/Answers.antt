@@ -93,7 +93,7 @@ pub data FailsPlay (OpenedSteps OpenedTrace : Bytes → Type 0) (format : Format
       → FailsPlay OpenedSteps OpenedTrace format old new fault
 
 -- what is written for a job: the report of its trace in its format, or the line of the check; where there is a steps
--- file, its steps are played by the job's workers
+-- file, its steps are played by the job's workers. How many workers a run has shows nowhere in what is written
 abbrev pub Answers : (List ℕ → Bytes → Type 0) → (ℕ → List Step → Type 0) → Job → Bytes → Bytes → Type 0
 Answers Opened Played (jobs.Run trace workers format) = AnswersFile (Opened trace.now) (IsReportIn format)
 Answers Opened Played (jobs.Check trace format) = AnswersFile (Opened trace.now) (IsCheckIn format)
