@@ -4,6 +4,7 @@ ghost use Rattle.std.specs.Prelude.{◌<◌};
 
 use crate::turns::Turns;
 use kubelet_replay::Gate;
+use pod_piece::PodPiece;
 use std::alloc::{AllocError, AllocGlobal};
 use std::process::Abort;
 use std::sync::atomic::{AtomicU64, Ordering};
@@ -72,8 +73,12 @@ impl<'a, C: AllocGlobal + Clock> Meeting<'a, C> {
 }
 
 impl<C: Clock + Sync> Gate for Meeting<'_, C> {
-    fn enter(&self, pod: usize) {
-        self.turns.begin(pod);
+    fn waits(&self) -> bool {
+        true
+    }
+
+    fn enter(&self, piece: &PodPiece) {
+        self.turns.begin(piece.status().number);
         let before = self.arrivals.fetch_add(1, Ordering::SeqCst);
         let wanted = (before / self.workers)
             .saturating_add(1)
@@ -83,8 +88,8 @@ impl<C: Clock + Sync> Gate for Meeting<'_, C> {
         }
     }
 
-    fn leave(&self, pod: usize) {
-        self.turns.end(pod);
+    fn leave(&self, piece: &PodPiece, _is_updated: bool) {
+        self.turns.end(piece.status().number);
     }
 }
 
@@ -117,8 +122,12 @@ impl<'a, C> Pair<'a, C> {
 }
 
 impl<C: Clock + Sync> Gate for Pair<'_, C> {
-    fn enter(&self, pod: usize) {
-        let (own, other) = match pod {
+    fn waits(&self) -> bool {
+        true
+    }
+
+    fn enter(&self, piece: &PodPiece) {
+        let (own, other) = match piece.status().number {
             0 => (&self.first, &self.third),
             2 => (&self.third, &self.first),
             _ => return,
@@ -129,5 +138,5 @@ impl<C: Clock + Sync> Gate for Pair<'_, C> {
         }
     }
 
-    fn leave(&self, _pod: usize) {}
+    fn leave(&self, _piece: &PodPiece, _is_updated: bool) {}
 }

@@ -6,7 +6,6 @@ use crate::rounds::ROUNDS;
 use crate::scenario::Scenario;
 use crate::stopwatch::Stopwatch;
 use crate::traces::{full_text, trace_text};
-use kubelet_replay::Gate;
 use std::alloc::{AllocError, Global};
 use std::test::Fail;
 use std::time::Clock;
@@ -45,8 +44,8 @@ fn idle_time<C: Clock + Sync>(
     pods: usize,
 ) -> Result<u64, AllocError> {
     for pod in 0..pods {
-        gate.enter(pod);
-        gate.leave(pod);
+        gate.begin(pod);
+        gate.end(pod);
     }
     let times = gate.sorted(alloc)?;
     Ok(times.get(pods / 2).copied().unwrap_or(u64::MAX))

@@ -2,6 +2,7 @@
 
 use crate::turns::zeros;
 use kubelet_replay::Gate;
+use pod_piece::PodPiece;
 use std::alloc::{AllocError, AllocGlobal, Global};
 use std::sync::atomic::{AtomicU64, Ordering};
 use std::time::Clock;
@@ -51,14 +52,16 @@ impl<C> Stopwatch<'_, C> {
     }
 }
 
-impl<C: Clock + Sync> Gate for Stopwatch<'_, C> {
-    fn enter(&self, pod: usize) {
+impl<C: Clock> Stopwatch<'_, C> {
+    /// The update of the pod with the number begins.
+    pub(crate) fn begin(&self, pod: usize) {
         if let Some(entered) = self.entered.get(pod) {
             entered.store(nanos(self.clock), Ordering::SeqCst);
         }
     }
 
-    fn leave(&self, pod: usize) {
+    /// It has ended.
+    pub(crate) fn end(&self, pod: usize) {
         let now = nanos(self.clock);
         if let Some(entered) = self.entered.get(pod) {
             let time = now.saturating_sub(entered.load(Ordering::SeqCst));
@@ -66,5 +69,19 @@ impl<C: Clock + Sync> Gate for Stopwatch<'_, C> {
                 kept.store(time, Ordering::SeqCst);
             }
         }
+    }
+}
+
+impl<C: Clock + Sync> Gate for Stopwatch<'_, C> {
+    fn waits(&self) -> bool {
+        true
+    }
+
+    fn enter(&self, piece: &PodPiece) {
+        self.begin(piece.status().number);
+    }
+
+    fn leave(&self, piece: &PodPiece, _is_updated: bool) {
+        self.end(piece.status().number);
     }
 }

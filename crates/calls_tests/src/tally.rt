@@ -3,6 +3,7 @@
 use crate::turns::Turns;
 use kubelet_replay::Gate;
 use observations::MOST_PODS;
+use pod_piece::PodPiece;
 use std::alloc::{AllocError, Global};
 use std::sync::atomic::{AtomicU64, Ordering};
 
@@ -47,19 +48,21 @@ impl Tally {
 }
 
 impl Gate for Tally {
+    ghost may_wait = { λ tally. tally.says_it_waits };
+
     fn waits(&self) -> bool {
         self.says_it_waits
     }
 
-    fn enter(&self, pod: usize) {
-        self.turns.begin(pod);
+    fn enter(&self, piece: &PodPiece) {
+        self.turns.begin(piece.status().number);
         if self.under_way.fetch_add(1, Ordering::SeqCst) > 0 {
             self.overlaps.fetch_add(1, Ordering::SeqCst);
         }
     }
 
-    fn leave(&self, pod: usize) {
+    fn leave(&self, piece: &PodPiece, _is_updated: bool) {
         self.under_way.fetch_sub(1, Ordering::SeqCst);
-        self.turns.end(pod);
+        self.turns.end(piece.status().number);
     }
 }

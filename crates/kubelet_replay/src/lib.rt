@@ -10,6 +10,7 @@ mod run;
 pub use commands::{Job, UsageFault, job_of};
 pub use fault::{RunFault, fault_line, status_of};
 pub use node_report::report_text;
+pub use pod_piece::PodPiece;
 pub use replay_stream::{Counted, MemSink, MemSource, ReadFailed, Sink, Source, Stop, WriteFailed};
 pub use report::{report_by_steps, report_by_workers};
 pub use round_steps::{

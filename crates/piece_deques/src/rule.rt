@@ -7,16 +7,21 @@ use std::marker::{Brand, PhantomData};
 
 /// Which pieces are dealt. A round of workers picks it.
 pub trait Deal {
-    ghost use Rattle.std.specs.Prelude.{List};
+    ghost use Rattle.std.specs.Prelude.{Bool, List};
     ghost use Rattle.pod_piece.specs.state.Piece.{Piece};
 
     ghost all: { List Piece };
+
+    // Whether somebody was told that an update has ended with this piece, and that it was made, or that it was refused.
+    ghost left: { Piece → Bool → Bool };
 }
 
 impl Deal for Brand {
-    ghost use Rattle.std.specs.Prelude.{[]};
+    ghost use Rattle.std.specs.Prelude.{[], true};
 
     ghost all = { [] };
+
+    ghost left = { λ _ _. true };
 }
 
 /// What a pass of a deque has seen: its parts of the right to know the whole deque, the numbers of the pieces that were

@@ -72,6 +72,10 @@ on_ok (Err e) P Q more holds = tt
 pub when_ok : {A E : Type 0} (r : Result A E) (x : A) (P : Type 0) → r ≡ Ok x → OnOk r P → P
 when_ok {A} {E} r x P is holds = subst (λ (q : Result A E). OnOk q P) is holds
 
+pub on_both_err : {A E : Type 0} (r : Result A E) (P Q R : Type 0) → (P → Q → R) → OnErr r P → OnErr r Q → OnErr r R
+on_both_err (Ok x) P Q R more first second = tt
+on_both_err (Err e) P Q R more first second = more first second
+
 pub on_err : {A E : Type 0} (r : Result A E) (P Q : Type 0) → (P → Q) → OnErr r P → OnErr r Q
 on_err (Ok x) P Q more holds = tt
 on_err (Err e) P Q more holds = more holds

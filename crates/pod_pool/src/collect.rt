@@ -2,12 +2,14 @@
 
 ghost use Rattle.std.specs.Prelude.{◌≡◌, ◌<◌, ◌≤◌, ◌+◌, ℕ, None, All, IfOk, IfErr, length, vec_len, vec_capacity};
 ghost use Rattle.std.specs.List.{sum_by};
-ghost use Rattle.pod_pool.specs.state.Done.{weigh, IsLeftOf};
+ghost use Rattle.pod_pool.specs.state.Done.{weigh};
+ghost use Rattle.pod_pool.specs.state.Told.{IsRefused};
 ghost use Rattle.pod_pool.specs.state.WorkerResults.{kept};
 ghost use Rattle.pod_pool.specs.state.FinishedWorkers.{finished_kept, finished_pushed, finished_taken, IsAway};
 
 use crate::finished_worker::FinishedWorker;
 use crate::gate::Gate;
+use crate::round_gate::RoundGate;
 use crate::worker_result::WorkerResult;
 use event_book::EventBook;
 use piece_deques::Deal;
@@ -19,7 +21,7 @@ use std::sync::{Mutex, Wait};
 pub(crate) fn collect<D: Deal, U: Ledger, E: Ledger, O: Ledger, R: Wait, G: Gate>(
     rt: &R,
     book: &Mutex<EventBook<U, E, O>>,
-    gate: &G,
+    gate: &RoundGate<'_, D, G>,
     finished: Vec<FinishedWorker<D, U, E, O>>,
 ) -> Result<WorkerResult<D, U, E, O>, PodPiece>
     requires some { 0 < vec_len finished }
@@ -31,7 +33,7 @@ pub(crate) fn collect<D: Deal, U: Ledger, E: Ledger, O: Ledger, R: Wait, G: Gate
     ensures none { IfOk result (λ worker_result. worker_result.refused ≡ None) }
     ensures room { IfOk result (λ worker_result. length D.all ≤ vec_capacity worker_result.done) }
     ensures parts { IfOk result (λ worker_result. worker_result.share.parts ≡ vec_len finished) }
-    ensures due { IfErr result (IsLeftOf D.all) }
+    ensures due { IfErr result (IsRefused D.left D.all) }
 {
     let mut left = finished;
     let Some(ended) = left.pop() else {

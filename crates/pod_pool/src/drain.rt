@@ -4,12 +4,13 @@ ghost use Rattle.std.specs.Prelude.{◌≡◌, ◌+◌, ◌++◌, ℕ, None, IfO
 ghost use Rattle.std.specs.List.{sum_by};
 ghost use Rattle.crossbeam_deque.specs.Handles.{view, worker_deque, worker_view, stealer_deque};
 ghost use Rattle.piece_deques.specs.state.Rule.{all_parts};
-ghost use Rattle.pod_pool.specs.state.Done.{IsLeftOf};
+ghost use Rattle.pod_pool.specs.state.Told.{IsRefused};
 ghost use Rattle.pod_pool.specs.state.WorkerResults.{kept};
 
 use crate::finished_worker::FinishedWorker;
 use crate::gate::Gate;
 use crate::handle::StealHandle;
+use crate::round_gate::RoundGate;
 use crate::worker_result::WorkerResult;
 use event_book::EventBook;
 use piece_deques::{Deal, pop, return_permit};
@@ -33,7 +34,12 @@ impl<D: Deal, U: Ledger, E: Ledger, O: Ledger> FinishedWorker<D, U, E, O> {
     }
 
     /// Finishes each piece that is left in the deque, unless an update is refused.
-    fn drain<R: Wait, G: Gate>(&mut self, rt: &R, book: &Mutex<EventBook<U, E, O>>, gate: &G)
+    fn drain<R: Wait, G: Gate>(
+        &mut self,
+        rt: &R,
+        book: &Mutex<EventBook<U, E, O>>,
+        gate: &RoundGate<'_, D, G>,
+    )
         requires whole { (worker_view self.old.owner).parts ≡ all_parts }
         requires none { self.old.worker_result.refused ≡ None }
         ensures pushed { (worker_view self.new.owner).pushed ≡ (worker_view self.old.owner).pushed }
@@ -61,7 +67,7 @@ impl<D: Deal, U: Ledger, E: Ledger, O: Ledger> FinishedWorker<D, U, E, O> {
         self,
         rt: &R,
         book: &Mutex<EventBook<U, E, O>>,
-        gate: &G,
+        gate: &RoundGate<'_, D, G>,
     ) -> Result<WorkerResult<D, U, E, O>, PodPiece>
         requires whole { (worker_view self.owner).parts ≡ all_parts }
         requires none { self.worker_result.refused ≡ None }
@@ -72,7 +78,7 @@ impl<D: Deal, U: Ledger, E: Ledger, O: Ledger> FinishedWorker<D, U, E, O> {
         ensures room { IfOk result (λ r. vec_capacity r.done ≡ vec_capacity self.worker_result.done) }
         ensures room_uncounted { IfOk result (λ r. vec_capacity r.uncounted ≡ vec_capacity self.worker_result.done) }
         ensures parts { IfOk result (λ r. r.share.parts ≡ self.worker_result.share.parts) }
-        ensures due { IfErr result (IsLeftOf D.all) }
+        ensures due { IfErr result (IsRefused D.left D.all) }
     {
         let mut ended = self;
         ended.drain(rt, book, gate);

@@ -1,15 +1,17 @@
 //! How a worker updates and enters a piece, and how what two workers keep comes together.
 
-ghost use Rattle.std.specs.Prelude.{◌≡◌, ◌<◌, ◌≤◌, ◌+◌, [], ℕ, true, None, Some, vec_capacity};
-ghost use Rattle.std.specs.Prelude.{IfOk, IfErr, IfSome, OnOk, OnErr, is_ok, if◌then◌else◌};
+ghost use Rattle.std.specs.Prelude.{◌≡◌, ◌<◌, ◌≤◌, ◌+◌, [], ℕ, true, false, None, Some, vec_capacity};
+ghost use Rattle.std.specs.Prelude.{IfOk, IfErr, IfSome, IsTrue, OnOk, OnErr, is_ok, if◌then◌else◌};
 ghost use Rattle.pod_piece.specs.state.Piece.{all_updated};
 ghost use Rattle.totals.specs.state.Totals.{nothing, plus};
 ghost use Rattle.event_book.specs.state.Shares.{share_with};
 ghost use Rattle.piece_deques.specs.state.Rule.{IsPieceDue};
-ghost use Rattle.pod_pool.specs.state.Done.{IsDone, IsLeftFrom, IsLeftOf};
+ghost use Rattle.pod_pool.specs.state.Done.{IsLeftFrom};
+ghost use Rattle.pod_pool.specs.state.Told.{WereTold, IsFinished, IsRefused};
 ghost use Rattle.pod_pool.specs.state.WorkerResults.{kept, KeepsOneMore, HasRoomForOne, HasRoomFor};
 
 use crate::gate::{Gate, update};
+use crate::round_gate::RoundGate;
 use crate::worker_result::WorkerResult;
 use event_book::{EventBook, Full, Shares};
 use piece_deques::Deal;
@@ -26,7 +28,8 @@ pub fn update_waiting<G: Gate>(gate: &G, piece: &mut PodPiece) -> Result<(), All
     requires { 0 < piece.old.waiting }
     ensures ok { OnOk result (piece.new ≡ all_updated piece.old) }
     ensures err { OnErr result (IsLeftFrom piece.old piece.new) }
-    ensures left { G.left gate.now piece.old.number }
+    ensures told { WereTold (G.left gate.now) piece.old.waiting piece.new }
+    ensures refused { OnErr result (IsTrue (G.left gate.now piece.new false)) }
 {
     'waiting: while piece.pending() {
         update(gate, piece)?;
@@ -81,8 +84,8 @@ impl<D: Deal, U: Ledger, E: Ledger, O: Ledger> WorkerResult<D, U, E, O> {
         piece: PodPiece,
         updated: Result<(), AllocError>,
     ) -> bool
-        requires ok { OnOk updated (IsDone D.all piece) }
-        requires err { OnErr updated (IsLeftOf D.all piece) }
+        requires ok { OnOk updated (IsFinished D.left D.all piece) }
+        requires err { OnErr updated (IsRefused D.left D.all piece) }
         requires none { self.old.refused ≡ None }
         requires room { HasRoomForOne self.old }
         ensures keeps { KeepsOneMore piece self.old self.new }
@@ -112,7 +115,7 @@ impl<D: Deal, U: Ledger, E: Ledger, O: Ledger> WorkerResult<D, U, E, O> {
         &mut self,
         rt: &R,
         book: &Mutex<EventBook<U, E, O>>,
-        gate: &G,
+        gate: &RoundGate<'_, D, G>,
         piece: PodPiece,
     ) -> bool
         requires due { IsPieceDue D.all piece }
@@ -122,10 +125,10 @@ impl<D: Deal, U: Ledger, E: Ledger, O: Ledger> WorkerResult<D, U, E, O> {
         ensures more { result ≡ true → self.new.refused ≡ None }
         ensures last { self.new.refused ≡ None → result ≡ true }
         ensures refused { IfSome self.new.refused (IsLeftFrom piece) }
-        ensures left { G.left gate.now piece.number }
+        ensures told { result ≡ true → WereTold D.left piece.waiting (all_updated piece) }
     {
         let mut piece = piece;
-        let updated = update_waiting(gate, &mut piece);
+        let updated = update_waiting(gate.gate, &mut piece);
         self.keep(rt, book, piece, updated)
     }
 
@@ -133,7 +136,7 @@ impl<D: Deal, U: Ledger, E: Ledger, O: Ledger> WorkerResult<D, U, E, O> {
     pub fn complete(self) -> Result<WorkerResult<D, U, E, O>, PodPiece>
         ensures ok { IfOk result (λ worker_result. worker_result ≡ self) }
         ensures none { IfOk result (λ worker_result. worker_result.refused ≡ None) }
-        ensures err { IfErr result (IsLeftOf D.all) }
+        ensures err { IfErr result (IsRefused D.left D.all) }
         ensures refused { IfErr result (λ piece. self.refused ≡ Some piece) }
     {
         if self.refused.is_none() {

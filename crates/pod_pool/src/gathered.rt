@@ -5,7 +5,7 @@ ghost use Rattle.observations.specs.rule.Limits.{most_pods};
 ghost use Rattle.event_book.specs.state.Shares.{most_parts};
 ghost use Rattle.totals.specs.state.Limits.{AreLow};
 ghost use Rattle.piece_deques.specs.state.Rule.{AreNumbered};
-ghost use Rattle.pod_pool.specs.state.Done.{IsLeftOf};
+ghost use Rattle.pod_pool.specs.state.Told.{IsRefused};
 ghost use Rattle.pod_pool.specs.state.Contexts.{context_tag, AreLaid};
 ghost use Rattle.pod_pool.specs.state.Order.{IsRoundDone};
 ghost use Rattle.pod_pool.specs.state.Rooms.{HasRoom};
@@ -16,6 +16,7 @@ use crate::context::WorkerContext;
 use crate::finished_worker::FinishedWorker;
 use crate::gate::Gate;
 use crate::handle::StealHandle;
+use crate::round_gate::RoundGate;
 use crate::settle::settle;
 use crate::take_apart::take_all_apart;
 use event_book::{EventBook, Shares};
@@ -49,7 +50,7 @@ impl<D: Deal, U: Ledger, E: Ledger, O: Ledger> ResultBuffers<D, U, E, O> {
 pub(crate) fn gather<D: Deal, U: Ledger, E: Ledger, O: Ledger, R: Wait, G: Gate>(
     rt: &R,
     book: &Mutex<EventBook<U, E, O>>,
-    gate: &G,
+    gate: &RoundGate<'_, D, G>,
     room: ResultBuffers<D, U, E, O>,
     contexts: Vec<WorkerContext<D, U, E, O>>,
     share: Shares<U, E, O>,
@@ -62,8 +63,8 @@ pub(crate) fn gather<D: Deal, U: Ledger, E: Ledger, O: Ledger, R: Wait, G: Gate>
     requires parts { share.parts + vec_len contexts ≡ most_parts }
     requires level { (U.parts ≡ most_parts) × (E.parts ≡ most_parts) × (O.parts ≡ most_parts) }
     requires low { AreLow share.totals }
-    ensures done { IfOk result (λ r. IsRoundDone D.all share r.0.items r.1) }
-    ensures due { IfErr result (IsLeftOf D.all) }
+    ensures done { IfOk result (λ r. IsRoundDone D.left D.all share r.0.items r.1) }
+    ensures due { IfErr result (IsRefused D.left D.all) }
 {
     let ResultBuffers { finished, rows } = room;
     let mut finished = finished;

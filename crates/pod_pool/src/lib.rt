@@ -63,6 +63,7 @@ pub mod laws;
 mod order;
 mod permits;
 mod pool;
+mod round_gate;
 mod run;
 mod settle;
 mod slot;

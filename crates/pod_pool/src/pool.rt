@@ -1,6 +1,6 @@
 //! The pool.
 
-ghost use Rattle.std.specs.Prelude.{◌≡◌, ◌<◌, ◌≤◌, All, IfOk, IfErr, length, map, min, max};
+ghost use Rattle.std.specs.Prelude.{◌≡◌, ◌<◌, ◌≤◌, All, IfOk, IfErr, OnOk, length, map, min, max};
 ghost use Rattle.observations.specs.rule.Limits.{most_pods};
 ghost use Rattle.pod_piece.specs.state.Piece.{all_updated};
 ghost use Rattle.event_book.specs.state.Shares.{most_parts};
@@ -9,19 +9,21 @@ ghost use Rattle.totals.specs.state.Limits.{AreLow};
 ghost use Rattle.piece_deques.specs.state.Rule.{AreNumbered};
 ghost use Rattle.pod_pool.specs.state.Faults.{GivesBack};
 ghost use Rattle.pod_pool.specs.state.Order.{HasEntered};
+ghost use Rattle.pod_pool.specs.state.Told.{AreTold, IsToldOf};
 
 use crate::buffers::make_buffers;
 use crate::contexts::lay_out;
 use crate::fault::PoolFault;
 use crate::gate::Gate;
 use crate::gathered::{ResultBuffers, gather};
+use crate::round_gate::RoundGate;
 use crate::run::run;
 use crate::spawner::Spawner;
 use event_book::{EventBook, Shares};
 use piece_deques::Deal;
 use pod_piece::PodPiece;
 use std::alloc::Global;
-use std::marker::Brand;
+use std::marker::{Brand, PhantomData};
 use std::sync::Mutex;
 use std::sync::ledger::Ledger;
 
@@ -36,7 +38,14 @@ fn busy(workers: usize, pieces: usize) -> usize
 }
 
 /// [`update_all`] with a deal of these pieces, where each of the workers has something to do.
-fn pool<D: Deal + Send, U: Ledger + Send, E: Ledger + Send, O: Ledger + Send, R: Spawner, G: Gate>(
+fn pool<
+    D: Deal + Send + Sync,
+    U: Ledger + Send,
+    E: Ledger + Send,
+    O: Ledger + Send,
+    R: Spawner,
+    G: Gate,
+>(
     rt: &R,
     alloc: Global,
     pieces: Vec<PodPiece>,
@@ -46,6 +55,7 @@ fn pool<D: Deal + Send, U: Ledger + Send, E: Ledger + Send, O: Ledger + Send, R:
     gate: &G,
 ) -> Result<(Vec<PodPiece>, Shares<U, E, O>), PoolFault<U, E, O>>
     requires all { D.all ≡ pieces.items }
+    requires left { D.left ≡ G.left gate.now }
     requires pending { All (λ piece. 0 < piece.waiting) pieces.items }
     requires numbered { AreNumbered pieces.items }
     requires few { length pieces.items ≤ most_pods }
@@ -57,6 +67,8 @@ fn pool<D: Deal + Send, U: Ledger + Send, E: Ledger + Send, O: Ledger + Send, R:
     ensures pieces { IfOk result (λ r. r.0.items ≡ map all_updated pieces.items) }
     ensures share { IfOk result (λ r. HasEntered r.0.items share r.1) }
     ensures fault { IfErr result (GivesBack pieces share) }
+    ensures told { OnOk result (AreTold (G.left gate.now) pieces.items) }
+    ensures refused { IfErr result (IsToldOf (G.left gate.now)) }
 {
     let Ok(buffers) = make_buffers::<D, U, E, O>(alloc, pieces.len(), workers) else {
         return Err(PoolFault::NoRoom(pieces, share));
@@ -64,10 +76,14 @@ fn pool<D: Deal + Send, U: Ledger + Send, E: Ledger + Send, O: Ledger + Send, R:
     let Ok(room) = ResultBuffers::<D, U, E, O>::new(alloc, workers) else {
         return Err(PoolFault::NoRoom(pieces, share));
     };
+    let gate = RoundGate::<D, G> {
+        gate,
+        of: PhantomData,
+    };
     let mut share = share;
     let mut contexts = lay_out(buffers, pieces, &mut share);
-    run(rt, book, gate, contexts.as_mut_slice());
-    match gather(rt, book, gate, room, contexts, share) {
+    run(rt, book, &gate, contexts.as_mut_slice());
+    match gather(rt, book, &gate, room, contexts, share) {
         Ok(answer) => Ok(answer),
         Err(piece) => Err(PoolFault::Update(piece)),
     }
@@ -81,7 +97,8 @@ fn pool<D: Deal + Send, U: Ledger + Send, E: Ledger + Send, O: Ledger + Send, R:
 ///
 /// An `Err` says that memory was refused. At `NoRoom` no piece was dealt: pieces and share are as they were handed in.
 /// At `Update` one of the pieces comes back with those of its ticks left that are still to come, one at least and no
-/// more than it was dealt with; the others and the share are dropped.
+/// more than it was dealt with; the others and the share are dropped. The gate was told of each update by which a tick
+/// came into a status, and of the refused one.
 pub fn update_all<U: Ledger + Send, E: Ledger + Send, O: Ledger + Send, R: Spawner, G: Gate>(
     rt: &R,
     alloc: Global,
@@ -102,6 +119,8 @@ pub fn update_all<U: Ledger + Send, E: Ledger + Send, O: Ledger + Send, R: Spawn
     ensures pieces { IfOk result (λ r. r.0.items ≡ map all_updated pieces.items) }
     ensures share { IfOk result (λ r. HasEntered r.0.items share r.1) }
     ensures fault { IfErr result (GivesBack pieces share) }
+    ensures told { OnOk result (AreTold (G.left gate.now) pieces.items) }
+    ensures refused { IfErr result (IsToldOf (G.left gate.now)) }
 {
     let workers = busy(workers, pieces.len());
     pool::<Brand, U, E, O, R, G>(rt, alloc, pieces, book, share, workers, gate)

@@ -5,6 +5,7 @@ ghost use Rattle.pod_pool.specs.state.Contexts.{context_tag, HasEmptied};
 
 use crate::context::WorkerContext;
 use crate::gate::Gate;
+use crate::round_gate::RoundGate;
 use crate::spawner::Spawner;
 use event_book::EventBook;
 use piece_deques::Deal;
@@ -16,13 +17,18 @@ use std::thread;
 /// starts fewer threads, those that run do the rest. Each ends when it has found every deque empty, or where an update
 /// is refused.
 pub(crate) fn run<
-    D: Deal + Send,
+    D: Deal + Send + Sync,
     U: Ledger + Send,
     E: Ledger + Send,
     O: Ledger + Send,
     R: Spawner,
     G: Gate,
->(rt: &R, book: &Mutex<EventBook<U, E, O>>, gate: &G, contexts: &mut [WorkerContext<D, U, E, O>])
+>(
+    rt: &R,
+    book: &Mutex<EventBook<U, E, O>>,
+    gate: &RoundGate<'_, D, G>,
+    contexts: &mut [WorkerContext<D, U, E, O>],
+)
     requires { 0 < length contexts.old }
     ensures same { map context_tag contexts.new ≡ map context_tag contexts.old }
     ensures emptied { All (λ context. context.worker_result.refused ≡ None → HasEmptied D.all context) contexts.new }

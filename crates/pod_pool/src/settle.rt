@@ -44,7 +44,7 @@ pub(crate) fn settle<D: Deal, U: Ledger, E: Ledger, O: Ledger, R: Wait>(
     requires level { (U.parts ≡ most_parts) × (E.parts ≡ most_parts) × (O.parts ≡ most_parts) }
     requires whole { share.parts + total.share.parts ≡ most_parts }
     requires low { AreLow share.totals }
-    ensures { IsRoundDone D.all share result.0.items result.1 }
+    ensures { IsRoundDone D.left D.all share result.0.items result.1 }
 {
     let WorkerResult {
         done,

@@ -4,7 +4,7 @@ ghost use Rattle.std.specs.Prelude.{◌≡◌, ◌≤◌, ◌+◌, ℕ, [], None
 ghost use Rattle.std.specs.List.{sum_by};
 ghost use Rattle.crossbeam_deque.specs.Handles.{worker_view};
 ghost use Rattle.piece_deques.specs.state.Rule.{all_parts};
-ghost use Rattle.pod_pool.specs.state.Done.{IsLeftOf};
+ghost use Rattle.pod_pool.specs.state.Told.{IsRefused};
 ghost use Rattle.pod_pool.specs.state.Permits.{pushed_count, taken_by};
 ghost use Rattle.pod_pool.specs.state.Contexts.{context_deque, context_tag, IsLaid};
 ghost use Rattle.pod_pool.specs.state.FinishedWorkers.{finished_deque, finished_kept, finished_taken, IsAway, IsRow};
@@ -25,7 +25,7 @@ fn take_apart<D: Deal, U: Ledger, E: Ledger, O: Ledger>(
     ensures worker_result { IfOk result (λ r. r.0.worker_result ≡ context.worker_result) }
     ensures none { IfOk result (λ r. r.0.worker_result.refused ≡ None) }
     ensures handles { IfOk result (λ r. r.1 ≡ context.handles) }
-    ensures due { IfErr result (IsLeftOf D.all) }
+    ensures due { IfErr result (IsRefused D.left D.all) }
 {
     let WorkerContext {
         owner,
@@ -69,7 +69,7 @@ pub(crate) fn take_all_apart<D: Deal, U: Ledger, E: Ledger, O: Ledger>(
     ensures kept { OnOk result ((weight : ℕ → ℕ) → sum_by (finished_kept weight) finished.new.items
         ≡ sum_by (finished_taken weight) finished.new.items + sum_by
         (λ row. taken_by weight row.items) rows.new.items) }
-    ensures due { IfErr result (IsLeftOf D.all) }
+    ensures due { IfErr result (IsRefused D.left D.all) }
 {
     let mut left = contexts;
     left.reverse();

@@ -14,6 +14,7 @@ ghost use Rattle.pod_pool.specs.state.Contexts.{tag_of, context_tag, IsSameWorke
 use crate::context::WorkerContext;
 use crate::gate::Gate;
 use crate::handle::StealHandle;
+use crate::round_gate::RoundGate;
 use crate::worker_result::WorkerResult;
 use event_book::{EventBook, Shares};
 use piece_deques::{Deal, Owner, pop};
@@ -56,7 +57,7 @@ impl<D: Deal, U: Ledger, E: Ledger, O: Ledger> WorkerContext<D, U, E, O> {
         &mut self,
         rt: &R,
         book: &Mutex<EventBook<U, E, O>>,
-        gate: &G,
+        gate: &RoundGate<'_, D, G>,
     ) -> bool
         requires { self.old.worker_result.refused ≡ None }
         ensures same { IsSameWorker self.old self.new }
@@ -80,7 +81,7 @@ impl<D: Deal, U: Ledger, E: Ledger, O: Ledger> WorkerContext<D, U, E, O> {
         &mut self,
         rt: &R,
         book: &Mutex<EventBook<U, E, O>>,
-        gate: &G,
+        gate: &RoundGate<'_, D, G>,
         from: usize,
     ) -> bool
         requires none { self.old.worker_result.refused ≡ None }
@@ -106,7 +107,12 @@ impl<D: Deal, U: Ledger, E: Ledger, O: Ledger> WorkerContext<D, U, E, O> {
 
     /// Finishes the pieces of its own deque, and then of each other one, until it finds none in it. It ends early where
     /// an update is refused.
-    pub fn work<R: Wait, G: Gate>(&mut self, rt: &R, book: &Mutex<EventBook<U, E, O>>, gate: &G)
+    pub fn work<R: Wait, G: Gate>(
+        &mut self,
+        rt: &R,
+        book: &Mutex<EventBook<U, E, O>>,
+        gate: &RoundGate<'_, D, G>,
+    )
         ensures same { context_tag self.new ≡ context_tag self.old }
         ensures emptied { self.new.worker_result.refused ≡ None → HasEmptied D.all self.new }
     {

@@ -10,6 +10,7 @@ use crate::seen::{Line, Saw, Unprepared};
 use crate::ticks::{WORKERS, halted};
 use event_book::WholeBook;
 use observations::TickObs;
+use pod_piece::PodPiece;
 use std::alloc::Global;
 use std::sync::ledger::Ledger;
 use tick_round::{Gate, Node, Spawner, TickFault};
@@ -18,9 +19,13 @@ use tick_round::{Gate, Node, Spawner, TickFault};
 struct AllRun;
 
 impl Gate for AllRun {
-    fn enter(&self, _pod: usize) {}
+    fn waits(&self) -> bool {
+        true
+    }
 
-    fn leave(&self, _pod: usize) {}
+    fn enter(&self, _piece: &PodPiece) {}
+
+    fn leave(&self, _piece: &PodPiece, _is_updated: bool) {}
 }
 
 /// The node takes these ticks.

@@ -2,7 +2,7 @@
 
 ghost use Rattle.std.specs.Prelude.{◌≡◌};
 
-use kubelet_replay::Gate;
+use kubelet_replay::{Gate, PodPiece};
 use std::io::{self, IsTerminal, Read, Write};
 use std::sync::atomic::{AtomicUsize, Ordering};
 
@@ -72,17 +72,21 @@ impl<'h, E: Eprint> Progress<'h, E> {
 
 /// It counts a tick by the first of its updates.
 impl<E: Eprint + Sync> Gate for Progress<'_, E> {
+    ghost use Rattle.std.specs.Prelude.{false};
+
+    ghost may_wait = { λ _. false };
+
     fn waits(&self) -> bool {
         false
     }
 
-    fn enter(&self, pod: usize) {
-        if pod == 0 {
+    fn enter(&self, piece: &PodPiece) {
+        if piece.status().number == 0 {
             self.add_tick();
         }
     }
 
-    fn leave(&self, _pod: usize) {}
+    fn leave(&self, _piece: &PodPiece, _is_updated: bool) {}
 }
 
 /// A reader whose bytes are counted.

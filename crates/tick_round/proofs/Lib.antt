@@ -1,4 +1,5 @@
 pub mod Updates
+pub mod ToldBelow
 pub mod Rounds
 pub mod Evicts
 pub mod Conditions

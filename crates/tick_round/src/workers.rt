@@ -1,16 +1,19 @@
 //! The updates of all pods in a round, by workers.
 
-ghost use Rattle.std.specs.Prelude.{◌≡◌, ◌⊎◌, ◌<◌, ◌≤◌, map, IfOk};
+ghost use Rattle.std.specs.Prelude.{◌≡◌, ◌<◌, ◌≤◌, map, IfOk, IsErr, OnOk, MatchResult, if◌then◌else◌};
+ghost use Rattle.std.specs.Result.{IsOkAnd};
 ghost use Rattle.pod_piece.specs.state.Piece.{all_updated};
+ghost use Rattle.event_book.specs.state.Shares.{most_parts};
 ghost use Rattle.worker_count.specs.rule.Limit.{most_workers};
 ghost use Rattle.piece_deques.specs.state.Rule.{AreNumbered};
+ghost use Rattle.pod_pool.specs.state.Told.{AreTold};
 ghost use Rattle.tick_round.specs.state.Update.{MayUpdate, AreAdded};
 ghost use Rattle.tick_round.specs.state.Workers.{worth_their_start};
 
 use crate::alone::update_alone;
-use event_book::WholeBook;
+use event_book::{EventBook, Shares, WholeBook};
 use pod_piece::PodPiece;
-use pod_pool::{Gate, Spawner, update_all};
+use pod_pool::{Gate, PoolFault, Spawner, update_all};
 use std::alloc::{AllocError, Global};
 use std::sync::Mutex;
 use std::sync::ledger::Ledger;
@@ -32,7 +35,7 @@ fn worth_their_start(workers: usize, updates: usize) -> usize
 /// This many workers run: all where an update may wait for others, else those that are worth their start.
 fn workers_to_run<G: Gate>(workers: usize, updates: usize, gate: &G) -> usize
     requires { 0 < workers }
-    ensures either { (result ≡ workers) ⊎ (result ≡ worth_their_start workers updates) }
+    ensures is { result ≡ (if G.may_wait gate.now then workers else worth_their_start workers updates) }
     ensures some { 0 < result }
     ensures most { result ≤ workers }
 {
@@ -40,6 +43,22 @@ fn workers_to_run<G: Gate>(workers: usize, updates: usize, gate: &G) -> usize
         workers
     } else {
         worth_their_start(workers, updates)
+    }
+}
+
+/// The pieces that workers have updated, and the book out of its lock. An `Err` says that memory was refused to the
+/// workers: this takes none.
+fn put_together<U: Ledger, E: Ledger, O: Ledger>(
+    updated: Result<(Vec<PodPiece>, Shares<U, E, O>), PoolFault<U, E, O>>,
+    events: Mutex<EventBook<U, E, O>>,
+) -> Result<(Vec<PodPiece>, WholeBook<U, E, O>), AllocError>
+    requires whole { IfOk updated (λ u. u.1.parts ≡ most_parts) }
+    requires level { (U.parts ≡ most_parts) × (E.parts ≡ most_parts) × (O.parts ≡ most_parts) }
+    ensures { MatchResult updated (λ u. IsOkAnd result (λ r. (r.0 ≡ u.0) × (r.1 ≡ u.1.totals))) (λ _. IsErr result) }
+{
+    match updated {
+        Ok((pieces, share)) => Ok((pieces, WholeBook::of_parts(events.into_inner(), share))),
+        Err(_) => Err(AllocError),
     }
 }
 
@@ -62,6 +81,7 @@ pub fn update_by_workers<U: Ledger + Send, E: Ledger + Send, O: Ledger + Send, R
     requires most { workers ≤ most_workers }
     ensures pieces { IfOk result (λ r. r.0.items ≡ map all_updated pieces.items) }
     ensures book { IfOk result (λ r. AreAdded r.0.items book r.1) }
+    ensures told { OnOk result (AreTold (G.left gate.now) pieces.items) }
 {
     // One pod is updated by one thread, however many of its ticks wait.
     let workers = workers_to_run(workers.min(pieces.len().max(1)), updates, gate);
@@ -70,8 +90,6 @@ pub fn update_by_workers<U: Ledger + Send, E: Ledger + Send, O: Ledger + Send, R
     }
     let (events, share) = book.into_parts();
     let events = Mutex::new(events);
-    match update_all(rt, alloc, pieces, &events, share, workers, gate) {
-        Ok((pieces, share)) => Ok((pieces, WholeBook::of_parts(events.into_inner(), share))),
-        Err(_) => Err(AllocError),
-    }
+    let updated = update_all(rt, alloc, pieces, &events, share, workers, gate);
+    put_together(updated, events)
 }

@@ -1,5 +1,5 @@
 -- The pods of a node take what waits for them into their statuses, and what that makes of the totals.
-use Rattle.std.specs.Prelude.{◌≡◌, ℕ, ◌<◌, ◌≤◌, List, length, slice_get, slice_set, Some}
+use Rattle.std.specs.Prelude.{◌≡◌, ℕ, ◌<◌, ◌≤◌, Bool, List, length, slice_get, slice_set, Some}
 use Rattle.observations.specs.rule.Limits.{most_pods}
 use Rattle.pod_piece.specs.state.Piece.{Piece, all_updated}
 use Rattle.totals.specs.declared.totals.Entry.{Entry}
@@ -7,6 +7,7 @@ use Rattle.totals.specs.declared.totals.Totals.{Totals}
 use Rattle.totals.specs.state.Totals.{AreEntriesOf, sums_of, plus}
 use Rattle.totals.specs.state.Rounds.{IsAdditionOf, AreAdditionsOf, sums_of_additions}
 use Rattle.totals.specs.state.Limits.{IsLowAddition, AreLow}
+use Rattle.pod_pool.specs.state.Told.{WereTold}
 
 -- none of the totals passes this
 pub record AreUpTo (most : ℕ) (totals : Totals) : Type 0 where
@@ -38,6 +39,11 @@ pub record AreAdded (pieces : List Piece) (old new : Totals) : Type 0 where
   pub additions : List Totals
   pub are_additions : AreAdditionsOf pieces additions
   pub totals : new ≡ plus old (sums_of_additions additions)
+
+-- somebody was told of each update of the pod with the number, by all that waits for it
+abbrev pub IsToldAt : (Piece → Bool → Bool) → List Piece → ℕ → Type 0
+IsToldAt left pieces number =
+    (piece : Piece) → slice_get pieces number ≡ Some piece → WereTold left piece.waiting (all_updated piece)
 
 -- the pod with the number has taken all that waited for it, and was entered
 pub record UpdatesAt (old : List Piece) (number : ℕ) (before : Totals) (new : List Piece)

@@ -1,14 +1,17 @@
 use Rattle.std.proofs.Common.{◌≤◌, Option, List, length, refl, ap, ◌∙◌, subst, arith}
 use Rattle.std.specs.Option.{option_to_list}
+use Rattle.std.proofs.lemmas.List.Elements.{All-weaker}
 use Rattle.observations.specs.rule.Limits.{most_pods}
 use Rattle.pod_piece.specs.state.Piece.{Piece}
 use Rattle.totals.specs.state.Totals.{plus}
 use Rattle.totals.specs.state.Rounds.{AreAdditionsOf}
 use Rattle.piece_deques.proofs.Lists.{front, last, grown, ones}
 use Rattle.pod_pool.specs.state.Done.{IsDone, weigh}
+use Rattle.pod_pool.specs.state.Told.{IsFinished}
 use Rattle.pod_pool.proofs.Numbers.{weigh_more}
 use Rattle.pod_pool.proofs.Sums.{plus_assoc, sums_more}
 use Rattle.pod_pool.proofs.Additions.{settled, within_round}
+use Rattle.pod_pool.proofs.Told.{all_told}
 use Rattle.pod_pool.proofs.settle.settle.Goals as goal
 
 pub entered-init : goal.entered-init
@@ -61,7 +64,7 @@ push_reserved-requires g c =
 
 pub entered-preserved : goal.entered-preserved
 entered-preserved g c =
-    let done' = IsDone g.D.Deal.all in
+    let done' = IsFinished g.D.Deal.left g.D.Deal.all in
     let l = c.entered in
     let i = l.invariant in
     let left = c.pop.new.self in
@@ -105,6 +108,7 @@ returns g c =
     subst (λ (ps : List Piece). AreAdditionsOf ps found.0) c.deref.ensures.value found.1 in
     record {
       are_updated = order.placed;
+      told = all_told g.D.Deal.left g.D.Deal.all _ _ c.requires.numbered order.placed order.same i.right;
       entered = (
         found.0,
         are,
@@ -112,3 +116,8 @@ returns g c =
             order.placed order.same are i.added i.whole,
       );
     }
+
+pub in_order-pieces-requires-clause-right : goal.in_order-pieces-requires-clause-right
+in_order-pieces-requires-clause-right g c =
+    All-weaker (IsFinished g.D.Deal.left g.D.Deal.all) (IsDone g.D.Deal.all) (λ p f. f.is_done) _
+    c.entered.invariant.right

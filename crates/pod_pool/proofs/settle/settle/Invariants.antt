@@ -1,13 +1,14 @@
 use Rattle.std.proofs.Common.{◌≡◌, ◌+◌, ◌≤◌, ℕ, All, length, vec_len, vec_capacity}
 use Rattle.event_book.specs.state.Shares.{most_parts}
-use Rattle.pod_pool.specs.state.Done.{IsDone, weigh}
+use Rattle.pod_pool.specs.state.Done.{weigh}
 use Rattle.pod_pool.specs.state.Order.{AreAdded}
+use Rattle.pod_pool.specs.state.Told.{IsFinished}
 use Rattle.pod_pool.proofs.settle.settle.Given as goal
 
 abbrev pub invariant-entered : goal.invariant-entered
 invariant-entered g l = record {
-  right : All (IsDone g.D.Deal.all) l.done.items;
-  right_uncounted : All (IsDone g.D.Deal.all) l.uncounted.items;
+  right : All (IsFinished g.D.Deal.left g.D.Deal.all) l.done.items;
+  right_uncounted : All (IsFinished g.D.Deal.left g.D.Deal.all) l.uncounted.items;
   each : (weight : ℕ → ℕ) → weigh weight l.done.items + weigh weight l.uncounted.items ≡ weigh weight g.D.Deal.all;
   room : length g.D.Deal.all ≤ vec_capacity l.done;
   whole : l.share.parts ≡ most_parts;

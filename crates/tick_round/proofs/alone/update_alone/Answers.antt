@@ -1,4 +1,5 @@
 use Rattle.std.proofs.Common.{arith}
+use Rattle.tick_round.proofs.ToldBelow.{one_told, all_told}
 use Rattle.tick_round.proofs.Updates.{one_updated, all_taken, room_at}
 use Rattle.tick_round.proofs.alone.update_alone.Goals as goal
 
@@ -12,10 +13,18 @@ loop-number-preserved g c = record {
   end = c.loop-number.invariant.end;
   updated = one_updated c.args.pieces.items c.args.book c.loop-number.number c.loop-number.pieces.items
       c.loop-number.book c.update_at.new.pieces.items c.update_at.new.book c.loop-number.invariant.updated
-      c.in_ok-update_at.ensures;
+      c.in_ok-update_at.ensures.updates;
+  told = one_told (g.G.Gate.left c.args.gate.now) c.args.pieces.items c.args.book c.loop-number.number
+      c.loop-number.pieces.items c.loop-number.book c.loop-number.invariant.updated c.loop-number.invariant.told
+      c.in_ok-update_at.ensures.told;
 }
 
 pub returns-clause-pieces : goal.returns-clause-pieces
 returns-clause-pieces g c =
     all_taken c.args.pieces.items c.args.book c.loop-number.number c.loop-number.pieces.items c.loop-number.book
     c.loop-number.invariant.updated (omega (arith, c.loop-number-test.false, c.loop-number.invariant.end))
+
+pub returns-clause-told : goal.returns-clause-told
+returns-clause-told g c =
+    all_told (g.G.Gate.left c.args.gate.now) c.args.pieces.items c.loop-number.number c.loop-number.invariant.told
+    (omega (arith, c.loop-number-test.false, c.loop-number.invariant.end))

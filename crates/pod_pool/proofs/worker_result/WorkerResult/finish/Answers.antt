@@ -1,12 +1,23 @@
-use Rattle.pod_pool.proofs.Numbers.{done_once, left_of, on_ok, on_err}
+use Rattle.pod_pool.proofs.Numbers.{on_ok, on_both_err}
+use Rattle.pod_pool.proofs.Told.{finished, refused, told_where_made}
 use Rattle.pod_pool.proofs.worker_result.WorkerResult.finish.Goals as goal
 
 pub keep-requires-clause-ok : goal.keep-requires-clause-ok
 keep-requires-clause-ok g c =
-    on_ok c.update_waiting-updated.result _ _ (done_once g.D.Deal.all _ _ c.requires.due)
+    on_ok c.update_waiting-updated.result _ _
+    (finished (g.G.Gate.left c.args.gate.now.gate.now) g.D.Deal.left g.D.Deal.all _ _ c.args.gate.now.told
+    c.requires.due c.update_waiting-updated.ensures.told)
     c.update_waiting-updated.ensures.ok
 
 pub keep-requires-clause-err : goal.keep-requires-clause-err
 keep-requires-clause-err g c =
-    on_err c.update_waiting-updated.result _ _ (left_of g.D.Deal.all _ _ c.requires.due)
-    c.update_waiting-updated.ensures.err
+    on_both_err c.update_waiting-updated.result _ _ _
+    (refused (g.G.Gate.left c.args.gate.now.gate.now) g.D.Deal.left g.D.Deal.all _ _ c.args.gate.now.told
+    c.requires.due)
+    c.update_waiting-updated.ensures.refused c.update_waiting-updated.ensures.err
+
+pub returns-clause-told : goal.returns-clause-told
+returns-clause-told g c =
+    told_where_made c.update_waiting-updated.result c.keep.result (g.G.Gate.left c.args.gate.now.gate.now)
+    g.D.Deal.left c.args.piece.waiting c.args.piece c.update_waiting-updated.new.piece c.args.gate.now.told
+    c.keep.ensures.updated c.update_waiting-updated.ensures.ok c.update_waiting-updated.ensures.told

@@ -1,13 +1,13 @@
 use Rattle.std.proofs.Common.{ap}
 use Rattle.piece_deques.proofs.Lists.{grown}
-use Rattle.pod_pool.specs.state.Done.{IsDone}
+use Rattle.pod_pool.specs.state.Told.{IsFinished}
 use Rattle.pod_pool.proofs.Numbers.{when_ok}
 use Rattle.pod_pool.proofs.Sums.{sums_more}
 use Rattle.pod_pool.proofs.worker_result.WorkerResult.keep.Goals as goal
 
 pub invariant_of-self-clause-right : goal.invariant_of-self-clause-right
 invariant_of-self-clause-right g c =
-    grown (IsDone g.D.Deal.all) _ _ _ c.push_reserved.ensures.items c.args.self.now.right
+    grown (IsFinished g.D.Deal.left g.D.Deal.all) _ _ _ c.push_reserved.ensures.items c.args.self.now.right
     (when_ok _ _ _ c.in-Ok.is c.requires.ok)
 
 pub invariant_of-self-clause-counts : goal.invariant_of-self-clause-counts
@@ -19,5 +19,5 @@ invariant_of-self-clause-counts g c =
 pub invariant_of-self-in-Err-entered-clause-right_uncounted :
     goal.invariant_of-self-in-Err-entered-clause-right_uncounted
 invariant_of-self-in-Err-entered-clause-right_uncounted g c =
-    grown (IsDone g.D.Deal.all) _ _ _ c.push_reserved-in-Err-entered.ensures.items c.args.self.now.right_uncounted
+    grown (IsFinished g.D.Deal.left g.D.Deal.all) _ _ _ c.push_reserved-in-Err-entered.ensures.items c.args.self.now.right_uncounted
     (when_ok _ _ _ c.in-Ok.is c.requires.ok)

@@ -1,19 +1,19 @@
 use Rattle.std.proofs.Common.{All, ◌++◌, sym, subst, ap, arith}
 use Rattle.std.proofs.lemmas.List.Elements.{All-append}
-use Rattle.pod_pool.specs.state.Done.{IsDone}
+use Rattle.pod_pool.specs.state.Told.{IsFinished}
 use Rattle.pod_pool.proofs.Numbers.{all_either}
 use Rattle.pod_pool.proofs.Sums.{sums_both}
 use Rattle.pod_pool.proofs.worker_result.WorkerResult.merge.Goals as goal
 
 pub invariant_of-self-clause-right : goal.invariant_of-self-clause-right
 invariant_of-self-clause-right g c =
-    let done = IsDone g.D.Deal.all in
+    let done = IsFinished g.D.Deal.left g.D.Deal.all in
     subst (All done) (sym c.in-Ok.ensures.items)
     (All-append done c.args.self.now.done.items c.args.other.done.items c.args.self.now.right c.args.other.right)
 
 pub invariant_of-self-clause-right_uncounted : goal.invariant_of-self-clause-right_uncounted
 invariant_of-self-clause-right_uncounted g c =
-    let done = IsDone g.D.Deal.all in
+    let done = IsFinished g.D.Deal.left g.D.Deal.all in
     let uncounted = c.args.self.now.uncounted.items in
     let others = c.args.other.uncounted.items in
     let mine = c.args.self.now.right_uncounted in
