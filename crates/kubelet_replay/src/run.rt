@@ -4,7 +4,7 @@ ghost use Rattle.std.specs.Prelude.{◌≡◌, ◌+◌, ◌^◌, ◌<◌, ◌≤
 ghost use Rattle.worker_count.specs.rule.Limit.{most_workers};
 ghost use Rattle.kubelet_replay.specs.rule.Run.{failed_reads, failed_writes, HasRead, IsReportIn, IsReportOfText};
 ghost use Rattle.kubelet_replay.specs.state.Run.{read_fault_of, text_as, RefusesText, Refuses, IsWritten, fault_of};
-ghost use Rattle.kubelet_replay.specs.state.Run.{read_as};
+ghost use Rattle.kubelet_replay.specs.state.Run.{read_as, made};
 ghost use Rattle.kubelet_replay.specs.rule.Run.{IsRefusalIn, IsRefusal, IsCheckIn, IsCheckOfText, check_line, Writes};
 ghost use Rattle.kubelet_replay.specs.rule.Run.{TakesWithin};
 ghost use Rattle.kubelet_replay.specs.declared.fault.RunFault.TheVariants.{OutOfMemory};
@@ -70,6 +70,16 @@ fn read_as(read: Result<Trace, LineFault>) -> Result<Trace, RunFault>
     }
 }
 
+/// The text that was made, or that memory was refused.
+fn made(text: Result<String, AllocError>) -> Result<String, RunFault>
+    ensures { result ≡ made text }
+{
+    match text {
+        Ok(text) => Ok(text),
+        Err(_) => Err(RunFault::OutOfMemory),
+    }
+}
+
 fn report_of_text_by_steps(
     alloc: Global,
     format: Format,
@@ -83,10 +93,7 @@ fn report_of_text_by_steps(
     ensures err { IfErr result (RefusesText format text.now) }
 {
     let trace = read_as(read_trace(alloc, format, text))?;
-    match report_by_steps(alloc, trace, workers, steps) {
-        Ok(report) => Ok(report),
-        Err(_) => Err(RunFault::OutOfMemory),
-    }
+    made(report_by_steps(alloc, trace, workers, steps))
 }
 
 fn report_of_text_by_workers<R: Spawner, G: Gate>(
@@ -103,10 +110,7 @@ fn report_of_text_by_workers<R: Spawner, G: Gate>(
     ensures err { IfErr result (RefusesText format text.now) }
 {
     let trace = read_as(read_trace_by_workers(rt, alloc, format, text, workers))?;
-    match report_by_workers(rt, alloc, trace, workers, gate) {
-        Ok(report) => Ok(report),
-        Err(_) => Err(RunFault::OutOfMemory),
-    }
+    made(report_by_workers(rt, alloc, trace, workers, gate))
 }
 
 /// The line of a text that is a trace.
@@ -122,10 +126,7 @@ fn check_of_text(alloc: Global, format: Format, text: &[u8]) -> Result<String, R
 {
     let trace = read_as(read_trace(alloc, format, text))?;
     let (pods, ticks) = (trace.pods.as_slice().len(), trace.ticks.as_slice().len());
-    match check_line(alloc, pods, ticks) {
-        Ok(line) => Ok(line),
-        Err(_) => Err(RunFault::OutOfMemory),
-    }
+    made(check_line(alloc, pods, ticks))
 }
 
 fn write_text<W: Sink>(output: &mut W, text: &str) -> Result<(), RunFault>

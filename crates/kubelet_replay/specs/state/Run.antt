@@ -26,6 +26,11 @@ abbrev pub read_as : Result Trace LineFault → Result Trace RunFault
 read_as (Ok trace) = Ok trace
 read_as (Err fault) = Err (fault_of fault)
 
+-- the text that was made, or that memory was refused
+abbrev pub made : {V A : Type 0} → Result V A → Result V RunFault
+made (Ok text) = Ok text
+made (Err refused) = Err OutOfMemory
+
 -- why the input was not read
 abbrev pub read_fault_of : ReadAllFault → RunFault
 read_fault_of stream.Read = Read
