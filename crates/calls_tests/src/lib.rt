@@ -60,6 +60,8 @@ mod traces;
 #[cfg(test)]
 mod turns;
 #[cfg(test)]
+mod uses_tests;
+#[cfg(test)]
 mod window_tests;
 #[cfg(test)]
 mod windows;
