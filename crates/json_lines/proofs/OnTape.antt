@@ -39,4 +39,5 @@ tape_said line utf8 some fit tick =
     let f = fits-json found.0 max_depth [] (ap (fits max_depth) (sym whole) ∙ fit) in
     let data_is : data_at (tokens line) ≡ data_of found.0 = ap data_at whole ∙ data_of_tokens found.0 [] in
     rw data_is
-    (plain_said line found.0 utf8 (ended found.0 (tokens line) max_depth f.1 spelled) f.0 (ap is_tick (sym data_is) ∙ tick))
+    (plain_said line found.0 utf8 (ended found.0 (tokens line) max_depth f.1 spelled) f.0
+    (ap is_tick (sym data_is) ∙ tick))

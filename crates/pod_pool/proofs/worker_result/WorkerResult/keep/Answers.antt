@@ -19,5 +19,6 @@ invariant_of-self-clause-counts g c =
 pub invariant_of-self-in-Err-entered-clause-right_uncounted :
     goal.invariant_of-self-in-Err-entered-clause-right_uncounted
 invariant_of-self-in-Err-entered-clause-right_uncounted g c =
-    grown (IsFinished g.D.Deal.left g.D.Deal.all) _ _ _ c.push_reserved-in-Err-entered.ensures.items c.args.self.now.right_uncounted
+    grown (IsFinished g.D.Deal.left g.D.Deal.all) _ _ _ c.push_reserved-in-Err-entered.ensures.items
+    c.args.self.now.right_uncounted
     (when_ok _ _ _ c.in-Ok.is c.requires.ok)
