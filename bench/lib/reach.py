@@ -179,6 +179,13 @@ class Repository:
                 found.append(key)
         return found
 
+    def trait_key(self, crate, name):
+        """The key of a trait of a crate, or of one that its lib.rt hands on."""
+        if node := self.declared(crate, name):
+            return node.key
+        handed_on = self.file(f"crates/{crate}/src/lib.rt").uses[name]
+        return self.trait_key(handed_on.split("::")[0], name)
+
     def contract(self, crate, name):
         """A function with its contract, and below it what its clauses name."""
         for path in self.sources(crate):
@@ -187,8 +194,7 @@ class Repository:
                 below = self.keys(file.scope, item.names)
                 for trait in item.types:
                     owner = file.uses.get(trait, crate).split("::")[0]
-                    node = self.declared(owner, trait)
-                    below.insert(0, (owner, node.module, trait))
+                    below.insert(0, self.trait_key(owner, trait))
                 module = os.path.basename(path)
                 return Node("contract", crate, module, name, item.comment, item.text, path, item.line, below)
         raise ValueError(f"crates/{crate}/src has no public function {name}")

@@ -105,6 +105,13 @@ class Theorem(Case):
         self.assertEqual((status, said),
                          (1, "bench/theorem: docs/theorem/text.md is missing: run bench/theorem\n"))
 
+    def test_a_trait_that_another_crate_hands_on(self):
+        os.mkdir(os.path.join(self.top, "crates/grading/src"))
+        write("//! Grades.\n\npub use marks::Source;\n", self.top, "crates/grading/src/lib.rt")
+        lib = read(self.top, "crates/kubelet_replay/src/lib.rt")
+        write(lib.replace("use marks::Source;", "use grading::Source;"), self.top, "crates/kubelet_replay/src/lib.rt")
+        self.assertEqual(run("theorem", "--check", "--top", self.top)[::2], (0, ""))
+
     def test_a_long_module_has_pages_with_parts(self):
         """Eighty definitions, which one names, in a module beside that which is there."""
         names = [f"mark_{number}" for number in range(80)]

@@ -3,8 +3,8 @@
 ghost use Rattle.std.specs.Prelude.{◌≡◌, ◌<◌};
 
 use crate::rounds::{BookCall, over_book};
+use crate::test_gate::TestGate;
 use event_book::{EventBook, Shares};
-use kubelet_replay::NoGate;
 use std::process::Abort;
 use std::sync::ledger::Ledger;
 use std::test::Fail;
@@ -47,5 +47,5 @@ pub(crate) fn fill<U: Ledger, E: Ledger, O: Ledger>(
 
 #[test]
 fn a_full_book_takes_nothing_more(rt: HostRuntime) -> Result<(), Fail> {
-    over_book(&rt, BookCall::<NoGate>::Enter)
+    over_book(&rt, BookCall::<TestGate<'_, '_, HostRuntime>>::Enter)
 }

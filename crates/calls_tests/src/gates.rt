@@ -1,10 +1,8 @@
-//! Gates that hold updates until others stand beside them.
+//! What holds updates until others stand beside them.
 
 ghost use Rattle.std.specs.Prelude.{◌<◌};
 
 use crate::turns::Turns;
-use kubelet_replay::Gate;
-use pod_piece::PodPiece;
 use std::alloc::{AllocError, AllocGlobal};
 use std::process::Abort;
 use std::sync::atomic::{AtomicU64, Ordering};
@@ -29,7 +27,7 @@ fn is_reached(clock: &impl Clock, count: &AtomicU64, wanted: u64, missed: &Atomi
     false
 }
 
-/// Holds each update until as many stand in the gate at once as there are workers, and counts the calls by pod.
+/// Holds each update until as many stand in the gate at once as there are workers, and counts them by pod.
 #[derive(Drop)]
 pub(crate) struct Meeting<'a, C> {
     clock: &'a C,
@@ -41,7 +39,7 @@ pub(crate) struct Meeting<'a, C> {
 }
 
 impl<'a, C: AllocGlobal + Clock> Meeting<'a, C> {
-    /// A gate for this many workers and pods.
+    /// Of this many workers and pods.
     pub(crate) fn new(
         clock: &'a C,
         workers: usize,
@@ -72,13 +70,10 @@ impl<'a, C: AllocGlobal + Clock> Meeting<'a, C> {
     }
 }
 
-impl<C: Clock + Sync> Gate for Meeting<'_, C> {
-    fn waits(&self) -> bool {
-        true
-    }
-
-    fn enter(&self, piece: &PodPiece) {
-        self.turns.begin(piece.status().number);
+impl<C: Clock> Meeting<'_, C> {
+    /// The update of the pod with the number begins.
+    pub(crate) fn begin(&self, pod: usize) {
+        self.turns.begin(pod);
         let before = self.arrivals.fetch_add(1, Ordering::SeqCst);
         let wanted = (before / self.workers)
             .saturating_add(1)
@@ -88,8 +83,9 @@ impl<C: Clock + Sync> Gate for Meeting<'_, C> {
         }
     }
 
-    fn leave(&self, piece: &PodPiece, _is_updated: bool) {
-        self.turns.end(piece.status().number);
+    /// It has ended.
+    pub(crate) fn end(&self, pod: usize) {
+        self.turns.end(pod);
     }
 }
 
@@ -121,13 +117,10 @@ impl<'a, C> Pair<'a, C> {
     }
 }
 
-impl<C: Clock + Sync> Gate for Pair<'_, C> {
-    fn waits(&self) -> bool {
-        true
-    }
-
-    fn enter(&self, piece: &PodPiece) {
-        let (own, other) = match piece.status().number {
+impl<C: Clock> Pair<'_, C> {
+    /// The update of the pod with the number begins.
+    pub(crate) fn begin(&self, pod: usize) {
+        let (own, other) = match pod {
             0 => (&self.first, &self.third),
             2 => (&self.third, &self.first),
             _ => return,
@@ -137,6 +130,4 @@ impl<C: Clock + Sync> Gate for Pair<'_, C> {
             self.missed.fetch_add(1, Ordering::SeqCst);
         }
     }
-
-    fn leave(&self, _piece: &PodPiece, _is_updated: bool) {}
 }

@@ -1,7 +1,7 @@
 //! Which ticks a node takes.
 
 use crate::rounds::{BookCall, over_book};
-use kubelet_replay::NoGate;
+use crate::test_gate::TestGate;
 use std::test::Fail;
 
 /// Two pods that have arrived before the first tick.
@@ -16,7 +16,10 @@ fn a_pod_is_left_out_in_version_3_alone(rt: HostRuntime) -> Result<(), Fail> {
     for (version, fits) in [(1, false), (2, false), (3, true)] {
         let node = format!(in rt.alloc(); r#"{{"kind":"node","name":"n1","version":{version}}}"#)?;
         let text = format!(in rt.alloc(); "{node}\n{PODS}")?;
-        over_book(&rt, BookCall::<NoGate>::LeaveOut(text.as_str(), fits))?;
+        over_book(
+            &rt,
+            BookCall::<TestGate<'_, '_, HostRuntime>>::LeaveOut(text.as_str(), fits),
+        )?;
     }
     Ok(())
 }

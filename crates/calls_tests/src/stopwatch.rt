@@ -1,19 +1,17 @@
-//! A gate that takes times.
+//! What takes times.
 
 use crate::turns::zeros;
-use kubelet_replay::Gate;
-use pod_piece::PodPiece;
 use std::alloc::{AllocError, AllocGlobal, Global};
 use std::sync::atomic::{AtomicU64, Ordering};
 use std::time::Clock;
 
-/// Takes the time between the two calls of each pod.
+/// Takes the time of the update of each pod.
 #[derive(Drop)]
 pub(crate) struct Stopwatch<'a, C> {
     clock: &'a C,
-    /// When it was entered, in nanoseconds.
-    entered: Vec<AtomicU64>,
-    /// How many nanoseconds later it was left.
+    /// When it began, in nanoseconds.
+    begun: Vec<AtomicU64>,
+    /// How many nanoseconds later it ended.
     times: Vec<AtomicU64>,
 }
 
@@ -29,12 +27,12 @@ fn nanos(clock: &impl Clock) -> u64 {
 }
 
 impl<'a, C: AllocGlobal> Stopwatch<'a, C> {
-    /// A gate for this many pods.
+    /// Of this many pods.
     pub(crate) fn new(clock: &'a C, pods: usize) -> Result<Stopwatch<'a, C>, AllocError> {
         let alloc = clock.alloc();
         Ok(Stopwatch {
             clock,
-            entered: zeros(alloc, pods)?,
+            begun: zeros(alloc, pods)?,
             times: zeros(alloc, pods)?,
         })
     }
@@ -55,33 +53,19 @@ impl<C> Stopwatch<'_, C> {
 impl<C: Clock> Stopwatch<'_, C> {
     /// The update of the pod with the number begins.
     pub(crate) fn begin(&self, pod: usize) {
-        if let Some(entered) = self.entered.get(pod) {
-            entered.store(nanos(self.clock), Ordering::SeqCst);
+        if let Some(begun) = self.begun.get(pod) {
+            begun.store(nanos(self.clock), Ordering::SeqCst);
         }
     }
 
     /// It has ended.
     pub(crate) fn end(&self, pod: usize) {
         let now = nanos(self.clock);
-        if let Some(entered) = self.entered.get(pod) {
-            let time = now.saturating_sub(entered.load(Ordering::SeqCst));
+        if let Some(begun) = self.begun.get(pod) {
+            let time = now.saturating_sub(begun.load(Ordering::SeqCst));
             if let Some(kept) = self.times.get(pod) {
                 kept.store(time, Ordering::SeqCst);
             }
         }
-    }
-}
-
-impl<C: Clock + Sync> Gate for Stopwatch<'_, C> {
-    fn waits(&self) -> bool {
-        true
-    }
-
-    fn enter(&self, piece: &PodPiece) {
-        self.begin(piece.status().number);
-    }
-
-    fn leave(&self, piece: &PodPiece, _is_updated: bool) {
-        self.end(piece.status().number);
     }
 }

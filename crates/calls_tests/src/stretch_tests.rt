@@ -3,12 +3,13 @@
 use crate::replays::{report_by_ticks, report_by_workers};
 use crate::stretches::LongTrace;
 use crate::tally::Tally;
-use kubelet_replay::NoGate;
+use crate::test_gate::TestGate;
 use std::alloc::AllocGlobal;
 use std::process::Abort;
 use std::sync::Wait;
 use std::test::Fail;
 use std::thread::Threads;
+use std::time::Clock;
 
 /// Four of its rounds end by a tick in which memory is short, and two others with as many updates as a round takes.
 const LONG: LongTrace = LongTrace {
@@ -42,12 +43,18 @@ fn evictions_in(report: &str) -> usize {
 #[test]
 fn updates_overlap_where_none_waits(rt: HostRuntime) -> Result<(), Fail> {
     let text = LONG.text(rt.alloc())?;
-    let gate = Tally::for_some_workers(rt.alloc())?;
+    let tally = Tally::new(rt.alloc())?;
+    let gate = TestGate::<HostRuntime>::of_tally(&tally, false);
     let report = report_by_workers(&rt, text.as_str(), 4, &gate)?;
-    assert!(rt; gate.overlaps() > 2, "{} updates overlap", gate.overlaps());
-    assert_eq!(rt; gate.updates(), Some(LONG.updates()));
+    assert!(rt;
+        tally.overlaps() > 2,
+        "{} updates overlap",
+        tally.overlaps()
+    );
+    assert_eq!(rt; tally.updates(), Some(LONG.updates()));
     assert_eq!(rt; evictions_in(report.as_str()), LONG.short.len());
-    let by_one = report_by_workers(&rt, text.as_str(), 1, &NoGate)?;
+    let plain = TestGate::<HostRuntime>::plain();
+    let by_one = report_by_workers(&rt, text.as_str(), 1, &plain)?;
     assert!(rt;
         report == by_one,
         "four workers tell something else than one"
@@ -60,9 +67,9 @@ fn updates_overlap_where_none_waits(rt: HostRuntime) -> Result<(), Fail> {
     Ok(())
 }
 
-/// Any number of workers tells of the trace what its ticks tell, with this many evictions, and each of its updates is
-/// told to the gate once.
-fn expect_alike<H: Abort + AllocGlobal + Threads + Wait + Sync>(
+/// Any number of workers tells of the trace what its ticks tell, with this many evictions, and each of its updates
+/// passes the gate once.
+fn expect_alike<H: Abort + AllocGlobal + Clock + Threads + Wait + Sync>(
     rt: &H,
     trace: LongTrace,
     evictions: usize,
@@ -71,10 +78,11 @@ fn expect_alike<H: Abort + AllocGlobal + Threads + Wait + Sync>(
     let by_ticks = report_by_ticks(rt.alloc(), text.as_str())?;
     assert_eq!(rt; evictions_in(by_ticks.as_str()), evictions);
     for workers in [1usize, 2, 4, 64] {
-        let gate = Tally::for_all_workers(rt.alloc())?;
+        let tally = Tally::new(rt.alloc())?;
+        let gate = TestGate::<H>::of_tally(&tally, true);
         let report = report_by_workers(rt, text.as_str(), workers, &gate)?;
         assert_eq!(rt; report.as_str(), by_ticks.as_str(), "{workers} workers");
-        assert_eq!(rt; gate.updates(), Some(trace.updates()), "{workers} workers");
+        assert_eq!(rt; tally.updates(), Some(trace.updates()), "{workers} workers");
     }
     Ok(())
 }

@@ -1,10 +1,10 @@
-//! What a gate is told, by pod.
+//! The updates of a gate, by pod.
 
 use std::alloc::{AllocError, Global};
 use std::sync::atomic::{AtomicU64, Ordering};
 
-/// The calls of each pod, by its place among those that are present: its updates begin where they are even, and end
-/// where they are odd.
+/// How often an update of each pod has begun or ended, by its place among those that are present: it begins where that
+/// is even, and ends where it is odd.
 #[derive(Drop)]
 pub(crate) struct Turns {
     calls: Vec<AtomicU64>,

@@ -10,7 +10,7 @@ use Rattle.histories.proofs.Lists.{place_split}
 use Rattle.pod_state.specs.declared.events.PodEvent.{PodEvent}
 use Rattle.pod_piece.specs.declared.made.MadeTick.{MadeTick}
 use Rattle.pod_state.specs.rule.Pods.{PodTick}
-use Rattle.pod_piece.specs.state.Piece.{Piece, ticks}
+use Rattle.pod_piece.specs.rule.Piece.{Piece, ticks}
 use Rattle.pod_piece.specs.state.Made.{MadeEvent, made_at, made_of, round_length, AreRoundEvents, AreEarlierEvents}
 use Rattle.pod_piece.specs.state.Status.{AreLastEvents}
 use Rattle.pod_piece.proofs.LastTicks.{tick_at}

@@ -16,7 +16,7 @@ use Rattle.observations.specs.declared.tick.TickObs.{TickObs}
 use Rattle.observations.specs.rule.Observations.{shown_of}
 use Rattle.pod_state.specs.rule.Pods.{PodTick, pod_tick}
 use Rattle.pod_piece.specs.state.Listings.{IsNextTick}
-use Rattle.pod_piece.specs.state.Piece.{Piece}
+use Rattle.pod_piece.specs.rule.Piece.{Piece}
 use Rattle.eviction.specs.rule.Replay.{pod_ticks}
 use Rattle.eviction.proofs.Own.{pod_ticks-more, pod_ticks-rest}
 use Rattle.node_pods.specs.state.Pods.{after_one, after_each}

@@ -1,5 +1,6 @@
 pub mod NodeLemmas
 pub mod AllTicks
+pub mod Gated
 pub mod Reports
 pub mod Replayable
 pub mod Unique

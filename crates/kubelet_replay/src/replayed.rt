@@ -3,6 +3,7 @@
 ghost use Rattle.std.specs.Prelude.{◌-◌, ◌<◌, ◌≤◌, [], length, OnOk};
 ghost use Rattle.node_config.specs.declared.node.NodeConfig.{NodeConfig};
 ghost use Rattle.worker_count.specs.rule.Limit.{most_workers};
+ghost use Rattle.tick_round.specs.rule.Gated.{AreUpdatesGated};
 ghost use Rattle.tick_round.specs.state.Node.{IsAfter};
 ghost use Rattle.kubelet_replay.specs.state.Ticks.{AreReplayable, AreWhole, HaveArrived, IsNew, MayArrive};
 
@@ -60,8 +61,8 @@ pub(crate) fn take_by_steps<U: Ledger, E: Ledger, O: Ledger>(
     Ok(())
 }
 
-/// A new node takes the ticks of a trace once all its pods have arrived; this many workers update them in threads of
-/// their own, round by round. A pod is present from the first tick on that shows it.
+/// A new node takes the ticks of a trace once all its pods have arrived; this many workers update them by the gate, in
+/// threads of their own, round by round. A pod is present from the first tick on that shows it.
 pub(crate) fn take_by_workers<
     U: Ledger + Send,
     E: Ledger + Send,
@@ -80,8 +81,9 @@ pub(crate) fn take_by_workers<
     requires replayable { AreReplayable pods.items ticks.items }
     requires some { 0 < workers }
     requires most { workers ≤ most_workers }
-    ensures { (config : NodeConfig) → IsAfter config [] [] node.old
+    ensures after { (config : NodeConfig) → IsAfter config [] [] node.old
         → OnOk result (IsAfter config pods.items ticks.items node.new) }
+    ensures gated { OnOk result (AreUpdatesGated (G.left gate.now) pods.items [] ticks.items) }
 {
     arrive(node, &mut pods.into_iter(), 0)?;
     node.ticks(rt, ticks, workers, gate)

@@ -1,11 +1,12 @@
 //! The report of a trace.
 
-ghost use Rattle.std.specs.Prelude.{◌≡◌, ◌≢◌, ◌<◌, ◌≤◌, [], List, None, IfOk, OnOk, string_bytes};
+ghost use Rattle.std.specs.Prelude.{◌≡◌, ◌≢◌, ◌<◌, ◌≤◌, [], List, None, IsOk, IfOk, OnOk, string_bytes};
 ghost use Rattle.manifest.specs.declared.pod.PodSpec.{PodSpec};
 ghost use Rattle.node_config.specs.declared.node.NodeConfig.{NodeConfig};
 ghost use Rattle.observations.specs.declared.tick.TickObs.{TickObs};
 ghost use Rattle.trace.specs.state.Sound.{AreAcceptable, HasShape, LeaveInThree};
 ghost use Rattle.worker_count.specs.rule.Limit.{most_workers};
+ghost use Rattle.tick_round.specs.rule.Gated.{AreUpdatesGated};
 ghost use Rattle.tick_round.specs.state.Node.{IsAfter};
 ghost use Rattle.node_report.specs.rule.Report.{IsReport};
 ghost use Rattle.kubelet_replay.specs.rule.Report.{IsReportOf};
@@ -81,9 +82,10 @@ fn report_after<U: Ledger, E: Ledger, O: Ledger>(
     node: &Node<U, E, O>,
 ) -> Result<String, AllocError>
     requires running { OnOk taken (node.now ≢ None) }
-    ensures { (config : NodeConfig) (pods : List PodSpec) (ticks : List TickObs)
+    ensures report { (config : NodeConfig) (pods : List PodSpec) (ticks : List TickObs)
         → OnOk taken (IsAfter config pods ticks node.now)
         → IfOk result (λ s. IsReport config ticks pods (string_bytes s)) }
+    ensures taken { OnOk result (IsOk taken) }
 {
     match taken {
         Ok(()) => report_of(alloc, node),
@@ -117,7 +119,7 @@ fn by_steps<U: Ledger, E: Ledger, O: Ledger>(
     report
 }
 
-/// The report of a trace, whose pods this many workers update in each tick, in threads of their own.
+/// The report of a trace, whose pods this many workers update in each tick by the gate, in threads of their own.
 fn by_workers<U: Ledger + Send, E: Ledger + Send, O: Ledger + Send, R: Spawner, G: Gate>(
     rt: &R,
     alloc: Global,
@@ -134,7 +136,8 @@ fn by_workers<U: Ledger + Send, E: Ledger + Send, O: Ledger + Send, R: Spawner, 
         × (blanks.orders.parts ≡ O.parts) }
     requires some { 0 < workers }
     requires most { workers ≤ most_workers }
-    ensures { IfOk result (λ s. IsReportOf trace (string_bytes s)) }
+    ensures report { IfOk result (λ s. IsReportOf trace (string_bytes s)) }
+    ensures gated { OnOk result (AreUpdatesGated (G.left gate.now) trace.pods [] trace.ticks) }
 {
     let (mut node, pods, ticks) = begin::<U, E, O>(alloc, trace, blanks)?;
     let taken = take_by_workers(rt, &mut node, pods, ticks, workers, gate);
@@ -161,8 +164,8 @@ pub fn report_by_steps(
     by_steps::<Brand, Brand, Brand>(alloc, trace, Blanks::new(), workers, steps)
 }
 
-/// The report of a trace that may be replayed, as each one may that is read: this many workers update its pods in
-/// threads of their own. An `Err` says that memory was refused.
+/// The report of a trace that may be replayed, as each one may that is read: this many workers update its pods by the
+/// gate, in threads of their own. An `Err` says that memory was refused.
 pub fn report_by_workers<R: Spawner, G: Gate>(
     rt: &R,
     alloc: Global,
@@ -175,7 +178,8 @@ pub fn report_by_workers<R: Spawner, G: Gate>(
     requires leaving { LeaveInThree trace.node.version trace.departures }
     requires some { 0 < workers }
     requires most { workers ≤ most_workers }
-    ensures { IfOk result (λ s. IsReportOf trace (string_bytes s)) }
+    ensures report { IfOk result (λ s. IsReportOf trace (string_bytes s)) }
+    ensures gated { OnOk result (AreUpdatesGated (G.left gate.now) trace.pods [] trace.ticks) }
 {
     by_workers::<Brand, Brand, Brand, R, G>(rt, alloc, trace, Blanks::new(), workers, gate)
 }

@@ -1,12 +1,13 @@
 //! The replay of a trace, from its bytes to the bytes of its report.
 
 ghost use Rattle.std.specs.Prelude.{◌≡◌, ◌+◌, ◌^◌, ◌<◌, ◌≤◌, IfOk, IfErr, OnOk, IsErrOf, string_bytes};
+ghost use Rattle.node_config.specs.declared.node.Format.TheVariants.{Standard};
 ghost use Rattle.worker_count.specs.rule.Limit.{most_workers};
 ghost use Rattle.kubelet_replay.specs.rule.Run.{failed_reads, failed_writes, HasRead, IsReportIn, IsReportOfText};
 ghost use Rattle.kubelet_replay.specs.state.Run.{read_fault_of, text_as, RefusesText, Refuses, IsWritten, fault_of};
 ghost use Rattle.kubelet_replay.specs.state.Run.{read_as, made};
 ghost use Rattle.kubelet_replay.specs.rule.Run.{IsRefusalIn, IsRefusal, IsCheckIn, IsCheckOfText, check_line, Writes};
-ghost use Rattle.kubelet_replay.specs.rule.Run.{TakesWithin};
+ghost use Rattle.kubelet_replay.specs.rule.Run.{TakesWithin, IsReplayGated, Gates};
 ghost use Rattle.kubelet_replay.specs.declared.fault.RunFault.TheVariants.{OutOfMemory};
 
 use crate::fault::RunFault;
@@ -108,6 +109,7 @@ fn report_of_text_by_workers<R: Spawner, G: Gate>(
     requires most { workers ≤ most_workers }
     ensures ok { IfOk result (λ report. IsReportIn format text.now (string_bytes report)) }
     ensures err { IfErr result (RefusesText format text.now) }
+    ensures gated { OnOk result (IsReplayGated (G.left gate.now) format text.now) }
 {
     let trace = read_as(read_trace_by_workers(rt, alloc, format, text, workers))?;
     made(report_by_workers(rt, alloc, trace, workers, gate))
@@ -143,10 +145,10 @@ fn write_text<W: Sink>(output: &mut W, text: &str) -> Result<(), RunFault>
 /// Replays a trace and writes its report. This many workers, 1 to 64, update the pods of each round in threads of their
 /// own and steal from each other, but no more than there are pods. A round is the ticks up to the next in which an
 /// eviction threshold is heeded, or until 32,768 updates wait: one for each tick of a pod. Where no update waits in the
-/// gate only those workers run that are worth their start, one for 1,024 updates. The gate is told of each update. They
-/// share the lines of the text as well, but for its first 64 KiB, in windows of at most 4 MiB. The report is that of
-/// the rules applied by one thread, pod after pod, whatever the workers and the threads do. It may wait for threads and
-/// for the lock of the book.
+/// gate only those workers run that are worth their start, one for 1,024 updates. The gate makes each update. They share
+/// the lines of the text as well, but for its first 64 KiB, in windows of at most 4 MiB. The report is that of the rules
+/// applied by one thread, pod after pod, whatever the workers and the threads do. It may wait for threads and for the
+/// lock of the book.
 ///
 /// The input is read to its end and the report is made whole before the first write. So nothing is
 /// written where the reader failed (`Read`), the input has more than 64 MiB (`TooLong`), the text
@@ -168,6 +170,7 @@ pub fn replay<H: AllocGlobal + Spawner, R: Source, W: Sink, G: Gate>(
     ensures err { IfErr result (IsRefusal IsReportOfText (R.left input.old) (W.written output.old)
         (W.written output.new)) }
     ensures memory { IsErrOf result OutOfMemory → TakesWithin (R.left input.old) (R.left input.new) }
+    ensures gated { OnOk result (Gates (G.left gate.now) Standard (R.left input.old)) }
     ensures reads { R.failures input.new ≡ R.failures input.old + failed_reads result }
     ensures writes { W.failures output.new ≡ W.failures output.old + failed_writes result }
 {
@@ -192,6 +195,7 @@ pub fn replay_in<H: AllocGlobal + Spawner, R: Source, W: Sink, G: Gate>(
     ensures err { IfErr result (IsRefusalIn format (IsReportIn format) (R.left input.old) (W.written output.old)
         (W.written output.new)) }
     ensures memory { IsErrOf result OutOfMemory → TakesWithin (R.left input.old) (R.left input.new) }
+    ensures gated { OnOk result (Gates (G.left gate.now) format (R.left input.old)) }
     ensures reads { R.failures input.new ≡ R.failures input.old + failed_reads result }
     ensures writes { W.failures output.new ≡ W.failures output.old + failed_writes result }
 {

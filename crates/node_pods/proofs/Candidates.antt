@@ -10,7 +10,8 @@ use Rattle.signals.specs.declared.signal.Signal.{Signal}
 use Rattle.phase.specs.rule.RawPhase.{IsTerminal}
 use Rattle.phase.proofs.DecideLemmas.{terminal_cases}
 use Rattle.pod_piece.specs.declared.status.PodStatus.{PodStatus}
-use Rattle.pod_piece.specs.state.Piece.{Piece, with_eviction}
+use Rattle.pod_piece.specs.rule.Piece.{Piece}
+use Rattle.pod_piece.specs.state.Piece.{with_eviction}
 use Rattle.pod_piece.specs.state.Status.{IsStatusOf}
 use Rattle.ranking.specs.rule.Order.{IsVictim}
 use Rattle.ranking.specs.state.Index.{AreHeldAfter}

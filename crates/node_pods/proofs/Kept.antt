@@ -16,7 +16,8 @@ use Rattle.observations.specs.declared.tick.TickObs.{TickObs}
 use Rattle.observations.specs.rule.Observations.{shown_of}
 use Rattle.pod_state.specs.rule.Pods.{pod_tick}
 use Rattle.pod_piece.specs.declared.order.EvictOrder.{EvictOrder}
-use Rattle.pod_piece.specs.state.Piece.{Piece, new_piece, all_updated, at_rest, with_eviction}
+use Rattle.pod_piece.specs.rule.Piece.{Piece}
+use Rattle.pod_piece.specs.state.Piece.{new_piece, all_updated, at_rest, with_eviction}
 use Rattle.pod_piece.proofs.Waiting.{ticks_free}
 use Rattle.node_pods.specs.state.Pods.{pods_of, IsNumbered, AreNumbered, IsPlaced, ArePlaced, MayBeHanded, handed_one}
 use Rattle.node_pods.specs.state.Pods.{sent_from, staying, after_tick, AreAfter, awaited, joined, AreEvicted}

@@ -1,12 +1,13 @@
 -- The pieces that go out for their updates, one after the other.
 use Rattle.std.proofs.Common.{◌≡◌, ◌∙◌, ℕ, zero, suc, ◌+◌, ◌<◌, ◌≤◌, Bool, true, false, List, [], ◌∷◌, length, Option}
-use Rattle.std.proofs.Common.{Some, None, refl, ap, sym, arith}
+use Rattle.std.proofs.Common.{Some, None, refl, ap, sym, subst, arith}
 use Rattle.std.specs.Prelude.{slice_get, nat_lt, if◌then◌else◌}
 use Rattle.std.specs.List.{filter_map}
 use Rattle.std.proofs.lemmas.Bool.{ltb-true, lt-ltb}
 use Rattle.observations.specs.rule.Pods.{PodObs}
 use Rattle.pod_state.specs.rule.Pods.{pod_tick}
-use Rattle.pod_piece.specs.state.Piece.{Piece, with_tick, with_number}
+use Rattle.pod_piece.specs.rule.Piece.{Piece}
+use Rattle.pod_piece.specs.state.Piece.{with_tick, with_number}
 use Rattle.node_pods.specs.state.Pods.{waits, sent_from, handed_each}
 
 -- which of the pieces it was; its number is its place among those that go out
@@ -50,6 +51,31 @@ sent_at k (p ∷ ps) i q there = by (waits p) refl i there (λ m j at. sent_at m
           pending = w.pending;
           is = w.is ∙ ap (λ (m : ℕ). with_number w.piece m) place;
         }
+
+-- one for which a tick waits goes out
+pub goes_out : (k : ℕ) (pieces : List Piece) (n : ℕ) (piece : Piece) → slice_get pieces n ≡ Some piece
+    → 0 < piece.waiting → (i : ℕ) × (slice_get (sent_from k pieces) i ≡ Some (with_number piece (k + i)))
+goes_out k [] n piece at pending = absurd (cc)
+goes_out k (p ∷ ps) zero piece at pending =
+    let same : p ≡ piece = cc in
+    let place : k ≡ k + 0 = omega arith in
+    let waits : 0 < p.waiting = subst (λ (q : Piece). 0 < q.waiting) (sym same) pending in (
+      0,
+      ap (λ (b : Bool). slice_get (if b then with_number p k ∷ sent_from (k + 1) ps else sent_from k ps) 0)
+          (lt-ltb 0 p.waiting waits)
+          ∙ ap (λ (q : Piece). Some (with_number q k)) same ∙ ap (λ (m : ℕ). Some (with_number piece m)) place,
+    )
+goes_out k (p ∷ ps) (suc n) piece at pending =
+    by (waits p) (goes_out k ps n piece at pending) (goes_out (k + 1) ps n piece at pending)
+  where
+    by : (b : Bool) → (i : ℕ) × (slice_get (sent_from k ps) i ≡ Some (with_number piece (k + i)))
+        → (i : ℕ) × (slice_get (sent_from (k + 1) ps) i ≡ Some (with_number piece (k + 1 + i)))
+        → (i : ℕ) × (slice_get (if b then with_number p k ∷ sent_from (k + 1) ps else sent_from k ps) i
+        ≡ Some (with_number piece (k + i)))
+    by false stays goes = stays
+    by true stays goes =
+        let place : k + 1 + goes.0 ≡ k + suc goes.0 = omega arith in
+        (suc goes.0, goes.1 ∙ ap (λ (m : ℕ). Some (with_number piece m)) place)
 
 pub sent_few : (k : ℕ) (pieces : List Piece) → length (sent_from k pieces) ≤ length pieces
 sent_few k [] = omega arith

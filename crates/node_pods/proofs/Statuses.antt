@@ -11,7 +11,8 @@ use Rattle.pod_state.specs.rule.Pods.{PodTick, EndsPod, IsPhase}
 use Rattle.pod_state.proofs.EndLemmas.{IsPhase-unique, end_terminal, ended_is}
 use Rattle.pod_piece.specs.declared.order.EvictOrder.{EvictOrder}
 use Rattle.pod_piece.specs.declared.status.PodStatus.{PodStatus}
-use Rattle.pod_piece.specs.state.Piece.{Piece, ticks, evicted_at, Lives, new_piece, with_eviction}
+use Rattle.pod_piece.specs.rule.Piece.{Piece, ticks}
+use Rattle.pod_piece.specs.state.Piece.{evicted_at, Lives, new_piece, with_eviction}
 use Rattle.pod_piece.specs.state.Status.{IsStatusOf}
 use Rattle.pod_piece.proofs.Waiting.{ticks_free}
 use Rattle.pod_piece.proofs.UsageLemmas.{one_usage}

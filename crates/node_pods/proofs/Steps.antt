@@ -12,7 +12,8 @@ use Rattle.observations.specs.rule.Pods.{PodObs}
 use Rattle.observations.specs.declared.tick.TickObs.{TickObs}
 use Rattle.observations.specs.rule.Observations.{shown_of}
 use Rattle.pod_piece.specs.declared.order.EvictOrder.{EvictOrder}
-use Rattle.pod_piece.specs.state.Piece.{Piece, all_updated, with_eviction, with_number}
+use Rattle.pod_piece.specs.rule.Piece.{Piece}
+use Rattle.pod_piece.specs.state.Piece.{all_updated, with_eviction, with_number}
 use Rattle.node_pods.specs.state.Pods.{Pods, AreNext, Fits, with_shown, handed_one, handed_each, waits}
 use Rattle.node_pods.specs.state.Pods.{sent_from, staying, joined_from, after_one, after_each, closed, AreAfter}
 use Rattle.node_pods.specs.state.Pods.{AreEvicted}

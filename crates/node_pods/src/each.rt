@@ -5,7 +5,8 @@ ghost use Rattle.std.specs.Prelude.{IsTrue, IfSome, IfOk, OnOk, OnErr, option_ma
 ghost use Rattle.histories.specs.rule.Histories.{last_moment};
 ghost use Rattle.histories.specs.state.Histories.{EndsBefore};
 ghost use Rattle.pod_piece.specs.declared.status.PodStatus.{PodStatus};
-ghost use Rattle.pod_piece.specs.state.Piece.{Piece, at_rest, with_number};
+ghost use Rattle.pod_piece.specs.rule.Piece.{Piece};
+ghost use Rattle.pod_piece.specs.state.Piece.{at_rest, with_number};
 ghost use Rattle.node_pods.specs.state.Pods.{AreNext, handed_one, handed_each, sent_from, staying, joined_from};
 ghost use Rattle.node_pods.specs.state.Pods.{IsEvictable, AreEvicted};
 ghost use Rattle.node_pods.specs.state.Steps.{AreFree, IsShownNext, IsNextAt, AreNextBelow, MayTake, IsChangedAt};

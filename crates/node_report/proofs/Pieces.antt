@@ -8,7 +8,7 @@ use Rattle.histories.proofs.Lists.{given_at}
 use Rattle.manifest.specs.declared.pod.PodSpec.{PodSpec}
 use Rattle.node_config.specs.declared.node.NodeConfig.{NodeConfig}
 use Rattle.observations.specs.declared.tick.TickObs.{TickObs}
-use Rattle.pod_piece.specs.state.Piece.{Piece}
+use Rattle.pod_piece.specs.rule.Piece.{Piece}
 use Rattle.eviction.specs.declared.eviction.Eviction.{Eviction}
 use Rattle.tick_round.specs.state.Node.{ArePieces, piece_after}
 use Rattle.node_report.specs.rule.Report.{AreLines}

@@ -4,7 +4,8 @@ use Rattle.std.specs.List.{flat_map}
 use Rattle.manifest.specs.declared.pod.PodSpec.{PodSpec}
 use Rattle.node_config.specs.declared.node.NodeConfig.{NodeConfig}
 use Rattle.observations.specs.declared.tick.TickObs.{TickObs}
-use Rattle.pod_piece.specs.state.Piece.{Piece, pods_in}
+use Rattle.pod_piece.specs.rule.Piece.{Piece}
+use Rattle.pod_piece.specs.state.Piece.{pods_in}
 use Rattle.event_list.specs.rule.Text.{event_line}
 use Rattle.tick_round.specs.declared.summary.Summary.{Summary}
 use Rattle.tick_round.specs.state.Summary.{IsSummary}

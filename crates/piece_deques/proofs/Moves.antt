@@ -10,7 +10,7 @@ use mathlib.Core.Option.{some, some-injective, some-ne-none}
 use lib.ListN.{get_elem?}
 use Rattle.crossbeam_deque.specs.Tasks.{Pushes, Takes, Finds, FindsFew, Forks, Merges, Learns}
 use Rattle.crossbeam_deque.proofs.Lists.{at_set, at_snoc, set_here, set_else}
-use Rattle.pod_piece.specs.state.Piece.{Piece}
+use Rattle.pod_piece.specs.rule.Piece.{Piece}
 use Rattle.piece_deques.specs.declared.rule.Tally.{Tally}
 use Rattle.piece_deques.specs.state.Rule.{all_parts, number_of, tally, IsPieceDue, Lists, IsDealt, Took, IsEmptied}
 use Rattle.piece_deques.specs.state.Rule.{FoundEmpty, IsBounded}

@@ -8,11 +8,11 @@ use std::marker::{Brand, PhantomData};
 /// Which pieces are dealt. A round of workers picks it.
 pub trait Deal {
     ghost use Rattle.std.specs.Prelude.{Bool, List};
-    ghost use Rattle.pod_piece.specs.state.Piece.{Piece};
+    ghost use Rattle.pod_piece.specs.rule.Piece.{Piece};
 
     ghost all: { List Piece };
 
-    // Whether somebody was told that an update has ended with this piece, and that it was made, or that it was refused.
+    // Whether an update was made that leaves this piece, or was tried, and memory was refused.
     ghost left: { Piece → Bool → Bool };
 }
 

@@ -9,7 +9,7 @@ use Rattle.std.proofs.lemmas.List.{get_or_default}
 use Rattle.std.proofs.lemmas.Option.{slice_get-get_or, slice_get_within, slice_get_cases, get_or_from_slice_get}
 use Rattle.round_steps.specs.declared.step.Step.{Step}
 use Rattle.round_steps.specs.declared.step.Step.TheVariants.{Pop, Steal, Update, Enter}
-use Rattle.pod_piece.specs.state.Piece.{Piece, updated}
+use Rattle.pod_piece.specs.rule.Piece.{Piece, updated}
 use Rattle.totals.specs.declared.totals.Entry.{Entry}
 use Rattle.totals.specs.declared.totals.Totals.{Totals}
 use Rattle.totals.specs.state.Totals.{IsEntryOf}

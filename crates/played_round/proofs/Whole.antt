@@ -7,7 +7,7 @@ use Rattle.std.proofs.lemmas.List.{length-map, length-replicate, get_or-replicat
 use Rattle.std.proofs.lemmas.List.Elements.{All-get_or}
 use Rattle.std.proofs.lemmas.Option.{slice_get-get_or, slice_get_within, get_or_from_slice_get}
 use Rattle.round_steps.specs.declared.step.Step.{Step}
-use Rattle.pod_piece.specs.state.Piece.{Piece, updated}
+use Rattle.pod_piece.specs.rule.Piece.{Piece, updated}
 use Rattle.totals.specs.declared.totals.Entry.{Entry}
 use Rattle.totals.specs.state.Limits.{IsLow}
 use Rattle.round_core.specs.state.Pool.{WorkerState, PoolState, no_entry, entry_at, deal, run, drain_steps}

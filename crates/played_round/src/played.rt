@@ -2,7 +2,7 @@
 
 ghost use Rattle.std.specs.Prelude.{◌≡◌, ◌+◌, ◌<◌, ◌≤◌, List, All, IsTrue, length, map, OnOk, IfOk, replicate};
 ghost use Rattle.observations.specs.rule.Limits.{most_pods};
-ghost use Rattle.pod_piece.specs.state.Piece.{updated};
+ghost use Rattle.pod_piece.specs.rule.Piece.{updated};
 ghost use Rattle.totals.specs.declared.totals.Entry.{Entry};
 ghost use Rattle.totals.specs.state.Totals.{plus, sums_of, AreEntriesOf};
 ghost use Rattle.event_book.specs.state.Shares.{most_parts};

@@ -1,7 +1,7 @@
 //! The pieces of a round.
 
 ghost use Rattle.std.specs.Prelude.{◌≡◌, ◌<◌, length, replicate, IsTrue, OnOk, IfOk};
-ghost use Rattle.pod_piece.specs.state.Piece.{updated};
+ghost use Rattle.pod_piece.specs.rule.Piece.{updated};
 ghost use Rattle.totals.specs.state.Totals.{IsEntryOf};
 ghost use Rattle.totals.specs.state.Limits.{IsLow};
 ghost use Rattle.round_core.specs.state.Pool.{no_entry, entry_at};

@@ -28,10 +28,10 @@ use Rattle.pod_piece.specs.declared.piece.Parts.{Parts}
 use Rattle.pod_piece.specs.declared.status.PodStatus.{PodStatus}
 use Rattle.pod_state.specs.state.Listings.{AreListed}
 use Rattle.pod_piece.specs.state.Listings.{IsNextTick, AreListedOnceEnded}
-use Rattle.pod_piece.specs.rule.Piece.{place_of}
-use Rattle.pod_piece.specs.state.Piece.{Piece, piece, before_last, last_of, ticks, evicted_at, Lives}
+use Rattle.pod_piece.specs.rule.Piece.{Piece, place_of, ticks, updated}
+use Rattle.pod_piece.specs.state.Piece.{piece, before_last, last_of, evicted_at, Lives}
 use Rattle.pod_piece.specs.state.Piece.{with_number, at_rest, begun_with}
-use Rattle.pod_piece.specs.state.Piece.{evicted_before, new_piece, with_tick, updated, with_eviction}
+use Rattle.pod_piece.specs.state.Piece.{evicted_before, new_piece, with_tick, with_eviction}
 use Rattle.pod_piece.specs.rule.Status.{IsStatusAfter}
 use Rattle.pod_piece.specs.state.Status.{IsStatusOf, AreEventsAfter}
 use Rattle.pod_piece.specs.state.Made.{MadeEvent, made_at, made_of, AreMadeOver, round_of}

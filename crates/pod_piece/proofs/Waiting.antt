@@ -14,7 +14,8 @@ use Rattle.histories.proofs.Lists.{take_more, take_old, place_split, slice_get-k
 use Rattle.observations.specs.rule.Pods.{PodObs}
 use Rattle.pod_state.specs.rule.Pods.{PodTick, pod_tick}
 use Rattle.pod_piece.specs.state.Listings.{IsNextTick}
-use Rattle.pod_piece.specs.state.Piece.{Piece, taken, ticks, with_tick, updated}
+use Rattle.pod_piece.specs.rule.Piece.{Piece, taken, ticks, updated}
+use Rattle.pod_piece.specs.state.Piece.{with_tick}
 use Rattle.pod_piece.specs.state.Kept.{AreSpread, MayWait}
 
 pub taken_is : (w : ℕ) (h : List PodTick) → taken w h ≡ take (length h - w) h

@@ -15,8 +15,11 @@
 //! By the invariant of the type each counter in it is the state of the history beside it: probes' counters, back-off,
 //! conditions and their moments, the newest samples of the pod's use. `status()` promises `IsStatusOf`, over the whole
 //! history; `events()` promises `AreLastEvents`. An update for which there is no memory gives the piece back as it was.
+//!
+//! A [`Gate`] makes the updates of a round: the program's counts them, those of tests hold them back.
 #![tactic(auto)]
 
+mod gate;
 mod listings;
 mod made;
 mod order;
@@ -24,6 +27,7 @@ mod piece;
 mod status;
 mod usage;
 
+pub use gate::{Gate, NoGate};
 pub use made::MadeTick;
 pub use order::EvictOrder;
 pub use piece::{PodPiece, Refused, piece_at};

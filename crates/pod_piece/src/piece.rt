@@ -7,7 +7,8 @@ ghost use Rattle.histories.specs.rule.Histories.{last_moment};
 ghost use Rattle.pod_state.specs.rule.Pods.{pod_tick};
 ghost use Rattle.pod_state.specs.state.States.{IsStateOf};
 ghost use Rattle.pod_piece.specs.state.Listings.{MayComeNext, IsNextTick};
-ghost use Rattle.pod_piece.specs.state.Piece.{Piece, ticks, Lives, new_piece, with_tick, updated, with_eviction};
+ghost use Rattle.pod_piece.specs.rule.Piece.{Piece, ticks, updated};
+ghost use Rattle.pod_piece.specs.state.Piece.{Lives, new_piece, with_tick, with_eviction};
 ghost use Rattle.pod_piece.specs.state.Piece.{with_number, at_rest};
 ghost use Rattle.pod_piece.specs.state.Made.{round_length, AreEarlierEvents};
 ghost use Rattle.pod_piece.specs.state.Status.{IsStatusOf, AreLastEvents};
@@ -62,7 +63,7 @@ pub struct PodPiece {
 }
 
 impl Model for PodPiece {
-    ghost use Rattle.pod_piece.specs.state.Piece.{Piece};
+    ghost use Rattle.pod_piece.specs.rule.Piece.{Piece};
 
     ghost Value = { Piece };
 

@@ -8,7 +8,8 @@ use Rattle.std.proofs.lemmas.List.{length-append}
 use Rattle.std.proofs.lemmas.Option.{slice_get-get_or, slice_get_within}
 use Rattle.histories.proofs.Lists.{place_split}
 use Rattle.observations.specs.rule.Limits.{most_pods}
-use Rattle.pod_piece.specs.state.Piece.{Piece, all_updated}
+use Rattle.pod_piece.specs.rule.Piece.{Piece}
+use Rattle.pod_piece.specs.state.Piece.{all_updated}
 use Rattle.totals.specs.declared.totals.Totals.{Totals}
 use Rattle.totals.specs.state.Totals.{plus, nothing}
 use Rattle.totals.specs.state.Rounds.{IsAdditionOf, AreAdditionsOf, sums_of_additions}

@@ -10,7 +10,7 @@ use Rattle.std.proofs.lemmas.List.{map-set, get_or-map, length-map, length-set, 
 use Rattle.std.proofs.lemmas.List.{reverse-append, reverse-reverse}
 use Rattle.std.proofs.lemmas.List.Sums.{sum_by-cons}
 use Rattle.crossbeam_deque.specs.declared.handles.Worker.{Worker}
-use Rattle.pod_piece.specs.state.Piece.{Piece}
+use Rattle.pod_piece.specs.rule.Piece.{Piece}
 use Rattle.piece_deques.specs.declared.rule.Tally.{Tally}
 use Rattle.piece_deques.specs.state.Rule.{number_of}
 use Rattle.piece_deques.specs.state.Ends.{pushed_weight}

@@ -2,7 +2,7 @@
 use Rattle.std.proofs.Common.{◌≡◌, ◌<◌, List, All, Some, get_or, sym, subst}
 use Rattle.std.specs.Prelude.{slice_get}
 use Rattle.std.proofs.lemmas.Option.{slice_get-get_or}
-use Rattle.pod_piece.specs.state.Piece.{Piece}
+use Rattle.pod_piece.specs.rule.Piece.{Piece}
 use Rattle.piece_deques.specs.state.Rule.{IsPieceDue, AreNumbered}
 
 pub all_due : (all : List Piece) → AreNumbered all → All (λ (p : Piece). 0 < p.waiting) all

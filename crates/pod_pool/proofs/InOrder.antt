@@ -10,7 +10,8 @@ use Rattle.std.proofs.lemmas.List.Elements.{All-get_or}
 use Rattle.std.proofs.lemmas.List.Sorted.{sum_by-IsPermutation, All-permutation}
 use Rattle.std.proofs.lemmas.Option.{slice_get-map, slice_get_within, get_or_from_slice_get}
 use Rattle.histories.proofs.Lists.{same_places}
-use Rattle.pod_piece.specs.state.Piece.{Piece, all_updated}
+use Rattle.pod_piece.specs.rule.Piece.{Piece}
+use Rattle.pod_piece.specs.state.Piece.{all_updated}
 use Rattle.piece_deques.specs.state.Rule.{number_of, AreNumbered}
 use Rattle.piece_deques.proofs.Lists.{ones, sum_map}
 use Rattle.pod_pool.specs.state.Done.{IsDone, weigh}

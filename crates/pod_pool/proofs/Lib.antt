@@ -9,4 +9,4 @@ pub mod FinishedWorkers
 pub mod Additions
 pub mod Due
 pub mod Returned
-pub mod Told
+pub mod Gated

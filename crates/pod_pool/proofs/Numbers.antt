@@ -3,7 +3,8 @@ use Rattle.std.proofs.Common.{◌≡◌, ℕ, ◌+◌, ◌-◌, List, [], ◌∷
 use Rattle.std.proofs.Common.{sym, ap, ◌∙◌, subst, arith}
 use Rattle.std.specs.Prelude.{slice_get, option_map, unwrap_or, Option, Result, Ok, Err, OnOk, OnErr}
 use Rattle.std.proofs.lemmas.Option.{slice_get-map, same_Some}
-use Rattle.pod_piece.specs.state.Piece.{Piece, updated, all_updated}
+use Rattle.pod_piece.specs.rule.Piece.{Piece, updated}
+use Rattle.pod_piece.specs.state.Piece.{all_updated}
 use Rattle.piece_deques.specs.state.Rule.{IsPieceDue}
 use Rattle.piece_deques.proofs.Lists.{sum_grown}
 use Rattle.pod_pool.specs.state.Done.{IsDone, IsLeftFrom, IsLeftOf, LeftAsDealt, with_waiting, waiting_at, weigh}

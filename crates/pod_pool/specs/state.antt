@@ -8,4 +8,4 @@ pub mod Order
 pub mod FinishedWorkers
 pub mod Rooms
 pub mod Faults
-pub mod Told
+pub mod Gated

@@ -3,17 +3,16 @@
 ghost use Rattle.std.specs.Prelude.{◌≡◌, ◌<◌, ◌≤◌, ◌+◌, ℕ, None, All, IfOk, IfErr, length, vec_len, vec_capacity};
 ghost use Rattle.std.specs.List.{sum_by};
 ghost use Rattle.pod_pool.specs.state.Done.{weigh};
-ghost use Rattle.pod_pool.specs.state.Told.{IsRefused};
+ghost use Rattle.pod_pool.specs.state.Gated.{IsRefused};
 ghost use Rattle.pod_pool.specs.state.WorkerResults.{kept};
 ghost use Rattle.pod_pool.specs.state.FinishedWorkers.{finished_kept, finished_pushed, finished_taken, IsAway};
 
 use crate::finished_worker::FinishedWorker;
-use crate::gate::Gate;
 use crate::round_gate::RoundGate;
 use crate::worker_result::WorkerResult;
 use event_book::EventBook;
 use piece_deques::Deal;
-use pod_piece::PodPiece;
+use pod_piece::{Gate, PodPiece};
 use std::sync::ledger::Ledger;
 use std::sync::{Mutex, Wait};
 

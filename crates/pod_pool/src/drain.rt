@@ -4,17 +4,16 @@ ghost use Rattle.std.specs.Prelude.{◌≡◌, ◌+◌, ◌++◌, ℕ, None, IfO
 ghost use Rattle.std.specs.List.{sum_by};
 ghost use Rattle.crossbeam_deque.specs.Handles.{view, worker_deque, worker_view, stealer_deque};
 ghost use Rattle.piece_deques.specs.state.Rule.{all_parts};
-ghost use Rattle.pod_pool.specs.state.Told.{IsRefused};
+ghost use Rattle.pod_pool.specs.state.Gated.{IsRefused};
 ghost use Rattle.pod_pool.specs.state.WorkerResults.{kept};
 
 use crate::finished_worker::FinishedWorker;
-use crate::gate::Gate;
 use crate::handle::StealHandle;
 use crate::round_gate::RoundGate;
 use crate::worker_result::WorkerResult;
 use event_book::EventBook;
 use piece_deques::{Deal, pop, return_permit};
-use pod_piece::PodPiece;
+use pod_piece::{Gate, PodPiece};
 use std::sync::ledger::Ledger;
 use std::sync::{Mutex, Wait};
 

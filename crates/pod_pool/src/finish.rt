@@ -7,32 +7,31 @@ ghost use Rattle.totals.specs.state.Totals.{nothing, plus};
 ghost use Rattle.event_book.specs.state.Shares.{share_with};
 ghost use Rattle.piece_deques.specs.state.Rule.{IsPieceDue};
 ghost use Rattle.pod_pool.specs.state.Done.{IsLeftFrom};
-ghost use Rattle.pod_pool.specs.state.Told.{WereTold, IsFinished, IsRefused};
+ghost use Rattle.pod_pool.specs.state.Gated.{WereGated, IsFinished, IsRefused};
 ghost use Rattle.pod_pool.specs.state.WorkerResults.{kept, KeepsOneMore, HasRoomForOne, HasRoomFor};
 
-use crate::gate::{Gate, update};
 use crate::round_gate::RoundGate;
 use crate::worker_result::WorkerResult;
 use event_book::{EventBook, Full, Shares};
 use piece_deques::Deal;
-use pod_piece::PodPiece;
+use pod_piece::{Gate, PodPiece};
 use std::alloc::AllocError;
 use std::marker::PhantomData;
 use std::sync::ledger::Ledger;
 use std::sync::{Mutex, Wait};
 use totals::Totals;
 
-/// Takes all ticks of a piece that wait into its status, in their order, each between the two calls of the gate. An
-/// `Err` leaves the piece pending: the ticks before the refused one are taken.
+/// Takes all ticks of a piece that wait into its status, in their order, each by an update of the gate. An `Err` leaves
+/// the piece pending: the ticks before the refused one are taken.
 pub fn update_waiting<G: Gate>(gate: &G, piece: &mut PodPiece) -> Result<(), AllocError>
     requires { 0 < piece.old.waiting }
     ensures ok { OnOk result (piece.new ≡ all_updated piece.old) }
     ensures err { OnErr result (IsLeftFrom piece.old piece.new) }
-    ensures told { WereTold (G.left gate.now) piece.old.waiting piece.new }
+    ensures gated { WereGated (G.left gate.now) piece.old.waiting piece.new }
     ensures refused { OnErr result (IsTrue (G.left gate.now piece.new false)) }
 {
     'waiting: while piece.pending() {
-        update(gate, piece)?;
+        gate.update(piece)?;
     }
     Ok(())
 }
@@ -125,7 +124,7 @@ impl<D: Deal, U: Ledger, E: Ledger, O: Ledger> WorkerResult<D, U, E, O> {
         ensures more { result ≡ true → self.new.refused ≡ None }
         ensures last { self.new.refused ≡ None → result ≡ true }
         ensures refused { IfSome self.new.refused (IsLeftFrom piece) }
-        ensures told { result ≡ true → WereTold D.left piece.waiting (all_updated piece) }
+        ensures gated { result ≡ true → WereGated D.left piece.waiting (all_updated piece) }
     {
         let mut piece = piece;
         let updated = update_waiting(gate.gate, &mut piece);

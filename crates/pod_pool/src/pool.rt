@@ -9,19 +9,18 @@ ghost use Rattle.totals.specs.state.Limits.{AreLow};
 ghost use Rattle.piece_deques.specs.state.Rule.{AreNumbered};
 ghost use Rattle.pod_pool.specs.state.Faults.{GivesBack};
 ghost use Rattle.pod_pool.specs.state.Order.{HasEntered};
-ghost use Rattle.pod_pool.specs.state.Told.{AreTold, IsToldOf};
+ghost use Rattle.pod_pool.specs.state.Gated.{AreGated, IsRefusalOf};
 
 use crate::buffers::make_buffers;
 use crate::contexts::lay_out;
 use crate::fault::PoolFault;
-use crate::gate::Gate;
 use crate::gathered::{ResultBuffers, gather};
 use crate::round_gate::RoundGate;
 use crate::run::run;
 use crate::spawner::Spawner;
 use event_book::{EventBook, Shares};
 use piece_deques::Deal;
-use pod_piece::PodPiece;
+use pod_piece::{Gate, PodPiece};
 use std::alloc::Global;
 use std::marker::{Brand, PhantomData};
 use std::sync::Mutex;
@@ -67,8 +66,8 @@ fn pool<
     ensures pieces { IfOk result (λ r. r.0.items ≡ map all_updated pieces.items) }
     ensures share { IfOk result (λ r. HasEntered r.0.items share r.1) }
     ensures fault { IfErr result (GivesBack pieces share) }
-    ensures told { OnOk result (AreTold (G.left gate.now) pieces.items) }
-    ensures refused { IfErr result (IsToldOf (G.left gate.now)) }
+    ensures gated { OnOk result (AreGated (G.left gate.now) pieces.items) }
+    ensures refused { IfErr result (IsRefusalOf (G.left gate.now)) }
 {
     let Ok(buffers) = make_buffers::<D, U, E, O>(alloc, pieces.len(), workers) else {
         return Err(PoolFault::NoRoom(pieces, share));
@@ -97,8 +96,7 @@ fn pool<
 ///
 /// An `Err` says that memory was refused. At `NoRoom` no piece was dealt: pieces and share are as they were handed in.
 /// At `Update` one of the pieces comes back with those of its ticks left that are still to come, one at least and no
-/// more than it was dealt with; the others and the share are dropped. The gate was told of each update by which a tick
-/// came into a status, and of the refused one.
+/// more than it was dealt with; the others and the share are dropped. Each update is one of the gate, made or refused.
 pub fn update_all<U: Ledger + Send, E: Ledger + Send, O: Ledger + Send, R: Spawner, G: Gate>(
     rt: &R,
     alloc: Global,
@@ -119,8 +117,8 @@ pub fn update_all<U: Ledger + Send, E: Ledger + Send, O: Ledger + Send, R: Spawn
     ensures pieces { IfOk result (λ r. r.0.items ≡ map all_updated pieces.items) }
     ensures share { IfOk result (λ r. HasEntered r.0.items share r.1) }
     ensures fault { IfErr result (GivesBack pieces share) }
-    ensures told { OnOk result (AreTold (G.left gate.now) pieces.items) }
-    ensures refused { IfErr result (IsToldOf (G.left gate.now)) }
+    ensures gated { OnOk result (AreGated (G.left gate.now) pieces.items) }
+    ensures refused { IfErr result (IsRefusalOf (G.left gate.now)) }
 {
     let workers = busy(workers, pieces.len());
     pool::<Brand, U, E, O, R, G>(rt, alloc, pieces, book, share, workers, gate)

@@ -2,15 +2,15 @@
 
 ghost use Rattle.std.specs.Prelude.{◌≡◌};
 
-use crate::gate::Gate;
 use piece_deques::Deal;
+use pod_piece::Gate;
 use std::marker::PhantomData;
 
-/// The gate that is told of the updates of a round. By its type what is known of each piece of the round is what this
-/// gate was told.
+/// The gate that makes the updates of a round. By its type what is known of the pieces of the round is what this gate
+/// has made of them.
 #[derive(Drop)]
 pub(crate) struct RoundGate<'g, D: Deal, G: Gate> {
     pub gate: &'g G,
     pub of: PhantomData<D>,
-    pub ghost told: { D.left ≡ G.left gate.now },
+    pub ghost known: { D.left ≡ G.left gate.now },
 }

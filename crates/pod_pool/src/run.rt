@@ -4,11 +4,11 @@ ghost use Rattle.std.specs.Prelude.{◌≡◌, ◌<◌, None, All, length, map};
 ghost use Rattle.pod_pool.specs.state.Contexts.{context_tag, HasEmptied};
 
 use crate::context::WorkerContext;
-use crate::gate::Gate;
 use crate::round_gate::RoundGate;
 use crate::spawner::Spawner;
 use event_book::EventBook;
 use piece_deques::Deal;
+use pod_piece::Gate;
 use std::sync::Mutex;
 use std::sync::ledger::Ledger;
 use std::thread;

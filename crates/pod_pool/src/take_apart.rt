@@ -4,7 +4,7 @@ ghost use Rattle.std.specs.Prelude.{◌≡◌, ◌≤◌, ◌+◌, ℕ, [], None
 ghost use Rattle.std.specs.List.{sum_by};
 ghost use Rattle.crossbeam_deque.specs.Handles.{worker_view};
 ghost use Rattle.piece_deques.specs.state.Rule.{all_parts};
-ghost use Rattle.pod_pool.specs.state.Told.{IsRefused};
+ghost use Rattle.pod_pool.specs.state.Gated.{IsRefused};
 ghost use Rattle.pod_pool.specs.state.Permits.{pushed_count, taken_by};
 ghost use Rattle.pod_pool.specs.state.Contexts.{context_deque, context_tag, IsLaid};
 ghost use Rattle.pod_pool.specs.state.FinishedWorkers.{finished_deque, finished_kept, finished_taken, IsAway, IsRow};

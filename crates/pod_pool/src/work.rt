@@ -12,13 +12,12 @@ ghost use Rattle.pod_pool.specs.state.Permits.{owner_deque, permit_deque, pushed
 ghost use Rattle.pod_pool.specs.state.Contexts.{tag_of, context_tag, IsSameWorker, HasEmptied};
 
 use crate::context::WorkerContext;
-use crate::gate::Gate;
 use crate::handle::StealHandle;
 use crate::round_gate::RoundGate;
 use crate::worker_result::WorkerResult;
 use event_book::{EventBook, Shares};
 use piece_deques::{Deal, Owner, pop};
-use pod_piece::PodPiece;
+use pod_piece::{Gate, PodPiece};
 use std::sync::ledger::Ledger;
 use std::sync::{Mutex, Wait};
 

@@ -3,7 +3,7 @@
 ghost use Rattle.std.specs.Prelude.{◌<◌, All};
 ghost use Rattle.std.specs.Option.{option_to_list};
 ghost use Rattle.pod_pool.specs.state.Done.{AreSumsOf};
-ghost use Rattle.pod_pool.specs.state.Told.{IsFinished, IsRefused};
+ghost use Rattle.pod_pool.specs.state.Gated.{IsFinished, IsRefused};
 
 use event_book::Shares;
 use piece_deques::Deal;
@@ -14,8 +14,8 @@ use std::sync::ledger::Ledger;
 /// What a worker keeps: updated pieces that are entered in the book, those that are not counted yet, since the book had
 /// no room for them, the piece whose update was refused, and the share with which it enters.
 ///
-/// By its type these are pieces of the round, and the gate was told of their updates. Of the refused one some ticks
-/// still wait, and of the others none; the totals of the share are what the rounds of the entered ones add.
+/// By its type these are pieces of the round, and the gate has made their updates. Of the refused one some ticks still
+/// wait, and of the others none; the totals of the share are what the rounds of the entered ones add.
 #[derive(Drop)]
 pub(crate) struct WorkerResult<D: Deal, U: Ledger, E: Ledger, O: Ledger> {
     pub done: Vec<PodPiece>,

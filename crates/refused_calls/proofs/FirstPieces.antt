@@ -1,7 +1,7 @@
 -- One piece more of a round.
 use Rattle.std.proofs.Common.{◌≡◌, ◌∙◌, ℕ, ◌+◌, List, [], ◌∷◌, ◌++◌, length, length-append, sym, ap}
 use Rattle.std.specs.Prelude.{◌<◌}
-use Rattle.pod_piece.specs.state.Piece.{Piece}
+use Rattle.pod_piece.specs.rule.Piece.{Piece}
 use Rattle.test_pods.proofs.Pieces as pieces
 use Rattle.refused_calls.specs.state.Round.{AreFirst}
 

@@ -7,8 +7,8 @@ ghost use Rattle.refused_calls.specs.state.Round.{AreFirst, AreLevel, IsWholeSha
 use crate::pieces::{Stage, pending, shows};
 use crate::seen::{Line, Saw, Unprepared};
 use event_book::{EventBook, Shares};
-use pod_piece::PodPiece;
-use pod_pool::{NoGate, PoolFault, Spawner, update_all};
+use pod_piece::{NoGate, PodPiece};
+use pod_pool::{PoolFault, Spawner, update_all};
 use std::alloc::Global;
 use std::sync::Mutex;
 use std::sync::ledger::Ledger;

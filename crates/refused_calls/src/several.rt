@@ -11,7 +11,7 @@ use crate::ticks::{WORKERS, halted};
 use event_book::WholeBook;
 use observations::TickObs;
 use pod_piece::PodPiece;
-use std::alloc::Global;
+use std::alloc::{AllocError, Global};
 use std::sync::ledger::Ledger;
 use tick_round::{Gate, Node, Spawner, TickFault};
 
@@ -23,9 +23,9 @@ impl Gate for AllRun {
         true
     }
 
-    fn enter(&self, _piece: &PodPiece) {}
-
-    fn leave(&self, _piece: &PodPiece, _is_updated: bool) {}
+    fn update(&self, piece: &mut PodPiece) -> Result<(), AllocError> {
+        piece.update_in_place()
+    }
 }
 
 /// The node takes these ticks.

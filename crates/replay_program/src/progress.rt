@@ -3,6 +3,7 @@
 ghost use Rattle.std.specs.Prelude.{◌≡◌};
 
 use kubelet_replay::{Gate, PodPiece};
+use std::alloc::AllocError;
 use std::io::{self, IsTerminal, Read, Write};
 use std::sync::atomic::{AtomicUsize, Ordering};
 
@@ -80,13 +81,12 @@ impl<E: Eprint + Sync> Gate for Progress<'_, E> {
         false
     }
 
-    fn enter(&self, piece: &PodPiece) {
+    fn update(&self, piece: &mut PodPiece) -> Result<(), AllocError> {
         if piece.status().number == 0 {
             self.add_tick();
         }
+        piece.update_in_place()
     }
-
-    fn leave(&self, _piece: &PodPiece, _is_updated: bool) {}
 }
 
 /// A reader whose bytes are counted.

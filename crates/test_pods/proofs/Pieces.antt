@@ -2,7 +2,7 @@
 use Rattle.std.proofs.Common.{◌≡◌, ◌∙◌, ◌++◌, ◌∷◌, [], List, Some, length, sym, ap, subst, inl, inr}
 use Rattle.std.specs.Prelude.{◌<◌, slice_get}
 use Rattle.histories.proofs.Lists.{place_split}
-use Rattle.pod_piece.specs.state.Piece.{Piece}
+use Rattle.pod_piece.specs.rule.Piece.{Piece}
 use Rattle.piece_deques.proofs.Lists.{grown}
 use Rattle.test_pods.specs.state.Pods.{ArePending}
 

@@ -18,7 +18,8 @@ use Rattle.node_signals.specs.declared.key.ThresholdKey.{ThresholdKey}
 use Rattle.pod_state.specs.rule.Pods.{PodTick, pod_tick}
 use Rattle.pod_piece.specs.declared.piece.EvictionRecord.{EvictionRecord}
 use Rattle.pod_piece.specs.declared.status.PodStatus.{PodStatus}
-use Rattle.pod_piece.specs.state.Piece.{Piece, new_piece, pods_in}
+use Rattle.pod_piece.specs.rule.Piece.{Piece}
+use Rattle.pod_piece.specs.state.Piece.{new_piece, pods_in}
 use Rattle.ranking.proofs.LawLemmas.{same_victim}
 use Rattle.eviction.specs.declared.eviction.Eviction.{Eviction}
 use Rattle.eviction.specs.rule.Replay.{EvictedAt, pod_ticks, own_eviction, IsCandidate}

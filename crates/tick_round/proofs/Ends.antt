@@ -10,7 +10,8 @@ use Rattle.observations.specs.declared.tick.TickObs.{TickObs}
 use Rattle.observations.specs.rule.Observations.{shown_of}
 use Rattle.node_signals.specs.declared.key.ThresholdKey.{ThresholdKey}
 use Rattle.pod_state.specs.rule.Pods.{PodTick}
-use Rattle.pod_piece.specs.state.Piece.{Piece, evicted_at}
+use Rattle.pod_piece.specs.rule.Piece.{Piece}
+use Rattle.pod_piece.specs.state.Piece.{evicted_at}
 use Rattle.pod_piece.specs.state.Made.{MadeEvent}
 use Rattle.eviction.specs.declared.eviction.Eviction.{Eviction}
 use Rattle.eviction.specs.state.Pausing.{Kept, kept, still}

@@ -13,7 +13,8 @@ use Rattle.observations.specs.rule.Limits.{most_ticks}
 use Rattle.node_signals.specs.declared.node.NodeSignals.{NodeSignals}
 use Rattle.node_signals.specs.declared.key.ThresholdKey.{ThresholdKey}
 use Rattle.pod_piece.specs.state.Made.{MadeEvent}
-use Rattle.pod_piece.specs.state.Piece.{Piece, evicted_at}
+use Rattle.pod_piece.specs.rule.Piece.{Piece}
+use Rattle.pod_piece.specs.state.Piece.{evicted_at}
 use Rattle.eviction.specs.declared.eviction.Eviction.{Eviction}
 use Rattle.eviction.specs.state.Pausing.{kept, still}
 use Rattle.eviction.specs.rule.Replay.{is_paused, unless_paused}

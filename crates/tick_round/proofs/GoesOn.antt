@@ -17,7 +17,8 @@ use Rattle.node_signals.specs.declared.key.ThresholdKey.{ThresholdKey}
 use Rattle.node_signals.specs.rule.Thresholds.{IsServed}
 use Rattle.node_signals.specs.state.Node.{IsStateOf}
 use Rattle.pod_state.specs.declared.events.PodEvent.{PodEvent}
-use Rattle.pod_piece.specs.state.Piece.{Piece, pods_in}
+use Rattle.pod_piece.specs.rule.Piece.{Piece}
+use Rattle.pod_piece.specs.state.Piece.{pods_in}
 use Rattle.eviction.specs.declared.eviction.Eviction.{Eviction}
 use Rattle.eviction.specs.state.Pausing.{Kept, kept, still}
 use Rattle.eviction.specs.rule.Replay.{is_paused, pauses, unless_paused}
@@ -31,7 +32,8 @@ use Rattle.event_list.specs.rule.Events.{of_pods, of_node, of_eviction, ArePodEv
 use Rattle.event_list.specs.rule.Totals.{totals_of}
 use Rattle.event_list.proofs.More.{no_events, events_more}
 use Rattle.tick_round.specs.state.Evict.{IsEvictionAt, AreWithout}
-use Rattle.tick_round.specs.state.Node.{State, state, ArePieces, HasTaken, last_of, IsAfter, IsNextBy}
+use Rattle.tick_round.specs.rule.Gated.{AreUpdatesGated}
+use Rattle.tick_round.specs.state.Node.{State, state, ArePieces, HasTaken, last_of, IsAfter, IsNextBy, AreNextGated}
 use Rattle.tick_round.specs.state.Round.{AreFew, AreFewEvents, IsKept}
 use Rattle.tick_round.specs.state.Stretch.{IsSampled}
 use Rattle.tick_round.proofs.Pieces.{pieces_updated, pieces_evicted, pieces_spared}
@@ -218,6 +220,14 @@ pub takes_ticks : (more : List TickObs) {before after : Option State} {s next : 
 takes_ticks more {before} {after} {s} {next} was now by config pods ticks old =
     let had = of_some config pods ticks before s was old in
     to_some config pods (ticks ++ more) after next now (by.config ∙ had.0) (by.taken pods ticks had.1)
+
+-- and the gate has made the updates by them
+pub gates_updates : (left : Piece → Bool → Bool) (more : List TickObs) {before : Option State} {s : State}
+    → before ≡ Some s → AreNextGated left s more
+    → (config : NodeConfig) (pods : List PodSpec) (ticks : List TickObs) → IsAfter config pods ticks before
+    → AreUpdatesGated left pods ticks more
+gates_updates left more {before} {s} was next config pods ticks old =
+    next pods ticks (of_some config pods ticks before s was old).1
 
 pub rest_next : {A : Type 0} (all front : List A) (rest : List A) (x : A) (behind : List A) → all ≡ front ++ rest
     → rest ≡ x ∷ behind → all ≡ front ++ x ∷ behind

@@ -3,14 +3,16 @@ use Rattle.std.proofs.Common.{◌≡◌, ◌∙◌, ℕ, zero, suc, ◌+◌, Lis
 use Rattle.std.proofs.Common.{refl, ap, sym, subst, arith, append_assoc, append-nil}
 use Rattle.std.specs.Prelude.{slice_get, option_map}
 use Rattle.std.specs.List.{cons_option}
-use Rattle.std.proofs.lemmas.List.{length-append, length-map}
+use Rattle.std.proofs.lemmas.List.{length-append, length-map, map-append}
+use Rattle.std.proofs.lemmas.List.Elements.{filter_map-append}
 use Rattle.std.proofs.lemmas.Option.{slice_get-map}
 use Rattle.histories.proofs.Places.{length-more}
 use Rattle.observations.specs.rule.Pods.{PodObs}
 use Rattle.observations.specs.declared.tick.TickObs.{TickObs}
 use Rattle.observations.specs.rule.Observations.{shown_of, own_ticks}
 use Rattle.pod_state.specs.rule.Pods.{PodTick, pod_tick}
-use Rattle.pod_piece.specs.state.Piece.{Piece, begun_with}
+use Rattle.pod_piece.specs.rule.Piece.{Piece}
+use Rattle.pod_piece.specs.state.Piece.{begun_with}
 use Rattle.eviction.specs.rule.Replay.{pod_ticks}
 use Rattle.node_pods.specs.state.Pods.{AreNext, handed_one, handed_each, after_each, closed}
 use Rattle.node_pods.proofs.Steps.{closed_handed, with_shown_at, with_shown_length}
@@ -119,6 +121,13 @@ pub own_first : (x : TickObs) (ticks : List TickObs) (n : ℕ) (o : Option PodOb
     → map pod_tick (cons_option o []) ++ pod_ticks ticks n ≡ pod_ticks (x ∷ ticks) n
 own_first x ticks n None none = ap (λ (o : Option PodObs). map pod_tick (cons_option o (own_ticks ticks n))) (sym none)
 own_first x ticks n (Some o) is = ap (λ (o : Option PodObs). map pod_tick (cons_option o (own_ticks ticks n))) (sym is)
+
+-- ticks behind others
+pub pod_ticks-append : (before xs : List TickObs) (n : ℕ)
+    → pod_ticks (before ++ xs) n ≡ pod_ticks before n ++ pod_ticks xs n
+pod_ticks-append before xs n =
+    ap (map pod_tick) (filter_map-append (λ (x : TickObs). shown_of x n) before xs)
+    ∙ map-append pod_tick (own_ticks before n) (own_ticks xs n)
 
 -- each piece once all these ticks were handed to it
 pub handed_at : (p : Piece) (more : List PodTick) (pieces : List Piece) (ticks : List TickObs) (n : ℕ) (q : Piece)

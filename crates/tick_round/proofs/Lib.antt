@@ -1,5 +1,5 @@
 pub mod Updates
-pub mod ToldBelow
+pub mod GatedBelow
 pub mod Rounds
 pub mod Evicts
 pub mod Conditions
@@ -8,6 +8,7 @@ pub mod Candidates
 pub mod Made
 pub mod GoesOn
 pub mod Handing
+pub mod Gated
 pub mod Told
 pub mod Counts
 pub mod Folds

@@ -16,8 +16,8 @@ use Rattle.observations.specs.rule.Observations.{shown_of}
 use Rattle.pod_state.specs.declared.events.PodEvent.{PodEvent}
 use Rattle.pod_state.specs.rule.Pods.{pod_tick}
 use Rattle.pod_state.specs.rule.Events.{AreEventsOf}
-use Rattle.pod_piece.specs.rule.Piece.{place_of}
-use Rattle.pod_piece.specs.state.Piece.{Piece, evicted_at as evicted_piece_at, evicted_before}
+use Rattle.pod_piece.specs.rule.Piece.{Piece, place_of}
+use Rattle.pod_piece.specs.state.Piece.{evicted_at as evicted_piece_at, evicted_before}
 use Rattle.pod_piece.specs.state.Made.{MadeEvent}
 use Rattle.pod_piece.proofs.PieceLemmas.{before_is}
 use Rattle.eviction.specs.declared.eviction.Eviction.{Eviction}

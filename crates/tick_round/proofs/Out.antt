@@ -8,7 +8,7 @@ use Rattle.observations.specs.rule.Pods.{PodObs}
 use Rattle.observations.specs.declared.tick.TickObs.{TickObs}
 use Rattle.observations.specs.rule.Observations.{all_shown}
 use Rattle.observations.specs.rule.Limits.{most_pods}
-use Rattle.pod_piece.specs.state.Piece.{Piece}
+use Rattle.pod_piece.specs.rule.Piece.{Piece}
 use Rattle.totals.specs.declared.totals.Totals.{Totals}
 use Rattle.totals.specs.state.Limits.{AreLow}
 use Rattle.node_pods.specs.state.Pods.{sent_from}

@@ -17,8 +17,8 @@ use Rattle.observations.specs.rule.Observations.{shown_of, own_ticks}
 use Rattle.observations.specs.rule.Limits.{most_ticks}
 use Rattle.node_signals.specs.declared.node.NodeSignals.{NodeSignals}
 use Rattle.pod_state.specs.rule.Pods.{PodTick, pod_tick}
-use Rattle.pod_piece.specs.rule.Piece.{place_of}
-use Rattle.pod_piece.specs.state.Piece.{Piece, ticks, all_updated, with_number, evicted_at}
+use Rattle.pod_piece.specs.rule.Piece.{Piece, place_of, ticks}
+use Rattle.pod_piece.specs.state.Piece.{all_updated, with_number, evicted_at}
 use Rattle.pod_piece.specs.state.Made.{MadeEvent, AreMadeOver, AreRoundEvents, round_of, round_length}
 use Rattle.eviction.specs.declared.eviction.Eviction.{Eviction}
 use Rattle.eviction.specs.state.Pausing.{still}

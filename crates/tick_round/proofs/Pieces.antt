@@ -21,7 +21,7 @@ use Rattle.pod_state.specs.rule.Pods.{PodTick, pod_tick, EndsPod, IsPhase}
 use Rattle.pod_state.proofs.EndLemmas.{lives}
 use Rattle.pod_piece.specs.declared.piece.EvictionRecord.{EvictionRecord}
 use Rattle.pod_piece.specs.declared.status.PodStatus.{PodStatus}
-use Rattle.pod_piece.specs.state.Piece.{Piece}
+use Rattle.pod_piece.specs.rule.Piece.{Piece}
 use Rattle.pod_piece.specs.state.Status.{IsStatusOf}
 use Rattle.eviction.specs.declared.eviction.Eviction.{Eviction}
 use Rattle.eviction.specs.rule.Replay.{EvictedAt, pod_ticks, evicted_at, own_eviction}

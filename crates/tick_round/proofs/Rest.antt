@@ -1,30 +1,31 @@
 -- The ticks that are left behind those of a round.
-use Rattle.std.proofs.Common.{◌≡◌, ◌∙◌, ℕ, ◌≤◌, List, [], ◌∷◌, ◌++◌, length, map, Option, Some, None}
+use Rattle.std.proofs.Common.{◌≡◌, ◌∙◌, ℕ, ◌≤◌, Bool, List, [], ◌∷◌, ◌++◌, length, map, Option, Some, None}
 use Rattle.std.proofs.Common.{refl, ap, sym, subst, arith, append_assoc, append-nil}
 use Rattle.std.specs.Prelude.{slice_get}
 use Rattle.std.specs.List.{cons_option}
-use Rattle.std.proofs.lemmas.List.{length-append, map-append}
-use Rattle.std.proofs.lemmas.List.Elements.{filter_map-append}
+use Rattle.std.proofs.lemmas.List.{length-append}
 use Rattle.std.proofs.lemmas.Option.{slice_get_within}
 use Rattle.histories.specs.state.Histories.{EndsBefore}
 use Rattle.histories.proofs.Lists.{given_at}
 use Rattle.manifest.specs.declared.pod.PodSpec.{PodSpec}
 use Rattle.observations.specs.rule.Pods.{PodObs}
 use Rattle.observations.specs.declared.tick.TickObs.{TickObs}
-use Rattle.observations.specs.rule.Observations.{shown_of, own_ticks}
+use Rattle.observations.specs.rule.Observations.{shown_of}
 use Rattle.pod_state.specs.rule.Pods.{PodTick, pod_tick}
 use Rattle.pod_piece.specs.state.Listings.{IsNextTick}
-use Rattle.pod_piece.specs.state.Piece.{Piece, pods_in}
+use Rattle.pod_piece.specs.rule.Piece.{Piece}
+use Rattle.pod_piece.specs.state.Piece.{pods_in}
 use Rattle.eviction.specs.rule.Replay.{pod_ticks}
 use Rattle.node_pods.specs.state.Pods.{after_one, after_each}
 use Rattle.node_pods.proofs.Steps.{with_shown_at, with_shown_length}
 use Rattle.node_pods.proofs.Candidates.{same_piece}
-use Rattle.tick_round.specs.state.Node.{State, HasTaken, FitAll, MayBeHandedAll, last_of, IsNextBy}
+use Rattle.tick_round.specs.state.Node.{State, HasTaken, FitAll, MayBeHandedAll, last_of, IsNextBy, AreNextGated}
 use Rattle.tick_round.specs.state.Round.{IsKept}
 use Rattle.tick_round.specs.state.Stretch.{HasTakenSome}
 use Rattle.tick_round.proofs.Ends.{after_all-length}
 use Rattle.tick_round.proofs.GoesOn.{last_more}
-use Rattle.tick_round.proofs.Handing.{after_all, last_with, rest_handed, own_first}
+use Rattle.tick_round.proofs.Gated.{none_gated, more_gated}
+use Rattle.tick_round.proofs.Handing.{after_all, last_with, rest_handed, own_first, pod_ticks-append}
 use Rattle.tick_round.proofs.Pieces.{pod_at}
 
 -- pods that are one in what decides which tick may be handed to them
@@ -106,12 +107,6 @@ after_at pieces (x ∷ xs) n p at =
     handed_of None = sym (append-nil p.handed)
     handed_of (Some o) = refl
 
-pod_ticks-append : (before xs : List TickObs) (n : ℕ)
-    → pod_ticks (before ++ xs) n ≡ pod_ticks before n ++ pod_ticks xs n
-pod_ticks-append before xs n =
-    ap (map pod_tick) (filter_map-append (λ (x : TickObs). shown_of x n) before xs)
-    ∙ map-append pod_tick (own_ticks before n) (own_ticks xs n)
-
 last_of-with : (xs before : List TickObs) → last_of (before ++ xs) ≡ last_with (last_of before) xs
 last_of-with [] before = ap last_of (append-nil before)
 last_of-with (x ∷ xs) before =
@@ -160,36 +155,46 @@ next_none a = record {
 }
 
 -- a node that has taken the first of these ticks may take the others
-pub has_taken_some : (ticks taken rest : List TickObs) (s new : State) → IsKept s → FitAll s ticks
-    → ticks ≡ taken ++ rest → IsNextBy taken s new → HasTakenSome ticks s new rest
-has_taken_some ticks taken rest s new kept fits all next = record {
+pub has_taken_some : (left : Piece → Bool → Bool) (ticks taken rest : List TickObs) (s new : State) → IsKept s
+    → FitAll s ticks → ticks ≡ taken ++ rest → AreNextGated left s taken → IsNextBy taken s new
+    → HasTakenSome left ticks s new rest
+has_taken_some left ticks taken rest s new kept fits all gated next = record {
   taken = taken;
   all = all;
   next = next;
+  gated = gated;
   fits = rest_fit (pods_in s.pods.pieces) kept.ticks s new taken rest kept.taken
       (next.taken (pods_in s.pods.pieces) kept.ticks kept.taken) (subst (λ (xs : List TickObs). FitAll s xs) all fits);
 }
 
 -- none were taken yet, some more are, and all
-pub none_taken : (s : State) (ticks : List TickObs) → FitAll s ticks → HasTakenSome ticks s s ticks
-none_taken s ticks fits = record { taken = []; all = refl; next = next_none s; fits = fits }
+pub none_taken : (left : Piece → Bool → Bool) (s : State) (ticks : List TickObs) → FitAll s ticks
+    → HasTakenSome left ticks s s ticks
+none_taken left s ticks fits =
+    record { taken = []; all = refl; next = next_none s; gated = none_gated left s; fits = fits }
 
-pub some_more : (ticks left rest : List TickObs) (a b c : State) → HasTakenSome ticks a b left
-    → HasTakenSome left b c rest
-    → HasTakenSome ticks a c rest
-some_more ticks left rest a b c some more = record {
+pub some_more : (left : Piece → Bool → Bool) (ticks behind rest : List TickObs) (a b c : State)
+    → HasTakenSome left ticks a b behind → HasTakenSome left behind b c rest → HasTakenSome left ticks a c rest
+some_more left ticks behind rest a b c some more = record {
   taken = some.taken ++ more.taken;
   all = some.all ∙ ap (λ (xs : List TickObs). some.taken ++ xs) more.all
       ∙ sym (append_assoc some.taken more.taken rest);
   next = next_all some.taken more.taken a b c some.next more.next;
+  gated = more_gated left a b some.taken more.taken some.gated some.next.taken more.gated;
   fits = more.fits;
 }
 
-pub all_taken : (ticks rest : List TickObs) (a b : State) → HasTakenSome ticks a b rest → length rest ≤ 0
-    → IsNextBy ticks a b
-all_taken ticks [] a b some none =
+pub all_taken : (left : Piece → Bool → Bool) (ticks rest : List TickObs) (a b : State)
+    → HasTakenSome left ticks a b rest → length rest ≤ 0 → IsNextBy ticks a b
+all_taken left ticks [] a b some none =
     subst (λ (xs : List TickObs). IsNextBy xs a b) (sym (some.all ∙ append-nil some.taken)) some.next
-all_taken ticks (x ∷ rest) a b some none = absurd (omega (arith, none))
+all_taken left ticks (x ∷ rest) a b some none = absurd (omega (arith, none))
+
+pub all_gated : (left : Piece → Bool → Bool) (ticks rest : List TickObs) (a b : State)
+    → HasTakenSome left ticks a b rest → length rest ≤ 0 → AreNextGated left a ticks
+all_gated left ticks [] a b some none =
+    subst (λ (xs : List TickObs). AreNextGated left a xs) (sym (some.all ∙ append-nil some.taken)) some.gated
+all_gated left ticks (x ∷ rest) a b some none = absurd (omega (arith, none))
 
 -- a round takes one at least
 pub fewer : (x : TickObs) (more calm : List TickObs) (last : TickObs) (rest : List TickObs)

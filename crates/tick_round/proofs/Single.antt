@@ -10,7 +10,8 @@ use Rattle.histories.proofs.Lists.{given_at}
 use Rattle.observations.specs.declared.tick.TickObs.{TickObs}
 use Rattle.observations.specs.rule.Observations.{all_shown}
 use Rattle.piece_deques.proofs.Lists.{sum_map}
-use Rattle.pod_piece.specs.state.Piece.{Piece, updated, all_updated, pods_in}
+use Rattle.pod_piece.specs.rule.Piece.{Piece, updated}
+use Rattle.pod_piece.specs.state.Piece.{all_updated, pods_in}
 use Rattle.pod_piece.specs.state.Made.{round_length}
 use Rattle.eviction.specs.rule.Replay.{pod_ticks}
 use Rattle.totals.specs.declared.totals.Entry.{Entry}

@@ -10,7 +10,8 @@ use Rattle.std.proofs.lemmas.Option.{slice_get-map, slice_get_within}
 use Rattle.histories.proofs.Places.{length-more}
 use Rattle.histories.proofs.Lists.{place_split, given_at, same_at, set_length, set_here, set_others}
 use Rattle.observations.specs.rule.Limits.{most_pods}
-use Rattle.pod_piece.specs.state.Piece.{Piece, all_updated}
+use Rattle.pod_piece.specs.rule.Piece.{Piece}
+use Rattle.pod_piece.specs.state.Piece.{all_updated}
 use Rattle.totals.specs.declared.totals.Totals.{Totals}
 use Rattle.totals.specs.state.Totals.{plus}
 use Rattle.event_book.specs.state.Shares.{AreWithin}

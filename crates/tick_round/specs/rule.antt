@@ -1,1 +1,2 @@
+pub mod Gated
 pub mod Summary

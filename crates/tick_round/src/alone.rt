@@ -2,15 +2,16 @@
 
 ghost use Rattle.std.specs.Prelude.{◌≡◌, ◌-◌, ◌<◌, length, map, slice_get, Some};
 ghost use Rattle.std.specs.Prelude.{IfOk, OnOk, OnErr};
-ghost use Rattle.pod_piece.specs.state.Piece.{Piece, all_updated};
+ghost use Rattle.pod_piece.specs.rule.Piece.{Piece};
+ghost use Rattle.pod_piece.specs.state.Piece.{all_updated};
 ghost use Rattle.totals.specs.state.Limits.{most_round_events, greatest_total};
-ghost use Rattle.pod_pool.specs.state.Told.{WereTold, AreTold, WasRefused};
-ghost use Rattle.tick_round.specs.state.Update.{IsToldAt};
+ghost use Rattle.pod_pool.specs.state.Gated.{WereGated, AreGated, WasRefused};
+ghost use Rattle.tick_round.specs.state.Update.{IsGatedAt};
 ghost use Rattle.tick_round.specs.state.Update.{AreUpTo, MayUpdate, IsAdded, UpdatesAt, AreAdded};
 
 use event_book::WholeBook;
-use pod_piece::PodPiece;
-use pod_pool::{Gate, update_waiting};
+use pod_piece::{Gate, PodPiece};
+use pod_pool::update_waiting;
 use std::alloc::AllocError;
 use std::sync::ledger::Ledger;
 use totals::Totals;
@@ -25,7 +26,7 @@ fn update_one<U: Ledger, E: Ledger, O: Ledger, G: Gate>(
     requires room { AreUpTo (greatest_total - most_round_events) book.old }
     ensures piece { OnOk result (piece.new ≡ all_updated piece.old) }
     ensures book { OnOk result (IsAdded piece.new book.old book.new) }
-    ensures told { OnOk result (WereTold (G.left gate.now) piece.old.waiting piece.new) }
+    ensures gated { OnOk result (WereGated (G.left gate.now) piece.old.waiting piece.new) }
     ensures refused { OnErr result (WasRefused (G.left gate.now)) }
 {
     update_waiting(gate, piece)?;
@@ -44,14 +45,14 @@ fn update_at<U: Ledger, E: Ledger, O: Ledger, G: Gate>(
     requires pending { (piece : Piece) → slice_get pieces.old.items number ≡ Some piece → 0 < piece.waiting }
     requires room { AreUpTo (greatest_total - most_round_events) book.old }
     ensures updates { OnOk result (UpdatesAt pieces.old.items number book.old pieces.new.items book.new) }
-    ensures told { OnOk result (IsToldAt (G.left gate.now) pieces.old.items number) }
+    ensures gated { OnOk result (IsGatedAt (G.left gate.now) pieces.old.items number) }
     ensures refused { OnErr result (WasRefused (G.left gate.now)) }
 {
     update_one(&mut pieces[number], book, gate)
 }
 
 /// All pods take the ticks that wait for them into their statuses, one pod after the other, and are entered in the
-/// book; the gate is told of each update. An `Err` says that memory was refused to one, which the gate was told.
+/// book; the gate makes each update. An `Err` says that memory was refused to one.
 pub fn update_alone<U: Ledger, E: Ledger, O: Ledger, G: Gate>(
     pieces: Vec<PodPiece>,
     book: WholeBook<U, E, O>,
@@ -60,7 +61,7 @@ pub fn update_alone<U: Ledger, E: Ledger, O: Ledger, G: Gate>(
     requires { MayUpdate pieces.items book }
     ensures pieces { IfOk result (λ r. r.0.items ≡ map all_updated pieces.items) }
     ensures book { IfOk result (λ r. AreAdded r.0.items book r.1) }
-    ensures told { OnOk result (AreTold (G.left gate.now) pieces.items) }
+    ensures gated { OnOk result (AreGated (G.left gate.now) pieces.items) }
     ensures refused { OnErr result (WasRefused (G.left gate.now)) }
 {
     let mut pieces = pieces;

@@ -11,6 +11,7 @@ ghost use Rattle.totals.specs.state.Totals.{nothing};
 ghost use Rattle.worker_count.specs.rule.Limit.{most_workers};
 ghost use Rattle.tick_round.specs.declared.fault.TickFault.TheVariants.{Halted};
 ghost use Rattle.tick_round.specs.state.Node.{IsAfter, MayTake, MayTakeAll, HasRoom, TakesTick, TakesTicks};
+ghost use Rattle.tick_round.specs.state.Node.{GatesUpdates};
 ghost use Rattle.tick_round.specs.state.Played.{AreFinished};
 ghost use Rattle.tick_round.specs.state.Summary.{IsSummary};
 
@@ -21,7 +22,8 @@ use event_book::WholeBook;
 use manifest::PodSpec;
 use node_config::NodeConfig;
 use observations::TickObs;
-use pod_pool::{Gate, Spawner};
+use pod_piece::Gate;
+use pod_pool::Spawner;
 use round_steps::Step;
 use std::alloc::{AllocError, Global};
 use std::marker::Model;
@@ -169,9 +171,9 @@ impl<U: Ledger, E: Ledger, O: Ledger> Node<U, E, O> {
 
 impl<U: Ledger + Send, E: Ledger + Send, O: Ledger + Send> Node<U, E, O> {
     /// Takes one tick, whose pods this many workers, 1 to 64, update in threads of their own: each pod that is present
-    /// takes what the tick shows of it, then one of them at most is evicted. The gate is told of each update. The node
-    /// is as after `tick_alone`, whatever the threads do. An `Err` says that memory was refused, or that the node was
-    /// halted; it is halted then.
+    /// takes what the tick shows of it, by an update of the gate, then one of them at most is evicted. The node is as
+    /// after `tick_alone`, whatever the threads do. An `Err` says that memory was refused, or that the node was halted;
+    /// it is halted then.
     pub fn tick<R: Spawner, G: Gate>(
         &mut self,
         rt: &R,
@@ -183,6 +185,7 @@ impl<U: Ledger + Send, E: Ledger + Send, O: Ledger + Send> Node<U, E, O> {
         requires some { 0 < workers }
         requires most { workers ≤ most_workers }
         ensures taken { TakesTick tick self.old self.new result }
+        ensures gated { GatesUpdates (G.left gate.now) (tick ∷ []) self.old result }
         ensures err { OnErr result (self.new ≡ None) }
         ensures halted { IsErrOf result Halted ↔ (self.old ≡ None) }
     {
@@ -200,8 +203,8 @@ impl<U: Ledger + Send, E: Ledger + Send, O: Ledger + Send> Node<U, E, O> {
 
     /// Takes ticks one after the other, as `tick` takes each. From one tick in which an eviction threshold is heeded to
     /// the next one a pod depends on no other, so that the workers update it by all these ticks at once: a round is the
-    /// ticks up to the next in which a threshold is heeded, or until so many updates wait. The gate is told of each
-    /// update. The ticks may tell of fewer pods than have arrived; those are not present. An `Err` says that memory was
+    /// ticks up to the next in which a threshold is heeded, or until so many updates wait. The gate makes each update.
+    /// The ticks may tell of fewer pods than have arrived; those are not present. An `Err` says that memory was
     /// refused, or that the node was halted; it is halted then.
     pub fn ticks<R: Spawner, G: Gate>(
         &mut self,
@@ -214,6 +217,7 @@ impl<U: Ledger + Send, E: Ledger + Send, O: Ledger + Send> Node<U, E, O> {
         requires some { 0 < workers }
         requires most { workers ≤ most_workers }
         ensures taken { TakesTicks ticks.items self.old self.new result }
+        ensures gated { GatesUpdates (G.left gate.now) ticks.items self.old result }
         ensures err { OnErr result (self.new ≡ None) }
         ensures halted { IsErrOf result Halted ↔ (self.old ≡ None) }
     {

@@ -14,7 +14,7 @@ ghost use Rattle.observations.specs.rule.Limits.{most_pods};
 ghost use Rattle.totals.specs.state.Totals.{nothing};
 ghost use Rattle.worker_count.specs.rule.Limit.{most_workers};
 ghost use Rattle.node_pods.specs.state.Pods.{AreNext};
-ghost use Rattle.tick_round.specs.state.Node.{HasTaken, Fits, FitAll, IsNextBy, IsWhole};
+ghost use Rattle.tick_round.specs.state.Node.{HasTaken, Fits, FitAll, IsNextBy, AreNextGated, IsWhole};
 ghost use Rattle.tick_round.specs.state.Played.{AreFinished};
 ghost use Rattle.tick_round.specs.state.Round.{IsKept};
 ghost use Rattle.tick_round.specs.state.Stretch.{IsOpen, IsOut, AreOut, HasTakenSome};
@@ -34,8 +34,8 @@ use node_config::{NodeConfig, Version};
 use node_pods::NodePods;
 use node_signals::NodeSignals;
 use observations::{MOST_TICKS, PodObs, TickObs};
-use pod_piece::PodPiece;
-use pod_pool::{Gate, NoGate, Spawner};
+use pod_piece::{Gate, NoGate, PodPiece};
+use pod_pool::Spawner;
 use quantity::END_OF_TIME;
 use round_steps::Step;
 use std::alloc::{AllocError, Global};
@@ -284,8 +284,8 @@ impl<U: Ledger, E: Ledger, O: Ledger> Running<U, E, O> {
 }
 
 impl<U: Ledger + Send, E: Ledger + Send, O: Ledger + Send> Running<U, E, O> {
-    /// The node after one more tick, whose pods this many workers update. A refused growth of memory drops the
-    /// node.
+    /// The node after one more tick, whose pods this many workers update by the gate. A refused growth of memory drops
+    /// the node.
     pub(crate) fn after<R: Spawner, G: Gate>(
         self,
         rt: &R,
@@ -296,7 +296,8 @@ impl<U: Ledger + Send, E: Ledger + Send, O: Ledger + Send> Running<U, E, O> {
         requires fits { Fits self tick }
         requires some { 0 < workers }
         requires most { workers ≤ most_workers }
-        ensures { IfOk result (IsNextBy (tick ∷ []) self) }
+        ensures next { IfOk result (IsNextBy (tick ∷ []) self) }
+        ensures gated { OnOk result (AreNextGated (G.left gate.now) self (tick ∷ [])) }
     {
         let alloc = self.alloc;
         let (pieces, book, round) = self.begin_one(tick)?;
@@ -322,7 +323,8 @@ impl<U: Ledger + Send, E: Ledger + Send, O: Ledger + Send> Running<U, E, O> {
         requires fits { FitAll self (tick ∷ more.old.rest.items) }
         requires some { 0 < workers }
         requires most { workers ≤ most_workers }
-        ensures some { IfOk result (λ r. HasTakenSome (tick ∷ more.old.rest.items) self r more.new.rest.items) }
+        ensures some { IfOk result (λ r.
+            HasTakenSome (G.left gate.now) (tick ∷ more.old.rest.items) self r more.new.rest.items) }
         ensures fewer { OnOk result (length more.new.rest.items ≤ length more.old.rest.items) }
     {
         let alloc = self.alloc;
@@ -348,7 +350,8 @@ impl<U: Ledger + Send, E: Ledger + Send, O: Ledger + Send> Running<U, E, O> {
         requires fits { FitAll self ticks.items }
         requires some { 0 < workers }
         requires most { workers ≤ most_workers }
-        ensures { IfOk result (IsNextBy ticks.items self) }
+        ensures next { IfOk result (IsNextBy ticks.items self) }
+        ensures gated { OnOk result (AreNextGated (G.left gate.now) self ticks.items) }
     {
         let mut running = self;
         let mut rest = ticks.into_iter();

@@ -1,7 +1,7 @@
 //! The updates of all pods in a round of one tick, by workers that one thread plays.
 
 ghost use Rattle.std.specs.Prelude.{◌≡◌, ◌<◌, ◌≤◌, All, length, map, IfOk};
-ghost use Rattle.pod_piece.specs.state.Piece.{updated};
+ghost use Rattle.pod_piece.specs.rule.Piece.{updated};
 ghost use Rattle.worker_count.specs.rule.Limit.{most_workers};
 ghost use Rattle.tick_round.specs.state.Played.{AreFinished};
 ghost use Rattle.tick_round.specs.state.Update.{MayUpdate, AreEntered};

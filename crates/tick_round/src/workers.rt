@@ -6,14 +6,14 @@ ghost use Rattle.pod_piece.specs.state.Piece.{all_updated};
 ghost use Rattle.event_book.specs.state.Shares.{most_parts};
 ghost use Rattle.worker_count.specs.rule.Limit.{most_workers};
 ghost use Rattle.piece_deques.specs.state.Rule.{AreNumbered};
-ghost use Rattle.pod_pool.specs.state.Told.{AreTold};
+ghost use Rattle.pod_pool.specs.state.Gated.{AreGated};
 ghost use Rattle.tick_round.specs.state.Update.{MayUpdate, AreAdded};
 ghost use Rattle.tick_round.specs.state.Workers.{worth_their_start};
 
 use crate::alone::update_alone;
 use event_book::{EventBook, Shares, WholeBook};
-use pod_piece::PodPiece;
-use pod_pool::{Gate, PoolFault, Spawner, update_all};
+use pod_piece::{Gate, PodPiece};
+use pod_pool::{PoolFault, Spawner, update_all};
 use std::alloc::{AllocError, Global};
 use std::sync::Mutex;
 use std::sync::ledger::Ledger;
@@ -81,7 +81,7 @@ pub fn update_by_workers<U: Ledger + Send, E: Ledger + Send, O: Ledger + Send, R
     requires most { workers ≤ most_workers }
     ensures pieces { IfOk result (λ r. r.0.items ≡ map all_updated pieces.items) }
     ensures book { IfOk result (λ r. AreAdded r.0.items book r.1) }
-    ensures told { OnOk result (AreTold (G.left gate.now) pieces.items) }
+    ensures gated { OnOk result (AreGated (G.left gate.now) pieces.items) }
 {
     // One pod is updated by one thread, however many of its ticks wait.
     let workers = workers_to_run(workers.min(pieces.len().max(1)), updates, gate);

@@ -12,7 +12,8 @@ use Rattle.pod_state.specs.declared.events.PodEvent.{PodEvent}
 use Rattle.pod_state.specs.rule.Pods.{PodTick}
 use Rattle.pod_state.specs.rule.Events.{places_in, events_at, events_from, AreEventsOfLivePod, AreEventsOf}
 use Rattle.pod_state.proofs.PodEventLemmas.{one_list_of_pod_events}
-use Rattle.pod_piece.specs.state.Piece.{Piece, before_last, last_of, ticks, evicted_at, evicted_before}
+use Rattle.pod_piece.specs.rule.Piece.{Piece, ticks}
+use Rattle.pod_piece.specs.state.Piece.{before_last, last_of, evicted_at, evicted_before}
 use Rattle.pod_piece.specs.state.Status.{AreLastEvents}
 use Rattle.totals.specs.declared.totals.Entry.{Entry}
 use Rattle.totals.specs.rule.Totals.{is_order}

@@ -18,7 +18,8 @@ use Rattle.pod_state.specs.declared.events.PodEvent.{PodEvent}
 use Rattle.pod_state.specs.rule.Pods.{PodTick}
 use Rattle.pod_state.proofs.PodEventLemmas.{one_list_of_pod_events}
 use Rattle.pod_piece.specs.declared.made.MadeTick.{MadeTick}
-use Rattle.pod_piece.specs.state.Piece.{Piece, before_last, last_of, ticks, evicted_at, evicted_before}
+use Rattle.pod_piece.specs.rule.Piece.{Piece, ticks}
+use Rattle.pod_piece.specs.state.Piece.{before_last, last_of, evicted_at, evicted_before}
 use Rattle.pod_piece.specs.state.Made.{MadeEvent, made_at, made_of, AreMadeOver, round_length, round_of}
 use Rattle.pod_piece.specs.state.Made.{AreRoundEvents, AreEarlierEvents}
 use Rattle.pod_piece.specs.state.Status.{AreEventsAfter, AreLastEvents}

@@ -2,7 +2,8 @@
 use Rattle.std.specs.Prelude.{ℕ, List, slice_get, Option}
 use Rattle.manifest.specs.declared.pod.PodSpec.{PodSpec}
 use Rattle.eviction.specs.declared.eviction.Eviction.{Eviction}
-use Rattle.pod_piece.specs.state.Piece.{Piece, pods_in}
+use Rattle.pod_piece.specs.rule.Piece.{Piece}
+use Rattle.pod_piece.specs.state.Piece.{pods_in}
 use Rattle.event_list.specs.rule.Text.{words_among}
 
 -- the pod of the piece with the number

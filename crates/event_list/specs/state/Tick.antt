@@ -5,7 +5,7 @@ use Rattle.std.specs.List.{filter, filter_map, flat_map}
 use Rattle.std.specs.List.Sorted.{IsNonDecreasingBy, IsPermutation}
 use Rattle.pod_state.specs.declared.events.PodEvent.{PodEvent}
 use Rattle.pod_state.specs.rule.Pods.{PodTick}
-use Rattle.pod_piece.specs.state.Piece.{Piece}
+use Rattle.pod_piece.specs.rule.Piece.{Piece}
 use Rattle.pod_piece.specs.state.Made.{MadeEvent, round_of, AreRoundEvents}
 use Rattle.event_list.specs.declared.event.Event.{Event}
 use Rattle.event_list.specs.declared.event.EventKind.TheVariants.{Pod}

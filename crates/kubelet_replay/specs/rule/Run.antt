@@ -1,5 +1,5 @@
 -- What a replay writes, and when it refuses.
-use Rattle.std.specs.Prelude.{◌≡◌, ℕ, ◌<◌, ◌≤◌, List, [], ◌∷◌, length, take, codes, Option, Some, None, Result, Ok}
+use Rattle.std.specs.Prelude.{◌≡◌, ℕ, ◌<◌, ◌≤◌, Bool, List, [], ◌∷◌, length, take, codes, Option, Some, None, Result, Ok}
 use Rattle.std.specs.Prelude.{Err}
 use Rattle.std.specs.Fmt.{decimal}
 use Rattle.std.specs.Io.KnownBytes.{Appends, Consumes}
@@ -8,7 +8,9 @@ use Rattle.node_config.specs.declared.node.Format.TheVariants.{Standard}
 use Rattle.trace.specs.declared.trace_so_far.Trace.{Trace}
 use Rattle.trace.specs.declared.fault.LineFault.{LineFault}
 use Rattle.trace.specs.rule.Trace.{trace_of}
+use Rattle.pod_piece.specs.rule.Piece.{Piece}
 use Rattle.event_list.specs.rule.Text.{joined}
+use Rattle.tick_round.specs.rule.Gated.{AreUpdatesGated}
 use Rattle.kubelet_replay.specs.rule.Report.{IsReportOf}
 use Rattle.kubelet_replay.specs.declared.fault.RunFault.{RunFault}
 use Rattle.kubelet_replay.specs.declared.fault.RunFault.TheVariants.{Read, TooLong, Line, OutOfMemory, Write}
@@ -94,6 +96,18 @@ pub record WritesPart (IsAnswer : List ℕ → List ℕ → Type 0) (left old ne
   pub count : ℕ
   pub part : count < length bytes
   pub written : Appends old new (take count bytes)
+
+-- the text is a trace, and a gate has made its updates: by each of its ticks one of each pod that it shows
+pub record IsReplayGated (left : Piece → Bool → Bool) (format : Format) (text : List ℕ) : Type 0 where
+  pub trace : Trace
+  pub is_trace : trace_of format text ≡ Ok trace
+  pub gated : AreUpdatesGated left trace.pods [] trace.ticks
+
+-- the text of the input is a trace, and a gate has made its updates
+pub record Gates (left : Piece → Bool → Bool) (format : Format) (input : Option (List ℕ)) : Type 0 where
+  pub text : List ℕ
+  pub read : HasRead input text
+  pub gated : IsReplayGated left format text
 
 -- what each refusal says of the input and of what is written, in a format
 abbrev pub IsRefusalIn : Format → (List ℕ → List ℕ → Type 0) → Option (List ℕ) → Option (List ℕ) → Option (List ℕ)

@@ -6,7 +6,7 @@ use Rattle.observations.specs.declared.tick.TickObs.{TickObs}
 use Rattle.observations.specs.rule.Observations.{shown_of}
 use Rattle.pod_piece.specs.declared.order.EvictOrder.{EvictOrder}
 use Rattle.pod_piece.specs.declared.status.PodStatus.{PodStatus}
-use Rattle.pod_piece.specs.state.Piece.{Piece}
+use Rattle.pod_piece.specs.rule.Piece.{Piece}
 use Rattle.ranking.specs.rule.Order.{IsVictim}
 use Rattle.node_pods.specs.state.Pods.{Pods, IsCandidate, AreNext, Fits, AreAfter, IsEvictable, AreEvicted}
 use Rattle.node_pods.specs.state.Steps.{AreFree}

@@ -14,7 +14,8 @@ use Rattle.pod_state.specs.rule.Pods.{PodTick, pod_tick}
 use Rattle.pod_piece.specs.declared.order.EvictOrder.{EvictOrder}
 use Rattle.pod_piece.specs.declared.status.PodStatus.{PodStatus}
 use Rattle.pod_piece.specs.state.Listings.{IsNextTick}
-use Rattle.pod_piece.specs.state.Piece.{Piece, new_piece, with_tick, updated, all_updated, at_rest, with_eviction}
+use Rattle.pod_piece.specs.rule.Piece.{Piece, updated}
+use Rattle.pod_piece.specs.state.Piece.{new_piece, with_tick, all_updated, at_rest, with_eviction}
 use Rattle.pod_piece.specs.state.Piece.{with_number}
 use Rattle.pod_piece.specs.state.Status.{IsStatusOf}
 

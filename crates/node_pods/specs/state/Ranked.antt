@@ -2,7 +2,7 @@
 use Rattle.std.specs.Prelude.{◌≡◌, ◌⊎◌, ℕ, ◌<◌, ◌≤◌, List, Option, Some, None, IsSome}
 use Rattle.histories.specs.rule.Histories.{last_moment}
 use Rattle.pod_piece.specs.declared.status.PodStatus.{PodStatus}
-use Rattle.pod_piece.specs.state.Piece.{Piece}
+use Rattle.pod_piece.specs.rule.Piece.{Piece}
 use Rattle.pod_piece.specs.state.Status.{IsStatusOf}
 use Rattle.ranking.specs.state.Index.{AreHeldAfter}
 use Rattle.node_pods.specs.state.Pods.{IsCandidate}

@@ -5,7 +5,7 @@ use Rattle.histories.specs.state.Histories.{EndsBefore}
 use Rattle.observations.specs.rule.Pods.{PodObs}
 use Rattle.pod_state.specs.rule.Pods.{pod_tick}
 use Rattle.pod_piece.specs.state.Listings.{IsNextTick}
-use Rattle.pod_piece.specs.state.Piece.{Piece}
+use Rattle.pod_piece.specs.rule.Piece.{Piece}
 use Rattle.node_pods.specs.state.Pods.{handed_one}
 
 -- none has a tick that is still to come into its status

@@ -2,7 +2,7 @@
 use Rattle.std.specs.Prelude.{◌≡◌, ℕ, ◌≤◌, List, length, map, replicate, All}
 use Rattle.round_steps.specs.declared.step.Step.{Step}
 use Rattle.observations.specs.rule.Limits.{most_pods}
-use Rattle.pod_piece.specs.state.Piece.{Piece, updated}
+use Rattle.pod_piece.specs.rule.Piece.{Piece, updated}
 use Rattle.totals.specs.state.Limits.{AreLow}
 use Rattle.totals.specs.declared.totals.Entry.{Entry}
 use Rattle.totals.specs.declared.totals.Totals.{Totals}

@@ -1,6 +1,6 @@
 -- The pieces of a round, and what their updates add to the totals.
 use Rattle.std.specs.Prelude.{◌≡◌, ℕ, ◌<◌, List, length, slice_get, slice_set, Some}
-use Rattle.pod_piece.specs.state.Piece.{Piece, updated}
+use Rattle.pod_piece.specs.rule.Piece.{Piece, updated}
 use Rattle.totals.specs.state.Limits.{IsLow}
 use Rattle.totals.specs.declared.totals.Entry.{Entry}
 use Rattle.totals.specs.state.Totals.{IsEntryOf}

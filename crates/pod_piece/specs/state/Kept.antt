@@ -12,7 +12,8 @@ use Rattle.pod_state.specs.state.States.{before_of, IsStateOf}
 use Rattle.pod_piece.specs.declared.made.MadeTick.{MadeTick}
 use Rattle.pod_piece.specs.declared.piece.Parts.{Parts}
 use Rattle.pod_piece.specs.declared.status.PodStatus.{PodStatus}
-use Rattle.pod_piece.specs.state.Piece.{Piece, piece, before_last, ticks, evicted_at}
+use Rattle.pod_piece.specs.rule.Piece.{Piece, ticks}
+use Rattle.pod_piece.specs.state.Piece.{piece, before_last, evicted_at}
 use Rattle.pod_piece.specs.state.Listings.{IsNextTick, AreListedOnceEnded}
 use Rattle.pod_piece.specs.state.Status.{IsStatusOf, AreLastEvents}
 use Rattle.pod_piece.specs.state.Made.{AreEarlierEvents}

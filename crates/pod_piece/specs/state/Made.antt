@@ -6,7 +6,8 @@ use Rattle.pod_state.specs.declared.events.PodEvent.{PodEvent}
 use Rattle.pod_state.specs.rule.Pods.{PodTick}
 use Rattle.pod_state.specs.rule.Events.{AreEventsOf}
 use Rattle.pod_piece.specs.declared.made.MadeTick.{MadeTick}
-use Rattle.pod_piece.specs.state.Piece.{Piece, before_last, ticks, evicted_at, evicted_before}
+use Rattle.pod_piece.specs.rule.Piece.{Piece, ticks}
+use Rattle.pod_piece.specs.state.Piece.{before_last, evicted_at, evicted_before}
 
 -- an event of a pod, at its moment
 pub record MadeEvent : Type 0 where

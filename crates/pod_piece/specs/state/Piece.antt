@@ -1,4 +1,4 @@
--- A pod, all that was handed to it, and its eviction.
+-- What becomes of a piece as ticks are handed to it and come into its pod's status.
 use Rattle.std.specs.Prelude.{ℕ, zero, suc, ◌-◌, List, [], ◌∷◌, ◌++◌, length, map, take, slice_get, nat_lt}
 use Rattle.std.specs.Prelude.{Option, Some, None, if◌then◌else◌}
 use Rattle.manifest.specs.declared.pod.PodSpec.{PodSpec}
@@ -6,21 +6,7 @@ use Rattle.pod_state.specs.rule.Pods.{PodTick, pod_tick, HasEnded}
 use Rattle.observations.specs.rule.Pods.{PodObs}
 use Rattle.pod_piece.specs.declared.order.EvictOrder.{EvictOrder}
 use Rattle.pod_piece.specs.declared.piece.EvictionRecord.{EvictionRecord}
-use Rattle.pod_piece.specs.rule.Piece.{place_of}
-
--- a pod, all that was handed to it, and its eviction
-pub record Piece : Type 0 where
-  pub number : ℕ
-  pub pod : PodSpec
-  -- the node's maximum restart delay, in seconds
-  pub max_restart_delay : ℕ
-  -- every tick that was handed to it
-  pub handed : List PodTick
-  -- this many of the last of them are still to come into its status
-  pub waiting : ℕ
-  -- this many had come into it when its present round began
-  pub begun : ℕ
-  pub eviction : Option EvictionRecord
+use Rattle.pod_piece.specs.rule.Piece.{Piece, place_of, ticks}
 
 -- the piece of these fields, with its observations as ticks
 abbrev pub piece : ℕ → PodSpec → ℕ → List PodObs → ℕ → ℕ → Option EvictionRecord → Piece
@@ -45,15 +31,6 @@ before_last h = take (length h - 1) h
 -- the last tick
 abbrev pub last_of : List PodTick → Option PodTick
 last_of h = slice_get h (length h - 1)
-
--- the ticks of these that have come into a pod's status, where so many of the last are still to come
-abbrev pub taken : ℕ → List PodTick → List PodTick
-taken zero handed = handed
-taken (suc waiting) handed = take (length handed - suc waiting) handed
-
--- the ticks that have come into the status of a piece
-abbrev pub ticks : Piece → List PodTick
-ticks p = taken p.waiting p.handed
 
 -- the place of the tick that evicts the pod of a piece, if it is evicted
 abbrev pub evicted_at : Piece → Option ℕ
@@ -84,10 +61,6 @@ with_tick p tick = record p {
   waiting = suc p.waiting;
   begun = begun_with p.waiting (length p.handed) p.begun;
 }
-
--- the piece once the next tick that was handed to it has come into its status
-abbrev pub updated : Piece → Piece
-updated p = record p { waiting = p.waiting - 1 }
 
 -- the piece once all have
 abbrev pub all_updated : Piece → Piece

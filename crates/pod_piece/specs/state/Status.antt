@@ -5,7 +5,8 @@ use Rattle.pod_state.specs.declared.events.PodEvent.{PodEvent}
 use Rattle.pod_state.specs.rule.Pods.{PodTick}
 use Rattle.pod_state.specs.rule.Events.{AreEventsOf}
 use Rattle.pod_piece.specs.declared.status.PodStatus.{PodStatus}
-use Rattle.pod_piece.specs.state.Piece.{Piece, before_last, last_of, ticks, evicted_at, evicted_before}
+use Rattle.pod_piece.specs.rule.Piece.{Piece, ticks}
+use Rattle.pod_piece.specs.state.Piece.{before_last, last_of, evicted_at, evicted_before}
 use Rattle.pod_piece.specs.rule.Status.{IsStatusAfter}
 
 -- the status of a piece, after the ticks that have come into it

@@ -1,7 +1,8 @@
 -- Pieces that were updated and entered.
 use Rattle.std.specs.Prelude.{◌≡◌, ℕ, ◌*◌, ◌<◌, ◌≤◌, List, length, map, slice_get, Some, All, option_map, unwrap_or}
 use Rattle.std.specs.List.{sum_by}
-use Rattle.pod_piece.specs.state.Piece.{Piece, all_updated}
+use Rattle.pod_piece.specs.rule.Piece.{Piece}
+use Rattle.pod_piece.specs.state.Piece.{all_updated}
 use Rattle.totals.specs.declared.totals.Totals.{Totals}
 use Rattle.totals.specs.state.Rounds.{IsAdditionOf}
 use Rattle.totals.specs.state.Limits.{most_updates, most_round_events}

@@ -1,7 +1,7 @@
 -- What comes back where a round was not made.
 use Rattle.std.specs.Prelude.{◌≡◌, Vec}
 use Rattle.std.specs.Global.{Global}
-use Rattle.pod_piece.specs.state.Piece.{Piece}
+use Rattle.pod_piece.specs.rule.Piece.{Piece}
 use Rattle.event_book.specs.state.Shares.{ShareState}
 use Rattle.pod_pool.specs.declared.fault.PoolFault.{PoolFault}
 use Rattle.pod_pool.specs.declared.fault.PoolFault.TheVariants as fault

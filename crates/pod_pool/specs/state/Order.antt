@@ -1,12 +1,13 @@
 -- What is added to totals and shares by pieces.
 use Rattle.std.specs.Prelude.{◌≡◌, Bool, List, map}
-use Rattle.pod_piece.specs.state.Piece.{Piece, all_updated}
+use Rattle.pod_piece.specs.rule.Piece.{Piece}
+use Rattle.pod_piece.specs.state.Piece.{all_updated}
 use Rattle.totals.specs.declared.totals.Totals.{Totals}
 use Rattle.totals.specs.state.Totals.{plus}
 use Rattle.totals.specs.state.Rounds.{AreAdditionsOf, sums_of_additions}
 use Rattle.event_book.specs.state.Shares.{ShareState, most_parts, share_with}
 use Rattle.pod_pool.specs.state.Done.{AreSumsOf}
-use Rattle.pod_pool.specs.state.Told.{AreTold}
+use Rattle.pod_pool.specs.state.Gated.{AreGated}
 
 -- what the rounds of these pieces add was added
 pub record AreAdded (pieces : List Piece) (old new : Totals) : Type 0 where
@@ -20,10 +21,9 @@ HasEntered pieces old new =
     (additions : List Totals) × AreAdditionsOf pieces additions
     × (new ≡ share_with most_parts (plus old.totals (sums_of_additions additions)))
 
--- the pieces of a round are back, updated and in their order, the share has what they add, and somebody was told of
--- each update
+-- the pieces of a round are back, updated by the gate and in their order, and the share has what they add
 pub record IsRoundDone (left : Piece → Bool → Bool) (all : List Piece) (old : ShareState) (pieces : List Piece)
     (new : ShareState) : Type 0 where
   pub are_updated : pieces ≡ map all_updated all
   pub entered : HasEntered pieces old new
-  pub told : AreTold left all
+  pub gated : AreGated left all

@@ -1,7 +1,7 @@
 -- What a worker keeps.
 use Rattle.std.specs.Prelude.{◌≡◌, ℕ, ◌+◌, ◌<◌, ◌≤◌, vec_len, vec_capacity}
 use Rattle.std.specs.Option.{option_to_list}
-use Rattle.pod_piece.specs.state.Piece.{Piece}
+use Rattle.pod_piece.specs.rule.Piece.{Piece}
 use Rattle.pod_pool.specs.declared.worker_result.WorkerResult.{WorkerResult}
 use Rattle.pod_pool.specs.state.Done.{weigh}
 

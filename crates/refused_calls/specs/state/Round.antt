@@ -1,6 +1,6 @@
 -- The pieces of a round.
 use Rattle.std.specs.Prelude.{◌≡◌, ℕ, List, length}
-use Rattle.pod_piece.specs.state.Piece.{Piece}
+use Rattle.pod_piece.specs.rule.Piece.{Piece}
 use Rattle.event_book.specs.state.Shares.{ShareState, most_parts}
 use Rattle.totals.specs.state.Limits.{AreLow}
 use Rattle.test_pods.specs.state.Pods.{ArePending}

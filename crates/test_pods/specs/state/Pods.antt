@@ -2,7 +2,7 @@
 use Rattle.std.specs.Prelude.{◌≡◌, ◌<◌, List, All}
 use Rattle.pod_state.specs.rule.Pods.{PodTick}
 use Rattle.pod_piece.specs.state.Listings.{IsNextTick}
-use Rattle.pod_piece.specs.state.Piece.{Piece}
+use Rattle.pod_piece.specs.rule.Piece.{Piece}
 use Rattle.piece_deques.specs.state.Rule.{AreNumbered}
 
 -- pods, numbered from 0 on, that are to be updated

@@ -2,7 +2,8 @@
 use Rattle.std.specs.Prelude.{◌≡◌, ℕ, List, Option, Some, None}
 use Rattle.node_config.specs.declared.node.NodeConfig.{NodeConfig}
 use Rattle.node_signals.specs.declared.key.ThresholdKey.{ThresholdKey}
-use Rattle.pod_piece.specs.state.Piece.{Piece, pods_in}
+use Rattle.pod_piece.specs.rule.Piece.{Piece}
+use Rattle.pod_piece.specs.state.Piece.{pods_in}
 use Rattle.ranking.specs.rule.Order.{IsVictim}
 use Rattle.eviction.specs.declared.eviction.Eviction.{Eviction}
 use Rattle.eviction.specs.rule.Replay.{IsOfVictim}

@@ -1,5 +1,5 @@
 -- Where the pods and the ticks of a node lead.
-use Rattle.std.specs.Prelude.{◌≡◌, ℕ, ◌+◌, ◌<◌, ◌≤◌, true, List, [], ◌∷◌, ◌++◌, length, slice_get, is_some}
+use Rattle.std.specs.Prelude.{◌≡◌, ℕ, ◌+◌, ◌<◌, ◌≤◌, Bool, true, List, [], ◌∷◌, ◌++◌, length, slice_get, is_some}
 use Rattle.std.specs.List.{list_all}
 use Rattle.std.specs.Prelude.{Option, Some, None, Result, IfSome, IsSomeAnd, OnOk}
 use Rattle.quantity.specs.rule.Duration.{end_of_time}
@@ -11,7 +11,7 @@ use Rattle.observations.specs.declared.tick.TickObs.{TickObs}
 use Rattle.observations.specs.rule.Limits.{most_ticks, most_pods}
 use Rattle.node_signals.specs.declared.node.NodeSignals.{NodeSignals}
 use Rattle.node_signals.specs.state.Node.{IsStateOf}
-use Rattle.pod_piece.specs.state.Piece.{Piece}
+use Rattle.pod_piece.specs.rule.Piece.{Piece}
 use Rattle.eviction.specs.declared.eviction.Eviction.{Eviction}
 use Rattle.eviction.specs.state.Pausing.{Kept, IsPausing}
 use Rattle.eviction.specs.rule.Replay.{pod_ticks, own_eviction, IsReplay}
@@ -20,6 +20,7 @@ use Rattle.node_pods.specs.state.Pods.{Pods, MayBeHanded, Fits as PodsFit, after
 use Rattle.event_list.specs.declared.event.Event.{Event}
 use Rattle.event_list.specs.rule.Events.{AreEvents}
 use Rattle.event_list.specs.rule.Totals.{totals_of}
+use Rattle.tick_round.specs.rule.Gated.{AreUpdatesGated}
 
 -- what a node keeps that is not halted
 pub record State : Type 0 where
@@ -144,6 +145,17 @@ abbrev pub TakesTicks : {V F : Type 0} → List TickObs → Option State → Opt
 TakesTicks ticks old new result =
     (config : NodeConfig) (pods : List PodSpec) (before : List TickObs) → IsAfter config pods before old
     → OnOk result (IsAfter config pods (before ++ ticks) new)
+
+-- the gate has made the updates by these ticks, which such a node takes next
+abbrev pub AreNextGated : (Piece → Bool → Bool) → State → List TickObs → Type 0
+AreNextGated left s ticks =
+    (pods : List PodSpec) (before : List TickObs) → HasTaken pods before s → AreUpdatesGated left pods before ticks
+
+-- where a call does not fail, the gate has made the updates by the ticks that the node has taken
+abbrev pub GatesUpdates : {V F : Type 0} → (Piece → Bool → Bool) → List TickObs → Option State → Result V F → Type 0
+GatesUpdates left ticks old result =
+    (config : NodeConfig) (pods : List PodSpec) (before : List TickObs) → IsAfter config pods before old
+    → OnOk result (AreUpdatesGated left pods before ticks)
 
 -- where it is not halted, the ticks may come next, one after the other
 abbrev pub MayTakeAll : Option State → List TickObs → Type 0

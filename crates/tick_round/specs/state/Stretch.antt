@@ -1,6 +1,6 @@
 -- Ticks of a node that make one round: which may follow each other in it, and what comes before the updates of its
 -- pods.
-use Rattle.std.specs.Prelude.{◌≡◌, List, [], ◌∷◌, ◌++◌, map, Option, None}
+use Rattle.std.specs.Prelude.{◌≡◌, Bool, List, [], ◌∷◌, ◌++◌, map, Option, None}
 use Rattle.node_config.specs.declared.node.NodeConfig.{NodeConfig}
 use Rattle.observations.specs.declared.tick.TickObs.{TickObs}
 use Rattle.node_signals.specs.declared.node.NodeSignals.{NodeSignals}
@@ -9,7 +9,8 @@ use Rattle.node_signals.specs.declared.key.ThresholdKey.{ThresholdKey}
 use Rattle.node_signals.specs.rule.Events.{AreNodeEvents}
 use Rattle.node_signals.specs.state.Node.{IsStateOf}
 use Rattle.node_signals.specs.rule.Thresholds.{IsServed}
-use Rattle.pod_piece.specs.state.Piece.{Piece, all_updated}
+use Rattle.pod_piece.specs.rule.Piece.{Piece}
+use Rattle.pod_piece.specs.state.Piece.{all_updated}
 use Rattle.eviction.specs.declared.eviction.Eviction.{Eviction}
 use Rattle.eviction.specs.state.Pausing.{kept, still}
 use Rattle.eviction.specs.rule.Replay.{pauses, unless_paused}
@@ -19,7 +20,7 @@ use Rattle.node_pods.specs.state.Pods.{Pods, pods_of, AreNumbered, handed_each, 
 use Rattle.tick_round.specs.declared.stretch.Begun.{Begun}
 use Rattle.tick_round.specs.declared.stretch.Stretch.{Stretch}
 use Rattle.tick_round.specs.declared.stretch.Round.{Round}
-use Rattle.tick_round.specs.state.Node.{State, FitAll, IsNextBy}
+use Rattle.tick_round.specs.state.Node.{State, FitAll, IsNextBy, AreNextGated}
 use Rattle.tick_round.specs.state.Round.{IsKept}
 use Rattle.tick_round.specs.state.Update.{AreAdded}
 
@@ -198,9 +199,12 @@ pub record CanEnd (round : Round) (back : List Piece) (totals : Totals) : Type 0
   pub may : MayEnd node calm tick round back totals
   pub numbered : AreNumbered (joined round.pods back)
 
--- a node has taken the first of these ticks, as many as one round takes, and may take the others
-pub record HasTakenSome (ticks : List TickObs) (old new : State) (rest : List TickObs) : Type 0 where
+-- a node has taken the first of these ticks, as many as one round takes, by updates of the gate, and may take the
+-- others
+pub record HasTakenSome (left : Piece → Bool → Bool) (ticks : List TickObs) (old new : State)
+    (rest : List TickObs) : Type 0 where
   pub taken : List TickObs
   pub all : ticks ≡ taken ++ rest
   pub next : IsNextBy taken old new
+  pub gated : AreNextGated left old taken
   pub fits : FitAll new rest

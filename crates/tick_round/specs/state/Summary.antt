@@ -3,7 +3,6 @@ use Rattle.std.specs.Prelude.{◌≡◌, List, length}
 use Rattle.manifest.specs.declared.pod.PodSpec.{PodSpec}
 use Rattle.node_config.specs.declared.node.NodeConfig.{NodeConfig}
 use Rattle.observations.specs.declared.tick.TickObs.{TickObs}
-use Rattle.node_signals.specs.rule.Conditions.{conditions}
 use Rattle.eviction.specs.rule.Replay.{IsReplay}
 use Rattle.event_list.specs.rule.Events.{AreEvents}
 use Rattle.event_list.specs.rule.Totals.{totals_of}

@@ -1,13 +1,14 @@
 -- The pods of a node take what waits for them into their statuses, and what that makes of the totals.
 use Rattle.std.specs.Prelude.{◌≡◌, ℕ, ◌<◌, ◌≤◌, Bool, List, length, slice_get, slice_set, Some}
 use Rattle.observations.specs.rule.Limits.{most_pods}
-use Rattle.pod_piece.specs.state.Piece.{Piece, all_updated}
+use Rattle.pod_piece.specs.rule.Piece.{Piece}
+use Rattle.pod_piece.specs.state.Piece.{all_updated}
 use Rattle.totals.specs.declared.totals.Entry.{Entry}
 use Rattle.totals.specs.declared.totals.Totals.{Totals}
 use Rattle.totals.specs.state.Totals.{AreEntriesOf, sums_of, plus}
 use Rattle.totals.specs.state.Rounds.{IsAdditionOf, AreAdditionsOf, sums_of_additions}
 use Rattle.totals.specs.state.Limits.{IsLowAddition, AreLow}
-use Rattle.pod_pool.specs.state.Told.{WereTold}
+use Rattle.pod_pool.specs.state.Gated.{WereGated}
 
 -- none of the totals passes this
 pub record AreUpTo (most : ℕ) (totals : Totals) : Type 0 where
@@ -40,10 +41,10 @@ pub record AreAdded (pieces : List Piece) (old new : Totals) : Type 0 where
   pub are_additions : AreAdditionsOf pieces additions
   pub totals : new ≡ plus old (sums_of_additions additions)
 
--- somebody was told of each update of the pod with the number, by all that waits for it
-abbrev pub IsToldAt : (Piece → Bool → Bool) → List Piece → ℕ → Type 0
-IsToldAt left pieces number =
-    (piece : Piece) → slice_get pieces number ≡ Some piece → WereTold left piece.waiting (all_updated piece)
+-- a gate has made the updates of the pod with the number, by all that waits for it
+abbrev pub IsGatedAt : (Piece → Bool → Bool) → List Piece → ℕ → Type 0
+IsGatedAt left pieces number =
+    (piece : Piece) → slice_get pieces number ≡ Some piece → WereGated left piece.waiting (all_updated piece)
 
 -- the pod with the number has taken all that waited for it, and was entered
 pub record UpdatesAt (old : List Piece) (number : ℕ) (before : Totals) (new : List Piece)

@@ -2,7 +2,7 @@
 use Rattle.std.specs.Prelude.{◌≡◌, ℕ, ◌+◌, List, length, slice_get, Some}
 use Rattle.std.specs.List.{filter, sum_by}
 use Rattle.pod_state.specs.declared.events.PodEvent.{PodEvent}
-use Rattle.pod_piece.specs.state.Piece.{Piece}
+use Rattle.pod_piece.specs.rule.Piece.{Piece}
 use Rattle.pod_piece.specs.state.Status.{AreLastEvents}
 use Rattle.totals.specs.declared.totals.Totals.{Totals}
 use Rattle.totals.specs.declared.totals.Entry.{Entry}

@@ -15,8 +15,15 @@ ticks-requires-clause-fits g c κs within =
     (have_all new.config c.args.pods.items c.into_iter.result.rest.items c.args.node.now c.arrive.new.node
     c.arrive.new.arriving.rest.items c.into_iter.ensures.rest new.after c.in_ok-arrive.ensures)
 
-pub returns : goal.returns
-returns g c = λ config is.
+pub returns-clause-after : goal.returns-clause-after
+returns-clause-after g c = λ config is.
     c.ticks.ensures.taken config c.args.pods.items []
     (have_all config c.args.pods.items c.into_iter.result.rest.items c.args.node.now c.arrive.new.node
     c.arrive.new.arriving.rest.items c.into_iter.ensures.rest is c.in_ok-arrive.ensures)
+
+pub returns-clause-gated : goal.returns-clause-gated
+returns-clause-gated g c =
+    let new = c.requires.new in
+    c.ticks.ensures.gated new.config c.args.pods.items []
+    (have_all new.config c.args.pods.items c.into_iter.result.rest.items c.args.node.now c.arrive.new.node
+    c.arrive.new.arriving.rest.items c.into_iter.ensures.rest new.after c.in_ok-arrive.ensures)

@@ -1,7 +1,7 @@
 use Rattle.std.proofs.Common.{◌≡◌, ◌∙◌, Some, ap}
 use Rattle.std.specs.Prelude.{slice_get}
 use Rattle.histories.specs.rule.Histories.{last_moment}
-use Rattle.pod_piece.specs.state.Piece.{Piece}
+use Rattle.pod_piece.specs.rule.Piece.{Piece}
 use Rattle.node_pods.proofs.Candidates.{read_at, status_at, same_piece}
 use Rattle.node_pods.proofs.Statuses.{lives_by}
 use Rattle.node_pods.proofs.Steps.{set_evicted}

@@ -1,7 +1,7 @@
 use Rattle.std.proofs.Common.{◌≡◌, ◌∙◌, Option, ap, subst}
 use Rattle.manifest.specs.declared.pod.PodSpec.{PodSpec}
 use Rattle.pod_piece.specs.declared.order.EvictOrder.{EvictOrder}
-use Rattle.pod_piece.specs.state.Piece.{Piece}
+use Rattle.pod_piece.specs.rule.Piece.{Piece}
 use Rattle.pod_piece.specs.state.Status.{IsStatusOf}
 use Rattle.node_report.specs.rule.Lines.{pod_text}
 use Rattle.node_report.proofs.report.add_pod_lines.Goals as goal

@@ -1,5 +1,5 @@
 use Rattle.std.proofs.Common.{List, sym, subst, ap, ◌∙◌, arith}
-use Rattle.pod_piece.specs.state.Piece.{Piece}
+use Rattle.pod_piece.specs.rule.Piece.{Piece}
 use Rattle.totals.specs.declared.totals.Totals.{Totals}
 use Rattle.totals.specs.state.Totals.{plus, AreEntriesOf}
 use Rattle.event_book.specs.state.Shares.{ShareState}

@@ -1,4 +1,4 @@
-use Rattle.std.proofs.Common.{◌≡◌, ◌++◌, ◌∷◌, [], List, Bool, Option, None, IsTrue, sym, subst}
+use Rattle.std.proofs.Common.{◌++◌, ◌∷◌, [], List, Bool, None, IsTrue, sym, subst}
 use Rattle.pod_state.specs.declared.lifecycle.Lifecycle.{Lifecycle}
 use Rattle.pod_state.specs.rule.Pods.{PodTick, pod_tick, IsEnd, HasEnded}
 use Rattle.pod_state.specs.rule.Lifecycles.{IsLifecycleOf}

@@ -1,13 +1,13 @@
 use Rattle.std.proofs.Common.{◌≡◌, ◌≤◌}
 use Rattle.pod_pool.specs.state.Done.{with_waiting}
-use Rattle.pod_pool.specs.state.Told.{WereTold}
+use Rattle.pod_pool.specs.state.Gated.{WereGated}
 use Rattle.pod_pool.proofs.finish.update_waiting.Given as goal
 
 abbrev pub invariant-waiting : goal.invariant-waiting
 invariant-waiting g l = record {
   is : l.piece ≡ with_waiting l.piece.waiting l.initial.piece;
   fewer : l.piece.waiting ≤ l.initial.piece.waiting;
-  told : WereTold (g.G.Gate.left l.gate) l.initial.piece.waiting l.piece;
+  gated : WereGated (g.G.Gate.left l.gate) l.initial.piece.waiting l.piece;
 }
 
 abbrev pub decreases-waiting : goal.decreases-waiting

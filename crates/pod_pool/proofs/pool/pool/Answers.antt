@@ -1,8 +1,8 @@
 use Rattle.std.proofs.Common.{Bool, List, All, map, length, sym, ap, subst, arith}
-use Rattle.pod_piece.specs.state.Piece.{Piece}
+use Rattle.pod_piece.specs.rule.Piece.{Piece}
 use Rattle.piece_deques.specs.state.Rule.{IsPieceDue, AreNumbered}
 use Rattle.pod_pool.specs.state.Contexts.{context_tag}
-use Rattle.pod_pool.specs.state.Told.{AreTold}
+use Rattle.pod_pool.specs.state.Gated.{AreGated}
 use Rattle.pod_pool.proofs.Due.{all_due}
 use Rattle.pod_pool.proofs.Returned.{returned, still_laid}
 use Rattle.pod_pool.proofs.pool.pool.Goals as goal
@@ -27,7 +27,7 @@ gather-requires-clause-laid g c κs within =
     c.as_mut_slice.ensures.value c.run.ensures.same (sym was.ok.0) in
     still_laid _ c.args.pieces.items _ (map context_tag was.items) c.requires.all tags c.lay_out-contexts.ensures.laid
 
-pub returns-in-Ok-gather-clause-told : goal.returns-in-Ok-gather-clause-told
-returns-in-Ok-gather-clause-told g c =
-    subst (λ (left : Piece → Bool → Bool). AreTold left c.args.pieces.items) c.requires.left
-    (subst (λ (all : List Piece). AreTold g.D.Deal.left all) c.requires.all c.in-Ok-gather.ensures.done.told)
+pub returns-in-Ok-gather-clause-gated : goal.returns-in-Ok-gather-clause-gated
+returns-in-Ok-gather-clause-gated g c =
+    subst (λ (left : Piece → Bool → Bool). AreGated left c.args.pieces.items) c.requires.left
+    (subst (λ (all : List Piece). AreGated g.D.Deal.left all) c.requires.all c.in-Ok-gather.ensures.done.gated)

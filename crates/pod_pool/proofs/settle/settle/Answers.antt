@@ -2,16 +2,16 @@ use Rattle.std.proofs.Common.{◌≤◌, Option, List, length, refl, ap, ◌∙�
 use Rattle.std.specs.Option.{option_to_list}
 use Rattle.std.proofs.lemmas.List.Elements.{All-weaker}
 use Rattle.observations.specs.rule.Limits.{most_pods}
-use Rattle.pod_piece.specs.state.Piece.{Piece}
+use Rattle.pod_piece.specs.rule.Piece.{Piece}
 use Rattle.totals.specs.state.Totals.{plus}
 use Rattle.totals.specs.state.Rounds.{AreAdditionsOf}
 use Rattle.piece_deques.proofs.Lists.{front, last, grown, ones}
 use Rattle.pod_pool.specs.state.Done.{IsDone, weigh}
-use Rattle.pod_pool.specs.state.Told.{IsFinished}
+use Rattle.pod_pool.specs.state.Gated.{IsFinished}
 use Rattle.pod_pool.proofs.Numbers.{weigh_more}
 use Rattle.pod_pool.proofs.Sums.{plus_assoc, sums_more}
 use Rattle.pod_pool.proofs.Additions.{settled, within_round}
-use Rattle.pod_pool.proofs.Told.{all_told}
+use Rattle.pod_pool.proofs.Gated.{all_gated}
 use Rattle.pod_pool.proofs.settle.settle.Goals as goal
 
 pub entered-init : goal.entered-init
@@ -108,7 +108,7 @@ returns g c =
     subst (λ (ps : List Piece). AreAdditionsOf ps found.0) c.deref.ensures.value found.1 in
     record {
       are_updated = order.placed;
-      told = all_told g.D.Deal.left g.D.Deal.all _ _ c.requires.numbered order.placed order.same i.right;
+      gated = all_gated g.D.Deal.left g.D.Deal.all _ _ c.requires.numbered order.placed order.same i.right;
       entered = (
         found.0,
         are,

@@ -2,7 +2,7 @@ use Rattle.std.proofs.Common.{◌≡◌, ◌+◌, ◌≤◌, ℕ, All, length, v
 use Rattle.event_book.specs.state.Shares.{most_parts}
 use Rattle.pod_pool.specs.state.Done.{weigh}
 use Rattle.pod_pool.specs.state.Order.{AreAdded}
-use Rattle.pod_pool.specs.state.Told.{IsFinished}
+use Rattle.pod_pool.specs.state.Gated.{IsFinished}
 use Rattle.pod_pool.proofs.settle.settle.Given as goal
 
 abbrev pub invariant-entered : goal.invariant-entered

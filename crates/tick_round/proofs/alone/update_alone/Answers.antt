@@ -1,5 +1,5 @@
 use Rattle.std.proofs.Common.{arith}
-use Rattle.tick_round.proofs.ToldBelow.{one_told, all_told}
+use Rattle.tick_round.proofs.GatedBelow.{one_gated, all_gated}
 use Rattle.tick_round.proofs.Updates.{one_updated, all_taken, room_at}
 use Rattle.tick_round.proofs.alone.update_alone.Goals as goal
 
@@ -14,9 +14,9 @@ loop-number-preserved g c = record {
   updated = one_updated c.args.pieces.items c.args.book c.loop-number.number c.loop-number.pieces.items
       c.loop-number.book c.update_at.new.pieces.items c.update_at.new.book c.loop-number.invariant.updated
       c.in_ok-update_at.ensures.updates;
-  told = one_told (g.G.Gate.left c.args.gate.now) c.args.pieces.items c.args.book c.loop-number.number
-      c.loop-number.pieces.items c.loop-number.book c.loop-number.invariant.updated c.loop-number.invariant.told
-      c.in_ok-update_at.ensures.told;
+  gated = one_gated (g.G.Gate.left c.args.gate.now) c.args.pieces.items c.args.book c.loop-number.number
+      c.loop-number.pieces.items c.loop-number.book c.loop-number.invariant.updated c.loop-number.invariant.gated
+      c.in_ok-update_at.ensures.gated;
 }
 
 pub returns-clause-pieces : goal.returns-clause-pieces
@@ -24,7 +24,7 @@ returns-clause-pieces g c =
     all_taken c.args.pieces.items c.args.book c.loop-number.number c.loop-number.pieces.items c.loop-number.book
     c.loop-number.invariant.updated (omega (arith, c.loop-number-test.false, c.loop-number.invariant.end))
 
-pub returns-clause-told : goal.returns-clause-told
-returns-clause-told g c =
-    all_told (g.G.Gate.left c.args.gate.now) c.args.pieces.items c.loop-number.number c.loop-number.invariant.told
+pub returns-clause-gated : goal.returns-clause-gated
+returns-clause-gated g c =
+    all_gated (g.G.Gate.left c.args.gate.now) c.args.pieces.items c.loop-number.number c.loop-number.invariant.gated
     (omega (arith, c.loop-number-test.false, c.loop-number.invariant.end))

@@ -1,5 +1,5 @@
 use Rattle.std.proofs.Common.{◌≡◌, length}
-use Rattle.tick_round.proofs.ToldBelow.{AreToldBelow}
+use Rattle.tick_round.proofs.GatedBelow.{AreGatedBelow}
 use Rattle.tick_round.proofs.Updates.{AreUpdatedBelow}
 use Rattle.tick_round.proofs.alone.update_alone.Given as goal
 
@@ -7,5 +7,5 @@ abbrev pub invariant-loop-number : goal.invariant-loop-number
 invariant-loop-number g l = record {
   end : l.number-end ≡ length l.fn.pieces.items;
   updated : AreUpdatedBelow l.fn.pieces.items l.fn.book l.number l.pieces.items l.book;
-  told : AreToldBelow (g.G.Gate.left l.gate) l.fn.pieces.items l.number;
+  gated : AreGatedBelow (g.G.Gate.left l.gate) l.fn.pieces.items l.number;
 }

@@ -1,5 +1,5 @@
 use Rattle.std.proofs.Common.{List, Some, subst}
-use Rattle.pod_piece.specs.state.Piece.{Piece}
+use Rattle.pod_piece.specs.rule.Piece.{Piece}
 use Rattle.tick_round.specs.state.Evict.{IsEvictionAt}
 use Rattle.tick_round.proofs.evict.eviction_for.Goals as goal
 

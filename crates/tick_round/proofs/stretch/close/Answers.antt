@@ -1,5 +1,6 @@
 use Rattle.std.proofs.Common.{List, [], ◌∷◌, ◌++◌, Some, refl, sym, subst}
-use Rattle.pod_piece.specs.state.Piece.{Piece, pods_in}
+use Rattle.pod_piece.specs.rule.Piece.{Piece}
+use Rattle.pod_piece.specs.state.Piece.{pods_in}
 use Rattle.event_list.specs.declared.tick.TickEvents.{TickEvents}
 use Rattle.event_list.specs.state.Tick.{AreOfTicks, MomentsRise}
 use Rattle.tick_round.specs.state.Node.{state}

@@ -1,5 +1,5 @@
 use Rattle.std.proofs.Common.{List, sym, subst}
-use Rattle.pod_piece.specs.state.Piece.{Piece}
+use Rattle.pod_piece.specs.rule.Piece.{Piece}
 use Rattle.node_pods.specs.state.Pods.{pods_of, AreNumbered, Awaited, joined}
 use Rattle.node_pods.proofs.pods.AwaitedPods.with.Goals as goal
 

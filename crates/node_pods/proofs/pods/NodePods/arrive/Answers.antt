@@ -1,5 +1,6 @@
 use Rattle.std.proofs.Common.{◌≡◌, ◌∙◌, ◌++◌, ◌∷◌, [], ℕ, List, length, ap, sym, subst, arith}
-use Rattle.pod_piece.specs.state.Piece.{Piece, new_piece}
+use Rattle.pod_piece.specs.rule.Piece.{Piece}
+use Rattle.pod_piece.specs.state.Piece.{new_piece}
 use Rattle.node_pods.specs.state.Pods.{pods_of, ArePlaced}
 use Rattle.node_pods.proofs.Kept.{placed_arrived}
 use Rattle.node_pods.proofs.pods.NodePods.arrive.Goals as goal

@@ -3,7 +3,7 @@ use Rattle.ranking.specs.state.Index.{Ranks}
 use Rattle.node_pods.specs.state.Pods.{Pods, pods_of, ArePlaced}
 use Rattle.node_pods.proofs.Candidates.{victim_of_all}
 use Rattle.std.proofs.Common.{sym, subst, List}
-use Rattle.pod_piece.specs.state.Piece.{Piece}
+use Rattle.pod_piece.specs.rule.Piece.{Piece}
 use Rattle.node_pods.proofs.pods.NodePods.first.Goals as goal
 
 pub returns : goal.returns

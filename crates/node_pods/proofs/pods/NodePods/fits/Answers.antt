@@ -2,7 +2,7 @@ use Rattle.std.proofs.Common.{◌≡◌, ◌∙◌, length, ap, arith}
 use Rattle.node_pods.specs.state.Pods.{Pods, pods_of, ArePlaced}
 use Rattle.node_pods.proofs.Steps.{fits_by}
 use Rattle.std.proofs.Common.{sym, subst, List}
-use Rattle.pod_piece.specs.state.Piece.{Piece}
+use Rattle.pod_piece.specs.rule.Piece.{Piece}
 use Rattle.node_pods.proofs.pods.NodePods.fits.Goals as goal
 
 pub returns-then-shown-len : goal.returns-then-shown-len

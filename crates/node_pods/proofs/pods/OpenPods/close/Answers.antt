@@ -1,5 +1,5 @@
 use Rattle.std.proofs.Common.{List, sym, subst}
-use Rattle.pod_piece.specs.state.Piece.{Piece}
+use Rattle.pod_piece.specs.rule.Piece.{Piece}
 use Rattle.node_pods.specs.state.Pods.{Pods, pods_of, ArePlaced}
 use Rattle.node_pods.specs.state.Steps.{AreFree}
 use Rattle.node_pods.proofs.Kept.{placed_at_rest}

@@ -4,8 +4,7 @@ use Rattle.state_diff.specs.declared.differ.Differ.{Differ}
 use Rattle.pod_state.specs.rule.Pods.{PodTick, pod_tick}
 use Rattle.pod_piece.specs.state.Kept.{AreKept, piece_of}
 use Rattle.pod_piece.specs.state.Listings.{MayComeNext, AreListedOnceEnded}
-use Rattle.pod_piece.specs.state.Piece.{Piece}
-use Rattle.pod_piece.specs.rule.Piece.{place_of}
+use Rattle.pod_piece.specs.rule.Piece.{Piece, place_of}
 use Rattle.pod_piece.proofs.PieceLemmas.{state_free, may_self}
 use Rattle.pod_piece.proofs.Waiting.{ticks_free}
 use Rattle.pod_piece.proofs.piece.PodPiece.accepts.Goals as goal

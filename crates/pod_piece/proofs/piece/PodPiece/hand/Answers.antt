@@ -3,7 +3,8 @@ use Rattle.observations.specs.rule.Pods.{PodObs}
 use Rattle.pod_state.specs.rule.Pods.{pod_tick}
 use Rattle.pod_piece.specs.state.Kept.{IsKept, AreKept, piece_of}
 use Rattle.pod_piece.specs.state.Listings.{IsNextTick}
-use Rattle.pod_piece.specs.state.Piece.{Piece, piece, with_tick, begun_with}
+use Rattle.pod_piece.specs.rule.Piece.{Piece}
+use Rattle.pod_piece.specs.state.Piece.{piece, with_tick, begun_with}
 use Rattle.pod_piece.proofs.Waiting.{few_ticks}
 use Rattle.pod_piece.proofs.PieceLemmas.{kept_handed, piece_handed}
 use Rattle.pod_piece.proofs.piece.PodPiece.hand.Goals as goal

@@ -3,7 +3,7 @@ use Rattle.std.proofs.lemmas.List.{length-map, take-map}
 use Rattle.histories.specs.rule.Histories.{last_moment}
 use Rattle.pod_state.specs.rule.Pods.{pod_tick}
 use Rattle.pod_piece.specs.state.Kept.{piece_of}
-use Rattle.pod_piece.specs.state.Piece.{Piece, ticks}
+use Rattle.pod_piece.specs.rule.Piece.{Piece, ticks}
 use Rattle.pod_piece.proofs.Waiting.{taken_is}
 use Rattle.pod_piece.proofs.piece.PodPiece.last_at.Goals as goal
 

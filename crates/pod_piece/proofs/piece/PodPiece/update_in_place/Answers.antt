@@ -14,8 +14,8 @@ use Rattle.pod_piece.specs.rule.Usage.{IsUsageOf}
 use Rattle.pod_piece.specs.state.Usage.{newer}
 use Rattle.pod_piece.specs.state.Kept.{AreKept, piece_of}
 use Rattle.pod_piece.specs.state.Made.{made_of, made_at}
-use Rattle.pod_piece.specs.rule.Piece.{place_of}
-use Rattle.pod_piece.specs.state.Piece.{piece, ticks}
+use Rattle.pod_piece.specs.rule.Piece.{place_of, ticks}
+use Rattle.pod_piece.specs.state.Piece.{piece}
 use Rattle.pod_piece.proofs.NextTicks.{may_take, all_follow, is_over}
 use Rattle.pod_piece.proofs.PieceLemmas.{may_self, has_containers, kept_updated, by_eviction, end_is, moved_on}
 use Rattle.pod_piece.proofs.PieceLemmas.{flag_says, at_next}

@@ -1,7 +1,7 @@
 use Rattle.std.proofs.Common.{Option, ap, ◌∙◌, arith}
 use Rattle.std.specs.List.{sum_by}
 use Rattle.std.specs.Option.{option_to_list}
-use Rattle.pod_piece.specs.state.Piece.{Piece}
+use Rattle.pod_piece.specs.rule.Piece.{Piece}
 use Rattle.pod_pool.specs.state.Done.{weigh}
 use Rattle.pod_pool.proofs.Room.{none_taken}
 use Rattle.pod_pool.proofs.context.WorkerContext.new.Goals as goal

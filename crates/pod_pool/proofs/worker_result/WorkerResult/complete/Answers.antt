@@ -1,7 +1,7 @@
 use Rattle.std.proofs.Common.{All, Option, arith, subst}
 use Rattle.std.specs.Option.{option_to_list}
-use Rattle.pod_piece.specs.state.Piece.{Piece}
-use Rattle.pod_pool.specs.state.Told.{IsRefused}
+use Rattle.pod_piece.specs.rule.Piece.{Piece}
+use Rattle.pod_pool.specs.state.Gated.{IsRefused}
 use Rattle.pod_pool.proofs.worker_result.WorkerResult.complete.Goals as goal
 
 pub returns-clause-err : goal.returns-clause-err

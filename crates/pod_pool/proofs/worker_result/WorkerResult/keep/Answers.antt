@@ -1,6 +1,6 @@
 use Rattle.std.proofs.Common.{ap}
 use Rattle.piece_deques.proofs.Lists.{grown}
-use Rattle.pod_pool.specs.state.Told.{IsFinished}
+use Rattle.pod_pool.specs.state.Gated.{IsFinished}
 use Rattle.pod_pool.proofs.Numbers.{when_ok}
 use Rattle.pod_pool.proofs.Sums.{sums_more}
 use Rattle.pod_pool.proofs.worker_result.WorkerResult.keep.Goals as goal

@@ -1,6 +1,6 @@
 use Rattle.std.proofs.Common.{All, ◌++◌, sym, subst, ap, arith}
 use Rattle.std.proofs.lemmas.List.Elements.{All-append}
-use Rattle.pod_pool.specs.state.Told.{IsFinished}
+use Rattle.pod_pool.specs.state.Gated.{IsFinished}
 use Rattle.pod_pool.proofs.Numbers.{all_either}
 use Rattle.pod_pool.proofs.Sums.{sums_both}
 use Rattle.pod_pool.proofs.worker_result.WorkerResult.merge.Goals as goal

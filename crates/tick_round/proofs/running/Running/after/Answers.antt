@@ -1,4 +1,6 @@
 use Rattle.std.proofs.Common.{[], ◌∷◌}
+use Rattle.std.proofs.lemmas.Result.{IfOk-weaker}
+use Rattle.tick_round.proofs.Gated.{round_gated}
 use Rattle.tick_round.proofs.Opens.{can_end, may_end, fit_one}
 use Rattle.tick_round.proofs.Out.{may_update}
 use Rattle.tick_round.proofs.Rounds.{are_numbered}
@@ -21,9 +23,15 @@ end-requires g c =
     can_end c.args.self [] c.args.tick out.pieces.items c.in-Ok.pieces.items out.book c.in-Ok.book out.round out.ensures
     (fit_one c.args.self c.args.tick c.requires.fits) c.in-Ok.ensures.pieces c.in-Ok.ensures.book
 
-pub returns-in-Ok : goal.returns-in-Ok
-returns-in-Ok g c =
+pub returns-in-Ok-clause-next : goal.returns-in-Ok-clause-next
+returns-in-Ok-clause-next g c =
     let out = c.in_ok-pieces in
     c.end.ensures c.args.self [] c.args.tick
     (may_end c.args.self [] c.args.tick out.pieces.items c.in-Ok.pieces.items out.book c.in-Ok.book out.round
     out.ensures (fit_one c.args.self c.args.tick c.requires.fits) c.in-Ok.ensures.pieces c.in-Ok.ensures.book)
+
+pub returns-in-Ok-clause-gated : goal.returns-in-Ok-clause-gated
+returns-in-Ok-clause-gated g c =
+    IfOk-weaker c.end.result _ _
+    (λ next is. round_gated (g.G.Gate.left c.args.gate.now) c.args.self (c.args.tick ∷ []) c.in_ok-pieces.pieces.items
+    c.in_ok-pieces.ensures.sent c.in-Ok.ensures.gated) (returns-in-Ok-clause-next g c)

@@ -4,6 +4,6 @@ use Rattle.tick_round.proofs.running.Running.after_all.Given as goal
 
 abbrev pub invariant-loop : goal.invariant-loop
 invariant-loop g l = record {
-  some : HasTakenSome l.fn.ticks.items l.fn.self l.running l.rest.rest.items;
+  some : HasTakenSome (g.G.Gate.left l.gate) l.fn.ticks.items l.fn.self l.running l.rest.rest.items;
   left : length l.rest.rest.items + l.counter ≤ l.end;
 }

@@ -4,7 +4,7 @@ use Rattle.tick_round.proofs.Opens.{can_end, may_end, fit_one}
 use Rattle.tick_round.proofs.Out.{may_update}
 use Rattle.tick_round.proofs.Rounds.{all_by}
 use Rattle.tick_round.proofs.Single.{one_waits, one_added, one_each}
-use Rattle.pod_piece.specs.state.Piece.{Piece}
+use Rattle.pod_piece.specs.rule.Piece.{Piece}
 use Rattle.tick_round.proofs.running.Running.after_played.Goals as goal
 
 pub update_by_steps-requires-clause-may : goal.update_by_steps-requires-clause-may

@@ -1,5 +1,6 @@
 use Rattle.std.proofs.Common.{[], ◌∷◌, ◌++◌}
 use Rattle.std.proofs.lemmas.Result.{IfOk-weaker}
+use Rattle.tick_round.proofs.Gated.{round_gated}
 use Rattle.tick_round.proofs.Opens.{can_end, may_end, fit_taken}
 use Rattle.tick_round.proofs.Out.{may_update}
 use Rattle.tick_round.proofs.Rest.{has_taken_some, fewer}
@@ -38,7 +39,10 @@ returns-in-Ok-clause-some g c =
     let front = some.calm ++ some.tick ∷ [] in
     let fits = fit_taken c.args.self all front rest c.requires.fits some.all in
     IfOk-weaker c.end.result _ _
-    (λ next is. has_taken_some all front rest c.args.self _ some.out.kept c.requires.fits some.all is)
+    (λ next is. has_taken_some (g.G.Gate.left c.args.gate.now) all front rest c.args.self _ some.out.kept
+    c.requires.fits some.all
+    (round_gated (g.G.Gate.left c.args.gate.now) c.args.self front out.pieces.items some.out.sent c.in-Ok.ensures.gated)
+    is)
     (c.end.ensures c.args.self some.calm some.tick
     (may_end c.args.self some.calm some.tick out.pieces.items c.in-Ok.pieces.items out.book c.in-Ok.book out.round
     some.out
