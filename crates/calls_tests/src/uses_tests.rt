@@ -5,22 +5,22 @@ use std::test::Fail;
 
 const LINES: &str = r#"{"kind":"node","name":"n1"}
 {"kind":"pod","pod":{"metadata":{"name":"a"},"spec":{"containers":[{"name":"c"}]}}}
-{"kind":"tick","at":100,"pods":[{"pod":"default/a","containers":[{"name":"c","attempt":0,"state":"CONTAINER_RUNNING"}]}]}
+{"kind":"tick","at":5,"pods":[{"pod":"default/a","containers":[{"name":"c","attempt":0,"state":"CONTAINER_RUNNING"}]}]}
 "#;
 
 const REPORT: &str = "node n1 pods=1 ticks=1
-event 100 default/a c started 0
-event 100 default/a c ready
-event 100 default/a - phase Running
+event 5 default/a c started 0
+event 5 default/a c ready
+event 5 default/a - phase Running
 pod 0 default/a phase=Running reason=- qos=BestEffort
-condition 0 PodScheduled True 100
-condition 0 Initialized True 100
-condition 0 ContainersReady True 100
-condition 0 Ready True 100
+condition 0 PodScheduled True 5
+condition 0 Initialized True 5
+condition 0 ContainersReady True 5
+condition 0 Ready True 5
 container 0 c state=Running code=- restarts=0 ready=true started=true
-nodecondition MemoryPressure False 100
-nodecondition DiskPressure False 100
-nodecondition PIDPressure False 100
+nodecondition MemoryPressure False 5
+nodecondition DiskPressure False 5
+nodecondition PIDPressure False 5
 totals updates=1 events=3 orders=0
 ";
 

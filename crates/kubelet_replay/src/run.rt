@@ -142,13 +142,13 @@ fn write_text<W: Sink>(output: &mut W, text: &str) -> Result<(), RunFault>
     }
 }
 
-/// Replays a trace and writes its report. This many workers, 1 to 64, update the pods of each round in threads of their
-/// own and steal from each other, but no more than there are pods. A round is the ticks up to the next in which an
-/// eviction threshold is heeded, or until 32,768 updates wait: one for each tick of a pod. Where no update waits in the
-/// gate only those workers run that are worth their start, one for 1,024 updates. The gate makes each update. They share
-/// the lines of the text as well, but for its first 64 KiB, in windows of at most 4 MiB. The report is that of the rules
-/// applied by one thread, pod after pod, whatever the workers and the threads do. It may wait for threads and for the
-/// lock of the book.
+/// Replays a trace and writes its report. This many workers, 1 to 64, update the pods of each round in threads of
+/// their own and steal from each other, but no more than there are pods. A round is the ticks up to the next in which
+/// an eviction threshold is heeded, or until 32,768 updates wait: one for each tick of a pod. Where no update waits in
+/// the gate only those workers run that are worth their start, one for 1,024 updates. The gate makes each update. They
+/// share the lines of the text as well, but for its first 64 KiB, in windows of at most 4 MiB. The report is that of
+/// the rules applied by one thread, pod after pod, whatever the workers and the threads do. It may wait for threads
+/// and for the lock of the book.
 ///
 /// The input is read to its end and the report is made whole before the first write. So nothing is
 /// written where the reader failed (`Read`), the input has more than 64 MiB (`TooLong`), the text

@@ -15,8 +15,8 @@ use Rattle.pod_pool.specs.state.Gated.{WereGated, AreGated, IsFinished, IsRefuse
 use Rattle.pod_pool.proofs.Numbers.{done_once, left_of}
 
 -- of one update more
-pub gated_more : (left : Piece → Bool → Bool) (waited : ℕ) (old new : Piece) → new ≡ updated old → IsTrue (left new true)
-    → WereGated left waited old → WereGated left waited new
+pub gated_more : (left : Piece → Bool → Bool) (waited : ℕ) (old new : Piece) → new ≡ updated old
+    → IsTrue (left new true) → WereGated left waited old → WereGated left waited new
 gated_more left waited old new is now gated n from before =
     let less : new.waiting ≡ old.waiting - 1 = ap (λ (p : Piece). p.waiting) is in
     elim (cases_lt new.waiting n) [

@@ -16,8 +16,8 @@
 //! once, by its owner or by one thief, follows from the deques' permits (`piece_deques`), and not from a count at the
 //! end; that all are updated when the workers have ended follows from the last look into each deque (`settle`).
 //!
-//! A refused update or missing room ends the round with a fault that gives the piece back. A `pod_piece::Gate` makes each
-//! update: the program's counts them, those of tests hold updates back, so that thefts can be made to happen.
+//! A refused update or missing room ends the round with a fault that gives the piece back. A `pod_piece::Gate` makes
+//! each update: the program's counts ticks, those of tests hold updates back, so that thefts can be made to happen.
 //!
 //! A worker finishes the piece that it has before it takes another, so its hand is empty at each pop and steal. It has
 //! a permit of its own deque too, and passes over it. It ends when it has found its own deque and each other one

@@ -15,7 +15,7 @@ pub record IsUpdateGated (left : Piece → Bool → Bool) (pod : PodSpec) (h : L
   pub ticks_are : ticks piece ≡ h
   pub gated : IsTrue (left piece true)
 
--- a gate has made the updates by these later ticks, behind those before them: by each tick one of each pod that it shows
+-- a gate has made the updates by these later ticks, behind those before: by each tick one of each pod that it shows
 abbrev pub AreUpdatesGated : (Piece → Bool → Bool) → List PodSpec → List TickObs → List TickObs → Type 0
 AreUpdatesGated left pods before later =
     (t n : ℕ) (tick : TickObs) (pod : PodSpec) (observed : PodObs) → slice_get later t ≡ Some tick

@@ -7,7 +7,8 @@ use Rattle.tick_round.proofs.running.Running.after_all.Goals as goal
 pub loop-init : goal.loop-init
 loop-init g c = record {
   some = subst
-      (λ (xs : List TickObs). HasTakenSome (g.G.Gate.left c.args.gate.now) c.args.ticks.items c.args.self c.args.self xs)
+      (λ (xs : List TickObs).
+      HasTakenSome (g.G.Gate.left c.args.gate.now) c.args.ticks.items c.args.self c.args.self xs)
       (sym c.into_iter-rest.ensures.rest)
       (none_taken (g.G.Gate.left c.args.gate.now) c.args.self c.args.ticks.items c.requires.fits);
   left = omega (arith, c.into_iter-rest.result.rest.ok, c.len-end.ensures);
