@@ -1,5 +1,5 @@
 -- The updates of a trace, where there is a report of it.
-use Rattle.std.proofs.Common.{◌≡◌, Bool, List, [], Result, Ok, Err, subst}
+use Rattle.std.proofs.Common.{◌≡◌, Bool, true, false, List, [], Result, Ok, Err, subst}
 use Rattle.std.specs.Prelude.{IsOk, OnOk}
 use Rattle.manifest.specs.declared.pod.PodSpec.{PodSpec}
 use Rattle.observations.specs.declared.tick.TickObs.{TickObs}
@@ -11,7 +11,7 @@ on_report : {V A W B : Type 0} (P : Type 0) (taken : Result V A) (report : Resul
     → OnOk report (IsOk taken) → OnOk report P
 on_report P taken (Err e) held ok = tt
 on_report P (Ok v) (Ok w) held ok = held
-on_report P (Err e) (Ok w) held ok = absurd ok
+on_report P (Err e) (Ok w) held ok = absurd (let never : false ≡ true = ok in cc)
 
 pub report_gated : {V A W B : Type 0} (left : Piece → Bool → Bool) (pods of : List PodSpec) (ticks all : List TickObs)
     (taken : Result V A) (report : Result W B) → pods ≡ of → ticks ≡ all
