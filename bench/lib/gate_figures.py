@@ -1,5 +1,5 @@
-"""The figures of the gate, by whole commands: of `rt ci NAME` for each crate, and of `./test`. How bench/gate.tsv keeps
-them, and what follows from them."""
+"""The figures of the gate, by whole commands: of `rt ci NAME` for each crate, without its edits and for them, and of
+`./test`. How bench/gate.tsv keeps them, and what follows from them."""
 import csv
 import os
 import re
@@ -9,19 +9,29 @@ import script
 from edits import paths_of
 
 WHOLE = "./test"
-COLUMNS = ("crate", "seconds", "processor seconds", "peak bytes", "last line", "commit", "kit", "machine")
+COLUMNS = ("crate", "seconds", "processor seconds", "peak bytes", "of edits", "last line", "commit", "kit", "machine")
 FIGURES = "bench/gate.tsv"
 
 
 class Figure(NamedTuple):
-    """Of a command that has ended."""
+    """Of a command that has ended, or of two."""
     seconds: float
     spent: float    # processor seconds, of the command and of all below it that was waited for
     peak: float     # bytes of the largest process
+    edits: float | None     # those processor seconds that its edits took; None where they were not timed apart
     last: str       # its last line
     commit: str
     kit: str
     machine: str
+
+    def with_edits(self, tried):
+        """Together with the command that tried the edits."""
+        return tried._replace(seconds=self.seconds + tried.seconds, spent=self.spent + tried.spent,
+                              peak=max(self.peak, tried.peak), edits=tried.spent)
+
+    def waited_for(self):
+        """The processor seconds for which the crates above wait."""
+        return self.spent - (self.edits or 0)
 
 
 def last_line(log):
@@ -50,8 +60,12 @@ def read_figures(top):
         return {}
     with open(path, newline="", encoding="utf-8") as file:
         rows = list(csv.DictReader(file, delimiter="\t"))
-    return {row["crate"]: Figure(*(float(row[column]) for column in COLUMNS[1:4]),
-                                 *(row[column] for column in COLUMNS[4:])) for row in rows}
+    return {row["crate"]: Figure(*(float(row[column]) for column in COLUMNS[1:4]), _number(row[COLUMNS[4]]),
+                                 *(row[column] for column in COLUMNS[5:])) for row in rows}
+
+
+def _number(text):
+    return None if text == "-" else float(text)
 
 
 def keep(top, crates, name, figure):
@@ -60,16 +74,17 @@ def keep(top, crates, name, figure):
     rows = [COLUMNS]
     for it in (*crates, WHOLE):
         if it in found:
-            seconds, spent, peak, *words = found[it]
-            rows.append((it, f"{seconds:.1f}", f"{spent:.1f}", f"{peak:.0f}", *words))
+            seconds, spent, peak, edits, *words = found[it]
+            apart = "-" if edits is None else f"{edits:.1f}"
+            rows.append((it, f"{seconds:.1f}", f"{spent:.1f}", f"{peak:.0f}", apart, *words))
     script.write(os.path.join(top, FIGURES), "".join("\t".join(row) + "\n" for row in rows))
 
 
 def longest_chain(found, below):
-    """The crates that wait for one another longest, by the processor seconds of each. The crates stand in the order of
-    crates.txt."""
+    """The crates that wait for one another longest, by the processor seconds of each without its edits. The crates stand
+    in the order of crates.txt."""
     chains = {}
     for name in below:
         spent, names = max((chains[it] for it in below[name]), default=(0, []))
-        chains[name] = spent + (found[name].spent if name in found else 0), [*names, name]
+        chains[name] = spent + (found[name].waited_for() if name in found else 0), [*names, name]
     return max(chains.values())

@@ -10,11 +10,11 @@ HEAD = """\
 # What the gate costs
 
 `bench/gate` writes this page; no figure is by hand. In a new clone of the commit, which no run has touched, it runs
-`rt ci NAME` for each crate, one after the other in the order of `crates.txt`, and then `./test`. It times each of these
-commands as a whole, and looks at nothing while it runs. Its seconds go by the clock. What it cost is what the
-operating system says of a child that has ended (`wait4`): the processor seconds, user and system, are those of the
-command and of all processes below it that were waited for; the peak of memory (`ru_maxrss`) is that of the largest
-process alone, and no sum.
+`rt ci NAME` for each crate, one after the other in the order of `crates.txt`, and then `./test`. A crate with edits is
+run without them first, and then with them, which tries them alone. It times each of these commands as a whole, and
+looks at nothing while it runs. Its seconds go by the clock. What it cost is what the operating system says of a child
+that has ended (`wait4`): the processor seconds, user and system, are those of the command and of all processes below it
+that were waited for; the peak of memory (`ru_maxrss`) is that of the largest process alone, and no sum.
 {machine}
 
 {whole}
@@ -26,7 +26,8 @@ processors slower.
 
 {chain}
 
-Lines are those of `src/`, `specs/` and `proofs/`; edits are the mutants in `must-fail/`.
+Lines are those of `src/`, `specs/` and `proofs/`; edits are the mutants in `must-fail/`. Of the processor seconds those
+of edits are a part; where there is none (-), they were not timed apart.
 
 """
 OUTSIDE = "## Mutants outside of the gate"
@@ -52,23 +53,24 @@ def lines_of(top, name, part):
 
 
 def row(name, numbers, peak):
-    return f"| {name} | {' | '.join(f'{it:,}' for it in numbers)} | {peak / 1e9:.1f} GB |"
+    return f"| {name} | {' | '.join(f'{it:,}' if it != '-' else it for it in numbers)} | {peak / 1e9:.1f} GB |"
 
 
 def table(top, crates, found):
     """A row for each crate, and one for their sum."""
-    rows = ["| Crate | code | specs | proofs | edits | seconds | processor s | peak memory |",
-            "|---|---|---|---|---|---|---|---|"]
-    sums, most = [0] * 6, 0
+    rows = ["| Crate | code | specs | proofs | edits | seconds | processor s | of edits | peak memory |",
+            "|---|---|---|---|---|---|---|---|---|"]
+    sums, most = [0] * 7, 0
     for name in crates:
         counts = [*(lines_of(top, name, part) for part in ("src", "specs", "proofs")), edits_of(top, name)]
         if name not in found:
-            rows.append(f"| {name} | {' | '.join(f'{it:,}' for it in counts)} | - | - | - |")
-            sums = [a + b for a, b in zip(sums, [*counts, 0, 0])]
+            rows.append(f"| {name} | {' | '.join(f'{it:,}' for it in counts)} | - | - | - | - |")
+            sums = [a + b for a, b in zip(sums, [*counts, 0, 0, 0])]
             continue
-        numbers = [*counts, round(found[name].seconds), round(found[name].spent)]
-        sums, most = [a + b for a, b in zip(sums, numbers)], max(most, found[name].peak)
-        rows.append(row(name, numbers, found[name].peak))
+        figure = found[name]
+        numbers = [*counts, round(figure.seconds), round(figure.spent), round(figure.edits or 0)]
+        sums, most = [a + b for a, b in zip(sums, numbers)], max(most, figure.peak)
+        rows.append(row(name, [*numbers[:-1], "-" if figure.edits is None else numbers[-1]], figure.peak))
     return [*rows, row("all", sums, most)]
 
 
@@ -119,9 +121,9 @@ def whole_text(below, found):
 def chain_text(below, found):
     """The sentence on the longest chain."""
     length, chain = longest_chain(found, below)
-    steps = [f"{name} ({minutes(found[name].spent)})" for name in chain if name in found]
-    return filled(f"A crate waits for those that `crates.txt` lists below it. The longest chain takes {minutes(length)} "
-                  f"processor minutes: {', '.join(steps)}.")
+    steps = [f"{name} ({minutes(found[name].waited_for())})" for name in chain if name in found]
+    return filled("A crate waits for those that `crates.txt` lists below it, and not for their edits. The longest chain "
+                  f"takes {minutes(length)} processor minutes without edits: {', '.join(steps)}.")
 
 
 def machines(found):

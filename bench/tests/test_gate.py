@@ -23,19 +23,27 @@ NAMES = ["marks", "text", "grading", "event_book", "kubelet_replay"]
 TICKS = " ticks  seconds\n  2000     0.04\n"
 # works for some tenths of a second and holds 64 MiB
 WORK = "import time; held = bytearray(64 << 20)\nwhile time.process_time() < 0.3: pass"
-# the kit: of text it works, and of grading it has kept an edit
+# what the kit is called with: a crate with edits without them first, and then with them
+RUNS = ["ci marks", "ci marks, its edits", "ci text", "ci grading", "ci grading, its edits", "ci event_book",
+        "ci kubelet_replay"]
+# the kit: of text and of the edits of marks it works, and of grading it has kept an edit
 KIT = f"""\
 #!/bin/sh
 [ "$1" != version ] || {{ echo kit; exit; }}
 top=${{0%/kit/*}}
-echo "$*" >>"$top/out/ran"
 [ -d crates ] && [ -d .git ] && [ "$PWD" != "$top" ] || exit 9
+said="rt: $2 proved"
+if [ -d "crates/$2/must-fail" ]; then
+    edits=', its edits'
+    said="rt: must-fail $2/0.edit: refused"
+    [ "$2" != grading ] || grep grading: "$top/log"
+fi
+echo "$*${{edits-}}" >>"$top/out/ran"
 case " ${{FAILS-}} " in *" $2 "*) echo 'rt: it is not proved'; echo '0 passed, 1 failed'; exit 1 ;; esac
 case " ${{WAITS-}} " in *" $2 "*) echo $$ >"$top/out/pid"; mv "$top/out/pid" "$top/out/waits"; exec sleep 50 ;; esac
-case " ${{KEPT-}} " in *" $2 "*) ;; *) echo "rt: $2 proved" ;; esac
+case " ${{KEPT-}} " in *" $2 "*) ;; *) echo "$said" ;; esac
 case " ${{BOTH-}} " in *" $2 "*) echo "rt: marks proved" ;; esac
-[ "$2" != text ] || {sys.executable} -S -c '{WORK}'
-[ "$2" != grading ] || grep grading: "$top/log"
+case $2${{edits-}} in text | marks,*) {sys.executable} -S -c '{WORK}' ;; esac
 echo '1 passed, 0 failed'
 """
 GATE = """\
@@ -123,8 +131,9 @@ class Figures(Case):
         with tempfile.TemporaryDirectory() as top:
             small(top)
             below, found = crates.below_of(top), gate_figures.read_figures(top)
-            self.assertEqual(found["marks"], Figure(90.0, 175.5, 900000000, "3 passed, 0 failed", "0123456789", "kit",
-                                                    "4 processors, 24 GB"))
+            self.assertEqual(found["marks"], Figure(90.0, 175.5, 900000000, 60.5, "3 passed, 0 failed", "0123456789",
+                                                    "kit", "4 processors, 24 GB"))
+            self.assertEqual((found["text"].edits, found["grading"].edits), (0.0, None))
             for name in ["./test", *NAMES]:
                 gate_figures.keep(top, below, name, found[name])
             self.assertEqual(read(top, "bench/gate.tsv"), read(HERE, "gate.tsv"))
@@ -138,10 +147,21 @@ class Figures(Case):
 
     def test_the_longest_chain(self):
         below = {"a": [], "b": ["a"], "c": ["a"], "d": ["b", "c"]}
-        found = {name: Figure(0, spent, 0, "", "", "", "") for name, spent in (("a", 1), ("b", 5), ("c", 9), ("d", 2))}
-        self.assertEqual(gate_figures.longest_chain(found, below), (12, ["a", "c", "d"]))
-        del found["c"]
+        found = {name: Figure(0, spent, 0, edits, "", "", "", "")
+                 for name, spent, edits in (("a", 1, 0), ("b", 5, None), ("c", 9, 3), ("d", 2, 0))}
+        self.assertEqual(gate_figures.longest_chain(found, below), (9, ["a", "c", "d"]))
+        # nothing waits for edits
+        found["c"] = found["c"]._replace(edits=5)
         self.assertEqual(gate_figures.longest_chain(found, below), (8, ["a", "b", "d"]))
+        del found["b"]
+        self.assertEqual(gate_figures.longest_chain(found, below), (7, ["a", "c", "d"]))
+
+    def test_edits_are_a_part(self):
+        proof = Figure(10, 12, 500, 0, "2 passed, 0 failed", "0123456789", "kit", "machine")
+        tried = Figure(30, 48, 400, 0, "5 passed, 0 failed", "0123456789", "kit", "machine")
+        both = proof.with_edits(tried)
+        self.assertEqual(both, Figure(40, 60, 500, 48, "5 passed, 0 failed", "0123456789", "kit", "machine"))
+        self.assertEqual((proof.waited_for(), both.waited_for(), both._replace(edits=None).waited_for()), (12, 12, 60))
 
 
 class Page(Case):
@@ -163,8 +183,9 @@ class Page(Case):
         text = " ".join(self.text().split())
         self.assertIn("1 of 5 crates have not been measured, and are not in the sums: grading.", text)
         self.assertIn("`./test` has not been measured behind them.", text)
-        self.assertIn("| grading | 0 | 14 | 0 | 1 | - | - | - |", text)
-        self.assertIn("The longest chain takes 9.6 processor minutes: marks (2.9), text (0.7), kubelet_replay (6.0).", text)
+        self.assertIn("| grading | 0 | 14 | 0 | 1 | - | - | - | - |", text)
+        self.assertIn("The longest chain takes 8.6 processor minutes without edits: marks (1.9), text (0.7), "
+                      "kubelet_replay (6.0).", text)
 
     def test_costs_alone_are_written_anew(self):
         page = read(HERE, "gate.md")
@@ -208,7 +229,7 @@ class Whole(Case):
         status, told, said = gate(self.top)
         self.assertEqual((status, said), (0, ""))
         self.assertTrue(told.endswith(": 104 passed, 0 failed\ndocs/gate.md is written\n"), told)
-        self.assertEqual(self.ran(), [f"ci {name}" for name in NAMES])
+        self.assertEqual(self.ran(), RUNS)
         # of grading the kit had kept an edit
         self.assertEqual(self.new(), ["marks", "text", "event_book", "kubelet_replay", "./test"])
         self.assertIn("\ngrading: not measured, since the kit had kept it, or parts of it\n", told)
@@ -216,28 +237,32 @@ class Whole(Case):
         self.assertTrue(0.2 < new["text"].spent < 2 * (time.monotonic() - began), new)
         self.assertGreater(new["text"].seconds, 0.2)
         self.assertGreater(new["text"].peak, 64 << 20)
-        self.assertEqual((new["text"].last, new["./test"].last), ("1 passed, 0 failed", "104 passed, 0 failed"))
+        self.assertTrue(0.2 < new["marks"].edits <= new["marks"].spent, new)
+        self.assertEqual((new["text"].edits, new["text"].last, new["./test"].last),
+                         (0.0, "1 passed, 0 failed", "104 passed, 0 failed"))
         self.assertEqual(new["text"][-3:], (git(self.top, "rev-parse", "--short=10", "HEAD"), "kit",
                                             processes.machine()))
-        self.assertEqual((read(self.top, "out/gate.log"), read(self.top, "out/gate/marks.log")),
-                         (LOG, "rt: marks proved\n1 passed, 0 failed\n"))
+        self.assertEqual((read(self.top, "out/gate.log"), read(self.top, "out/gate/marks.log"),
+                          read(self.top, "out/gate/marks.edits.log")),
+                         (LOG, "rt: marks proved\n1 passed, 0 failed\n",
+                          "rt: must-fail marks/0.edit: refused\n1 passed, 0 failed\n"))
         page = read(self.top, "docs/gate.md")
         self.assertIn(f"Of 5 crates 4 were proved anew at the commit `{new['text'].commit}`.", " ".join(page.split()))
         self.assertIn("\n      2000     0.04\n", page)
 
     def test_a_gate_goes_on_behind_what_it_measured(self):
         gate(self.top, FAILS="event_book")
-        self.assertEqual(self.ran(), ["ci marks", "ci text", "ci grading", "ci event_book"])
+        self.assertEqual(self.ran(), RUNS[:6])
         os.remove(f"{self.top}/out/ran")
         status, told, _ = gate(self.top)
-        self.assertEqual((status, self.ran()), (0, ["ci grading", "ci event_book", "ci kubelet_replay"]))
+        self.assertEqual((status, self.ran()), (0, RUNS[3:]))
         self.assertEqual(self.lines(told.rpartition("docs")[0])["text"], "measured at this commit")
         # another commit may have changed them
         git(self.top, "add", ".")
         git(self.top, "commit", "--quiet", "--message", "more")
         os.remove(f"{self.top}/out/ran")
         gate(self.top)
-        self.assertEqual(self.ran(), [f"ci {name}" for name in NAMES])
+        self.assertEqual(self.ran(), RUNS)
 
     def test_what_the_kit_has_kept_has_the_figures_of_before(self):
         status, told, said = gate(self.top, KEPT=" ".join(NAMES))
@@ -256,14 +281,14 @@ class Whole(Case):
         self.assertEqual((status, [*self.lines(told)], said), (
             1, ["marks"], "bench/gate: rt ci text ended with 1, so docs/gate.md stays as it was: out/gate/text.log "
                           "says why\n"))
-        self.assertEqual((self.ran(), self.new(), self.page()), (["ci marks", "ci text"], ["marks"], False))
+        self.assertEqual((self.ran(), self.new(), self.page()), (RUNS[:3], ["marks"], False))
         self.assertEqual(read(self.top, "out/gate/text.log"), "rt: it is not proved\n0 passed, 1 failed\n")
 
     def test_a_whole_gate_that_fails(self):
         status, _, said = gate(self.top, GATE_ENDS="1", KEPT=" ".join(NAMES))
         self.assertEqual((status, said), (
             1, "bench/gate: ./test ended with 1, so docs/gate.md stays as it was: out/gate.log says why\n"))
-        self.assertEqual((len(self.ran()), self.new(), self.page()), (5, [], False))
+        self.assertEqual((self.ran(), self.new(), self.page()), (RUNS, [], False))
 
     def test_a_run_that_is_ended(self):
         for number, ends in ((signal.SIGTERM, 143), (signal.SIGINT, 130)):
@@ -285,7 +310,8 @@ class Whole(Case):
         status, told, said = gate(self.top, "kubelet_replay", "text", GATE_ENDS="1")
         below = crates.below_of(self.top)
         wanted = [name for name in NAMES if name == "text" or name in crates.standing_below(below, "kubelet_replay")]
-        self.assertEqual((status, said, self.ran()), (0, "", [f"ci {name}" for name in wanted]))
+        self.assertEqual((status, said), (0, ""))
+        self.assertEqual(self.ran(), [it for it in RUNS if it.split()[1].rstrip(",") in wanted])
         self.assertEqual(([*self.lines(told)], self.page()), (wanted, False))
 
     def test_changes_that_are_not_committed(self):
