@@ -1,8 +1,8 @@
 //! Tests of calls that no text of a case reaches: quantities made of numbers, readers and writers over memory, inputs
 //! that are cut, large or stop, writers that stop, a full book, the lines of events, the windows of a text, whose lines
 //! are compared with those that `serde_json` reads, and what the workers of a replay, of a tick and of a pool do in
-//! threads: how many updates stand side by side, that each passes the gate once, that pods are stolen, and that rounds
-//! of several ticks tell what their ticks tell one after the other.
+//! threads: how many updates stand side by side, that each passes the gate once, that one which is refused ends the
+//! replay, that pods are stolen, and that rounds of several ticks tell what their ticks tell one after the other.
 #![tactic(auto)]
 
 #[cfg(test)]
@@ -29,6 +29,10 @@ mod overlap_tests;
 mod pods;
 #[cfg(test)]
 mod quantity_tests;
+#[cfg(test)]
+mod refusal;
+#[cfg(test)]
+mod refusal_tests;
 #[cfg(test)]
 mod replay_stream_tests;
 #[cfg(test)]

@@ -1,6 +1,7 @@
 //! The gates of these tests as one type, so that the calls that update pods are built for one.
 
 use crate::gates::{Meeting, Pair};
+use crate::refusal::Refusal;
 use crate::stopwatch::Stopwatch;
 use crate::tally::Tally;
 use kubelet_replay::Gate;
@@ -21,6 +22,8 @@ enum Does<'g, 'c, C> {
     Times(&'g Stopwatch<'c, C>),
     /// It counts them.
     Counts(&'g Tally),
+    /// It refuses memory to one of them.
+    Refuses(&'g Refusal),
 }
 
 /// A gate of these tests.
@@ -71,12 +74,20 @@ impl<'g, 'c, C> TestGate<'g, 'c, C> {
             does: Does::Counts(tally),
         }
     }
+
+    /// Memory is refused to one update. All workers run, since it says that an update may wait; none does.
+    pub(crate) fn of_refusal(refusal: &'g Refusal) -> TestGate<'g, 'c, C> {
+        TestGate {
+            says_it_waits: true,
+            does: Does::Refuses(refusal),
+        }
+    }
 }
 
 impl<C: Clock> TestGate<'_, '_, C> {
     fn begin(&self, pod: usize) {
         match &self.does {
-            Does::Nothing => {}
+            Does::Nothing | Does::Refuses(_) => {}
             Does::Meets(meeting) => meeting.begin(pod),
             Does::Pairs(pair) => pair.begin(pod),
             Does::Times(stopwatch) => stopwatch.begin(pod),
@@ -86,10 +97,18 @@ impl<C: Clock> TestGate<'_, '_, C> {
 
     fn end(&self, pod: usize) {
         match &self.does {
-            Does::Nothing | Does::Pairs(_) => {}
+            Does::Nothing | Does::Pairs(_) | Does::Refuses(_) => {}
             Does::Meets(meeting) => meeting.end(pod),
             Does::Times(stopwatch) => stopwatch.end(pod),
             Does::Counts(tally) => tally.end(pod),
+        }
+    }
+
+    /// Whether memory is refused to the update that comes now.
+    fn refuses(&self) -> bool {
+        match &self.does {
+            Does::Refuses(refusal) => refusal.comes(),
+            _ => false,
         }
     }
 }
@@ -102,6 +121,9 @@ impl<C: Clock + Sync> Gate for TestGate<'_, '_, C> {
     }
 
     fn update(&self, piece: &mut PodPiece) -> Result<(), AllocError> {
+        if self.refuses() {
+            return Err(AllocError);
+        }
         let pod = piece.status().number;
         self.begin(pod);
         let updated = piece.update_in_place();
