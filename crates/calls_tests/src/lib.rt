@@ -1,12 +1,10 @@
 //! Tests of calls that no text of a case reaches: quantities made of numbers, readers and writers over memory, inputs
-//! that are cut, large or stop, writers that stop, a full book, the lines of events, the windows of a text, whose lines
-//! are compared with those that `serde_json` reads, and what the workers of a replay, of a tick and of a pool do in
-//! threads: how many updates stand side by side, that each passes the gate once, that one which is refused ends the
-//! replay, that pods are stolen, and that rounds of several ticks tell what their ticks tell one after the other.
+//! that are cut, large or stop, writers that stop, a full book, the lines of events, and what the workers of a replay, of
+//! a tick and of a pool do in threads: how many updates stand side by side, that each passes the gate once, that one
+//! which is refused ends the replay, that pods are stolen, and that rounds of several ticks tell what their ticks tell
+//! one after the other.
 #![tactic(auto)]
 
-#[cfg(test)]
-mod ahead;
 #[cfg(test)]
 mod book_tests;
 #[cfg(test)]
@@ -17,10 +15,6 @@ mod event_tests;
 mod gates;
 #[cfg(test)]
 mod halting;
-#[cfg(test)]
-mod line_tests;
-#[cfg(test)]
-mod line_texts;
 #[cfg(test)]
 mod node_tests;
 #[cfg(test)]
@@ -42,8 +36,6 @@ mod replays;
 #[cfg(test)]
 mod rounds;
 #[cfg(test)]
-mod said;
-#[cfg(test)]
 mod scenario;
 #[cfg(test)]
 mod size_tests;
@@ -60,14 +52,8 @@ mod tally;
 #[cfg(test)]
 mod test_gate;
 #[cfg(test)]
-mod trace_tests;
-#[cfg(test)]
 mod traces;
 #[cfg(test)]
 mod turns;
 #[cfg(test)]
 mod uses_tests;
-#[cfg(test)]
-mod window_tests;
-#[cfg(test)]
-mod windows;

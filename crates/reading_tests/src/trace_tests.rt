@@ -2,7 +2,6 @@
 //! texts were made of.
 
 use crate::line_texts::add_line_of;
-use crate::traces::trace_text;
 use observations::{TickObs, seen_of};
 use std::alloc::{AllocError, AllocGlobal, Global};
 use std::process::Abort;
@@ -134,9 +133,21 @@ fn the_first_fault_is_found_in_each_window(rt: HostRuntime) -> Result<(), Fail> 
     Ok(())
 }
 
+/// The lines of a node and of 256 pods.
+fn many_pods(alloc: Global) -> Result<String, AllocError> {
+    let mut text = String::from_str(alloc, "{\"kind\":\"node\",\"name\":\"n1\"}\n")?;
+    for pod in 0..256usize {
+        writeln!(
+            text,
+            r#"{{"kind":"pod","pod":{{"metadata":{{"name":"p{pod}"}},"spec":{{"containers":[{{"name":"c"}}]}}}}}}"#
+        )?;
+    }
+    Ok(text)
+}
+
 /// Behind the lines of 256 pods so many tick lines. Each shows one pod: the first the first one, and so on.
 fn many_ticks(alloc: Global, ticks: usize) -> Result<String, AllocError> {
-    let mut text = trace_text(alloc, 256, 0)?;
+    let mut text = many_pods(alloc)?;
     for at in 0..ticks {
         let (attempt, pod) = (at / 256, at % 256);
         let listing = format!(in alloc; r#"{{"name":"c","attempt":{attempt},"state":1}}"#)?;
