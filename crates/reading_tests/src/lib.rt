@@ -1,5 +1,6 @@
-//! Tests of calls that read a trace and that no text of a case reaches: the windows of a text, whose lines are compared
-//! with those that `serde_json` reads, and texts that are read by several workers.
+//! Tests of calls that read, and that no text of a case reaches: the windows of a text, whose lines are compared with
+//! those that `serde_json` reads, and traces of many windows, which one thread reads, and workers: what they show, and
+//! their first faults, are what their texts were made of.
 #![tactic(auto)]
 
 #[cfg(test)]
