@@ -7,6 +7,7 @@ import tempfile
 from unittest import mock
 
 from common import COMMANDS, Case, loaded, run, write
+from edges_texts import FAULTS, MEBIBYTE, NODE, NODE_3, Text, texts
 from edges_traces import STEP, Edge, report_parts, trace_lines
 
 SMALL = Edge(1, 8, periods=(4,))
@@ -111,13 +112,78 @@ class Traces(Case):
         self.assertEqual(max(edge.pods * edge.ticks for edge, _ in EDGES), 256 * 20_000)
 
 
+def all_texts():
+    return {text.name: text for text in texts()}
+
+
+class Texts(Case):
+    """What the texts are, and that what is said of them is of their lines."""
+
+    def test_each_has_a_name_and_one_answer(self):
+        self.assertEqual(len(all_texts()), len(list(texts())))
+        for text in texts():
+            self.assertNotEqual(bool(text.said), bool(text.report), text.name)
+            self.assertEqual(text.words, ("--extended",) if text.parts[0] == NODE_3 else (), text.name)
+            self.assertTrue(text.said or text.report.startswith("node n1 pods="), text.name)
+
+    def test_long_lines(self):
+        longest = {name: max(map(len, "".join(text.parts).split("\n"))) - MEBIBYTE
+                   for name, text in all_texts().items() if "mebibyte" in name or "byte more" in name}
+        self.assertEqual(longest, {
+            "node line of a mebibyte": 0, "node line of a byte more": 1, "blanks of a byte more": 1,
+            "no JSON in a mebibyte": 0, "no JSON in a byte more": 1})
+
+    def test_first_faults(self):
+        faults, seen = dict(FAULTS), set()
+        for text in texts():
+            if text.said and text.name.startswith("fault behind"):
+                number, kind = text.said.removeprefix("line ").split(": ")
+                lines = "".join(text.parts).splitlines()
+                line = lines[int(number) - 1]
+                self.assertEqual((kind, lines[int(number)]), (faults[line], "{"), text.name)
+                self.assertIn(len(lines[2 if number != "3" else 4]), (149, 1499), text.name)
+                seen.add(line)
+        self.assertEqual(seen, set(faults))
+
+    def test_faults_in_the_last_lines(self):
+        for name, behind in (("tick of a pod that has left", 0), ("tick of a pod before its line", 1),
+                             ("tick of the container of a pod that left", 0), ("a tick more than 20,000", 0),
+                             ("a stranger behind one of 256 pods in each tick", 0)):
+            text = all_texts()[name]
+            lines = "".join(text.parts).splitlines()
+            self.assertTrue(text.said.startswith(f"line {len(lines) - behind}: "), name)
+
+    def test_events_and_updates_are_those_of_the_lines(self):
+        for text in texts():
+            if text.report:
+                lines = [json.loads(line) for line in "".join(text.parts).splitlines() if line.strip()]
+                shown = sum(len(line.get("pods", ())) for line in lines)
+                told = text.report.splitlines()
+                events = sum(line.startswith("event ") for line in told)
+                orders = sum(line.startswith("event ") and " restart " in line for line in told)
+                self.assertEqual(told[-1], f"totals updates={shown} events={events} orders={orders}", text.name)
+
+    def test_pods_that_pass(self):
+        text = all_texts()['pods that pass, in lines that begin with {"note":"tick",']
+        self.assertEqual("".join(text.parts).splitlines()[8:11], [
+            '{"note":"tick","kind":"gone","pod":"default/p0"}',
+            '{"kind":"tick","at":4,"pods":[' + ",".join(
+                f'{{"pod":"default/p{pod}","containers":[{{"name":"c","state":1}}]}}' for pod in (1, 2, 3)) + "]}",
+            '{"note":"tick","kind":"pod","pod":{"metadata":{"name":"p4"},"spec":{"containers":[{"name":"c"}]}}}'])
+        self.assertIn("\ncontainer 0 c state=Running code=- restarts=0 ready=true started=true\n", text.report)
+
+
 class Edges(Case):
-    """bench/edges over small traces."""
+    """bench/edges over small traces and texts."""
 
     def setUp(self):
         self.room = self.enterContext(tempfile.TemporaryDirectory())
         self.edges = loaded("edges")
         self.enterContext(mock.patch.object(self.edges, "EDGES", ((SMALL, (1, 64)), (Edge(2, 3), (4,)))))
+        self.give_texts()
+
+    def give_texts(self, *given):
+        self.enterContext(mock.patch.object(self.edges, "texts", lambda: given))
 
     def ran(self, text):
         """The status of the script, and what it prints, over a stand-in."""
@@ -133,20 +199,34 @@ class Edges(Case):
 
     def test_a_report_that_differs(self):
         self.assertEqual(self.ran(KNOWN + '[ "$4" != 64 ] || echo more\n'), (1, [
-            "pods=1 ticks=8 containers=1 workers=64: line 24 is b'more\\n', not b''",
+            "pods=1 ticks=8 containers=1 --workers 64: line 24 is b'more\\n', not b''",
             *SIZES, "3 runs at the limits, 1 otherwise than expected"]))
 
     def test_a_report_that_is_cut_short(self):
         status, said = self.ran(KNOWN.replace("cat", "head -n 3"))
         self.assertEqual((status, said[-1]), (1, "3 runs at the limits, 3 otherwise than expected"))
-        self.assertEqual(said[3], "pods=2 ticks=3 containers=1 workers=4: line 4 is b'', not "
+        self.assertEqual(said[3], "pods=2 ticks=3 containers=1 --workers 4: line 4 is b'', not "
                                   "b'condition 0 Initialized True 10\\n'")
 
     def test_memory_that_is_refused(self):
         self.assertEqual(self.ran('#!/bin/sh\necho out of memory >&2\nexit 1\n'), (1, [
-            *(f"pods=1 ticks=8 containers=1 workers={workers}: status 1, 'out of memory'" for workers in (1, 64)),
-            SIZES[0], "pods=2 ticks=3 containers=1 workers=4: status 1, 'out of memory'", SIZES[1],
+            *(f"pods=1 ticks=8 containers=1 --workers {workers}: status 1, 'out of memory'" for workers in (1, 64)),
+            SIZES[0], "pods=2 ticks=3 containers=1 --workers 4: status 1, 'out of memory'", SIZES[1],
             "3 runs at the limits, 3 otherwise than expected"]))
+
+    def test_texts_with_a_report_and_with_a_fault(self):
+        self.give_texts(Text("a node", (NODE,), report="node n1\n", workers=(1, 2)),
+                        Text("no JSON", ("{",), "line 1: 32 NotJson", words=("--extended",), workers=(3,)))
+        answered = KNOWN + 'grep -q kind "$2" || { echo "line 1: 32 NotJson" >&2; exit 2; }\n'
+        self.assertEqual(self.ran(answered), (0, [*SIZES, "6 runs at the limits, 0 otherwise than expected"]))
+        self.assertEqual(self.ran(answered.replace("NotJson", "Order")), (1, [
+            *SIZES, "no JSON --workers 3 --extended: status 2, 'line 1: 32 Order'",
+            "6 runs at the limits, 1 otherwise than expected"]))
+        self.assertEqual(self.ran(KNOWN), (1, [
+            *SIZES, "no JSON --workers 3 --extended: status 0, ''", "6 runs at the limits, 1 otherwise than expected"]))
+        self.assertEqual(self.ran(answered.replace(">&2", ">&2; echo more")), (1, [
+            *SIZES, "no JSON --workers 3 --extended: line 1 is b'more\\n', not b''",
+            "6 runs at the limits, 1 otherwise than expected"]))
 
     def test_words(self):
         for words in (("--all",), ("/bin/true", "/bin/true")):
@@ -156,5 +236,5 @@ class Edges(Case):
     def test_the_whole_script(self):
         status, said, fault = run("edges", f"{COMMANDS}/replay")
         self.assertEqual((status, fault), (1, ""))
-        runs = sum(len(workers) for _, workers in EDGES)
+        runs = sum(len(workers) for _, workers in EDGES) + sum(len(text.workers) for text in texts())
         self.assertEqual(said.splitlines()[-1], f"{runs} runs at the limits, {runs} otherwise than expected")

@@ -14,13 +14,13 @@ use std::thread::Threads;
 use trace::{FaultKind, LineFault};
 
 /// A pod that runs from its first tick on.
-pub(crate) const FIRST_TICK: &str = r#"{"kind":"node","name":"n1"}
+const FIRST_TICK: &str = r#"{"kind":"node","name":"n1"}
 {"kind":"pod","pod":{"metadata":{"name":"a"},"spec":{"containers":[{"name":"c"}]}}}
 {"kind":"tick","at":100,"pods":[{"pod":"default/a","containers":[{"name":"c","attempt":0,"state":1}]}]}
 "#;
 
 /// The report of `FIRST_TICK`.
-pub(crate) const FIRST_REPORT: &str = "node n1 pods=1 ticks=1
+const FIRST_REPORT: &str = "node n1 pods=1 ticks=1
 event 100 default/a c started 0
 event 100 default/a c ready
 event 100 default/a - phase Running
@@ -63,7 +63,7 @@ const FIRST: Written = Written {
     line: "ok pods=1 ticks=1\n",
 };
 
-pub(crate) const NODE_ALONE: Written = Written {
+const NODE_ALONE: Written = Written {
     report: NODE_REPORT,
     line: "ok pods=0 ticks=0\n",
 };

@@ -2,7 +2,6 @@
 
 use crate::gates::{Meeting, Pair};
 use crate::refusal::Refusal;
-use crate::stopwatch::Stopwatch;
 use crate::tally::Tally;
 use kubelet_replay::Gate;
 use pod_piece::PodPiece;
@@ -18,8 +17,6 @@ enum Does<'g, 'c, C> {
     Meets(&'g Meeting<'c, C>),
     /// It holds those of the first and of the third pod until both have begun.
     Pairs(&'g Pair<'c, C>),
-    /// It takes the time of each.
-    Times(&'g Stopwatch<'c, C>),
     /// It counts them.
     Counts(&'g Tally),
     /// It refuses memory to one of them.
@@ -58,14 +55,6 @@ impl<'g, 'c, C> TestGate<'g, 'c, C> {
         }
     }
 
-    /// Each update is timed. All workers run, since it says that an update may wait; none does.
-    pub(crate) fn of_stopwatch(stopwatch: &'g Stopwatch<'c, C>) -> TestGate<'g, 'c, C> {
-        TestGate {
-            says_it_waits: true,
-            does: Does::Times(stopwatch),
-        }
-    }
-
     /// Each update is counted, and no update waits: as many workers run as are worth their start, or all, however few
     /// updates there are, where it says that one may.
     pub(crate) fn of_tally(tally: &'g Tally, says_it_waits: bool) -> TestGate<'g, 'c, C> {
@@ -90,7 +79,6 @@ impl<C: Clock> TestGate<'_, '_, C> {
             Does::Nothing | Does::Refuses(_) => {}
             Does::Meets(meeting) => meeting.begin(pod),
             Does::Pairs(pair) => pair.begin(pod),
-            Does::Times(stopwatch) => stopwatch.begin(pod),
             Does::Counts(tally) => tally.begin(pod),
         }
     }
@@ -99,7 +87,6 @@ impl<C: Clock> TestGate<'_, '_, C> {
         match &self.does {
             Does::Nothing | Does::Pairs(_) | Does::Refuses(_) => {}
             Does::Meets(meeting) => meeting.end(pod),
-            Does::Times(stopwatch) => stopwatch.end(pod),
             Does::Counts(tally) => tally.end(pod),
         }
     }

@@ -59,38 +59,3 @@ pub(crate) fn trace_text(alloc: Global, pods: usize, ticks: usize) -> Result<Str
     }
     Ok(text)
 }
-
-/// Sixteen containers, each with this behind its name.
-fn sixteen(alloc: Global, rest: &str) -> Result<String, AllocError> {
-    let mut text = String::new(alloc);
-    for number in 0..16usize {
-        let comma = if number > 0 { "," } else { "" };
-        let entry = format!(in alloc; r#"{comma}{{"name":"c{number}"{rest}}}"#)?;
-        text.push_str(entry.as_str())?;
-    }
-    Ok(text)
-}
-
-/// A trace of this many pods with sixteen containers, all of which run in its one tick.
-pub(crate) fn full_text(alloc: Global, pods: usize) -> Result<String, AllocError> {
-    let containers = sixteen(alloc, "")?;
-    let listings = sixteen(alloc, r#","state":"CONTAINER_RUNNING""#)?;
-    let mut text = String::from_str(alloc, "{\"kind\":\"node\",\"name\":\"n1\"}\n")?;
-    let mut tick = String::from_str(alloc, r#"{"kind":"tick","at":0,"pods":["#)?;
-    for pod in 0..pods {
-        let spec = format!(in alloc; r#"{{"containers":[{containers}]}}"#)?;
-        let line = format!(in alloc;
-            r#"{{"kind":"pod","pod":{{"metadata":{{"name":"p{pod}"}},"spec":{spec}}}}}"#
-        )?;
-        let comma = if pod > 0 { "," } else { "" };
-        let entry = format!(in alloc;
-            r#"{comma}{{"pod":"default/p{pod}","containers":[{listings}]}}"#
-        )?;
-        text.push_str(line.as_str())?;
-        text.push_str("\n")?;
-        tick.push_str(entry.as_str())?;
-    }
-    text.push_str(tick.as_str())?;
-    text.push_str("]}\n")?;
-    Ok(text)
-}

@@ -11,7 +11,7 @@ pub(crate) struct Turns {
     disordered: AtomicU64,
 }
 
-pub(crate) fn zeros(alloc: Global, count: usize) -> Result<Vec<AtomicU64>, AllocError> {
+fn zeros(alloc: Global, count: usize) -> Result<Vec<AtomicU64>, AllocError> {
     let mut counts = Vec::new(alloc);
     for _ in 0..count {
         counts.push(AtomicU64::new(0))?;

@@ -22,18 +22,9 @@ pub(crate) fn names_in(
     Ok(names)
 }
 
-/// The bytes of the file of this path and ending.
-pub(crate) fn bytes_of(
-    rt: &(impl Files + AllocGlobal),
-    path: &str,
-    ending: &str,
-) -> Result<Vec<u8>> {
-    let file = format!(in rt.alloc(); "{path}.{ending}")?;
-    fs::read(rt, file.as_str()).context(format_args!("reading {file}"))
-}
-
 /// The text of the file of this path and ending.
 pub(crate) fn text_of(rt: &(impl Files + AllocGlobal), path: &str, ending: &str) -> Result<String> {
-    let bytes = bytes_of(rt, path, ending)?;
+    let file = format!(in rt.alloc(); "{path}.{ending}")?;
+    let bytes = fs::read(rt, file.as_str()).context(format_args!("reading {file}"))?;
     String::from_utf8(bytes).context("the file is no text")
 }

@@ -1,17 +1,13 @@
 //! What the texts of a table are.
 
 use crate::manifest_text::{Telling, told};
-use crate::replays::{Answer, played_answer_of};
 use crate::texts;
 use anyhow::Result;
-use kubelet_replay::Format;
 use std::alloc::Global;
 
 /// What the texts of a table are.
-#[derive(Drop)]
+#[derive(Clone, Copy)]
 pub(crate) enum Kind {
-    /// The last line of a trace, after these lines.
-    LineAfter(String),
     Quantity,
     PrintedQuantity,
     Percentage,
@@ -43,10 +39,9 @@ impl Kind {
     }
 
     /// What the text is answered.
-    pub(crate) fn answer_of(&self, alloc: Global, text: &str) -> Result<String> {
+    pub(crate) fn answer_of(self, alloc: Global, text: &str) -> Result<String> {
         let bytes = text.as_bytes();
         Ok(match self {
-            Kind::LineAfter(before) => return after(alloc, before.as_str(), text),
             Kind::Quantity => texts::quantity(alloc, bytes)?,
             Kind::PrintedQuantity => texts::printed_quantity(alloc, bytes)?,
             Kind::Percentage => texts::percentage(alloc, bytes)?,
@@ -58,14 +53,5 @@ impl Kind {
             Kind::Manifest => return told(alloc, text, Telling::Pod),
             Kind::Class => return told(alloc, text, Telling::Class),
         })
-    }
-}
-
-/// How a trace is answered that ends in this line.
-fn after(alloc: Global, before: &str, line: &str) -> Result<String> {
-    let trace = format!(in alloc; "{before}{line}\n")?;
-    match played_answer_of(alloc, Format::Standard, trace.as_bytes())? {
-        Answer::Report(_) => Ok(String::from_str(alloc, "accepted")?),
-        Answer::Refusal(refusal) => Ok(refusal),
     }
 }

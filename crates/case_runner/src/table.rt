@@ -11,7 +11,7 @@ use std::rt::Runtime;
 fn is_case(
     rt: &(impl Runtime + AllocGlobal),
     path: &str,
-    kind: &Kind,
+    kind: Kind,
     place: usize,
     row: &str,
 ) -> Result<bool> {
@@ -27,7 +27,7 @@ fn is_case(
 }
 
 /// Compares each row of the table of this path, and says how many there are.
-pub(crate) fn run(rt: &(impl Runtime + AllocGlobal), path: &str, kind: &Kind) -> Result<usize> {
+pub(crate) fn run(rt: &(impl Runtime + AllocGlobal), path: &str, kind: Kind) -> Result<usize> {
     let table = text_of(rt, path, "table")?;
     let mut count = 0usize;
     for (place, row) in table.as_str().split_terminator('\n').enumerate() {

@@ -1,8 +1,8 @@
 //! Quantities, percentages, durations, limits, names and steps, each with its answer.
 
-use kubelet_replay::{read_steps, steps_fault_line, steps_status_of};
 use manifest::is_name;
 use quantity::{Limit, Percent, Quantity, QuantityFault, seconds_of};
+use round_steps::{read_steps, steps_fault_line, steps_status_of};
 use std::alloc::{AllocError, Global};
 use std::fmt::Display;
 

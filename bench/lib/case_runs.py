@@ -1,0 +1,62 @@
+"""The ways in which bench/cases runs a case, and what it says of them."""
+import os
+import subprocess
+import tempfile
+
+import script
+
+STEPS = {
+    "none": (1, ""),
+    # the second of two workers takes a pod of the first and sees to it, and leaves another in its hand
+    "stolen": (2, "steal 1 0\nupdate 1\nenter 1\nsteal 1 0\n"),
+    # three workers, steps out of turn, and workers that there are none of
+    "mistaken": (3, "update 0\npop 2\npop 2\npop 63\nsteal 9 2\nsteal 0 9\nenter 2\nupdate 2\nsteal 1 1\npop 0\n"),
+    # the last of 64 workers are the first that take a pod
+    "last_first": (64, "steal 62 1\npop 63\npop 3\nupdate 62\nupdate 3\nenter 3\nenter 62\nsteal 61 0\nupdate 61\n"),
+}
+"""By the name of a file, how many workers play its steps, and the steps"""
+LONGEST = 600
+"""seconds that a run may take"""
+
+
+def write_steps(folder):
+    for name, (_, text) in STEPS.items():
+        script.write(os.path.join(folder, name), text)
+
+
+def ways(trace, steps):
+    """The words of each way to replay a trace; the last one reads it alone."""
+    for workers in (1, 2, 3, 64):
+        yield "run", trace, "--workers", str(workers)
+    for name, (workers, _) in STEPS.items():
+        yield "play", trace, os.path.join(steps, name), "--workers", str(workers)
+    yield "check", trace
+
+
+class Runs:
+    """What runs the program over a case in each way, with the steps in this folder."""
+
+    def __init__(self, program, steps):
+        self.program, self.steps = program, steps
+
+    def ran(self, words):
+        """The status of a run, what it writes, and what it says on standard error."""
+        done = subprocess.run([self.program, *words], stdin=subprocess.DEVNULL, capture_output=True, timeout=LONGEST,
+                              check=False)
+        return done.returncode, done.stdout, done.stderr.decode(errors="replace")
+
+    def __call__(self, case):
+        """How many runs it has, and what is said of those that are otherwise than expected."""
+        told, runs = [], 0
+        with tempfile.NamedTemporaryFile() as file:
+            file.write(case.trace)
+            file.flush()
+            for words in ways(file.name, self.steps):
+                runs += 1
+                status, written, said = self.ran((*words, *case.words))
+                if case.report is None and not case.refusal and status == 0:
+                    # what the first way writes of an accepted trace is wanted of the others
+                    case = case._replace(report=written)
+                if fault := case.fault(words[0], status, written, said):
+                    told.append(f"{case.name}: {words[0]} {' '.join(map(os.path.basename, words[2:]))}: {fault}")
+        return runs, told
