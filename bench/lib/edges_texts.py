@@ -8,9 +8,8 @@ MEBIBYTE = 1 << 20
 NODE = '{"kind":"node","name":"n1"}\n'
 NODE_3 = '{"kind":"node","name":"n1","version":3}\n'
 POD = '{"kind":"pod","pod":{"metadata":{"name":"%s"},"spec":{"containers":[{"name":"c"}]}}}\n'
-ENTRY = '{"pod":"default/%s","containers":[{"name":"c","state":%s}]}'
+ENTRY = '{"pod":"default/%s","containers":[{"name":"c","state":1}]}'
 TICK = '{"kind":"tick","at":%d,"pods":[%s]}\n'
-RUNS, EXITED = "1", '2,"exitCode":7'
 # by it another line looks as a tick line does
 NOTE = '{"note":"tick",'
 CONDITIONS = ("MemoryPressure", "DiskPressure", "PIDPressure")
@@ -56,7 +55,7 @@ def two_faults():
 
 def one_tick_more():
     """Than there may be, whose moment is faulty too."""
-    ticks = tuple(TICK % (at, ENTRY % ("a", RUNS)) for at in range(1, 20_001))
+    ticks = tuple(TICK % (at, ENTRY % "a") for at in range(1, 20_001))
     yield Text("a tick more than 20,000", (NODE, POD % "a", *ticks, TICK % (0, "")), "line 20003: 45 TooMany")
 
 
@@ -67,7 +66,7 @@ def filled(begin, size, end):
 
 def running(ticks, size):
     """Tick lines of so many bytes, in each of which the pod `a` runs."""
-    return [filled(f'{{"kind":"tick","at":{at},"pods":[{ENTRY % ("a", RUNS)}],"note":"', size, '"}\n')
+    return [filled(f'{{"kind":"tick","at":{at},"pods":[{ENTRY % "a"}],"note":"', size, '"}\n')
             for at in range(ticks)]
 
 
@@ -111,7 +110,7 @@ def strangers():
     yield Text("tick of a pod that has left", (*head, gone, TICK % (50, '{"pod":"default/a"}')),
                "line 54: 39 StrangerPod", words=EXTENDED)
     yield Text("tick of the container of a pod that left", (
-        *head, gone, again.replace('"c"', '"d"') % "a", TICK % (50, ENTRY % ("a", RUNS))),
+        *head, gone, again.replace('"c"', '"d"') % "a", TICK % (50, ENTRY % "a")),
         "line 55: 40 StrangerContainer", words=EXTENDED)
     yield Text("tick of a pod before its line", (*head, TICK % (50, '{"pod":"default/b"}'), again % "b"),
                "line 53: 39 StrangerPod", words=EXTENDED)
@@ -122,37 +121,37 @@ def events_of(pod, moment, *events):
 
 
 BEGIN = ("c started 0", "c ready", "- phase Running")
-END = ("c died 0 7", "c unready", "c restart 0")
+# of an instance that is not listed any more
+END = ("c died 0 137", "c unready", "c restart 0")
 
 
-def told_of(number, pod, begun, ended=None):
-    """What is told of a pod in the end: from one moment on it ran, and its container has exited at another, if so."""
+def told_of(number, pod, first, begun, ended=None):
+    """What is told in the end of a pod that came with the tick at one moment, began to run at another, and whose
+    container ended at a third, if it did."""
     ready, at = ("true", begun) if ended is None else ("false", ended)
-    state = "Running code=-" if ended is None else "Terminated code=7"
+    state = "Running code=-" if ended is None else "Terminated code=137"
     return (f"pod {number} default/{pod} phase=Running reason=- qos=BestEffort\n"
-            f"condition {number} PodScheduled True {begun}\n"
-            f"condition {number} Initialized True {begun}\n"
+            f"condition {number} PodScheduled True {first}\n"
+            f"condition {number} Initialized True {first}\n"
             f"condition {number} ContainersReady {ready.title()} {at}\n"
             f"condition {number} Ready {ready.title()} {at}\n"
             f"container {number} c state={state} restarts=0 ready={ready} started={ready}\n")
 
 
 def pods_by_turns():
-    """Each tick shows one of 256 pods, which runs, and has exited where it is shown for the last time."""
-    pods, ticks = 256, 2_600
-    lines, events, ends = [NODE, *(POD % f"p{pod}" for pod in range(pods))], [], {}
+    """One of 256 pods is listed in each tenth tick, and none in the others."""
+    pods, ticks, step = 256, 2_600, 10
+    lines, told = [NODE, *(POD % f"p{pod}" for pod in range(pods))], []
     for tick in range(ticks):
-        pod, is_last = tick % pods, tick + pods >= ticks
-        lines.append(TICK % (tick + 1, ENTRY % (f"p{pod}", EXITED if is_last else RUNS)))
-        if tick < pods:
-            events.append(events_of(f"p{pod}", tick + 1, *BEGIN))
-        if is_last:
-            events.append(events_of(f"p{pod}", tick + 1, *END))
-            ends[pod] = tick + 1
-    told = "".join(events) + "".join(told_of(pod, f"p{pod}", pod + 1, ends[pod]) for pod in range(pods))
-    yield Text("one of 256 pods in each tick", tuple(lines),
-               report=node_report(pods, ticks, 1, told, (ticks, 6 * pods, pods)))
-    yield Text("a stranger behind one of 256 pods in each tick",
+        pod, behind = divmod(tick, step)
+        listed = behind == 0 and pod < pods
+        lines.append(TICK % (tick + 1, ENTRY % f"p{pod}" if listed else ""))
+        if listed:
+            told.append(events_of(f"p{pod}", tick + 1, *BEGIN) + events_of(f"p{pod}", tick + 2, *END))
+    told.extend(told_of(pod, f"p{pod}", 1, step * pod + 1, step * pod + 2) for pod in range(pods))
+    yield Text("one of 256 pods in each tenth tick", tuple(lines),
+               report=node_report(pods, ticks, 1, "".join(told), (pods * ticks, 6 * pods, pods)))
+    yield Text("a stranger behind one of 256 pods in each tenth tick",
                (*lines, TICK % (ticks + 1, '{"pod":"default/p256"}')), f"line {ticks + pods + 2}: 39 StrangerPod")
 
 
@@ -166,9 +165,9 @@ def passing_pods():
             if tick >= 3:
                 lines.append(note + f'"kind":"gone","pod":"default/p{tick - 3}"}}\n')
             there = range(max(tick - 2, 0), tick + 1)
-            lines.append(TICK % (tick + 1, ",".join(ENTRY % (f"p{pod}", RUNS) for pod in there)))
+            lines.append(TICK % (tick + 1, ",".join(ENTRY % f"p{pod}" for pod in there)))
         told = "".join(events_of(f"p{tick}", tick + 1, *BEGIN) for tick in range(ticks))
-        told += "".join(told_of(pod, f"p{pod}", pod + 1) for pod in range(ticks))
+        told += "".join(told_of(pod, f"p{pod}", pod + 1, pod + 1) for pod in range(ticks))
         yield Text(f"pods that pass, in lines that begin with {note}", tuple(lines),
                    report=node_report(ticks, ticks, 1, told, (3 * ticks - 3, 3 * ticks, 0)), words=EXTENDED)
 

@@ -148,7 +148,7 @@ class Texts(Case):
     def test_faults_in_the_last_lines(self):
         for name, behind in (("tick of a pod that has left", 0), ("tick of a pod before its line", 1),
                              ("tick of the container of a pod that left", 0), ("a tick more than 20,000", 0),
-                             ("a stranger behind one of 256 pods in each tick", 0)):
+                             ("a stranger behind one of 256 pods in each tenth tick", 0)):
             text = all_texts()[name]
             lines = "".join(text.parts).splitlines()
             self.assertTrue(text.said.startswith(f"line {len(lines) - behind}: "), name)
@@ -157,11 +157,14 @@ class Texts(Case):
         for text in texts():
             if text.report:
                 lines = [json.loads(line) for line in "".join(text.parts).splitlines() if line.strip()]
-                shown = sum(len(line.get("pods", ())) for line in lines)
                 told = text.report.splitlines()
+                pods, ticks = (int(number.split("=")[1]) for number in told[0].split()[2:])
+                self.assertEqual(ticks, sum(line["kind"] == "tick" for line in lines), text.name)
+                # in the standard format a pod without an entry is updated too
+                updates = sum(len(line.get("pods", ())) for line in lines) if text.words else pods * ticks
                 events = sum(line.startswith("event ") for line in told)
                 orders = sum(line.startswith("event ") and " restart " in line for line in told)
-                self.assertEqual(told[-1], f"totals updates={shown} events={events} orders={orders}", text.name)
+                self.assertEqual(told[-1], f"totals updates={updates} events={events} orders={orders}", text.name)
 
     def test_pods_that_pass(self):
         text = all_texts()['pods that pass, in lines that begin with {"note":"tick",']
