@@ -360,8 +360,8 @@ def test_ends():
                 ["trace.gz" if number == signal.SIGTERM else "trace.part"]))
         if number == signal.SIGKILL:
             process = recorder.start(*words)
-            ended = f"{folder}/{made[0].replace('.part', '.gz')}"
-            wait_until(lambda: os.path.exists(ended) and glob.glob(f"{folder}/*.part"))
+            # it has said so before it begins a part of its own
+            wait_until(lambda: any(os.path.basename(path) != made[0] for path in glob.glob(f"{folder}/*.part")))
             process.send_signal(signal.SIGTERM)
             said = process.communicate(timeout=LONGEST)[1].decode()
             expect(f"{name}: the next one ends it", f"{made[0]} was left by a recorder that did not end" in said, True)
