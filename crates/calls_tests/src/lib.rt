@@ -1,8 +1,8 @@
 //! Tests of calls that no text of a case reaches: quantities made of numbers, readers and writers over memory, a caller
-//! from memory to memory, inputs that are cut or stop, writers that stop, a full book, the lines of events, and what the
-//! workers of a replay, of a tick and of a pool do in threads: how many updates stand side by side, that each passes the
-//! gate once, that one which is refused ends the replay, that pods are stolen, and that rounds of several ticks tell
-//! what their ticks tell one after the other.
+//! from memory to memory, inputs that are cut or stop, writers that stop, a full book, the lines of events, and what
+//! the workers of a replay, of a tick and of a pool do in threads: how many updates stand side by side, that each
+//! passes the gate once, that one which is refused ends the replay, that pods are stolen, and that rounds of several
+//! ticks tell what their ticks tell one after the other.
 #![tactic(auto)]
 
 #[cfg(test)]

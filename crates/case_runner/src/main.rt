@@ -1,5 +1,5 @@
-//! Reads the texts and the manifests that lie in its folder, and prints how many there are. It ends at the first of which
-//! something else is read, and names it. A new case is two files or a row of a table, and its count in the file
+//! Reads the texts and the manifests that lie in its folder, and prints how many there are. It ends at the first of
+//! which something else is read, and names it. A new case is two files or a row of a table, and its count in the file
 //! `stdout`:
 //!
 //! - `manifests/NAME.json` beside `NAME.read`, what is read of it.
