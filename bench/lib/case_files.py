@@ -5,6 +5,7 @@ from typing import NamedTuple
 
 from differences import first_difference
 
+
 class Case(NamedTuple):
     """A trace, and what is answered: a report, a refusal, or that it is accepted, whatever the report."""
     folder: str
