@@ -9,7 +9,7 @@ use Rattle.round_steps.specs.declared.step.Step.{Step}
 use Rattle.round_steps.specs.declared.fault.StepsFault.{StepsFault}
 use Rattle.round_steps.specs.declared.fault.StepsFault.TheVariants.{TooLong, Line, OutOfMemory}
 use Rattle.round_steps.specs.state.Steps.{lines_of, longest_steps_file, AreSteps, IsFirstFault, IsFirstFaultBy}
-use Rattle.round_steps.specs.state.Steps.{IsFaultyBehind, IsFaultOf}
+use Rattle.round_steps.specs.state.Steps.{IsFaultyBehind, IsFaultOf, SaysStep, HasStep}
 
 -- the lines before the rest say the steps
 pub record HasRead (text rest : List ℕ) (number : ℕ) (steps : List Step) : Type 0 where
@@ -67,6 +67,23 @@ faulty_line text rest line number steps behind has cut faulty =
       faulty = faulty;
     }
 
+step_line : (text rest line : List ℕ) (number : ℕ) (steps : List Step) (step : Step) (behind : Option (Bor (List ℕ)))
+    → HasRead text rest number steps
+    → MatchOption behind (lines_of rest ≡ line ∷ []) (λ b. lines_of rest ≡ line ∷ lines_of b.now)
+    → SaysStep (length steps) line step → HasStep (lines_of text)
+step_line text rest line number steps step behind has cut says =
+    let first = first_of rest line behind cut in
+    record {
+      before = has.before;
+      line = line;
+      after = first.0;
+      steps = steps;
+      step = step;
+      lines_are = has.lines_are ∙ ap (λ (ls : List (List ℕ)). has.before ++ ls) first.1;
+      said = has.said;
+      says = says;
+    }
+
 pub line_refused : (text rest line : List ℕ) (number : ℕ) (steps : List Step) (behind : Option (Bor (List ℕ)))
     (fault : StepsFault)
     → HasRead text rest number steps
@@ -75,7 +92,8 @@ pub line_refused : (text rest line : List ℕ) (number : ℕ) (steps : List Step
 line_refused text rest line number steps behind TooLong has cut of = of
 line_refused text rest line number steps behind (Line n) has cut of =
     subst (IsFirstFault (lines_of text)) (sym of.0) (faulty_line text rest line number steps behind has cut of.1)
-line_refused text rest line number steps behind OutOfMemory has cut of = tt
+line_refused text rest line number steps behind OutOfMemory has cut of =
+    step_line text rest line number steps of.0 behind has cut of.1
 
 -- a text has few lines
 pub number_fits : (text rest : List ℕ) (number : ℕ) (steps : List Step) → length text ≤ longest_steps_file

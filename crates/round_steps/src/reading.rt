@@ -39,7 +39,7 @@ fn said_by(steps: usize, number: u64, line: &[u8]) -> Result<Option<Step>, Steps
     }
 }
 
-/// Adds what a line says behind the steps. A faulty line is named before memory is taken.
+/// Adds what a line says behind the steps. A faulty line is named before memory is taken, and an empty one takes none.
 fn take_line(steps: &mut Sequence<Step>, number: u64, line: &[u8]) -> Result<(), StepsFault>
     ensures ok { OnOk result ((lines : List (List ℕ)) → AreSteps lines steps.old
         → AreSteps (lines ++ line.now ∷ []) steps.new) }
@@ -87,7 +87,8 @@ fn within(text: &[u8]) -> Result<(), StepsFault>
 /// The steps that a text says, line by line.
 ///
 /// `TooLong` comes where the text has more than 1 MiB, before any line is looked at, and `Line`
-/// names the first faulty line. Where a growth of memory is refused the answer is `OutOfMemory`.
+/// names the first faulty line. Where a growth of memory is refused the answer is `OutOfMemory`; memory is asked for
+/// steps alone, so there is a step then, and no line before it is faulty.
 pub fn read_steps(alloc: Global, text: &[u8]) -> Result<Sequence<Step>, StepsFault>
     ensures ok { IfOk result (λ steps. (length text.now ≤ longest_steps_file) × AreSteps (lines_of text.now) steps) }
     ensures err { IfErr result (Refuses text.now) }

@@ -52,10 +52,25 @@ pub record IsFirstFault (lines : List (List ℕ)) (number : ℕ) : Type 0 where
   pub said : AreSteps before steps
   pub faulty : IsFaultyBehind (length steps) line
 
+-- behind this many steps the line says a step: it counts, it spells the step, and there is room
+abbrev pub SaysStep : ℕ → List ℕ → Step → Type 0
+SaysStep count line step = (line ≢ []) × Spells line step × (count < most_steps)
+
+-- some line says a step behind the steps of those before it, of which then none is faulty
+pub record HasStep (lines : List (List ℕ)) : Type 0 where
+  pub before : List (List ℕ)
+  pub line : List ℕ
+  pub after : List (List ℕ)
+  pub steps : List Step
+  pub step : Step
+  pub lines_are : lines ≡ before ++ line ∷ after
+  pub said : AreSteps before steps
+  pub says : SaysStep (length steps) line step
+
 -- what the line of the number says behind this many steps
 abbrev pub SaysBehind : ℕ → ℕ → List ℕ → Result (Option Step) StepsFault → Type 0
 SaysBehind count number line (Ok None) = line ≡ []
-SaysBehind count number line (Ok (Some step)) = (line ≢ []) × Spells line step × (count < most_steps)
+SaysBehind count number line (Ok (Some step)) = SaysStep count line step
 SaysBehind count number line (Err fault) = (fault ≡ Line number) × IsFaultyBehind count line
 
 -- whether a text is short enough to be looked at
@@ -63,20 +78,20 @@ abbrev pub IsWithin : List ℕ → Result ⊤ StepsFault → Type 0
 IsWithin text (Ok v) = length text ≤ longest_steps_file
 IsWithin text (Err fault) = (fault ≡ TooLong) × (longest_steps_file < length text)
 
--- why a line of the number is refused behind the steps: it is faulty, or memory lacks
+-- why a line of the number is refused behind the steps: it is faulty, or memory lacks for the step that it says
 abbrev pub IsFaultOf : ℕ → List ℕ → List Step → StepsFault → Type 0
 IsFaultOf number line steps TooLong = ⊥
 IsFaultOf number line steps (Line n) = (n ≡ number) × IsFaultyBehind (length steps) line
-IsFaultOf number line steps OutOfMemory = Unit {0}
+IsFaultOf number line steps OutOfMemory = (step : Step) × SaysStep (length steps) line step
 
--- the fault is that of the first faulty line, or that memory ran out
+-- the fault is that of the first faulty line, or memory ran out at a step before it
 abbrev pub IsFirstFaultBy : List (List ℕ) → StepsFault → Type 0
 IsFirstFaultBy lines TooLong = ⊥
 IsFirstFaultBy lines (Line number) = IsFirstFault lines number
-IsFirstFaultBy lines OutOfMemory = Unit {0}
+IsFirstFaultBy lines OutOfMemory = HasStep lines
 
 -- when a text is refused
 abbrev pub Refuses : List ℕ → StepsFault → Type 0
 Refuses text TooLong = longest_steps_file < length text
 Refuses text (Line number) = (length text ≤ longest_steps_file) × IsFirstFault (lines_of text) number
-Refuses text OutOfMemory = length text ≤ longest_steps_file
+Refuses text OutOfMemory = (length text ≤ longest_steps_file) × HasStep (lines_of text)
