@@ -3,7 +3,8 @@
 ghost use Rattle.std.specs.Prelude.{◌≡◌, IfOk, false};
 ghost use Rattle.clap.specs.Words.{rule_of};
 ghost use Rattle.commands.specs.state.Program.{trace_rule, steps_rule, workers_rule, extended_rule, of_trace};
-ghost use Rattle.commands.specs.state.Program.{run, check, play, program, IsCommand};
+ghost use Rattle.commands.specs.state.Program.{run, check, play, program, IsCommand, IsAbout};
+ghost use Rattle.commands.specs.state.Program.{about, run_about, check_about, play_about};
 
 use clap::{Arg, ArgAction, Command};
 use std::alloc::{AllocError, Global};
@@ -75,48 +76,60 @@ fn extended_arg<'a>(alloc: Global) -> Arg<'a>
 }
 
 /// A subcommand that has a trace.
-fn of_trace<'a>(
-    alloc: Global,
-    name: &'static str,
-    about: &'static str,
-) -> Result<Command<'a>, AllocError>
+fn of_trace<'a>(alloc: Global, name: &'static str) -> Result<Command<'a>, AllocError>
     ensures { IfOk result (IsCommand (of_trace name.now)) }
 {
-    Command::new(alloc, name).about(about).arg(trace_arg(alloc))
+    Command::new(alloc, name).arg(trace_arg(alloc))
 }
 
 fn run_command<'a>(alloc: Global) -> Result<Command<'a>, AllocError>
-    ensures { IfOk result (IsCommand run) }
+    ensures command { IfOk result (IsCommand run) }
+    ensures about { IfOk result (IsAbout run_about) }
 {
-    of_trace(alloc, "run", RUN_ABOUT)?
-        .arg(workers_arg(alloc))?
-        .arg(extended_arg(alloc))
+    Ok(
+        of_trace(alloc, "run")?
+            .arg(workers_arg(alloc))?
+            .arg(extended_arg(alloc))?
+            .about(RUN_ABOUT),
+    )
 }
 
 fn check_command<'a>(alloc: Global) -> Result<Command<'a>, AllocError>
-    ensures { IfOk result (IsCommand check) }
+    ensures command { IfOk result (IsCommand check) }
+    ensures about { IfOk result (IsAbout check_about) }
 {
-    of_trace(alloc, "check", CHECK_ABOUT)?.arg(extended_arg(alloc))
+    Ok(
+        of_trace(alloc, "check")?
+            .arg(extended_arg(alloc))?
+            .about(CHECK_ABOUT),
+    )
 }
 
 fn play_command<'a>(alloc: Global) -> Result<Command<'a>, AllocError>
-    ensures { IfOk result (IsCommand play) }
+    ensures command { IfOk result (IsCommand play) }
+    ensures about { IfOk result (IsAbout play_about) }
 {
-    of_trace(alloc, "play", PLAY_ABOUT)?
-        .arg(steps_arg(alloc))?
-        .arg(workers_arg(alloc))?
-        .arg(extended_arg(alloc))
+    Ok(
+        of_trace(alloc, "play")?
+            .arg(steps_arg(alloc))?
+            .arg(workers_arg(alloc))?
+            .arg(extended_arg(alloc))?
+            .about(PLAY_ABOUT),
+    )
 }
 
 /// The program, with what each of its words means.
 pub(crate) fn program<'a>(alloc: Global) -> Result<Command<'a>, AllocError>
-    ensures { IfOk result (IsCommand program) }
+    ensures command { IfOk result (IsCommand program) }
+    ensures about { IfOk result (IsAbout about) }
 {
-    Command::new(alloc, "kubelet_replay")
-        .about(ABOUT)
-        .version(VERSION)
-        .subcommand_required(true)
-        .subcommand(run_command(alloc)?)?
-        .subcommand(check_command(alloc)?)?
-        .subcommand(play_command(alloc)?)
+    Ok(
+        Command::new(alloc, "kubelet_replay")
+            .version(VERSION)
+            .subcommand_required(true)
+            .subcommand(run_command(alloc)?)?
+            .subcommand(check_command(alloc)?)?
+            .subcommand(play_command(alloc)?)?
+            .about(ABOUT),
+    )
 }

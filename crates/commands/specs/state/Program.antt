@@ -1,5 +1,5 @@
 -- The program's command line, as clap's contracts see it.
-use Rattle.std.specs.Prelude.{◌≡◌, ℕ, List, Some, [], ◌∷◌, codes, true, false}
+use Rattle.std.specs.Prelude.{◌≡◌, ℕ, List, Some, IsSomeAnd, [], ◌∷◌, codes, true, false}
 use Rattle.clap.specs.declared.builder.action.ArgAction.TheVariants.{SetTrue}
 use Rattle.clap.specs.Words.{App, Rule, app_of, new_app, new_rule, with_rule, with_subcommand}
 use Rattle.clap.specs.declared.builder.command.Command.{Command}
@@ -63,3 +63,19 @@ program =
 pub record IsCommand (app : App) (command : Command) : Type 0 where
   pub described : app_of command ≡ app
   pub local : (out-Command command).has_globals ≡ false
+
+-- help says this of the command
+abbrev pub IsAbout : List ℕ → Command → Type 0
+IsAbout text command = IsSomeAnd (out-Command command).about (λ said. said.now ≡ text)
+
+abbrev pub about : List ℕ
+about = codes "Replays what a kubelet would have decided on a node, from the node's recorded trace."
+
+abbrev pub run_about : List ℕ
+run_about = codes "Writes the report of a trace: why each pod was restarted, became unready or was evicted"
+
+abbrev pub check_about : List ℕ
+check_about = codes "Says whether a file is a trace, or names its first faulty line"
+
+abbrev pub play_about : List ℕ
+play_about = codes "Writes the same report, with workers that take the steps of a steps file, in their order"
