@@ -44,7 +44,7 @@ about_told old new app is same =
       local = ap (λ f. f.has_globals) same ∙ is.local;
     }
 
--- the command has this text
+-- the text that the command is given is about it
 pub told : (old new : Command) (said : Bor (List ℕ)) → out-Command new ≡ record (out-Command old) { about = Some said }
     → IsAbout said.now new
 told old new said same =

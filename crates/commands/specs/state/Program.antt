@@ -64,18 +64,22 @@ pub record IsCommand (app : App) (command : Command) : Type 0 where
   pub described : app_of command ≡ app
   pub local : (out-Command command).has_globals ≡ false
 
--- help says this of the command
+-- clap is given this text about the command, for its help
 abbrev pub IsAbout : List ℕ → Command → Type 0
 IsAbout text command = IsSomeAnd (out-Command command).about (λ said. said.now ≡ text)
 
+-- the text about the program
 abbrev pub about : List ℕ
 about = codes "Replays what a kubelet would have decided on a node, from the node's recorded trace."
 
+-- the text about `run`
 abbrev pub run_about : List ℕ
 run_about = codes "Writes the report of a trace: why each pod was restarted, became unready or was evicted"
 
+-- the text about `check`
 abbrev pub check_about : List ℕ
 check_about = codes "Says whether a file is a trace, or names its first faulty line"
 
+-- the text about `play`
 abbrev pub play_about : List ℕ
 play_about = codes "Writes the same report, with workers that take the steps of a steps file, in their order"
