@@ -1,7 +1,6 @@
 -- Commands that grow by an argument or a subcommand.
-use Rattle.std.proofs.Common.{◌≡◌, ◌∙◌, refl, sym, subst, ap, ap₂, Bool, true, false, Option, Some, is_some, List, ℕ}
-use Rattle.std.proofs.Common.{◌||◌, Result}
-use Rattle.std.specs.Prelude.{IfOk, IsSomeAnd}
+use Rattle.std.proofs.Common.{◌≡◌, ◌∙◌, ap, ap₂, Bool, true, false, Option, is_some, List, ℕ, ◌||◌, Result}
+use Rattle.std.specs.Prelude.{IfOk}
 use Rattle.std.specs.Borrow.{Bor}
 use Rattle.std.proofs.lemmas.Result.{IfOk-weaker}
 use Rattle.clap.specs.Words.{App, Rule, AddsArg, AddsSubcommand, app_of, rule_of, with_rule, with_subcommand}
@@ -9,7 +8,7 @@ use Rattle.clap.specs.declared.builder.arg.Arg.{Arg}
 use Rattle.clap.specs.declared.builder.command.Command.{Command}
 use Rattle.clap.specs.declared.builder.command.Command.TheViews.{out-Command}
 use Rattle.clap.specs.Simple.{app_of_fields}
-use Rattle.commands.specs.state.Program.{IsCommand, IsAbout, needing_one, with_version}
+use Rattle.commands.specs.state.Program.{IsCommand, needing_one, with_version}
 
 pub with_arg : (old new : Command) (a : Arg) (app : App) (rule : Rule) → IsCommand app old → rule_of a ≡ rule
     → a.global ≡ false
@@ -43,13 +42,6 @@ about_told old new app is same =
       described = ap app_of_fields same ∙ is.described;
       local = ap (λ f. f.has_globals) same ∙ is.local;
     }
-
--- the text that the command is given is about it
-pub told : (old new : Command) (said : Bor (List ℕ)) → out-Command new ≡ record (out-Command old) { about = Some said }
-    → IsAbout said.now new
-told old new said same =
-    subst (λ (about : Option (Bor (List ℕ))). IsSomeAnd about (λ text. text.now ≡ said.now))
-    (sym (ap (λ f. f.about) same)) refl
 
 pub answers_version : (old new : Command) (app : App) {version : Option (Bor (List ℕ))} → IsCommand app old
     → out-Command new ≡ record (out-Command old) { version = version } → is_some version ≡ true

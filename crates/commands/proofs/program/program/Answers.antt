@@ -1,5 +1,5 @@
 use Rattle.std.proofs.Common.{refl}
-use Rattle.commands.proofs.Built.{about_told, told, answers_version, needs_one_below, with_one_below}
+use Rattle.commands.proofs.Built.{about_told, answers_version, needs_one_below, with_one_below}
 use Rattle.commands.proofs.program.program.Goals as goal
 
 pub returns-clause-command : goal.returns-clause-command
@@ -14,6 +14,3 @@ returns-clause-command c =
     let three = with_one_below _ c.in_ok-play_command.field-0 c.in_ok-subcommand-3.field-0 _ _ two
     c.in_ok-play_command.ensures.command c.in_ok-subcommand-3.ensures in
     about_told c.in_ok-subcommand-3.field-0 c.about.result _ three c.about.ensures
-
-pub returns-clause-about : goal.returns-clause-about
-returns-clause-about c = told c.in_ok-subcommand-3.field-0 c.about.result _ c.about.ensures

@@ -1,4 +1,4 @@
-use Rattle.commands.proofs.Built.{about_told, told, with_arg}
+use Rattle.commands.proofs.Built.{about_told, with_arg}
 use Rattle.commands.proofs.program.run_command.Goals as goal
 
 pub returns-clause-command : goal.returns-clause-command
@@ -8,6 +8,3 @@ returns-clause-command c =
     let extended = with_arg c.in_ok-arg.field-0 c.in_ok-arg-2.field-0 c.extended_arg.result _ _ shared
     c.extended_arg.ensures.rule c.extended_arg.ensures.local c.in_ok-arg-2.ensures in
     about_told c.in_ok-arg-2.field-0 c.about.result _ extended c.about.ensures
-
-pub returns-clause-about : goal.returns-clause-about
-returns-clause-about c = told c.in_ok-arg-2.field-0 c.about.result _ c.about.ensures
