@@ -69,13 +69,14 @@ step_behind (l ∷ before) line after (s ∷ all) (t ∷ some) p q =
 pub not_faulty : (lines : List (List ℕ)) (all : List Step) (number : ℕ) → AreSteps lines all
     → IsFirstFault lines number → ⊥
 not_faulty lines all number are fault =
-    let kept : filter counts (fault.line ∷ fault.after) ≡ fault.line ∷ filter counts fault.after =
-    counted_first fault.line fault.after fault.faulty.counted in
-    let cut : filter counts lines ≡ filter counts fault.before ++ fault.line ∷ filter counts fault.after =
-    ap (filter counts) fault.lines_are ∙ filter-append counts fault.before (fault.line ∷ fault.after)
-    ∙ ap (λ (ls : List (List ℕ)). filter counts fault.before ++ ls) kept in
-    let one = step_behind (filter counts fault.before) fault.line (filter counts fault.after) all fault.steps
-    (subst (λ (ls : List (List ℕ)). SpellInOrder ls all) cut are.spelled) fault.said.spelled in
+    let at = fault.reached in
+    let kept : filter counts (fault.line ∷ at.after) ≡ fault.line ∷ filter counts at.after =
+    counted_first fault.line at.after fault.faulty.counted in
+    let cut : filter counts lines ≡ filter counts at.before ++ fault.line ∷ filter counts at.after =
+    ap (filter counts) at.lines_are ∙ filter-append counts at.before (fault.line ∷ at.after)
+    ∙ ap (λ (ls : List (List ℕ)). filter counts at.before ++ ls) kept in
+    let one = step_behind (filter counts at.before) fault.line (filter counts at.after) all fault.steps
+    (subst (λ (ls : List (List ℕ)). SpellInOrder ls all) cut are.spelled) at.said.spelled in
     let many = fault.faulty.faulty one.0 one.1 in
     absurd (omega (arith, many, one.2, are.few))
 
@@ -94,26 +95,30 @@ front_of (w ∷ a) (z ∷ b) x y xs ys e lt =
 
 -- no faulty line stands before the first one
 pub none_before : (lines : List (List ℕ)) (m n : ℕ) → (one : IsFirstFault lines m) (other : IsFirstFault lines n)
-    → length one.before < length other.before → ⊥
+    → length one.reached.before < length other.reached.before → ⊥
 none_before lines m n one other lt =
-    let mid = front_of one.before other.before one.line other.line one.after other.after
-    (sym one.lines_are ∙ other.lines_are) lt in
-    not_faulty other.before other.steps m other.said
+    let at = one.reached in
+    let behind = other.reached in
+    let mid = front_of at.before behind.before one.line other.line at.after behind.after
+    (sym at.lines_are ∙ behind.lines_are) lt in
+    not_faulty behind.before other.steps m behind.said
     (record {
-      before = one.before;
       line = one.line;
-      after = mid.0;
       steps = one.steps;
-      lines_are = mid.1;
-      number_is = one.number_is;
-      said = one.said;
+      reached = record {
+        before = at.before;
+        after = mid.0;
+        lines_are = mid.1;
+        number_is = at.number_is;
+        said = at.said;
+      };
       faulty = one.faulty;
     })
 
 same_number : (lines : List (List ℕ)) (m n : ℕ) → IsFirstFault lines m → IsFirstFault lines n → m ≡ n
 same_number lines m n one other =
-    elim (cases_order (length one.before) (length other.before)) [
-      | inl is ↦ omega (arith, is, one.number_is, other.number_is)
+    elim (cases_order (length one.reached.before) (length other.reached.before)) [
+      | inl is ↦ omega (arith, is, one.reached.number_is, other.reached.number_is)
       | inr (inl lt) ↦ absurd (none_before lines m n one other lt)
       | inr (inr gt) ↦ absurd (none_before lines n m other one gt)
     ]

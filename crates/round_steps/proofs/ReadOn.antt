@@ -9,7 +9,7 @@ use Rattle.round_steps.specs.declared.step.Step.{Step}
 use Rattle.round_steps.specs.declared.fault.StepsFault.{StepsFault}
 use Rattle.round_steps.specs.declared.fault.StepsFault.TheVariants.{TooLong, Line, OutOfMemory}
 use Rattle.round_steps.specs.state.Steps.{lines_of, longest_steps_file, AreSteps, IsFirstFault, IsFirstFaultBy}
-use Rattle.round_steps.specs.state.Steps.{IsFaultyBehind, IsFaultOf, SaysStep, HasStep}
+use Rattle.round_steps.specs.state.Steps.{IsReached, IsFaultOf}
 
 -- the lines before the rest say the steps
 pub record HasRead (text rest : List ℕ) (number : ℕ) (steps : List Step) : Type 0 where
@@ -50,50 +50,28 @@ first_of : (rest line : List ℕ) (behind : Option (Bor (List ℕ)))
 first_of rest line None cut = ([], cut)
 first_of rest line (Some b) cut = (lines_of b.now, cut)
 
-faulty_line : (text rest line : List ℕ) (number : ℕ) (steps : List Step) (behind : Option (Bor (List ℕ)))
+pub reached : (text rest line : List ℕ) (number : ℕ) (steps : List Step) (behind : Option (Bor (List ℕ)))
     → HasRead text rest number steps
     → MatchOption behind (lines_of rest ≡ line ∷ []) (λ b. lines_of rest ≡ line ∷ lines_of b.now)
-    → IsFaultyBehind (length steps) line → IsFirstFault (lines_of text) (number + 1)
-faulty_line text rest line number steps behind has cut faulty =
+    → IsReached (lines_of text) (number + 1) line steps
+reached text rest line number steps behind has cut =
     let first = first_of rest line behind cut in
     record {
       before = has.before;
-      line = line;
       after = first.0;
-      steps = steps;
       lines_are = has.lines_are ∙ ap (λ (ls : List (List ℕ)). has.before ++ ls) first.1;
       number_is = ap (λ n. n + 1) has.number_is;
       said = has.said;
-      faulty = faulty;
     }
 
-step_line : (text rest line : List ℕ) (number : ℕ) (steps : List Step) (step : Step) (behind : Option (Bor (List ℕ)))
-    → HasRead text rest number steps
-    → MatchOption behind (lines_of rest ≡ line ∷ []) (λ b. lines_of rest ≡ line ∷ lines_of b.now)
-    → SaysStep (length steps) line step → HasStep (lines_of text)
-step_line text rest line number steps step behind has cut says =
-    let first = first_of rest line behind cut in
-    record {
-      before = has.before;
-      line = line;
-      after = first.0;
-      steps = steps;
-      step = step;
-      lines_are = has.lines_are ∙ ap (λ (ls : List (List ℕ)). has.before ++ ls) first.1;
-      said = has.said;
-      says = says;
-    }
-
-pub line_refused : (text rest line : List ℕ) (number : ℕ) (steps : List Step) (behind : Option (Bor (List ℕ)))
-    (fault : StepsFault)
-    → HasRead text rest number steps
-    → MatchOption behind (lines_of rest ≡ line ∷ []) (λ b. lines_of rest ≡ line ∷ lines_of b.now)
-    → IsFaultOf (number + 1) line steps fault → IsFirstFaultBy (lines_of text) fault
-line_refused text rest line number steps behind TooLong has cut of = of
-line_refused text rest line number steps behind (Line n) has cut of =
-    subst (IsFirstFault (lines_of text)) (sym of.0) (faulty_line text rest line number steps behind has cut of.1)
-line_refused text rest line number steps behind OutOfMemory has cut of =
-    step_line text rest line number steps of.0 behind has cut of.1
+-- a line is refused where it was reached
+pub line_refused : (lines : List (List ℕ)) (number : ℕ) (line : List ℕ) (steps : List Step) (fault : StepsFault)
+    → IsReached lines number line steps → IsFaultOf number line steps fault → IsFirstFaultBy lines fault
+line_refused lines number line steps TooLong at of = of
+line_refused lines number line steps (Line n) at of =
+    subst (IsFirstFault lines) (sym of.0) (record { line = line; steps = steps; reached = at; faulty = of.1 })
+line_refused lines number line steps OutOfMemory at of =
+    record { number = number; line = line; steps = steps; step = of.0; reached = at; says = of.1 }
 
 -- a text has few lines
 pub number_fits : (text rest : List ℕ) (number : ℕ) (steps : List Step) → length text ≤ longest_steps_file

@@ -41,15 +41,19 @@ pub record IsFaultyBehind (count : ℕ) (line : List ℕ) : Type 0 where
   pub counted : line ≢ []
   pub faulty : (step : Step) → Spells line step → most_steps ≤ count
 
--- the line of this number is faulty behind the steps of those before it
-pub record IsFirstFault (lines : List (List ℕ)) (number : ℕ) : Type 0 where
+-- the line of this number, and the steps of the lines before it
+pub record IsReached (lines : List (List ℕ)) (number : ℕ) (line : List ℕ) (steps : List Step) : Type 0 where
   pub before : List (List ℕ)
-  pub line : List ℕ
   pub after : List (List ℕ)
-  pub steps : List Step
   pub lines_are : lines ≡ before ++ line ∷ after
   pub number_is : number ≡ length before + 1
   pub said : AreSteps before steps
+
+-- the line of this number is faulty behind the steps of those before it
+pub record IsFirstFault (lines : List (List ℕ)) (number : ℕ) : Type 0 where
+  pub line : List ℕ
+  pub steps : List Step
+  pub reached : IsReached lines number line steps
   pub faulty : IsFaultyBehind (length steps) line
 
 -- behind this many steps the line says a step: it counts, it spells the step, and there is room
@@ -58,13 +62,11 @@ SaysStep count line step = (line ≢ []) × Spells line step × (count < most_st
 
 -- some line says a step behind the steps of those before it, of which then none is faulty
 pub record HasStep (lines : List (List ℕ)) : Type 0 where
-  pub before : List (List ℕ)
+  pub number : ℕ
   pub line : List ℕ
-  pub after : List (List ℕ)
   pub steps : List Step
   pub step : Step
-  pub lines_are : lines ≡ before ++ line ∷ after
-  pub said : AreSteps before steps
+  pub reached : IsReached lines number line steps
   pub says : SaysStep (length steps) line step
 
 -- what the line of the number says behind this many steps

@@ -1,6 +1,7 @@
 use Rattle.std.proofs.Common.{◌+◌, ◌<◌, ◌^◌, arith}
 use Rattle.std.proofs.lemmas.Result.{err_from_is_err_and}
-use Rattle.round_steps.proofs.ReadOn.{nothing_read, line_read, all_read, line_refused, number_fits}
+use Rattle.round_steps.specs.state.Steps.{lines_of}
+use Rattle.round_steps.proofs.ReadOn.{nothing_read, line_read, all_read, reached, line_refused, number_fits}
 use Rattle.round_steps.proofs.reading.read_lines.Goals as goal
 
 pub overflow_add-number : goal.overflow_add-number
@@ -29,7 +30,8 @@ pub returns-in_err-take_line-clause-err : goal.returns-in_err-take_line-clause-e
 returns-in_err-take_line-clause-err c =
     let p = err_from_is_err_and c.from_residual.result c.from_residual.ensures.1 in
     rw (p.1, p.2)
-    (line_refused c.args.text.now c.loop-steps.rest.now c.first_line.result.0.now c.loop-steps.number
-    c.loop-steps.steps
-    c.first_line.result.1 c.in_err-take_line.field-0.0 c.loop-steps.invariant c.first_line.ensures
+    (line_refused (lines_of c.args.text.now) (c.loop-steps.number + 1) c.first_line.result.0.now c.loop-steps.steps
+    c.in_err-take_line.field-0.0
+    (reached c.args.text.now c.loop-steps.rest.now c.first_line.result.0.now c.loop-steps.number c.loop-steps.steps
+    c.first_line.result.1 c.loop-steps.invariant c.first_line.ensures)
     c.in_err-take_line.ensures.err)
