@@ -1,7 +1,7 @@
 -- The node of a trace, one tick and some pods more.
 use Rattle.std.proofs.Common.{◌≡◌, ◌∙◌, ℕ, suc, zero, ◌+◌, ◌-◌, ◌<◌, ◌≤◌, List, [], ◌∷◌, ◌++◌}
-use Rattle.std.proofs.Common.{length, take, drop, append_assoc, append-nil, Option, Some, None, refl, ap}
-use Rattle.std.proofs.Common.{sym, subst, arith}
+use Rattle.std.proofs.Common.{length, take, drop, append_assoc, append-nil, Option, Some, None, Result, Ok, Err}
+use Rattle.std.proofs.Common.{◌↔◌, IsErrOf, IsOkUnless, refl, ap, sym, subst, arith}
 use Rattle.std.specs.Prelude.{slice_get, MatchOption, IfSome}
 use Rattle.std.specs.Option.{option_flatten}
 use Rattle.histories.specs.state.Histories.{EndsBefore}
@@ -17,6 +17,8 @@ use Rattle.pod_state.specs.rule.Pods.{pod_tick}
 use Rattle.pod_piece.specs.state.Listings.{IsNextTick}
 use Rattle.pod_piece.specs.rule.Piece.{Piece}
 use Rattle.eviction.specs.rule.Replay.{pod_ticks}
+use Rattle.tick_round.specs.declared.fault.TickFault.{TickFault}
+use Rattle.tick_round.specs.declared.fault.TickFault.TheVariants.{OutOfMemory, Halted}
 use Rattle.tick_round.specs.state.Node.{State, HasTaken, Fits, IsAfter, IsWhole, MayTake, HasRoom, last_of}
 use Rattle.tick_round.proofs.Pieces.{pod_at}
 use Rattle.kubelet_replay.specs.state.Ticks.{AreReplayable, AreWhole, HaveArrived, MayArrive}
@@ -306,6 +308,14 @@ pub halted : (config : NodeConfig) (pods : List PodSpec) (ticks : List TickObs) 
     → IsAfter config pods ticks one → ⊥
 halted config pods ticks None is after = after
 halted config pods ticks (Some s) is after = absurd (cc)
+
+-- one that is not halted refuses for memory alone
+pub for_memory : {T : Type 0} (config : NodeConfig) (pods : List PodSpec) (ticks : List TickObs) (one : Option State)
+    (result : Result T TickFault)
+    → IsAfter config pods ticks one → (IsErrOf result Halted ↔ (one ≡ None)) → IsOkUnless result OutOfMemory
+for_memory config pods ticks one (Ok value) after is = tt
+for_memory config pods ticks one (Err OutOfMemory) after is = refl
+for_memory config pods ticks one (Err Halted) after is = absurd (halted config pods ticks one (is.0 refl) after)
 
 -- the same with what the code has of the ticks
 pub so_far_next : (config : NodeConfig) (pods : List PodSpec) (ticks before rest next : List TickObs)

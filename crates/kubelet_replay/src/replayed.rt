@@ -1,8 +1,9 @@
 //! The node of a trace, as its ticks leave it.
 
-ghost use Rattle.std.specs.Prelude.{◌-◌, ◌<◌, ◌≤◌, [], length, OnOk};
+ghost use Rattle.std.specs.Prelude.{◌-◌, ◌<◌, ◌≤◌, [], length, OnOk, IsOkUnless};
 ghost use Rattle.node_config.specs.declared.node.NodeConfig.{NodeConfig};
 ghost use Rattle.worker_count.specs.rule.Limit.{most_workers};
+ghost use Rattle.tick_round.specs.declared.fault.TickFault.TheVariants.{OutOfMemory};
 ghost use Rattle.tick_round.specs.rule.Gated.{AreUpdatesGated};
 ghost use Rattle.tick_round.specs.state.Node.{IsAfter};
 ghost use Rattle.kubelet_replay.specs.state.Ticks.{AreReplayable, AreWhole, HaveArrived, IsNew, MayArrive};
@@ -21,8 +22,9 @@ fn arrive<U: Ledger, E: Ledger, O: Ledger>(
     left: usize,
 ) -> Result<(), TickFault>
     requires { MayArrive (length arriving.old.rest.items - left) node.old }
-    ensures { OnOk result (HaveArrived arriving.old.rest.items (length arriving.old.rest.items - left)
+    ensures arrived { OnOk result (HaveArrived arriving.old.rest.items (length arriving.old.rest.items - left)
         node.old node.new arriving.new.rest.items) }
+    ensures err { IsOkUnless result OutOfMemory }
 {
     let count = arriving.len().saturating_sub(left);
     for _ in 0..count {
@@ -48,8 +50,9 @@ pub(crate) fn take_by_steps<U: Ledger, E: Ledger, O: Ledger>(
     requires whole { (config : NodeConfig) → IsAfter config [] [] node.old → AreWhole config.version ticks.items }
     requires some { 0 < workers }
     requires most { workers ≤ most_workers }
-    ensures { (config : NodeConfig) → IsAfter config [] [] node.old
+    ensures after { (config : NodeConfig) → IsAfter config [] [] node.old
         → OnOk result (IsAfter config pods.items ticks.items node.new) }
+    ensures err { IsOkUnless result OutOfMemory }
 {
     let count = pods.len();
     let mut arriving = pods.into_iter();
@@ -84,6 +87,7 @@ pub(crate) fn take_by_workers<
     ensures after { (config : NodeConfig) → IsAfter config [] [] node.old
         → OnOk result (IsAfter config pods.items ticks.items node.new) }
     ensures gated { OnOk result (AreUpdatesGated (G.left gate.now) pods.items [] ticks.items) }
+    ensures err { IsOkUnless result OutOfMemory }
 {
     arrive(node, &mut pods.into_iter(), 0)?;
     node.ticks(rt, ticks, workers, gate)

@@ -1,11 +1,12 @@
 //! The report of a trace.
 
-ghost use Rattle.std.specs.Prelude.{◌≡◌, ◌≢◌, ◌<◌, ◌≤◌, [], List, None, IsOk, IfOk, OnOk, string_bytes};
+ghost use Rattle.std.specs.Prelude.{◌≡◌, ◌≢◌, ◌<◌, ◌≤◌, [], List, None, IsOk, IfOk, OnOk, IsOkUnless, string_bytes};
 ghost use Rattle.manifest.specs.declared.pod.PodSpec.{PodSpec};
 ghost use Rattle.node_config.specs.declared.node.NodeConfig.{NodeConfig};
 ghost use Rattle.observations.specs.declared.tick.TickObs.{TickObs};
 ghost use Rattle.trace.specs.state.Sound.{AreAcceptable, HasShape, LeaveInThree};
 ghost use Rattle.worker_count.specs.rule.Limit.{most_workers};
+ghost use Rattle.tick_round.specs.declared.fault.TickFault.TheVariants.{OutOfMemory};
 ghost use Rattle.tick_round.specs.rule.Gated.{AreUpdatesGated};
 ghost use Rattle.tick_round.specs.state.Node.{IsAfter};
 ghost use Rattle.node_report.specs.rule.Report.{IsReport};
@@ -82,6 +83,7 @@ fn report_after<U: Ledger, E: Ledger, O: Ledger>(
     node: &Node<U, E, O>,
 ) -> Result<String, AllocError>
     requires running { OnOk taken (node.now ≢ None) }
+    requires memory { IsOkUnless taken OutOfMemory }
     ensures report { (config : NodeConfig) (pods : List PodSpec) (ticks : List TickObs)
         → OnOk taken (IsAfter config pods ticks node.now)
         → IfOk result (λ s. IsReport config ticks pods (string_bytes s)) }

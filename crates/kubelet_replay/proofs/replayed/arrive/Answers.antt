@@ -1,6 +1,7 @@
-use Rattle.std.proofs.Common.{◌∙◌, ◌-◌, length, arith}
+use Rattle.std.proofs.Common.{◌∙◌, ◌-◌, Err, length, arith}
+use Rattle.std.proofs.lemmas.Result.{err_from_is_err_and}
 use Rattle.kubelet_replay.proofs.NodeLemmas.{none_arrived, arriving_more, all_arrived, as_many_arrived, none_left}
-use Rattle.kubelet_replay.proofs.NodeLemmas.{has_room}
+use Rattle.kubelet_replay.proofs.NodeLemmas.{has_room, for_memory}
 use Rattle.kubelet_replay.proofs.replayed.arrive.Goals as goal
 
 pub loop-init : goal.loop-init
@@ -12,8 +13,8 @@ loop-preserved g c =
     c.loop.arriving.rest.items c.in-Some.pod c.next.new.self.rest.items
     c.loop.invariant c.in-Some.ensures.items c.in_ok-arrive.ensures.arrived
 
-pub returns-in_default : goal.returns-in_default
-returns-in_default g c =
+pub returns-in_default-clause-arrived : goal.returns-in_default-clause-arrived
+returns-in_default-clause-arrived g c =
     let all = c.args.arriving.now.rest in
     let rest = c.next.new.self.rest in
     let none = none_left c.next.result _ _ _ rest.items c.next.ensures.cases (omega (arith, rest.ok)) c.in_default.is in
@@ -21,8 +22,8 @@ returns-in_default g c =
     c.loop.arriving.rest.items rest.items c.loop.invariant (c.in_default.ensures.items ∙ none) none
     (omega (arith, all.ok, c.len.ensures, c.saturating_sub-count.ensures, c.loop.auto.counter-end))
 
-pub returns : goal.returns
-returns g c =
+pub returns-clause-arrived : goal.returns-clause-arrived
+returns-clause-arrived g c =
     let all = c.args.arriving.now.rest in
     as_many_arrived all.items c.loop.counter (length all.items - c.args.left) c.args.node.now c.loop.node
     c.loop.arriving.rest.items c.loop.invariant
@@ -35,3 +36,11 @@ arrive-requires g c =
     has_room all.items c.loop.counter (length all.items - c.args.left) c.args.node.now c.loop.node
     c.loop.arriving.rest.items c.requires c.loop.invariant
     (omega (arith, all.ok, c.len.ensures, c.saturating_sub-count.ensures, c.loop-test.true))
+
+pub returns-in_err-arrive-clause-err : goal.returns-in_err-arrive-clause-err
+returns-in_err-arrive-clause-err g c =
+    let may = c.requires in
+    let p = err_from_is_err_and c.from_residual.result c.from_residual.ensures.1 in
+    rw (p.1, p.2)
+    (for_memory may.config _ may.taken c.loop.node (Err c.in_err-arrive.field-0.0)
+    (c.loop.invariant.arrived may.config may.arrived may.taken may.after) c.in_err-arrive.ensures.halted)
