@@ -1,3 +1,4 @@
 pub mod Answers
 pub mod Fault
+pub mod Files
 pub mod Jobs

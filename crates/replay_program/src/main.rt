@@ -7,13 +7,15 @@ mod outside;
 mod plays;
 mod progress;
 
-ghost use Rattle.std.specs.Prelude.{◌<◌, ◌≤◌, ◌^◌, IfOk, IfErr, OnOk, map, string_bytes};
+ghost use Rattle.std.specs.Prelude.{◌≡◌, ◌+◌, ◌<◌, ◌≤◌, ◌^◌, IfOk, IfErr, OnOk, IsErrOf, map, string_bytes};
 ghost use Rattle.worker_count.specs.rule.Limit.{most_workers};
-ghost use Rattle.kubelet_replay.specs.rule.Run.{IsReportIn, IsReportOfText, IsCheckIn, Writes};
+ghost use Rattle.kubelet_replay.specs.declared.fault.RunFault.TheVariants.{OutOfMemory};
+ghost use Rattle.kubelet_replay.specs.rule.Run.{IsReportIn, IsReportOfText, IsCheckIn, TakesWithin, Writes};
+ghost use Rattle.replay_program.specs.declared.fault.Fault.TheVariants.{Run};
 ghost use Rattle.replay_program.specs.state.Jobs.{HasFewWorkers};
 ghost use Rattle.replay_program.specs.state.Answers.{AnswersFile, FailsFile, AnswersPlay, FailsPlay, Answers, Fails};
 ghost use Rattle.replay_program.specs.state.Answers.{AnswersAsked, FailsAsked, AnswersAll, FailsAll};
-ghost use Rattle.replay_program.specs.state.Answers.{HasShortText, FailsText, FailsInput};
+ghost use Rattle.replay_program.specs.state.Answers.{HasShortText, FailsText, FailsInput, unread, unwritten, ReadsAll};
 
 use fault::Fault;
 use kubelet_replay::{
@@ -30,7 +32,6 @@ use std::process::ExitCode;
 const DEFAULT_WORKERS: usize = 4;
 
 /// Replays the file of this path by this many workers.
-#[tactic(auto, using(crate::proofs::Failing::file_refused))]
 fn run<H: Outside + Eprint + AllocGlobal + Spawner, W: Sink>(
     rt: &H,
     progress: &Progress<'_, H>,
@@ -42,19 +43,19 @@ fn run<H: Outside + Eprint + AllocGlobal + Spawner, W: Sink>(
     requires some { 0 < workers }
     requires most { workers ≤ most_workers }
     requires writes { W.failures output.old < 2 ^ 63 }
-    ensures ok { OnOk result (AnswersFile (H.opened rt.now path.now) (IsReportIn format) (W.written output.old)
+    ensures ok { OnOk result (AnswersFile (H.seen rt.now path.now) (IsReportIn format) (W.written output.old)
         (W.written output.new)) }
-    ensures err { IfErr result (FailsFile (H.opened rt.now path.now) format (IsReportIn format) (W.written output.old)
+    ensures err { IfErr result (FailsFile (H.seen rt.now path.now) format (IsReportIn format) (W.written output.old)
         (W.written output.new)) }
+    ensures writes { W.failures output.new ≡ W.failures output.old + unwritten result }
 {
     let mut input = Counted::new(Input::new(progress, rt.open(path)?));
     let done = replay_in(rt, format, &mut input, output, workers, progress);
-    drop(input);
+    rt.close(path, input);
     Ok(done?)
 }
 
 /// Says whether the file of this path is a trace.
-#[tactic(auto, using(crate::proofs::Failing::file_refused))]
 fn check<H: Outside + Eprint + AllocGlobal, W: Sink>(
     rt: &H,
     progress: &Progress<'_, H>,
@@ -63,30 +64,30 @@ fn check<H: Outside + Eprint + AllocGlobal, W: Sink>(
     output: &mut W,
 ) -> Result<(), Fault>
     requires { W.failures output.old < 2 ^ 63 }
-    ensures ok { OnOk result (AnswersFile (H.opened rt.now path.now) (IsCheckIn format) (W.written output.old)
+    ensures ok { OnOk result (AnswersFile (H.seen rt.now path.now) (IsCheckIn format) (W.written output.old)
         (W.written output.new)) }
-    ensures err { IfErr result (FailsFile (H.opened rt.now path.now) format (IsCheckIn format) (W.written output.old)
+    ensures err { IfErr result (FailsFile (H.seen rt.now path.now) format (IsCheckIn format) (W.written output.old)
         (W.written output.new)) }
+    ensures writes { W.failures output.new ≡ W.failures output.old + unwritten result }
 {
     let mut input = Counted::new(Input::new(progress, rt.open(path)?));
     let done = check_in(rt.alloc(), format, &mut input, output);
-    drop(input);
+    rt.close(path, input);
     Ok(done?)
 }
 
 /// The text of a steps file.
 fn steps_text<H: Outside + AllocGlobal>(rt: &H, path: &str) -> Result<Vec<u8>, Fault>
-    ensures ok { IfOk result (λ text. HasShortText (H.opened rt.now path.now) text.items) }
-    ensures err { IfErr result (FailsText (H.opened rt.now path.now)) }
+    ensures ok { IfOk result (λ text. HasShortText (H.seen rt.now path.now) text.items) }
+    ensures err { IfErr result (FailsText (H.seen rt.now path.now)) }
 {
     let mut file = Counted::new(rt.open(path)?);
     let text = read_all(rt.alloc(), &mut file, LONGEST_STEPS_FILE);
-    drop(file);
+    rt.close(path, file);
     Ok(text?)
 }
 
 /// Replays the file of this path by this many workers that take these steps.
-#[tactic(auto, using(crate::proofs::Failing::file_refused))]
 fn play_steps<H: Outside + Plays, W: Sink>(
     rt: &H,
     format: Format,
@@ -98,15 +99,16 @@ fn play_steps<H: Outside + Plays, W: Sink>(
     requires some { 0 < workers }
     requires most { workers ≤ most_workers }
     requires writes { W.failures output.old < 2 ^ 63 }
-    ensures ok { OnOk result (AnswersFile (H.opened rt.now path.now) (IsReportIn format) (W.written output.old)
+    ensures ok { OnOk result (AnswersFile (H.seen rt.now path.now) (IsReportIn format) (W.written output.old)
         (W.written output.new)) }
     ensures played { OnOk result (H.played rt.now workers steps.now) }
-    ensures err { IfErr result (FailsFile (H.opened rt.now path.now) format (IsReportIn format) (W.written output.old)
+    ensures err { IfErr result (FailsFile (H.seen rt.now path.now) format (IsReportIn format) (W.written output.old)
         (W.written output.new)) }
+    ensures writes { W.failures output.new ≡ W.failures output.old + unwritten result }
 {
     let mut input = Counted::new(rt.open(path)?);
     let done = rt.play(format, &mut input, output, workers, steps);
-    drop(input);
+    rt.close(path, input);
     Ok(done?)
 }
 
@@ -123,10 +125,11 @@ fn play<H: Outside + Plays + AllocGlobal, W: Sink>(
     requires some { 0 < workers }
     requires most { workers ≤ most_workers }
     requires writes { W.failures output.old < 2 ^ 63 }
-    ensures ok { OnOk result (AnswersPlay (H.opened rt.now steps.now) (H.opened rt.now trace.now)
+    ensures ok { OnOk result (AnswersPlay (H.seen rt.now steps.now) (H.seen rt.now trace.now)
         (H.played rt.now workers) format (W.written output.old) (W.written output.new)) }
-    ensures err { IfErr result (FailsPlay (H.opened rt.now steps.now) (H.opened rt.now trace.now) format
+    ensures err { IfErr result (FailsPlay (H.seen rt.now steps.now) (H.seen rt.now trace.now) format
         (W.written output.old) (W.written output.new)) }
+    ensures writes { W.failures output.new ≡ W.failures output.old + unwritten result }
 {
     let text = steps_text(rt, steps)?;
     let steps = read_steps(rt.alloc(), &text)?;
@@ -144,9 +147,10 @@ fn work<H: Outside + Plays + Eprint + AllocGlobal + Spawner, W: Sink>(
 ) -> Result<(), Fault>
     requires few { HasFewWorkers job }
     requires writes { W.failures output.old < 2 ^ 63 }
-    ensures ok { OnOk result (Answers (H.opened rt.now) (H.played rt.now) job.entry (W.written output.old)
+    ensures ok { OnOk result (Answers (H.seen rt.now) (H.played rt.now) job.entry (W.written output.old)
         (W.written output.new)) }
-    ensures err { IfErr result (Fails (H.opened rt.now) job.entry (W.written output.old) (W.written output.new)) }
+    ensures err { IfErr result (Fails (H.seen rt.now) job.entry (W.written output.old) (W.written output.new)) }
+    ensures writes { W.failures output.new ≡ W.failures output.old + unwritten result }
 {
     match job {
         Job::Run {
@@ -173,10 +177,11 @@ fn do_asked<H: Outside + Plays + Eprint + AllocGlobal + Spawner, W: Sink>(
     output: &mut W,
 ) -> Result<(), Fault>
     requires { W.failures output.old < 2 ^ 63 }
-    ensures ok { OnOk result (AnswersAsked (H.opened rt.now) (H.played rt.now) (map string_bytes words.now)
+    ensures ok { OnOk result (AnswersAsked (H.seen rt.now) (H.played rt.now) (map string_bytes words.now)
         (W.written output.old) (W.written output.new)) }
-    ensures err { IfErr result (FailsAsked (H.opened rt.now) (map string_bytes words.now) (W.written output.old)
+    ensures err { IfErr result (FailsAsked (H.seen rt.now) (map string_bytes words.now) (W.written output.old)
         (W.written output.new)) }
+    ensures writes { W.failures output.new ≡ W.failures output.old + unwritten result }
 {
     let job = job_of(rt.alloc(), words)?;
     work(rt, progress, job, output)
@@ -194,6 +199,9 @@ fn replay_input<H: Eprint + AllocGlobal + Spawner, R: Source, W: Sink>(
     requires writes { W.failures output.old < 2 ^ 63 }
     ensures ok { OnOk result (Writes IsReportOfText (R.left input.old) (W.written output.old) (W.written output.new)) }
     ensures err { IfErr result (FailsInput (R.left input.old) (W.written output.old) (W.written output.new)) }
+    ensures memory { IsErrOf result (Run OutOfMemory) → TakesWithin (R.left input.old) (R.left input.new) }
+    ensures reads { R.failures input.new ≡ R.failures input.old + unread result }
+    ensures writes { W.failures output.new ≡ W.failures output.old + unwritten result }
 {
     Ok(replay(rt, input, output, DEFAULT_WORKERS, progress)?)
 }
@@ -207,10 +215,13 @@ fn answer<H: Outside + Plays + Eprint + AllocGlobal + Spawner, R: Source, W: Sin
 ) -> Result<(), Fault>
     requires reads { R.failures input.old < 2 ^ 63 }
     requires writes { W.failures output.old < 2 ^ 63 }
-    ensures ok { OnOk result (AnswersAll (H.asked rt.now) (H.opened rt.now) (H.played rt.now) (R.left input.old)
+    ensures ok { OnOk result (AnswersAll (H.asked rt.now) (H.seen rt.now) (H.played rt.now) (R.left input.old)
         (W.written output.old) (W.written output.new)) }
-    ensures err { IfErr result (FailsAll (H.asked rt.now) (H.opened rt.now) (R.left input.old) (W.written output.old)
+    ensures err { IfErr result (FailsAll (H.asked rt.now) (H.seen rt.now) (R.left input.old) (W.written output.old)
         (W.written output.new)) }
+    ensures memory { IsErrOf result (Run OutOfMemory) → TakesWithin (R.left input.old) (R.left input.new) }
+    ensures reads { ReadsAll (H.asked rt.now) (R.failures input.old) (R.failures input.new) result }
+    ensures writes { W.failures output.new ≡ W.failures output.old + unwritten result }
 {
     let words = rt.words()?;
     if words.len() > 1 {

@@ -1,5 +1,6 @@
 //! What the program has from outside.
 
+use replay_stream::Source;
 use std::env;
 use std::env::Env;
 use std::fs::File;
@@ -8,23 +9,32 @@ use std::rt::Files;
 
 /// What the program has from outside: its words, and the files of paths.
 pub(crate) trait Outside {
-    ghost use Rattle.std.specs.Prelude.{ℕ, List, Option, ⊤, IfOk, map, string_bytes};
+    ghost use Rattle.std.specs.Prelude.{ℕ, List, Ok, Err, ⊤, IfOk, IfErr, map, string_bytes};
+    ghost use Rattle.std.specs.IoError.{error_kind};
+    ghost use Rattle.replay_program.specs.state.Answers.{Asking};
+    ghost use Rattle.replay_program.specs.state.Files.{FileState, not_opened, was_opened, was_closed};
 
     type File: Read + Drop;
 
-    // That these are the program's words, and that the file of this path was opened and has these bytes, where they are
-    // known. Whoever calls any `Outside` knows of either only by that call.
-    ghost asked: { Self → List (List ℕ) → Type 0 } = { λ _ _. ⊤ };
+    // That these are the program's words, or why they could not be had; and that the file of this path was seen so.
+    // Whoever calls any `Outside` knows of either only by that call.
+    ghost asked: { Self → Asking → Type 0 } = { λ _ _. ⊤ };
 
-    ghost opened: { Self → List ℕ → Option (List ℕ) → Type 0 } = { λ _ _ _. ⊤ };
+    ghost seen: { Self → List ℕ → FileState → Type 0 } = { λ _ _ _. ⊤ };
 
     /// The program's words, the program's own name first.
     fn words(&self) -> io::Result<Vec<String>>
-        ensures { IfOk result (λ words. asked self.now (map string_bytes words.items)) };
+        ensures ok { IfOk result (λ words. asked self.now (Ok (map string_bytes words.items))) }
+        ensures err { IfErr result (λ error. asked self.now (Err (error_kind error))) };
 
     /// Opens the file of a path.
     fn open(&self, path: &str) -> io::Result<Self::File>
-        ensures { IfOk result (λ file. opened self.now path.now (Self.File.remaining file)) };
+        ensures ok { IfOk result (λ file. seen self.now path.now (was_opened (Self.File.remaining file))) }
+        ensures err { IfErr result (λ error. seen self.now path.now (not_opened (error_kind error))) };
+
+    /// Closes the file of a path, as its reader left it.
+    fn close<R: Source + Drop>(&self, path: &str, reader: R)
+        ensures { seen self.now path.now (was_closed (R.left reader) (R.failures reader)) };
 }
 
 impl<H: Files + Env + AllocGlobal> Outside for H {
@@ -40,5 +50,9 @@ impl<H: Files + Env + AllocGlobal> Outside for H {
 
     fn open(&self, path: &str) -> io::Result<H::File> {
         File::open(self, path)
+    }
+
+    fn close<R: Source + Drop>(&self, _path: &str, reader: R) {
+        drop(reader);
     }
 }

@@ -1,8 +1,10 @@
 //! The replays by steps that the program begins.
 
-ghost use Rattle.std.specs.Prelude.{◌^◌, ◌<◌, ◌≤◌, IfErr, OnOk};
+ghost use Rattle.std.specs.Prelude.{◌≡◌, ◌+◌, ◌^◌, ◌<◌, ◌≤◌, IfErr, OnOk, IsErrOf};
 ghost use Rattle.worker_count.specs.rule.Limit.{most_workers};
-ghost use Rattle.kubelet_replay.specs.rule.Run.{IsRefusalIn, IsReportIn, Writes};
+ghost use Rattle.kubelet_replay.specs.declared.fault.RunFault.TheVariants.{OutOfMemory};
+ghost use Rattle.kubelet_replay.specs.rule.Run.{failed_reads, failed_writes, IsRefusalIn, IsReportIn, TakesWithin};
+ghost use Rattle.kubelet_replay.specs.rule.Run.{Writes};
 
 use kubelet_replay::{Format, RunFault, Sink, Source, Step, replay_play_in};
 
@@ -32,6 +34,9 @@ pub(crate) trait Plays {
             (W.written output.new)) }
         ensures err { IfErr result (IsRefusalIn format (IsReportIn format) (R.left input.old) (W.written output.old)
             (W.written output.new)) }
+        ensures memory { IsErrOf result OutOfMemory → TakesWithin (R.left input.old) (R.left input.new) }
+        ensures reads { R.failures input.new ≡ R.failures input.old + failed_reads result }
+        ensures writes { W.failures output.new ≡ W.failures output.old + failed_writes result }
         ensures played { played self.now workers steps.now };
 }
 
