@@ -1,14 +1,12 @@
 -- What a call answers, by what its callee answered.
 use Rattle.std.proofs.Common.{◌≡◌, ◌+◌, ◌<◌, ◌≤◌, ℕ, List, [], ◌∷◌, length, Some, None, IfSome, Result, Ok, Err, OnOk}
 use Rattle.std.proofs.Common.{IfErr, IsErrAnd, IsErrOf, refl, arith}
-use Rattle.std.specs.Prelude.{⊤}
 use Rattle.std.specs.declared.io.ErrorKind.{ErrorKind}
 use Rattle.std.specs.declared.io.ErrorKind.TheVariants as kinds
 use Rattle.clap.specs.Words.{Text}
 use Rattle.node_config.specs.declared.node.Format.{Format}
 use Rattle.replay_stream.specs.declared.fault.ReadAllFault.{ReadAllFault}
 use Rattle.replay_stream.specs.declared.fault.ReadAllFault.TheVariants as stream
-use Rattle.replay_stream.specs.state.Reading.{failed_reads as failed_in_all}
 use Rattle.round_steps.specs.declared.fault.StepsFault.{StepsFault}
 use Rattle.round_steps.specs.declared.step.Step.{Step}
 use Rattle.round_steps.specs.state.Steps.{longest_steps_file, Refuses as RefusesSteps}
@@ -17,18 +15,16 @@ use Rattle.commands.specs.declared.fault.UsageFault.TheVariants as usage
 use Rattle.commands.specs.declared.job.Job.{Job}
 use Rattle.commands.specs.state.Jobs.{IsAskedBy, Refuses as RefusesWords}
 use Rattle.kubelet_replay.specs.declared.fault.RunFault.{RunFault}
-use Rattle.kubelet_replay.specs.declared.fault.RunFault.TheVariants.{Read, OutOfMemory}
-use Rattle.kubelet_replay.specs.rule.Run.{failed_reads, IsAllOf, IsRefusal, IsRefusalIn, IsReportIn, IsReportOfText}
-use Rattle.kubelet_replay.specs.rule.Run.{TakesWithin, Writes}
+use Rattle.kubelet_replay.specs.rule.Run.{IsRefusal, IsReportIn, IsReportOfText, Writes}
 use Rattle.kubelet_replay.specs.state.Run.{read_fault_of}
 use Rattle.replay_program.specs.declared.fault.Fault.{Fault}
 use Rattle.replay_program.specs.declared.fault.Fault.TheVariants.{Run, Steps}
-use Rattle.replay_program.specs.state.Answers.{unread, unwritten, IsRead, AnswersFile, FailsFile, HasShortText}
+use Rattle.replay_program.specs.state.Answers.{unread, unwritten, RefusesFile, FailsFile, HasShortText, RefusesText}
 use Rattle.replay_program.specs.state.Answers.{TakesShort, IsUnread, FailsText, FailsPlay, AnswersAsked, FailsAsked}
 use Rattle.replay_program.specs.state.Answers.{Fails, FailsInput, Asking, AnswersAll, FailsAll}
 use Rattle.replay_program.specs.state.Answers as answers
 use Rattle.replay_program.specs.state.Fault.{of_kind, of_usage}
-use Rattle.replay_program.specs.state.Files.{Bytes, FileState, not_opened, was_opened, was_closed}
+use Rattle.replay_program.specs.state.Files.{Bytes, FileState, not_opened}
 
 -- a fault of the system is none of the writer's
 kind_unwritten : (V : Type 0) (kind : ErrorKind) → unwritten {V = V} (Err (of_kind kind)) ≡ 0
@@ -72,17 +68,6 @@ unwritten_by_text Seen (Ok v) why calls fails is = omega arith
 unwritten_by_text {V} Seen (Err fault) why calls fails is =
     let none : unwritten {V = V} (Err fault) ≡ 0 = rw is (fails_unwritten V Seen why fails) in omega (arith, none)
 
--- so many reads failed as the fault says
-fault_unread : (why : RunFault) → failed_reads {V = ⊤} (Err why) ≡ unread {V = ⊤} (Err (Run why))
-fault_unread Read = refl
-fault_unread why = refl
-
-text_unread_by : {V : Type 0} (why : ReadAllFault) (read : Result V ReadAllFault) → read ≡ Err why
-    → failed_in_all read ≡ unread {V = ⊤} (Err (Run (read_fault_of why)))
-text_unread_by stream.Read read is = rw is refl
-text_unread_by stream.TooLong read is = rw is refl
-text_unread_by stream.OutOfMemory read is = rw is refl
-
 -- the trace's file was not opened
 pub file_unopened : {V : Type 0} (Seen : FileState → Type 0) (format : Format) (IsAnswer : List ℕ → List ℕ → Type 0)
     (old : Bytes) (result : Result V Fault) (kind : ErrorKind) → Seen (not_opened kind)
@@ -90,53 +75,18 @@ pub file_unopened : {V : Type 0} (Seen : FileState → Type 0) (format : Format)
 file_unopened Seen format IsAnswer old (Ok v) kind seen is = tt
 file_unopened Seen format IsAnswer old (Err fault) kind seen is = answers.file_unopened kind seen is refl
 
--- the trace's file was read
-pub file_read : (Seen : FileState → Type 0) (IsAnswer : List ℕ → List ℕ → Type 0) (old new left rest : Bytes)
-    (before failed : ℕ) → Writes IsAnswer left old new → Seen (was_opened left) → Seen (was_closed rest failed)
-    → before ≡ 0 → failed ≡ before + failed_reads {V = ⊤} (Ok tt) → AnswersFile Seen IsAnswer old new
-file_read Seen IsAnswer old new left rest before failed writes opened closed none counted =
-    let never : failed ≡ 0 = omega (arith, none, counted) in
-    record { left = left; rest = rest; read = record { opened = opened; closed = rw never at closed }; writes = writes }
-
 -- the trace's file is refused
 pub file_refused : {V : Type 0} (Seen : FileState → Type 0) (format : Format) (IsAnswer : List ℕ → List ℕ → Type 0)
-    (old new : Bytes) (result : Result V Fault) (why : RunFault) (left rest : Bytes) (before failed : ℕ)
-    → IsErrAnd result (λ fault. fault ≡ Run why) → IsRefusalIn format IsAnswer left old new why
-    → (IsErrOf {T = ⊤} (Err why) OutOfMemory → TakesWithin left rest) → Seen (was_opened left)
-    → Seen (was_closed rest failed) → before ≡ 0 → failed ≡ before + failed_reads {V = ⊤} (Err why)
-    → IfErr result (FailsFile Seen format IsAnswer old new)
-file_refused Seen format IsAnswer old new (Ok v) why left rest before failed is refuses within opened closed none
-    counted = tt
-file_refused Seen format IsAnswer old new (Err fault) why left rest before failed is refuses within opened closed none
-    counted =
-    let same : failed ≡ unread {V = ⊤} (Err (Run why)) = omega (arith, none, counted, fault_unread why) in
-    answers.file_refused why is (record {
-      left = left;
-      rest = rest;
-      read = record { opened = opened; closed = rw same at closed };
-      refuses = refuses;
-      within = λ memory. within (cc);
-    })
+    (old new : Bytes) (result : Result V Fault) (why : RunFault) → IsErrAnd result (λ fault. fault ≡ Run why)
+    → RefusesFile Seen format IsAnswer old new why → IfErr result (FailsFile Seen format IsAnswer old new)
+file_refused Seen format IsAnswer old new (Ok v) why is refuses = tt
+file_refused Seen format IsAnswer old new (Err fault) why is refuses = answers.file_refused why is refuses
 
 -- the steps file was not opened
 pub text_unopened : {V : Type 0} (Seen : FileState → Type 0) (result : Result V Fault) (kind : ErrorKind)
     → Seen (not_opened kind) → IsErrAnd result (λ fault. fault ≡ of_kind kind) → IfErr result (FailsText Seen)
 text_unopened Seen (Ok v) kind seen is = tt
 text_unopened Seen (Err fault) kind seen is = answers.text_unopened kind seen is
-
--- the steps file was read
-all_of : (left : Bytes) (text : List ℕ) → IfSome left (λ bytes. text ≡ bytes) → IsAllOf left text
-all_of None text is = tt
-all_of (Some bytes) text is = is
-
-pub text_read : (Seen : FileState → Type 0) (text : List ℕ) (left rest : Bytes) (before failed : ℕ)
-    → IfSome left (λ bytes. text ≡ bytes) → length text ≤ longest_steps_file → Seen (was_opened left)
-    → Seen (was_closed rest failed) → before ≡ 0 → failed ≡ before + failed_in_all {V = ⊤} (Ok tt)
-    → HasShortText Seen text
-text_read Seen text left rest before failed is within opened closed none counted =
-    let never : failed ≡ 0 = omega (arith, none, counted) in
-    let read : IsRead Seen left rest 0 = record { opened = opened; closed = rw never at closed } in
-    record { read = record { left = left; rest = rest; read = read; all = all_of left text is }; within = within }
 
 -- it is too long only where it has more bytes than it may, and out of memory only within that
 pub is_unread : {V : Type 0} (left rest : Bytes) (why : ReadAllFault)
@@ -148,21 +98,10 @@ is_unread (Some bytes) rest stream.TooLong longer short = longer refl
 is_unread left rest stream.OutOfMemory longer short = short refl
 
 -- the steps file was not read
-pub text_unread : {V A : Type 0} (Seen : FileState → Type 0) (result : Result V Fault) (why : ReadAllFault)
-    (read : Result A ReadAllFault) (left rest : Bytes) (before failed : ℕ)
-    → IsErrAnd result (λ fault. fault ≡ Run (read_fault_of why)) → read ≡ Err why → IsUnread left rest why
-    → Seen (was_opened left) → Seen (was_closed rest failed) → before ≡ 0 → failed ≡ before + failed_in_all read
-    → IfErr result (FailsText Seen)
-text_unread Seen (Ok v) why read left rest before failed is was refuses opened closed none counted = tt
-text_unread Seen (Err fault) why read left rest before failed is was refuses opened closed none counted =
-    let same : failed ≡ unread {V = ⊤} (Err (Run (read_fault_of why))) =
-    omega (arith, none, counted, text_unread_by why read was) in
-    answers.text_unread why is (record {
-      left = left;
-      rest = rest;
-      read = record { opened = opened; closed = rw same at closed };
-      is_unread = refuses;
-    })
+pub text_refused : {V : Type 0} (Seen : FileState → Type 0) (result : Result V Fault) (why : ReadAllFault)
+    → IsErrAnd result (λ fault. fault ≡ Run (read_fault_of why)) → RefusesText Seen why → IfErr result (FailsText Seen)
+text_refused Seen (Ok v) why is refuses = tt
+text_refused Seen (Err fault) why is refuses = answers.text_unread why is refuses
 
 -- the steps file has no text
 pub play_textless : {V : Type 0} (SeenSteps SeenTrace : FileState → Type 0) (format : Format) (old : Bytes)

@@ -32,6 +32,7 @@ use std::process::ExitCode;
 const DEFAULT_WORKERS: usize = 4;
 
 /// Replays the file of this path by this many workers.
+#[tactic(auto, using(crate::proofs::Failing::file_refused))]
 fn run<H: Outside + Eprint + AllocGlobal + Spawner, W: Sink>(
     rt: &H,
     progress: &Progress<'_, H>,
@@ -56,6 +57,7 @@ fn run<H: Outside + Eprint + AllocGlobal + Spawner, W: Sink>(
 }
 
 /// Says whether the file of this path is a trace.
+#[tactic(auto, using(crate::proofs::Failing::file_refused))]
 fn check<H: Outside + Eprint + AllocGlobal, W: Sink>(
     rt: &H,
     progress: &Progress<'_, H>,
@@ -77,6 +79,7 @@ fn check<H: Outside + Eprint + AllocGlobal, W: Sink>(
 }
 
 /// The text of a steps file.
+#[tactic(auto, using(crate::proofs::Failing::text_refused, crate::proofs::Failing::is_unread))]
 fn steps_text<H: Outside + AllocGlobal>(rt: &H, path: &str) -> Result<Vec<u8>, Fault>
     ensures ok { IfOk result (λ text. HasShortText (H.seen rt.now path.now) text.items) }
     ensures err { IfErr result (FailsText (H.seen rt.now path.now)) }
@@ -88,6 +91,7 @@ fn steps_text<H: Outside + AllocGlobal>(rt: &H, path: &str) -> Result<Vec<u8>, F
 }
 
 /// Replays the file of this path by this many workers that take these steps.
+#[tactic(auto, using(crate::proofs::Failing::file_refused))]
 fn play_steps<H: Outside + Plays, W: Sink>(
     rt: &H,
     format: Format,

@@ -33,10 +33,12 @@ abbrev pub unwritten : {V : Type 0} → Result V Fault → ℕ
 unwritten (Err (Run Write)) = 1
 unwritten answer = 0
 
--- a file was opened with these bytes, and closed with the rest of them, after so many reads that failed
+-- a file was opened with these bytes, and closed with the rest of them, and so many reads of it failed
 pub record IsRead (Seen : FileState → Type 0) (left rest : Bytes) (failed : ℕ) : Type 0 where
   pub opened : Seen (was_opened left)
-  pub closed : Seen (was_closed rest failed)
+  pub calls : ℕ
+  pub closed : Seen (was_closed rest calls)
+  pub counted : calls ≡ failed
 
 -- a file was read, and what is written is what its text is answered
 pub record AnswersFile (Seen : FileState → Type 0) (IsAnswer : List ℕ → List ℕ → Type 0) (old new : Bytes)
