@@ -16,10 +16,11 @@ pub(crate) trait Outside {
 
     type File: Read + Drop;
 
-    // That these are the program's words, or why they could not be had; and that the file of this path was seen so.
-    // Whoever calls any `Outside` knows of either only by that call.
+    // That these are the program's words, or that there are none for an error of this kind. Whoever calls any `Outside`
+    // knows of it only by that call.
     ghost asked: { Self → Asking → Type 0 } = { λ _ _. ⊤ };
 
+    // That the file of this path was seen so: not opened, opened or closed. It is known by those two calls alone.
     ghost seen: { Self → List ℕ → FileState → Type 0 } = { λ _ _ _. ⊤ };
 
     /// The program's words, the program's own name first.
