@@ -9,12 +9,13 @@ PAGE = "docs/gate.md"
 HEAD = """\
 # What the gate costs
 
-`bench/gate` writes this page; no figure is by hand. In a new clone of the commit, which no run has touched, it runs
-`rt ci NAME` for each crate, one after the other in the order of `crates.txt`, and then `./test`. A crate with edits is
-run without them first, and then with them, which tries them alone. It times each of these commands as a whole, and
-looks at nothing while it runs. Its seconds go by the clock. What it cost is what the operating system says of a child
-that has ended (`wait4`): the processor seconds, user and system, are those of the command and of all processes below it
-that were waited for; the peak of memory (`ru_maxrss`) is that of the largest process alone, and no sum.
+`bench/gate` writes this page; no figure is by hand but some sums over mutants, as said there. In a new clone of the
+commit, which no run has touched, it runs `rt ci NAME` for each crate, one after the other in the order of `crates.txt`,
+and then `./test`. A crate with edits is run without them first, and then with them, which tries them alone. It times
+each of these commands as a whole, and looks at nothing while it runs. Its seconds go by the clock. What it cost is
+what the operating system says of a child that has ended (`wait4`): the processor seconds, user and system, are those of
+the command and of all processes below it that were waited for; the peak of memory (`ru_maxrss`) is that of the largest
+process alone, and no sum.
 {machine}
 
 {whole}
@@ -35,7 +36,9 @@ SHELF = OUTSIDE + """
 
 What `bench/wrong_bodies` found in `crates/NAME/wrong-bodies/` when it was last run over a crate:
 how many edits are refused by a clause, how many only since a proof file no longer fits, and how many are proved.
-Seconds are the processor seconds of all edits of the crate.
+Seconds are the processor seconds of all edits of the crate. A refusal by a clause counts too where the search for the
+clause's proof gave up at a limit. Where the edits of a crate were tried in parts, in clones with some of them each, its
+row is the sum over these, put in by hand.
 
 | Crate | edits | by a clause | by a proof file only | still proved | seconds |
 |---|---|---|---|---|---|"""
