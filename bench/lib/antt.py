@@ -25,6 +25,7 @@ class Module(NamedTuple):
     comment: str
     scope: dict         # a word, and what it stands for: (path, name), the name None for a whole module
     definitions: list
+    unread: list        # the number and the first line of each block that is no definition
 
 
 def parts_of(name):
@@ -100,14 +101,18 @@ def names_in(lines, name, is_constructor):
 
 def read_module(text, is_constructor):
     """A module. What it imports is looked up by is_constructor(scope, word), which says whether the word is one."""
-    scope, raw, comment = {}, [], ""
+    scope, raw, unread, comment = {}, [], [], ""
     for number, block in blocks_of(text.split("\n")):
         number, comment, notes, block = without_head(number, block, scope, comment)
-        if block and HEAD.match(block[0]) and not block[0].startswith("pub mod "):
+        block = [line for line in block if not line.startswith("pub mod ")]
+        if block and HEAD.match(block[0]):
             raw.append((number, notes, block))
-        elif not raw:
+            continue
+        if block:
+            unread.append((number, block[0]))
+        if not raw:
             comment = comment or comment_of(notes)
-    return Module(comment, scope, definitions_of(raw, lambda word: is_constructor(scope, word)))
+    return Module(comment, scope, definitions_of(raw, lambda word: is_constructor(scope, word)), unread)
 
 
 def without_head(number, block, scope, comment):

@@ -1,5 +1,6 @@
 """The cases of bench/cases, and what a run of one is to answer."""
 import collections
+import lzma
 import os
 from typing import NamedTuple
 
@@ -32,22 +33,34 @@ def answer_of_check(report):
     return b"ok " + numbers + b"\n"
 
 
+EXTENDED = ("extended", "stretches")
+"""The families whose traces are read in the extended format"""
+
+
 def bytes_of(*path):
-    with open(os.path.join(*path), "rb") as file:
-        return file.read()
+    """The bytes of a file, or those that are packed in the one whose name has .xz behind it."""
+    file = os.path.join(*path)
+    with open(file, "rb") if os.path.exists(file) else lzma.open(f"{file}.xz") as opened:
+        return opened.read()
+
+
+def is_there(*path):
+    file = os.path.join(*path)
+    return os.path.exists(file) or os.path.exists(f"{file}.xz")
 
 
 def names_in(folder, ending):
-    """Those of the files that end so, in order and without that ending."""
-    return sorted(name.removesuffix(ending) for name in os.listdir(folder) if name.endswith(ending))
+    """Those of the files that end so, packed or not, in order and without that ending."""
+    names = (name.removesuffix(".xz") for name in os.listdir(folder))
+    return sorted(name.removesuffix(ending) for name in names if name.endswith(ending))
 
 
 def traces_in(data, family):
     folder = os.path.join(data, "traces", family)
-    words = ("--extended",) if family == "extended" else ()
+    words = ("--extended",) if family in EXTENDED else ()
     for name in names_in(folder, ".trace"):
         report, refusal = None, ""
-        if os.path.exists(os.path.join(folder, f"{name}.report")):
+        if is_there(folder, f"{name}.report"):
             report = bytes_of(folder, f"{name}.report")
         else:
             refusal = bytes_of(folder, f"{name}.refusal").decode().rstrip()

@@ -15,8 +15,8 @@ STEPS = {
     "last_first": (64, "steal 62 1\npop 63\npop 3\nupdate 62\nupdate 3\nenter 3\nenter 62\nsteal 61 0\nupdate 61\n"),
 }
 """By the name of a file, how many workers play its steps, and the steps"""
-LONGEST = 600
-"""seconds that a run may take"""
+LONGEST = 60
+"""seconds that a run may take: one that waits for ever is otherwise than expected"""
 
 
 def write_steps(folder):
@@ -26,7 +26,7 @@ def write_steps(folder):
 
 def ways(trace, steps):
     """The words of each way to replay a trace; the last one reads it alone."""
-    for workers in (1, 2, 3, 64):
+    for workers in (1, 2, 3, 4, 64):
         yield "run", trace, "--workers", str(workers)
     for name, (workers, _) in STEPS.items():
         yield "play", trace, os.path.join(steps, name), "--workers", str(workers)
@@ -36,14 +36,28 @@ def ways(trace, steps):
 class Runs:
     """What runs the program over a case in each way, with the steps in this folder."""
 
-    def __init__(self, program, steps):
-        self.program, self.steps = program, steps
+    def __init__(self, program, steps, longest=LONGEST):
+        self.program, self.steps, self.longest = program, steps, longest
 
     def ran(self, words):
-        """The status of a run, what it writes, and what it says on standard error."""
-        done = subprocess.run([self.program, *words], stdin=subprocess.DEVNULL, capture_output=True, timeout=LONGEST,
-                              check=False)
+        """The status of a run, what it writes, and what it says on standard error; none where it has no end."""
+        try:
+            done = subprocess.run([self.program, *words], stdin=subprocess.DEVNULL, capture_output=True,
+                                  timeout=self.longest, check=False)
+        except subprocess.TimeoutExpired:
+            return None
         return done.returncode, done.stdout, done.stderr.decode(errors="replace")
+
+    def fault(self, case, words):
+        """What is wrong with a run of the case, if anything is, and what it wrote."""
+        done = self.ran((*words, *case.words))
+        if done is None:
+            return "no end", b""
+        status, written, said = done
+        if case.report is None and not case.refusal and status == 0:
+            # what the first way writes of an accepted trace is wanted of the others
+            return "", written
+        return case.fault(words[0], status, written, said), written
 
     def __call__(self, case):
         """How many runs it has, and what is said of those that are otherwise than expected."""
@@ -53,10 +67,9 @@ class Runs:
             file.flush()
             for words in ways(file.name, self.steps):
                 runs += 1
-                status, written, said = self.ran((*words, *case.words))
-                if case.report is None and not case.refusal and status == 0:
-                    # what the first way writes of an accepted trace is wanted of the others
-                    case = case._replace(report=written)
-                if fault := case.fault(words[0], status, written, said):
+                fault, written = self.fault(case, words)
+                if fault:
                     told.append(f"{case.name}: {words[0]} {' '.join(map(os.path.basename, words[2:]))}: {fault}")
+                elif case.report is None and not case.refusal:
+                    case = case._replace(report=written)
         return runs, told

@@ -46,6 +46,23 @@ def crates_in(text):
     return [crate._replace(below=[name for name in crate.below if name in names]) for crate in found]
 
 
+def faults_of_order(crates):
+    """What is wrong with their order: a crate stands on those before it alone, storeys stand in theirs, and nothing
+    stands on a crate of tests but these."""
+    faults, before = [], {}
+    for crate in crates:
+        for name in crate.below:
+            if name not in before:
+                faults.append(f"{crate.name} stands on {name}, which does not come before it")
+            elif before[name] == STOREYS[-1] != crate.storey:
+                faults.append(f"{crate.name} stands on {name}, a crate of tests")
+        before[crate.name] = crate.storey
+    order = [STOREYS.index(crate.storey) for crate in crates]
+    faults += [f"the storey {STOREYS[later]} comes after {STOREYS[first]}"
+               for first, later in zip(order, order[1:]) if later < first]
+    return [f"crates.txt: {fault}" for fault in faults]
+
+
 def below_of(top):
     """Of each crate, in the order of the file, the crates of the repository that it names."""
     return {crate.name: crate.below for crate in read_crates(top)}

@@ -4,7 +4,7 @@ import glob
 
 from reach import RULE, STATE, bare
 
-# they have no definition, but name the files
+# they name the files, and have no definition of their own
 NAMING = ("Lib.antt", f"{RULE}.antt", f"{STATE}.antt")
 
 
@@ -19,11 +19,17 @@ def is_in_folder(file):
 
 def faults_in(repository, crate, file, places):
     """What is wrong with the place of a file, or of its definitions. What is reached has its place among these."""
-    path = f"crates/{crate}/specs/{file}"
+    path, module = f"crates/{crate}/specs/{file}", file.removesuffix(".antt").replace("/", ".")
+    read = repository.module(crate, module)
+    # a definition without a word before its name can be named by those beside it
+    faults = [f"{path}:{line}: {text} is no definition that is read: it begins with pub, abbrev or unfoldable"
+              for line, text in read.unread]
+    if file in NAMING:
+        return faults + [f"{path}:{found.line}: {found.name} is defined where files are named alone"
+                         for found in read.definitions]
     if not is_in_folder(file):
         return [f"{path} stands in neither specs/{RULE} nor specs/{STATE}"]
-    module, faults = file.removesuffix(".antt").replace("/", "."), []
-    for definition in repository.module(crate, module).definitions:
+    for definition in read.definitions:
         is_reached = ((crate, bare(module), definition.name), path) in places
         if is_reached != file.startswith(f"{RULE}/"):
             said, folder = ("is reached", RULE) if is_reached else ("is not reached", STATE)
@@ -34,5 +40,5 @@ def faults_in(repository, crate, file, places):
 def misplaced(repository, nodes):
     """What stands in the wrong folder, crate by crate; the nodes are what the contracts of a replay reach."""
     places = {(node.key, node.path) for node in nodes.values()}
-    return [fault for crate in repository.crates for file in files_in(repository, crate) if file not in NAMING
+    return [fault for crate in repository.crates for file in files_in(repository, crate)
             for fault in faults_in(repository, crate, file, places)]

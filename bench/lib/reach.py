@@ -120,7 +120,7 @@ class Repository:
         if rest_of_path[0] == "declared":
             return self.type_key(crate, next(part for part in rest_of_path[1:] if part[0].isupper()))
         module = ".".join(rest_of_path)
-        said = self.module(crate, module) or antt.Module("", {}, [])
+        said = self.module(crate, module) or antt.Module("", {}, [], [])
         for definition in said.definitions:
             if name in (definition.name, *definition.constructors):
                 return crate, bare(module), definition.name

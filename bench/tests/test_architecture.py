@@ -27,6 +27,21 @@ class Architecture(Case):
             self.assertEqual(run("architecture", "--top", copy),
                              (1, "", f"bench/architecture: [Errno 2] No such file or directory: '{path}'\n"))
 
+    def test_the_storeys_are_kept(self):
+        crates = read(SMALL, "crates.txt.text")
+        for old, new, fault in (
+                ("marks:\n", "marks: event_book\n", "marks stands on event_book, which does not come before it"),
+                ("text: marks\n", "text: marks text\n", "text stands on text, which does not come before it"),
+                ("## Rules", "## Node", "the storey Threads comes after Node"),
+                ("## Threads", "## Tests", "kubelet_replay stands on event_book, a crate of tests; "
+                                           "crates.txt: the storey Program comes after Tests")):
+            with self.subTest(new), tempfile.TemporaryDirectory() as copy:
+                lay_over(SMALL, copy)
+                write(crates.replace(old, new), copy, "crates.txt")
+                for words in ((), ("--check",)):
+                    self.assertEqual(run("architecture", *words, "--top", copy),
+                                     (1, "", f"bench/architecture: crates.txt: {fault}\n"))
+
     def test_what_is_reached_through_others_is_left_out(self):
         below = {"a": [], "b": ["a"], "c": ["a", "b"], "d": ["a", "b", "c"], "e": ["a"]}
         self.assertEqual([picture.straight_below(name, below) for name in below], [[], ["a"], ["b"], ["c"], ["a"]])

@@ -1,9 +1,11 @@
 """Tests of bench/cases, where a stand-in takes the place of the program."""
+import lzma
 import os
+import re
 import tempfile
 
 from case_files import cases_of, counts_of
-from case_runs import STEPS, ways
+from case_runs import STEPS, Runs, ways
 from common import TOP, Case, read, run, write
 
 NODE = '{"kind":"node","name":"n1"}\n'
@@ -46,19 +48,19 @@ class Cases(Case):
         return status, said.splitlines()
 
     def test_all_answered_as_expected(self):
-        self.assertEqual(self.ran(), (0, ["54 runs of 6 cases, 0 otherwise than expected"]))
+        self.assertEqual(self.ran(), (0, ["60 runs of 6 cases, 0 otherwise than expected"]))
 
     def test_a_case_that_is_not_counted(self):
         write(COUNTS.replace("2", "1"), self.room, "counts")
         self.assertEqual(self.ran(), (1, ["the file counts does not say what there is:", *COUNTS.splitlines(),
-                                          "54 runs of 6 cases, 1 otherwise than expected"]))
+                                          "60 runs of 6 cases, 1 otherwise than expected"]))
 
     def test_a_report_that_differs_by_some_workers(self):
         self.give(PROGRAM + '[ "$4" != 3 ] || echo more\n')
         self.assertEqual(self.ran(), (1, [
             f"{case}: run --workers 3: line 3 is b'more\\n', not b''"
             for case in ("traces/extended/c", "traces/node/a", "lines/first.table, line 2", "lines/first.table, line 3")
-        ] + ["54 runs of 6 cases, 4 otherwise than expected"]))
+        ] + ["60 runs of 6 cases, 4 otherwise than expected"]))
 
     def test_a_play_that_differs(self):
         self.give(PROGRAM.replace("printf", '[ "$5" = 64 ] && exit 0\nprintf'))
@@ -79,13 +81,27 @@ class Cases(Case):
             self.give(program)
             status, said = self.ran()
             self.assertEqual((status, said[0]), (1, f"traces/node/b: run --workers 1: {fault}"))
-            self.assertEqual(said[-1], "54 runs of 6 cases, 9 otherwise than expected")
+            self.assertEqual(said[-1], "60 runs of 6 cases, 10 otherwise than expected")
 
     def test_a_case_that_is_refused(self):
         self.give("#!/bin/sh\necho out of memory >&2\nexit 1\n")
         status, said = self.ran()
         self.assertEqual((status, said[0]), (1, "traces/extended/c: run --workers 1: status 1: out of memory"))
-        self.assertEqual(said[-1], "54 runs of 6 cases, 54 otherwise than expected")
+        self.assertEqual(said[-1], "60 runs of 6 cases, 60 otherwise than expected")
+
+    def test_a_run_that_does_not_end(self):
+        self.give(PROGRAM + '[ "$4" != 3 ] || exec sleep 60\n')
+        case = next(case for case in cases_of(self.room) if case.name == "traces/node/a")
+        runs, told = Runs(f"{self.room}/program", self.room, longest=3)(case)
+        self.assertEqual((runs, told), (10, ["traces/node/a: run --workers 3: no end"]))
+
+    def test_packed_ones(self):
+        os.makedirs(f"{self.room}/traces/stretches")
+        for name, text in (("long.trace.xz", NODE + "x"), ("long.report.xz", REPORT)):
+            with lzma.open(f"{self.room}/traces/stretches/{name}", "w") as file:
+                file.write(text.encode())
+        write(COUNTS.replace("lines/", "traces/stretches: 1 traces\nlines/"), self.room, "counts")
+        self.assertEqual(self.ran(), (0, ["70 runs of 7 cases, 0 otherwise than expected"]))
 
     def test_words(self):
         self.assertEqual(run("cases", "a", "b", "c"), (3, "", "usage: bench/cases [PROGRAM [FOLDER]]\n"))
@@ -105,5 +121,15 @@ class Files(Case):
             self.assertTrue(case.report is None or case.report.startswith(b"node "), case.name)
             self.assertTrue(not case.refusal or case.refusal.startswith("status "), case.name)
 
+    def test_stretches_start_threads(self):
+        """Thirty of them have at least 4,096 updates: so many that each of four workers is worth its start."""
+        enough = 0
+        for case in cases_of(f"{TOP}/crates/case_runner/data"):
+            if case.folder == "traces/stretches":
+                counted = re.search(rb"^totals updates=(\d+) ", case.report or b"", re.MULTILINE)
+                updates = int(counted.group(1)) if counted else case.trace.count(b'"pod":"')
+                enough += updates >= 4096
+        self.assertGreaterEqual(enough, 30)
+
     def test_ways(self):
-        self.assertEqual([words[0] for words in ways("t", "s")], ["run"] * 4 + ["play"] * len(STEPS) + ["check"])
+        self.assertEqual([words[0] for words in ways("t", "s")], ["run"] * 5 + ["play"] * len(STEPS) + ["check"])

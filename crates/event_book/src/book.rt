@@ -168,4 +168,14 @@ impl<U: Ledger, E: Ledger, O: Ledger> EventBook<U, E, O> {
         self.audit(share);
         self.add_within(more, share);
     }
+
+    /// Enters one update of a pod with this entry with the whole share, whose totals show that the book has room.
+    pub fn enter_whole(&mut self, entry: Entry, share: &mut Shares<U, E, O>)
+        requires whole { share.old.parts ≡ most_parts }
+        requires level { (U.parts ≡ most_parts) × (E.parts ≡ most_parts) × (O.parts ≡ most_parts) }
+        requires room { AreWithin (plus share.old.totals (one_update entry)) }
+        ensures { share.new ≡ share_with most_parts (plus share.old.totals (one_update entry)) }
+    {
+        self.add_whole(Totals::of_update(entry), share);
+    }
 }

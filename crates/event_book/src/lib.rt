@@ -14,4 +14,5 @@ mod whole_book;
 pub use blanks::Blanks;
 pub use book::{EventBook, Full};
 pub use shares::Shares;
+pub use totals::{Entry, Totals};
 pub use whole_book::WholeBook;

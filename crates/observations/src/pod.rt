@@ -1,11 +1,11 @@
 //! What a tick shows of one pod.
 
 ghost use Rattle.std.specs.Prelude.{◌≡◌, length, IfOk, slice_get};
-ghost use Rattle.observations.specs.state.Pods.{pod_obs};
+ghost use Rattle.observations.specs.state.Pods.{pod_obs, sample_in};
 
 use crate::container::ContainerObs;
 use crate::packed_containers::PackedContainers;
-use crate::usage::Sampling;
+use crate::usage::{Sampling, Usage};
 use std::alloc::{AllocError, Global};
 use std::marker::Model;
 
@@ -70,5 +70,15 @@ impl PodObs {
         ensures { result ≡ self.now.sampling }
     {
         self.shown.sampling()
+    }
+
+    /// What the pod used, where the tick has a sample of it.
+    pub fn usage(&self) -> Option<Usage>
+        ensures { result ≡ sample_in self.now.sampling }
+    {
+        match self.sampling() {
+            Sampling::Unsaid | Sampling::Unsampled => None,
+            Sampling::Sampled(usage) => Some(usage),
+        }
     }
 }

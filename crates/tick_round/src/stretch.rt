@@ -1,6 +1,6 @@
 //! A node in the midst of a round, of one tick or of several.
 
-ghost use Rattle.std.specs.Prelude.{◌≡◌, ◌∷◌, ◌++◌, [], List, map, None, IsTrue, IfOk, OnOk};
+ghost use Rattle.std.specs.Prelude.{◌≡◌, ◌↔◌, ◌∷◌, ◌++◌, [], List, map, None, IsTrue, IfOk, OnOk, OnErr};
 ghost use Rattle.std.specs.Option.{option_or};
 ghost use Rattle.observations.specs.declared.tick.TickObs.{TickObs as ATick};
 ghost use Rattle.eviction.specs.state.Pausing.{kept};
@@ -9,7 +9,7 @@ ghost use Rattle.pod_piece.specs.state.Piece.{all_updated};
 ghost use Rattle.node_pods.specs.state.Pods.{AreNext, AreNumbered, sent_from, staying, awaited, joined};
 ghost use Rattle.tick_round.specs.state.Node.{State, IsNextBy};
 ghost use Rattle.tick_round.specs.state.Stretch.{IsOpen, MayGoOn, GoesOnWith, Takes, IsPassed, CanClose, MayClose};
-ghost use Rattle.tick_round.specs.state.Stretch.{CanEnd, MayEnd};
+ghost use Rattle.tick_round.specs.state.Stretch.{CanEnd, MayEnd, HasRoom, IsRefusedIn};
 
 use crate::evict::{carry_out, eviction_for};
 use crate::running::Running;
@@ -105,16 +105,19 @@ impl Stretch {
 
     /// Whether another tick may come: no threshold is heeded in the last one, and not so many updates wait yet.
     fn has_room(&self) -> bool
-        ensures { IsTrue result → self.now.begun.heeded ≡ None }
+        ensures { IsTrue result ↔ HasRoom self.now }
     {
         self.begun.heeded.is_none() && self.waiting < MOST_WAITING
     }
 
-    /// Takes more ticks, up to the next in which a threshold is heeded, or until so many updates wait.
+    /// Takes more ticks, up to the next in which a threshold is heeded, or until so many updates wait. An `Err` says that
+    /// memory was refused to a tick for which there was room.
     pub(crate) fn go_on(&mut self, more: &mut IntoIter<TickObs>) -> Result<(), AllocError>
         requires { MayGoOn self.old more.old.rest.items }
-        ensures { (s : State) (calm : List ATick) (tick : ATick) → IsOpen s calm tick self.old
+        ensures goes { (s : State) (calm : List ATick) (tick : ATick) → IsOpen s calm tick self.old
             → OnOk result (GoesOnWith s calm tick more.old.rest.items self.new more.new.rest.items) }
+        ensures refused { (s : State) (calm : List ATick) (tick : ATick) → IsOpen s calm tick self.old
+            → OnErr result (IsRefusedIn s calm tick more.old.rest.items more.new.rest.items) }
     {
         for _ in 0..more.len() {
             if !self.has_room() {

@@ -1,14 +1,15 @@
 //! The updates of all pods in a round, by workers.
 
-ghost use Rattle.std.specs.Prelude.{◌≡◌, ◌<◌, ◌≤◌, map, IfOk, IsErr, OnOk, MatchResult, if◌then◌else◌};
+ghost use Rattle.std.specs.Prelude.{◌≡◌, ◌<◌, ◌≤◌, length, map, min, max};
+ghost use Rattle.std.specs.Prelude.{IfOk, IsErr, OnOk, OnErr, MatchResult, if◌then◌else◌};
 ghost use Rattle.std.specs.Result.{IsOkAnd};
 ghost use Rattle.pod_piece.specs.state.Piece.{all_updated};
 ghost use Rattle.event_book.specs.state.Shares.{most_parts};
 ghost use Rattle.worker_count.specs.rule.Limit.{most_workers};
 ghost use Rattle.piece_deques.specs.state.Rule.{AreNumbered};
-ghost use Rattle.pod_pool.specs.state.Gated.{AreGated};
+ghost use Rattle.pod_pool.specs.state.Gated.{AreGated, WasRefused};
 ghost use Rattle.tick_round.specs.state.Update.{MayUpdate, AreAdded};
-ghost use Rattle.tick_round.specs.state.Workers.{worth_their_start};
+ghost use Rattle.tick_round.specs.state.Workers.{worth_their_start, running};
 
 use crate::alone::update_alone;
 use event_book::{EventBook, Shares, WholeBook};
@@ -65,7 +66,7 @@ fn put_together<U: Ledger, E: Ledger, O: Ledger>(
 /// All pods take the ticks that wait for them into their statuses, and are entered in the book, by this many workers, 1
 /// to 64; where no update waits in the gate, by no more than are worth their start for so many updates. The book is
 /// theirs under a lock until they have ended. One worker needs no thread, no deque and no lock. An `Err` says that
-/// memory was refused.
+/// memory was refused: where one worker runs, to an update.
 pub fn update_by_workers<U: Ledger + Send, E: Ledger + Send, O: Ledger + Send, R: Spawner, G: Gate>(
     rt: &R,
     alloc: Global,
@@ -82,6 +83,8 @@ pub fn update_by_workers<U: Ledger + Send, E: Ledger + Send, O: Ledger + Send, R
     ensures pieces { IfOk result (λ r. r.0.items ≡ map all_updated pieces.items) }
     ensures book { IfOk result (λ r. AreAdded r.0.items book r.1) }
     ensures gated { OnOk result (AreGated (G.left gate.now) pieces.items) }
+    ensures refused { running (G.may_wait gate.now) workers (length pieces.items) updates ≡ 1
+        → OnErr result (WasRefused (G.left gate.now)) }
 {
     // One pod is updated by one thread, however many of its ticks wait.
     let workers = workers_to_run(workers.min(pieces.len().max(1)), updates, gate);

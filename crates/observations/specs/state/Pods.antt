@@ -1,5 +1,5 @@
 -- What a tick shows of one pod, as it is kept in a block.
-use Rattle.std.specs.Prelude.{ℕ, List, [], ◌∷◌}
+use Rattle.std.specs.Prelude.{ℕ, List, [], ◌∷◌, Option, Some, None}
 use Rattle.observations.specs.declared.container.ContainerObs.{ContainerObs}
 use Rattle.observations.specs.declared.containers.Containers.{Containers}
 use Rattle.observations.specs.declared.containers.Containers.TheVariants as containers
@@ -8,6 +8,7 @@ use Rattle.observations.specs.declared.packed_containers.PackedContainers.{Packe
 use Rattle.observations.specs.declared.packed_containers.PackedContainers.TheVariants as shown
 use Rattle.observations.specs.declared.usage.Sampling.{Sampling}
 use Rattle.observations.specs.declared.usage.Sampling.TheVariants.{Unsaid, Unsampled, Sampled}
+use Rattle.observations.specs.declared.usage.Usage.{Usage}
 use Rattle.observations.specs.state.Whole.{memory_as, usage_as}
 use Rattle.observations.specs.rule.Pods.{PodObs}
 
@@ -39,3 +40,9 @@ sampling_in (shown.TwoWithMemory one two memory) = Sampled (memory_as memory)
 sampling_in (shown.Whole whole) = Sampled (usage_as whole.value.usage)
 sampling_in (shown.Used used) = Sampled used.value.usage
 sampling_in s = Unsaid
+
+-- the sample that was taken, if one was
+abbrev pub sample_in : Sampling → Option Usage
+sample_in Unsaid = None
+sample_in Unsampled = None
+sample_in (Sampled usage) = Some usage

@@ -1,6 +1,6 @@
 -- Ticks of a node that make one round: which may follow each other in it, and what comes before the updates of its
 -- pods.
-use Rattle.std.specs.Prelude.{◌≡◌, Bool, List, [], ◌∷◌, ◌++◌, map, Option, None}
+use Rattle.std.specs.Prelude.{◌≡◌, ℕ, ◌<◌, Bool, List, [], ◌∷◌, ◌++◌, map, Option, None}
 use Rattle.node_config.specs.declared.node.NodeConfig.{NodeConfig}
 use Rattle.observations.specs.declared.tick.TickObs.{TickObs}
 use Rattle.node_signals.specs.declared.node.NodeSignals.{NodeSignals}
@@ -106,6 +106,22 @@ pub record GoesOnWith (s : State) (calm : List TickObs) (tick : TickObs) (more :
   pub last : TickObs
   pub is_open : IsOpen s calm_now last stretch
   pub taken : (calm ++ tick ∷ []) ++ more ≡ (calm_now ++ last ∷ []) ++ rest
+
+-- a round takes no further tick once so many updates wait
+abbrev pub most_waiting : ℕ
+most_waiting = 32768
+
+-- another tick may come: no threshold is heeded in the last one, and not so many updates wait yet
+pub record HasRoom (stretch : Stretch) : Type 0 where
+  pub calm : stretch.begun.heeded ≡ None
+  pub few : stretch.waiting < most_waiting
+
+-- memory was refused to one of these ticks, for which there was room behind those before it, and these are left
+pub record IsRefusedIn (s : State) (calm : List TickObs) (tick : TickObs) (more rest : List TickObs) : Type 0 where
+  pub stretch : Stretch
+  pub refused : TickObs
+  pub goes_on : GoesOnWith s calm tick more stretch (refused ∷ rest)
+  pub room : HasRoom stretch
 
 -- a tick is taken into a stretch
 pub record Takes (tick : TickObs) (old new : Stretch) : Type 0 where
