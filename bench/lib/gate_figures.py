@@ -1,11 +1,14 @@
 """The figures of the gate, by whole commands: of `rt ci NAME` for each crate, without its edits and for them, and of
 `./test`. How bench/gate.tsv keeps them, and what follows from them."""
 import csv
+import functools
 import os
 import re
+import subprocess
 from typing import NamedTuple
 
 import script
+from crates import standing_below
 from edits import paths_of
 
 WHOLE = "./test"
@@ -62,6 +65,28 @@ def read_figures(top):
         rows = list(csv.DictReader(file, delimiter="\t"))
     return {row["crate"]: Figure(*(float(row[column]) for column in COLUMNS[1:4]), _number(row[COLUMNS[4]]),
                                  *(row[column] for column in COLUMNS[5:])) for row in rows}
+
+
+# what the gate reads of a crate; a README and the shelf are no part of it
+READ = re.compile(r"crates/(\w+)/(?:src|specs|proofs|must-fail|data|stdin|stdout|args|status)\b")
+
+
+@functools.cache
+def changed_since(top, commit):
+    """The crates of which the gate reads something else now than at a commit; none where git does not know the commit."""
+    done = subprocess.run(["git", "diff", "--name-only", commit, "--", "crates"], cwd=top, stdin=subprocess.DEVNULL,
+                          capture_output=True, text=True, check=False)
+    return {found[1] for found in READ.finditer(done.stdout)} if done.returncode == 0 else None
+
+
+def since(top, below, name, commit):
+    """What has changed since a crate was measured: the crate itself, one below it, or nothing."""
+    changed = changed_since(top, commit)
+    if changed is None:
+        return "?"
+    if name in changed:
+        return "itself"
+    return "below" if changed & standing_below(below, name) else "no"
 
 
 def _number(text):

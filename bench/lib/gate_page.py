@@ -2,7 +2,7 @@
 import os
 import textwrap
 
-from gate_figures import WHOLE, edits_of, longest_chain
+from gate_figures import WHOLE, edits_of, longest_chain, since
 from shelf import COLUMNS, read_found
 
 PAGE = "docs/gate.md"
@@ -28,7 +28,8 @@ processors slower.
 {chain}
 
 Lines are those of `src/`, `specs/` and `proofs/`; edits are the mutants in `must-fail/`. Of the processor seconds those
-of edits are a part; where there is none (-), they were not timed apart.
+of edits are a part; where there is none (-), they were not timed apart. The last column says whether the crate itself
+has changed since it was measured, or one below it.
 
 """
 OUTSIDE = "## Mutants outside of the gate"
@@ -55,25 +56,27 @@ def lines_of(top, name, part):
     return total
 
 
-def row(name, numbers, peak):
-    return f"| {name} | {' | '.join(f'{it:,}' if it != '-' else it for it in numbers)} | {peak / 1e9:.1f} GB |"
+def row(name, numbers, peak, changed="-"):
+    return (f"| {name} | {' | '.join(f'{it:,}' if it != '-' else it for it in numbers)} | {peak / 1e9:.1f} GB "
+            f"| {changed} |")
 
 
 def table(top, crates, found):
     """A row for each crate, and one for their sum."""
-    rows = ["| Crate | code | specs | proofs | edits | seconds | processor s | of edits | peak memory |",
-            "|---|---|---|---|---|---|---|---|---|"]
+    rows = ["| Crate | code | specs | proofs | edits | seconds | processor s | of edits | peak memory | changed |",
+            "|---|---|---|---|---|---|---|---|---|---|"]
     sums, most = [0] * 7, 0
     for name in crates:
         counts = [*(lines_of(top, name, part) for part in ("src", "specs", "proofs")), edits_of(top, name)]
         if name not in found:
-            rows.append(f"| {name} | {' | '.join(f'{it:,}' for it in counts)} | - | - | - | - |")
+            rows.append(f"| {name} | {' | '.join(f'{it:,}' for it in counts)} | - | - | - | - | - |")
             sums = [a + b for a, b in zip(sums, [*counts, 0, 0, 0])]
             continue
         figure = found[name]
         numbers = [*counts, round(figure.seconds), round(figure.spent), round(figure.edits or 0)]
         sums, most = [a + b for a, b in zip(sums, numbers)], max(most, figure.peak)
-        rows.append(row(name, [*numbers[:-1], "-" if figure.edits is None else numbers[-1]], figure.peak))
+        rows.append(row(name, [*numbers[:-1], "-" if figure.edits is None else numbers[-1]], figure.peak,
+                        since(top, crates, name, figure.commit)))
     return [*rows, row("all", sums, most)]
 
 

@@ -3,6 +3,7 @@ place of the gate, the kit and bench/ticks. gate/log has lines of a gate's log: 
 wrote them, with other names, those of edits and tests by the kit's words. gate/gate.md is the page for gate/gate.tsv
 and gate/wrong_bodies.tsv."""
 import os
+import re
 import shutil
 import signal
 import subprocess
@@ -183,9 +184,22 @@ class Page(Case):
         text = " ".join(self.text().split())
         self.assertIn("1 of 5 crates have not been measured, and are not in the sums: grading.", text)
         self.assertIn("`./test` has not been measured behind them.", text)
-        self.assertIn("| grading | 0 | 14 | 0 | 1 | - | - | - | - |", text)
+        self.assertIn("| grading | 0 | 14 | 0 | 1 | - | - | - | - | - |", text)
         self.assertIn("The longest chain takes 8.6 processor minutes without edits: marks (1.9), text (0.7), "
                       "kubelet_replay (6.0).", text)
+
+    def test_what_has_changed_since(self):
+        head = git(self.top, "rev-parse", "--short=10", "HEAD")
+        figures = read(HERE, "gate.tsv").replace("0123456789", head).replace("abcdef0123", head)
+        write(figures, self.top, "bench/gate.tsv")
+        write("//! Grades.\n", self.top, "crates/grading/README.md")
+        os.makedirs(f"{self.top}/crates/text/src")
+        write("//! Sheets.\n", self.top, "crates/text/src/lib.rt")
+        git(self.top, "add", ".")
+        git(self.top, "commit", "--quiet", "--message", "sheets")
+        rows = re.findall(r"(?m)^\| (\w+) \|.* GB \| ([^|]+) \|$", self.text())
+        self.assertEqual(rows, [("marks", "no"), ("text", "itself"), ("grading", "no"), ("event_book", "no"),
+                                ("kubelet_replay", "below"), ("all", "-")])
 
     def test_costs_alone_are_written_anew(self):
         page = read(HERE, "gate.md")

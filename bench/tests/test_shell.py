@@ -62,7 +62,7 @@ class Words(Case):
         self.assertEqual(run("release", "--program"), (2, "", "bench/release: --program wants a file\n"))
         self.assertEqual(run("try_release"), (
             2, "", "bench/try_release: usage: bench/try_release FOLDER [ROOT]\n"))
-        self.assertEqual(gate("--all"), (2, "", "test: the words --all are not --without-tools\n"))
+        self.assertEqual(gate("--all"), (2, "", "test: the words --all are none of --install and --without-tools\n"))
 
     def test_a_release_that_is_not_there(self):
         with tempfile.TemporaryDirectory() as room:

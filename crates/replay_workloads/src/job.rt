@@ -1,7 +1,9 @@
 //! The calls whose time is taken.
 
-use anyhow::{Result, bail};
-use kubelet_replay::{Counted, Format, MemSource, NoGate, check_in, fault_line, replay_in};
+use anyhow::{Context, Result, bail};
+use kubelet_replay::{
+    Counted, Format, MemSource, NoGate, RunFault, check_in, fault_line, replay_in,
+};
 use std::sync::Wait;
 use std::thread::Threads;
 use worker_count::MOST_WORKERS;
@@ -29,14 +31,14 @@ impl Job {
         }
     }
 
-    /// What is written of the trace, which has to be one.
-    pub(crate) fn answer(
+    /// What is written of a text, or why it is refused.
+    fn written(
         self,
         rt: &(impl AllocGlobal + Threads + Wait + Sync),
         format: Format,
-        trace: &[u8],
-    ) -> Result<Vec<u8>> {
-        let mut input = MemSource::new(trace, BYTES_A_READ);
+        text: &[u8],
+    ) -> Result<Vec<u8>, RunFault> {
+        let mut input = MemSource::new(text, BYTES_A_READ);
         let mut output = Counted::new(Vec::new(rt.alloc()));
         let done = match self {
             Job::Run(workers) => {
@@ -47,7 +49,36 @@ impl Job {
         };
         match done {
             Ok(()) => Ok(output.into_inner()),
+            Err(fault) => Err(fault),
+        }
+    }
+
+    /// What is written of the trace, which has to be one.
+    pub(crate) fn answer(
+        self,
+        rt: &(impl AllocGlobal + Threads + Wait + Sync),
+        format: Format,
+        trace: &[u8],
+    ) -> Result<Vec<u8>> {
+        match self.written(rt, format, trace) {
+            Ok(answer) => Ok(answer),
             Err(fault) => bail!("a trace is refused: {}", fault_line(rt.alloc(), &fault)?),
+        }
+    }
+
+    /// What is written of a text, or the line of its refusal.
+    pub(crate) fn told(
+        self,
+        rt: &(impl AllocGlobal + Threads + Wait + Sync),
+        format: Format,
+        text: &[u8],
+    ) -> Result<String> {
+        match self.written(rt, format, text) {
+            Ok(answer) => String::from_utf8(answer).context("an answer is no text"),
+            Err(fault) => {
+                let line = fault_line(rt.alloc(), &fault)?;
+                Ok(format!(in rt.alloc(); "{line}\n")?)
+            }
         }
     }
 }

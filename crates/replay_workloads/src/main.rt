@@ -1,16 +1,17 @@
 //! The replays that `bench/run` times: traces that the program makes itself, of the shapes that nodes have, replayed or
 //! checked by the calls of the simulator. It prints a digest of the answers, and no times.
 //!
-//!     replay_workloads JOB SHAPE TICKS WORKERS TRACES SEED
+//!     replay_workloads JOB SHAPE TICKS WORKERS TRACES SEED [TEXTS]
 //!
 //! JOB is `run` or `check`, SHAPE a shape by its name; each of this many TRACES has TICKS ticks and comes of another
-//! seed.
+//! seed. TEXTS is a file of texts: behind the digest it prints what the job answers to each.
 #![tactic(auto)]
 
 mod job;
 mod lines;
 mod pen;
 mod shape;
+mod texts;
 mod words;
 
 use anyhow::{Context, Result, bail};
@@ -21,6 +22,9 @@ use std::hash::{DefaultHasher, Hasher};
 use std::rt::Runtime;
 use std::sync::Wait;
 use std::thread::Threads;
+
+/// So many words say a workload, the program's name among them.
+const WORDS: usize = 7;
 
 /// The number that a word is.
 fn number(word: &str) -> Result<u64> {
@@ -72,7 +76,12 @@ fn main(rt: HostRuntime) -> Result<()> {
     for word in env::args(&rt)? {
         words.push(word)?;
     }
-    let digest = Workload::of_words(&words)?.digest(&rt)?;
+    let texts = if words.len() > WORDS { words.pop() } else { None };
+    let workload = Workload::of_words(&words)?;
+    let digest = workload.digest(&rt)?;
     println!(rt; "{digest}")?;
-    Ok(())
+    match texts {
+        Some(path) => texts::run_all(&rt, workload.job, path.as_str()),
+        None => Ok(()),
+    }
 }
