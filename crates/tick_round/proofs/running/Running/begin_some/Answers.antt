@@ -18,7 +18,7 @@ go_on-requires g c = record {
 pub returns-in-Ok : goal.returns-in-Ok
 returns-in-Ok g c =
     let begun = c.in_ok-stretch in
-    let went = c.in_default.ensures c.args.self [] c.args.tick begun.ensures.is_open in
+    let went = c.in_default.ensures.goes c.args.self [] c.args.tick begun.ensures.is_open in
     record {
       calm = went.calm_now;
       tick = went.last;

@@ -16,7 +16,7 @@ loop-preserved c =
     let y = c.in-Some.tick in
     let rest = c.next.new.self.rest.items in
     let all = c.args.more.now.rest.items in
-    let none = c.has_room.ensures c.if-not-has_room.false in
+    let none = (c.has_room.ensures.0 c.if-not-has_room.false).calm in
     record {
       may = may_more a c.pass.new.self c.take.new.self y rest
           (subst (λ (xs : List TickObs). MayGoOn a xs) c.in-Some.ensures.items c.loop.invariant.may) none
@@ -25,3 +25,21 @@ loop-preserved c =
           (subst (λ (xs : List TickObs). GoesOnWith s calm tick all a xs) c.in-Some.ensures.items
           (c.loop.invariant.goes s calm tick is)) none c.in_ok-pass.ensures c.in_ok-take.ensures;
     }
+
+pub returns-in_err-pass-clause-refused : goal.returns-in_err-pass-clause-refused
+returns-in_err-pass-clause-refused c = λ s calm tick is. record {
+  stretch = c.loop.self;
+  refused = c.in-Some.tick;
+  goes_on = subst (λ (xs : List TickObs). GoesOnWith s calm tick c.args.more.now.rest.items c.loop.self xs)
+      c.in-Some.ensures.items (c.loop.invariant.goes s calm tick is);
+  room = c.has_room.ensures.0 c.if-not-has_room.false;
+}
+
+pub returns-in_err-take-clause-refused : goal.returns-in_err-take-clause-refused
+returns-in_err-take-clause-refused c = λ s calm tick is. record {
+  stretch = c.loop.self;
+  refused = c.in-Some.tick;
+  goes_on = subst (λ (xs : List TickObs). GoesOnWith s calm tick c.args.more.now.rest.items c.loop.self xs)
+      c.in-Some.ensures.items (c.loop.invariant.goes s calm tick is);
+  room = c.has_room.ensures.0 c.if-not-has_room.false;
+}
