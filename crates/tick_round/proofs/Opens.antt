@@ -1,7 +1,7 @@
 -- A node that begins a round, takes ticks into it and ends it.
 use Rattle.std.proofs.Common.{◌≡◌, ◌∙◌, ℕ, zero, suc, ◌≤◌, List, [], ◌∷◌, ◌++◌, length, map}
 use Rattle.std.proofs.Common.{Option, Some, None, refl, ap, sym, subst, arith, append_assoc, append-nil}
-use Rattle.std.specs.Prelude.{slice_get, option_map}
+use Rattle.std.specs.Prelude.{slice_get, option_map, Result, Ok, Err, OnErr}
 use Rattle.std.specs.Option.{option_or}
 use Rattle.std.proofs.lemmas.List.{length-map, length-append}
 use Rattle.std.proofs.lemmas.Option.{slice_get_within, slice_get-map}
@@ -38,7 +38,7 @@ use Rattle.tick_round.specs.state.Round.{IsKept}
 use Rattle.tick_round.specs.state.Stretch.{IsSampled, heeded_in, IsCalm, AreCalm, no_evictions, handed_all, HasBegun}
 use Rattle.tick_round.specs.state.Stretch.{IsOpen}
 use Rattle.tick_round.specs.state.Stretch.{MayGoOn, GoesOnWith, Takes, IsStretchOf, IsPassed, MayClose, MayEnd}
-use Rattle.tick_round.specs.state.Stretch.{CanEnd, IsOut}
+use Rattle.tick_round.specs.state.Stretch.{CanEnd, IsOut, HasRoom, IsRefusedIn}
 use Rattle.tick_round.specs.state.Update.{AreAdded}
 use Rattle.tick_round.proofs.Counts.{AreRows, totals_added}
 use Rattle.tick_round.proofs.Ends.{closes}
@@ -471,3 +471,12 @@ is_out s calm x stretch pieces book round kept is same begun sent stay numbered 
 pub fit_taken : (s : State) (ticks taken rest : List TickObs) → FitAll s ticks → ticks ≡ taken ++ rest → FitAll s taken
 fit_taken s ticks taken rest fits is =
     fit_front s taken rest (subst (λ (xs : List TickObs). FitAll s xs) is fits)
+
+-- where memory is refused to a tick for which there was room
+pub refused_in : {A E : Type 0} (r : Result A E) (s : State) (calm : List TickObs) (tick : TickObs)
+    (more : List TickObs) (stretch : Stretch) (refused : TickObs) (rest : List TickObs)
+    → GoesOnWith s calm tick more stretch (refused ∷ rest) → HasRoom stretch
+    → OnErr r (IsRefusedIn s calm tick more rest)
+refused_in (Ok x) s calm tick more stretch refused rest goes room = tt
+refused_in (Err e) s calm tick more stretch refused rest goes room =
+    record { stretch = stretch; refused = refused; goes_on = goes; room = room }

@@ -1,7 +1,7 @@
 use Rattle.std.proofs.Common.{List, subst}
 use Rattle.observations.specs.declared.tick.TickObs.{TickObs}
 use Rattle.tick_round.specs.state.Stretch.{MayGoOn, GoesOnWith}
-use Rattle.tick_round.proofs.Opens.{may_more, goes_more, may_hand_more}
+use Rattle.tick_round.proofs.Opens.{may_more, goes_more, may_hand_more, refused_in}
 use Rattle.tick_round.proofs.stretch.Stretch.go_on.Goals as goal
 
 pub take-requires : goal.take-requires
@@ -27,19 +27,17 @@ loop-preserved c =
     }
 
 pub returns-in_err-pass-clause-refused : goal.returns-in_err-pass-clause-refused
-returns-in_err-pass-clause-refused c = λ s calm tick is. record {
-  stretch = c.loop.self;
-  refused = c.in-Some.tick;
-  goes_on = subst (λ (xs : List TickObs). GoesOnWith s calm tick c.args.more.now.rest.items c.loop.self xs)
-      c.in-Some.ensures.items (c.loop.invariant.goes s calm tick is);
-  room = c.has_room.ensures.0 c.if-not-has_room.false;
-}
+returns-in_err-pass-clause-refused c = λ s calm tick is.
+    let all = c.args.more.now.rest.items in
+    let goes = subst (λ (xs : List TickObs). GoesOnWith s calm tick all c.loop.self xs) c.in-Some.ensures.items
+    (c.loop.invariant.goes s calm tick is) in
+    refused_in _ s calm tick all c.loop.self c.in-Some.tick c.next.new.self.rest.items goes
+    (c.has_room.ensures.0 c.if-not-has_room.false)
 
 pub returns-in_err-take-clause-refused : goal.returns-in_err-take-clause-refused
-returns-in_err-take-clause-refused c = λ s calm tick is. record {
-  stretch = c.loop.self;
-  refused = c.in-Some.tick;
-  goes_on = subst (λ (xs : List TickObs). GoesOnWith s calm tick c.args.more.now.rest.items c.loop.self xs)
-      c.in-Some.ensures.items (c.loop.invariant.goes s calm tick is);
-  room = c.has_room.ensures.0 c.if-not-has_room.false;
-}
+returns-in_err-take-clause-refused c = λ s calm tick is.
+    let all = c.args.more.now.rest.items in
+    let goes = subst (λ (xs : List TickObs). GoesOnWith s calm tick all c.loop.self xs) c.in-Some.ensures.items
+    (c.loop.invariant.goes s calm tick is) in
+    refused_in _ s calm tick all c.loop.self c.in-Some.tick c.next.new.self.rest.items goes
+    (c.has_room.ensures.0 c.if-not-has_room.false)
