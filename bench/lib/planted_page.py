@@ -17,6 +17,12 @@ not write. It plants none in definitions, in laws, or inside a loop. What is pro
 In all {refused} were refused, {proved} proved, {not judged} not judged, and {not writable} could not be written. Where
 functions of a crate have another form since, these were not planted anew; a crate that is missing was not planted as it
 stands. The date is the day on which the figure was written down.
+""", """
+A refusal where the search for a proof gave up at one of its limits says less than one where it ended: nothing was found
+that is wrong, and a longer search might have found a proof. An audit counted some 27 edits of the gate and the shelf
+that are refused by that alone. Five of them turn an answer, all of `trace`: `doubled_container_accepted`,
+`doubled_pod_accepted`, `extended_trace_in_the_standard_format`, `second_pod_of_a_key_accepted` and
+`unsampled_read_in_versions_1_and_2`; their clauses are still too long for the search.
 """)
 
 
