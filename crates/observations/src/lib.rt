@@ -10,9 +10,11 @@ mod pod;
 mod tick;
 mod usage;
 mod whole;
+mod words;
 
 pub use container::ContainerObs;
 pub use limits::{MOST_PODS, MOST_TICKS};
 pub use pod::PodObs;
 pub use tick::{TickObs, seen_of};
 pub use usage::{Sampling, Usage};
+pub use words::{NO_WORDS, PodWords};

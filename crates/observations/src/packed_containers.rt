@@ -2,7 +2,7 @@
 
 ghost use Rattle.std.specs.Prelude.{◌≡◌, length, map, IfOk, IfSome, slice_get};
 ghost use Rattle.observations.specs.state.PackedContainer.{shown_as};
-ghost use Rattle.observations.specs.state.Pods.{kept_in, sampling_in};
+ghost use Rattle.observations.specs.state.Pods.{kept_in, sampling_in, words_in, no_words};
 ghost use Rattle.observations.specs.state.Whole.{memory_as, usage_as};
 ghost use Rattle.observations.specs.declared.usage.Sampling.TheVariants.{Unsaid, Sampled};
 
@@ -11,6 +11,7 @@ use crate::containers::{Containers, kept};
 use crate::packed_container::PackedContainer;
 use crate::usage::{Sampling, Usage};
 use crate::whole::{WholeUsage, usage_of_memory};
+use crate::words::{NO_WORDS, PodWords};
 use std::alloc::{AllocError, Global};
 
 /// What a tick shows of a pod whose sample is in whole units.
@@ -27,9 +28,17 @@ pub(crate) struct Used {
     pub(crate) usage: Usage,
 }
 
+/// What a tick shows of a pod on which it has a word.
+#[derive(Drop)]
+pub(crate) struct Told {
+    pub(crate) containers: Containers,
+    pub(crate) sampling: Sampling,
+    pub(crate) words: PodWords,
+}
+
 /// What a tick shows of a pod, in 32 bytes. Three containers or more take a block beside these, and so do a sample of
-/// more than the memory and the word that there is none: each is rarer than one or two containers without a sample, or
-/// with one of their memory.
+/// more than the memory and each word: all are rarer than one or two containers without a sample, or with one of their
+/// memory.
 #[derive(Drop)]
 pub(crate) enum PackedContainers {
     One(PackedContainer),
@@ -40,12 +49,14 @@ pub(crate) enum PackedContainers {
     Unsampled(Box<Containers>),
     Whole(Box<Whole>),
     Used(Box<Used>),
+    Told(Box<Told>),
 }
 
 /// What is kept of containers where the tick says nothing of samples.
 fn unused(alloc: Global, containers: &[ContainerObs]) -> Result<PackedContainers, AllocError>
     ensures containers { IfOk result (λ s. map shown_as (kept_in s) ≡ containers.now) }
     ensures sampling { IfOk result (λ s. sampling_in s ≡ Unsaid) }
+    ensures words { IfOk result (λ s. words_in s ≡ no_words) }
 {
     match containers {
         [one] => Ok(PackedContainers::One(PackedContainer::of(*one))),
@@ -61,6 +72,7 @@ fn unused(alloc: Global, containers: &[ContainerObs]) -> Result<PackedContainers
 fn in_place(containers: &[ContainerObs], memory: u64) -> Option<PackedContainers>
     ensures containers { IfSome result (λ s. map shown_as (kept_in s) ≡ containers.now) }
     ensures sampling { IfSome result (λ s. sampling_in s ≡ Sampled (memory_as memory)) }
+    ensures words { IfSome result (λ s. words_in s ≡ no_words) }
 {
     match containers {
         [one] => Some(PackedContainers::OneWithMemory(PackedContainer::of(*one), memory)),
@@ -84,6 +96,7 @@ fn in_units(
 ) -> Result<PackedContainers, AllocError>
     ensures containers { IfOk result (λ s. map shown_as (kept_in s) ≡ containers.now) }
     ensures sampling { IfOk result (λ s. sampling_in s ≡ Sampled (usage_as usage)) }
+    ensures words { IfOk result (λ s. words_in s ≡ no_words) }
 {
     if let Some(memory) = usage.memory_alone()
         && let Some(shown) = in_place(containers, memory)
@@ -103,6 +116,7 @@ fn sampled(
 ) -> Result<PackedContainers, AllocError>
     ensures containers { IfOk result (λ s. map shown_as (kept_in s) ≡ containers.now) }
     ensures sampling { IfOk result (λ s. sampling_in s ≡ Sampled usage) }
+    ensures words { IfOk result (λ s. words_in s ≡ no_words) }
 {
     if let Some(usage) = WholeUsage::of(usage) {
         return in_units(alloc, containers, usage);
@@ -120,6 +134,7 @@ impl PackedContainers {
     ) -> Result<PackedContainers, AllocError>
         ensures containers { IfOk result (λ s. map shown_as (kept_in s) ≡ containers.now) }
         ensures sampling { IfOk result (λ s. sampling_in s ≡ sampling) }
+        ensures words { IfOk result (λ s. words_in s ≡ no_words) }
     {
         match sampling {
             Sampling::Unsaid => unused(alloc, containers),
@@ -129,6 +144,29 @@ impl PackedContainers {
             }
             Sampling::Sampled(usage) => sampled(alloc, containers, usage),
         }
+    }
+
+    /// What is kept of containers, of what the tick says of samples, and of its words.
+    pub(crate) fn told(
+        alloc: Global,
+        containers: &[ContainerObs],
+        sampling: Sampling,
+        words: PodWords,
+    ) -> Result<PackedContainers, AllocError>
+        ensures containers { IfOk result (λ s. map shown_as (kept_in s) ≡ containers.now) }
+        ensures sampling { IfOk result (λ s. sampling_in s ≡ sampling) }
+        ensures words { IfOk result (λ s. words_in s ≡ words) }
+    {
+        if !words.deleting {
+            return PackedContainers::new(alloc, containers, sampling);
+        }
+        let containers = Containers::new(alloc, containers)?;
+        let told = Told {
+            containers,
+            sampling,
+            words,
+        };
+        Ok(PackedContainers::Told(Box::new(alloc, told)?))
     }
 
     /// How many containers there are.
@@ -142,6 +180,7 @@ impl PackedContainers {
             PackedContainers::Unsampled(containers) => containers.len(),
             PackedContainers::Whole(whole) => whole.containers.len(),
             PackedContainers::Used(used) => used.containers.len(),
+            PackedContainers::Told(told) => told.containers.len(),
         }
     }
 
@@ -160,6 +199,7 @@ impl PackedContainers {
             PackedContainers::Unsampled(containers) => containers.get(number),
             PackedContainers::Whole(whole) => whole.containers.get(number),
             PackedContainers::Used(used) => used.containers.get(number),
+            PackedContainers::Told(told) => told.containers.get(number),
         }
     }
 
@@ -176,9 +216,20 @@ impl PackedContainers {
             )),
             PackedContainers::Whole(whole) => Sampling::Sampled(whole.usage.usage()),
             PackedContainers::Used(used) => Sampling::Sampled(used.usage),
+            PackedContainers::Told(told) => told.sampling,
             PackedContainers::Unsampled(_) => Sampling::Unsampled,
             PackedContainers::One(_) | PackedContainers::Two(..) | PackedContainers::Unused(_) =>
                 Sampling::Unsaid,
+        }
+    }
+
+    /// The tick's words on the pod.
+    pub(crate) fn words(&self) -> PodWords
+        ensures { result ≡ words_in self.now }
+    {
+        match self {
+            PackedContainers::Told(told) => told.words,
+            _ => NO_WORDS,
         }
     }
 }

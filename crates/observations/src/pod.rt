@@ -1,16 +1,17 @@
 //! What a tick shows of one pod.
 
 ghost use Rattle.std.specs.Prelude.{◌≡◌, length, IfOk, slice_get};
-ghost use Rattle.observations.specs.state.Pods.{pod_obs, sample_in};
+ghost use Rattle.observations.specs.state.Pods.{pod_obs, told_obs, sample_in};
 
 use crate::container::ContainerObs;
 use crate::packed_containers::PackedContainers;
 use crate::usage::{Sampling, Usage};
+use crate::words::PodWords;
 use std::alloc::{AllocError, Global};
 use std::marker::Model;
 
 /// What a tick shows of one pod, in 40 bytes: a trace has millions of these. Contracts see the moment, an observation
-/// for each container by number, and what the tick says of the samples of its use of the node.
+/// for each container by number, what the tick says of the samples of its use of the node, and its words.
 #[derive(Drop)]
 pub struct PodObs {
     at: u64,
@@ -21,11 +22,11 @@ impl Model for PodObs {
     ghost use Rattle.std.specs.Prelude.{map};
     ghost use Rattle.observations.specs.state.PackedContainer.{shown_as};
     ghost use Rattle.observations.specs.rule.Pods.{PodObs};
-    ghost use Rattle.observations.specs.state.Pods.{pod_obs, kept_in, sampling_in};
+    ghost use Rattle.observations.specs.state.Pods.{told_obs, kept_in, sampling_in, words_in};
 
     ghost Value = { PodObs };
 
-    ghost view = { λ o. pod_obs o.at (map shown_as (kept_in o.shown)) (sampling_in o.shown) };
+    ghost view = { λ o. told_obs o.at (map shown_as (kept_in o.shown)) (sampling_in o.shown) (words_in o.shown) };
 }
 
 impl PodObs {
@@ -40,6 +41,20 @@ impl PodObs {
         ensures { IfOk result (λ o. o ≡ pod_obs at containers.now sampling) }
     {
         let shown = PackedContainers::new(alloc, containers, sampling)?;
+        Ok(PodObs { at, shown })
+    }
+
+    /// What such a tick shows of it that has these words on it.
+    pub fn told(
+        alloc: Global,
+        at: u64,
+        containers: &[ContainerObs],
+        sampling: Sampling,
+        words: PodWords,
+    ) -> Result<PodObs, AllocError>
+        ensures { IfOk result (λ o. o ≡ told_obs at containers.now sampling words) }
+    {
+        let shown = PackedContainers::told(alloc, containers, sampling, words)?;
         Ok(PodObs { at, shown })
     }
 
@@ -70,6 +85,13 @@ impl PodObs {
         ensures { result ≡ self.now.sampling }
     {
         self.shown.sampling()
+    }
+
+    /// The tick's words on the pod.
+    pub fn words(&self) -> PodWords
+        ensures { result ≡ self.now.words }
+    {
+        self.shown.words()
     }
 
     /// What the pod used, where the tick has a sample of it.

@@ -4,4 +4,5 @@ pub mod NextTicks
 pub mod Waiting
 pub mod Rounds
 pub mod PieceLemmas
+pub mod EvictedPieces
 pub mod LastTicks

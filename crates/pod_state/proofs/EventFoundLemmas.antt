@@ -22,7 +22,7 @@ use Rattle.containers.specs.rule.Ticks.{ContainerTick}
 use Rattle.containers.specs.rule.Events.{AreEvents}
 use Rattle.containers.proofs.EventFoundLemmas.{some_list_of_events as some_of_container}
 use Rattle.pod_state.specs.declared.events.PodEvent.{PodEvent}
-use Rattle.pod_state.specs.rule.Pods.{PodEntry, PodTick, ticks_of, unseen, HasEnded, IsEnd, IsPhase}
+use Rattle.pod_state.specs.rule.Pods.{PodEntry, PodTick, ticks_of, unseen, HasEnded, IsEnd, IsPhase, is_being_deleted}
 use Rattle.pod_state.specs.rule.Events.{IsMadeOf, ChangesPhase, AreEventsOfLivePod, events_from, events_at}
 use Rattle.pod_state.specs.state.Laws.{SomeListOfEvents}
 use Rattle.pod_state.proofs.TickLemmas.{of_spec, ticks_more}
@@ -112,7 +112,7 @@ some_events_of_live_pod pod max_restart_delay evicted before tick range =
     (made_at pod max_restart_delay before tick range) in
     let raw = some_raw_phase pod (before ++ tick ∷ []) in
     let change = change_event pod evicted before tick in (
-      events_from raw.0 0 made.0 ++ events_at None (change.0 ∷ []),
+      events_from raw.0 (is_being_deleted (before ++ tick ∷ [])) 0 made.0 ++ events_at None (change.0 ∷ []),
       record {
         made = made.0;
         are_made = record { as_many = made.1; each = made.2 };

@@ -1,7 +1,9 @@
 -- A pod after one more tick.
-use Rattle.std.proofs.Common.{◌≡◌, ◌∙◌, inl, inr, ℕ, List, [], ◌∷◌, ◌++◌, length, Option, Some, None, false}
+use Rattle.std.proofs.Common.{◌≡◌, ◌∙◌, inl, inr, ℕ, List, [], ◌∷◌, ◌++◌, length, Option, Some, None, true, false}
 use Rattle.std.proofs.Common.{slice_index_or, refl, sym, subst, ap, arith}
-use Rattle.std.specs.Prelude.{◌↔◌, ◌≢◌, IsSomeAnd, IsTrue, slice_get, unwrap_or}
+use Rattle.std.specs.Prelude.{◌↔◌, ◌≢◌, ◌||◌, Bool, IsSomeAnd, IsTrue, slice_get, unwrap_or}
+use Rattle.std.specs.List.{list_any}
+use Rattle.std.proofs.lemmas.List.Folds.{list_any-append}
 use Rattle.histories.specs.state.Histories.{EndsBefore}
 use Rattle.state_diff.specs.declared.seen.Seen.{Seen}
 use Rattle.state_diff.specs.state.Instances.{IsAcceptable}
@@ -14,7 +16,7 @@ use Rattle.manifest.specs.declared.pod.PodSpec.{PodSpec}
 use Rattle.phase.specs.rule.RawPhase.{IsTerminal}
 use Rattle.containers.specs.declared.container.Container.{Container}
 use Rattle.pod_state.specs.declared.state.PodState.{PodState}
-use Rattle.pod_state.specs.rule.Pods.{PodTick, ticks_of, unseen, IsPhase, IsEnd}
+use Rattle.pod_state.specs.rule.Pods.{PodTick, ticks_of, unseen, IsPhase, IsEnd, is_being_deleted}
 use Rattle.pod_state.specs.rule.Lifecycles.{IsLifecycleOf}
 use Rattle.pod_state.specs.state.Lifecycles.{IsProgressOf}
 use Rattle.pod_state.specs.state.Containers.{AreContainersOf, AreKept}
@@ -33,30 +35,48 @@ pub not_evicted : (evicted : Option ℕ) (h : List PodTick) → (evicted ≡ Som
     → (IsTrue false ↔ (evicted ≡ Some (length h)))
 not_evicted evicted h stays = ((λ e. absurd (let t : IsTrue false = e in cc)), (λ e. absurd (stays e)))
 
+or_none : (b : Bool) → (b || false) ≡ b
+or_none true = refl
+or_none false = refl
+
+-- some item passes the test, with one more
+any_more : {A : Type 0} (p : A → Bool) (xs : List A) (x : A) → list_any p (xs ++ x ∷ []) ≡ (list_any p xs || p x)
+any_more p xs x = list_any-append p xs (x ∷ []) ∙ ap (λ b. list_any p xs || b) (or_none (p x))
+
+-- whether it is being deleted after one more tick
+pub deleting_more : (h : List PodTick) (x : PodTick) (old new : Bool) → old ≡ is_being_deleted h
+    → new ≡ (old || x.entry.words.deleting) → new ≡ is_being_deleted (h ++ x ∷ [])
+deleting_more h x old new is next =
+    next ∙ ap (λ (b : Bool). b || x.entry.words.deleting) is
+    ∙ sym (any_more (λ (tick : PodTick). tick.entry.words.deleting) h x)
+
 -- once it has ended
 pub after_end : (pod : PodSpec) (max_restart_delay : ℕ) (evicted : Option ℕ) (h : List PodTick) (x : PodTick)
     (old new : PodState) → IsStateOf pod max_restart_delay evicted h old → IsTerminal old.lifecycle.phase
-    → new.containers ≡ old.containers → IsProgressOf pod evicted (h ++ x ∷ []) new.lifecycle
+    → new.containers ≡ old.containers → new.deleting ≡ (old.deleting || x.entry.words.deleting)
+    → IsProgressOf pod evicted (h ++ x ∷ []) new.lifecycle
     → IsStateOf pod max_restart_delay evicted (h ++ x ∷ []) new
-after_end pod max_restart_delay evicted h x old new is ended same progress =
+after_end pod max_restart_delay evicted h x old new is ended same deleting progress =
     let kept =
     kept_ended pod max_restart_delay evicted h x old.lifecycle.phase old.containers.items is.progress.so_far.phase
     ended is.containers in
     record {
       progress = progress;
       containers = subst (λ cs. AreKept pod max_restart_delay evicted (h ++ x ∷ []) cs.items) (sym same) kept;
+      deleting = deleting_more h x old.deleting new.deleting is.deleting deleting;
     }
 
 -- until then, where its containers are these after the tick
 pub before_end : (pod : PodSpec) (max_restart_delay : ℕ) (evicted : Option ℕ) (h : List PodTick) (x : PodTick)
     (old new : PodState) (containers : List Container) → IsStateOf pod max_restart_delay evicted h old
     → (IsTerminal old.lifecycle.phase → ⊥) → new.containers.items ≡ containers
+    → new.deleting ≡ (old.deleting || x.entry.words.deleting)
     → (AreContainersOf pod max_restart_delay h old.containers.items
     → AreContainersOf pod max_restart_delay (h ++ x ∷ []) containers)
     → (AreContainersOf pod max_restart_delay (h ++ x ∷ []) containers
     → IsProgressOf pod evicted (h ++ x ∷ []) new.lifecycle)
     → IsStateOf pod max_restart_delay evicted (h ++ x ∷ []) new
-before_end pod max_restart_delay evicted h x old new containers is lives same step advance =
+before_end pod max_restart_delay evicted h x old new containers is lives same deleting step advance =
     let phase = is.progress.so_far.phase in
     let before =
     kept_all pod max_restart_delay evicted h old.lifecycle.phase old.containers.items phase lives is.containers in
@@ -69,6 +89,7 @@ before_end pod max_restart_delay evicted h x old new containers is lives same st
       progress = progress;
       containers =
           subst (λ (cs : List Container). AreKept pod max_restart_delay evicted (h ++ x ∷ []) cs) (sym same) kept;
+      deleting = deleting_more h x old.deleting new.deleting is.deleting deleting;
     }
 
 -- what comes next may come, where each listing may and each container's last tick is before it
@@ -112,18 +133,19 @@ events_ended pod max_restart_delay evicted h x state events is ended none =
     inl ((ended_is pod evicted h state.lifecycle.phase is.progress.so_far.phase).0 ended, none)
 
 pub events_lives : (pod : PodSpec) (max_restart_delay : ℕ) (evicted : Option ℕ) (h : List PodTick) (x : PodTick)
-    (state : PodState) (next : Lifecycle) (made : List ContainerEvents) (change : Option PodEventKind)
-    (events : List PodEvent)
+    (state : PodState) (next : Lifecycle) (made : List ContainerEvents) (deleting : Bool)
+    (change : Option PodEventKind) (events : List PodEvent)
     → IsStateOf pod max_restart_delay evicted h state → (IsTerminal state.lifecycle.phase → ⊥)
     → (evicted ≡ Some (length h) → ⊥)
     → (AreContainersOf pod max_restart_delay h state.containers.items → AreMade pod max_restart_delay h x made)
     → (AreContainersOf pod max_restart_delay h state.containers.items → IsPhase pod evicted (h ++ x ∷ []) next.phase)
     → ((kind : PodEventKind) → ((change ≡ Some kind)
     ↔ ((kind ≡ kinds.Phase next.phase) × (state.lifecycle.phase ≢ next.phase))))
-    → events ≡ events_from next.phase 0 made ++ events_at None (change ∷ [])
+    → deleting ≡ (state.deleting || x.entry.words.deleting)
+    → events ≡ events_from next.phase deleting 0 made ++ events_at None (change ∷ [])
     → AreEventsOf pod max_restart_delay evicted h x events
-events_lives pod max_restart_delay evicted h x state next made change events is lives stays made_by phase_by changes
-    in_order =
+events_lives pod max_restart_delay evicted h x state next made deleting change events is lives stays made_by phase_by
+    changes said in_order =
     let phase = is.progress.so_far.phase in
     let old = state.lifecycle.phase in
     let containers = kept_all pod max_restart_delay evicted h old state.containers.items phase lives is.containers in
@@ -145,7 +167,9 @@ events_lives pod max_restart_delay evicted h x state next made change events is 
                 phase)),
           )),
         );
-        in_order = in_order;
+        in_order = in_order
+            ∙ ap (λ (b : Bool). events_from next.phase b 0 made ++ events_at None (change ∷ []))
+            (deleting_more h x state.deleting deleting is.deleting said);
       },
     )
 
@@ -168,12 +192,12 @@ ends_evicted pod max_restart_delay h x old goes_on was before is =
 
 -- where the last tick evicts the pod
 pub when_evicted : (pod : PodSpec) (max_restart_delay : ℕ) (h : List PodTick) (x : PodTick) (old new : PodState)
-    → (IsTerminal old.lifecycle.phase → ⊥) → new.containers ≡ old.containers
+    → (IsTerminal old.lifecycle.phase → ⊥) → new.containers ≡ old.containers → new.deleting ≡ old.deleting
     → IsLifecycleOf pod None h old.before → IsStateOf pod max_restart_delay None (h ++ x ∷ []) old
     → IsProgressOf pod (Some (length h)) h old.before
     → IsProgressOf pod (Some (length h)) (h ++ x ∷ []) new.lifecycle → IsStateOf pod max_restart_delay (Some (length h))
     (h ++ x ∷ []) new
-when_evicted pod max_restart_delay h x old new goes_on same was is before progress =
+when_evicted pod max_restart_delay h x old new goes_on same deleting was is before progress =
     let lives = lived pod max_restart_delay h x old goes_on was is in
     let containers = kept_all pod max_restart_delay None (h ++ x ∷ []) old.lifecycle.phase old.containers.items
     is.progress.so_far.phase goes_on is.containers in
@@ -183,4 +207,5 @@ when_evicted pod max_restart_delay h x old new goes_on same was is before progre
     record {
       progress = progress;
       containers = subst (λ cs. AreKept pod max_restart_delay (Some (length h)) (h ++ x ∷ []) cs.items) (sym same) kept;
+      deleting = deleting ∙ is.deleting;
     }

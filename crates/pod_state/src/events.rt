@@ -3,7 +3,7 @@
 ghost use Rattle.std.specs.Prelude.{◌≡◌, ◌≢◌, ◌↔◌, ◌++◌, ◌∷◌, [], Some, None, OnOk, IfOk};
 ghost use Rattle.containers.specs.declared.pod_event_kind.PodEventKind.{PodEventKind};
 ghost use Rattle.containers.specs.declared.pod_event_kind.PodEventKind.TheVariants as kinds;
-ghost use Rattle.pod_state.specs.rule.Events.{restart_in, places_in, events_at, events_from};
+ghost use Rattle.pod_state.specs.rule.Events.{restart_in, unless_deleting, coming_in, places, events_at, events_from};
 
 use containers::{ContainerEvents, PodEventKind};
 use phase::Phase;
@@ -28,6 +28,25 @@ fn restart_in(phase: Phase, restart: Option<PodEventKind>) -> Option<PodEventKin
     }
 }
 
+/// The event, unless the pod is being deleted. (Kubernetes, "Pod Lifecycle", "Termination of Pods".)
+fn unless_deleting(deleting: bool, event: Option<PodEventKind>) -> Option<PodEventKind>
+    ensures { result ≡ unless_deleting deleting event }
+{
+    if deleting { None } else { event }
+}
+
+/// What comes of a container's events in a pod that the tick leaves in this phase, and that is being deleted or not.
+fn coming_in(phase: Phase, deleting: bool, made: &ContainerEvents) -> ContainerEvents
+    ensures { result ≡ coming_in phase deleting made.now }
+{
+    ContainerEvents {
+        kill: unless_deleting(deleting, made.kill),
+        backoff: unless_deleting(deleting, made.backoff),
+        restart: unless_deleting(deleting, restart_in(phase, made.restart)),
+        ..*made
+    }
+}
+
 /// Adds the event of a place, if there is one.
 fn add_event(
     events: &mut Vec<PodEvent>,
@@ -42,15 +61,13 @@ fn add_event(
     Ok(())
 }
 
-/// Adds the events of the container with the number, in a pod that the tick leaves in this phase: place by place,
-/// where most ticks have none.
+/// Adds the events of the container with the number: place by place, where most ticks have none.
 fn add_events(
     events: &mut Vec<PodEvent>,
     number: usize,
-    phase: Phase,
     made: &ContainerEvents,
 ) -> Result<(), AllocError>
-    ensures { OnOk result (events.new.items ≡ events.old.items ++ events_at (Some number) (places_in phase made.now)) }
+    ensures { OnOk result (events.new.items ≡ events.old.items ++ events_at (Some number) (places made.now)) }
 {
     let container = Some(number);
     add_event(events, container, made.gone)?;
@@ -60,7 +77,7 @@ fn add_events(
     add_event(events, container, made.kill)?;
     add_event(events, container, made.readiness)?;
     add_event(events, container, made.backoff)?;
-    add_event(events, container, restart_in(phase, made.restart))?;
+    add_event(events, container, made.restart)?;
     Ok(())
 }
 
@@ -75,19 +92,20 @@ pub(crate) fn phase_event(old: Phase, new: Phase) -> Option<PodEventKind>
     }
 }
 
-/// The events of a tick that makes this of the containers, leaves the pod in the phase, and has
-/// this event of the pod itself.
+/// The events of a tick that makes this of the containers, leaves the pod in the phase, and has this event of the pod
+/// itself, which is being deleted or not.
 pub(crate) fn events_of(
     alloc: Global,
     made: &[ContainerEvents],
     phase: Phase,
+    deleting: bool,
     change: Option<PodEventKind>,
 ) -> Result<Vec<PodEvent>, AllocError>
-    ensures { IfOk result (λ v. v.items ≡ events_from phase 0 made.now ++ events_at None (change ∷ [])) }
+    ensures { IfOk result (λ v. v.items ≡ events_from phase deleting 0 made.now ++ events_at None (change ∷ [])) }
 {
     let mut events = Vec::new(alloc);
     for (number, container) in made.iter().enumerate() {
-        add_events(&mut events, number, phase, container)?;
+        add_events(&mut events, number, &coming_in(phase, deleting, container))?;
     }
     add_event(&mut events, None, change)?;
     Ok(events)

@@ -1,7 +1,7 @@
 //! A pod, tick by tick.
 
 ghost use Rattle.std.specs.Prelude.{◌≡◌, ◌↔◌, ◌<◌, ℕ, List, [], ◌∷◌, ◌++◌, length, Option, Some, None, IsTrue};
-ghost use Rattle.std.specs.Prelude.{IfOk, OnOk, OnErr, vec_len};
+ghost use Rattle.std.specs.Prelude.{◌||◌, IfOk, OnOk, OnErr, vec_len};
 ghost use Rattle.quantity.specs.rule.Duration.{end_of_time};
 ghost use Rattle.histories.specs.rule.Histories.{recorded};
 ghost use Rattle.manifest.specs.declared.pod.PodSpec.{PodSpec};
@@ -23,7 +23,7 @@ use crate::following::{
 use crate::lifecycle::Lifecycle;
 use containers::{Container, ContainerEvents, ContainerStatus};
 use manifest::{MaxRestartDelay, PodSpec, Policy};
-use observations::PodObs;
+use observations::{PodObs, PodWords};
 use phase::ContainerView;
 use state_diff::Differ;
 use std::alloc::{AllocError, Global};
@@ -36,6 +36,15 @@ pub struct PodState {
     lifecycle: Lifecycle,
     /// The phase and the conditions before the last tick, which its eviction starts from.
     before: Lifecycle,
+    /// Whether it is being deleted.
+    deleting: bool,
+}
+
+/// Whether a pod is being deleted after a tick with these words, that was before it or was not.
+fn deleting_with(before: bool, words: PodWords) -> bool
+    ensures { result ≡ (before || words.deleting) }
+{
+    before || words.deleting
 }
 
 impl PodState {
@@ -58,6 +67,7 @@ impl PodState {
             containers,
             lifecycle,
             before: lifecycle,
+            deleting: false,
         })
     }
 
@@ -89,6 +99,7 @@ impl PodState {
             lifecycle.advance(policy, observed.at(), &[], false, false);
             self.before = self.lifecycle;
             self.lifecycle = lifecycle;
+            self.deleting = deleting_with(self.deleting, observed.words());
             return Ok(Vec::new(alloc));
         }
         // Most pods have one or two containers: these take their steps on the stack, and only events take memory.
@@ -143,10 +154,12 @@ impl PodState {
         let mut lifecycle = self.lifecycle;
         lifecycle.advance(policy, observed.at(), views, ready, false);
         let change = phase_event(self.lifecycle.phase, lifecycle.phase);
-        let events = events_of(alloc, made, lifecycle.phase, change)?;
+        let deleting = deleting_with(self.deleting, observed.words());
+        let events = events_of(alloc, made, lifecycle.phase, deleting, change)?;
         self.before = self.lifecycle;
         self.containers.copy_from_slice(next);
         self.lifecycle = lifecycle;
+        self.deleting = deleting;
         Ok(events)
     }
 

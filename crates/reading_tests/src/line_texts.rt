@@ -107,6 +107,10 @@ pub(crate) const PLACES: [(&str, &str); 37] = [
         r#"{"kind":"tick","at":99,"pods":[{"pod":"a","unsampled":"#,
         r#","usage":{"pids":2},"unsampled":true}]}"#,
     ),
+    (
+        r#"{"kind":"tick","at":99,"pods":[{"pod":"a","deleting":"#,
+        "}]}",
+    ),
     (r#"{"kind":"tick","at":99,"signals":"#, "}"),
     (
         r#"{"kind":"tick","at":7,"signals":{"memory.available":"#,

@@ -6,7 +6,7 @@ use observations::Usage;
 use quantity::Quantity;
 use signals::BySignal;
 use std::alloc::{AllocError, Global};
-use tick_lines::{ListedInstance, Listing, ProbeResult, TickEntry, TickLine, UnsampledMember};
+use tick_lines::{ListedInstance, Listing, ProbeResult, TickEntry, TickLine, TruthMember};
 
 pub(crate) fn add_moment(text: &mut String, at: Option<u64>) -> Result<(), AllocError> {
     write!(text, "tick {at:?}")
@@ -42,12 +42,12 @@ pub(crate) fn add_usage(text: &mut String, usage: Option<Usage>) -> Result<(), A
     write!(text, "\n  uses {usage:?}")
 }
 
-/// Adds what an entry says of a missing sample, where it says something: the faster reader reads no such entry.
-fn add_unsampled(text: &mut String, unsampled: UnsampledMember) -> Result<(), AllocError> {
-    if unsampled == UnsampledMember::No {
+/// Adds what an entry says in such a member, where it says something: the faster reader reads no such entry.
+fn add_truth(text: &mut String, name: &str, member: TruthMember) -> Result<(), AllocError> {
+    if member == TruthMember::No {
         return Ok(());
     }
-    write!(text, "\n  unsampled {unsampled:?}")
+    write!(text, "\n  {name} {member:?}")
 }
 
 pub(crate) fn add_samples(
@@ -83,7 +83,8 @@ fn add_entries(text: &mut String, entries: &[TickEntry]) -> Result<(), AllocErro
         add_listings(text, entry.listings.as_slice())?;
         add_results(text, entry.results.as_slice())?;
         add_usage(text, entry.usage)?;
-        add_unsampled(text, entry.unsampled)?;
+        add_truth(text, "unsampled", entry.unsampled)?;
+        add_truth(text, "deleting", entry.deleting)?;
     }
     Ok(())
 }

@@ -4,7 +4,7 @@ pub mod Parts
 pub mod Ordered
 pub mod Texts
 pub mod Quantities
-pub mod Unsampled
+pub mod Truths
 pub mod Strangers
 pub mod Alike
 pub mod Nulls

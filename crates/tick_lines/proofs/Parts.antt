@@ -14,7 +14,8 @@ use Rattle.json_fields.specs.declared.scope.Scope.TheVariants.{Node, FileSystems
 use Rattle.tick_lines.specs.rule.Fields.{only_object, quantity_at}
 use Rattle.tick_lines.specs.rule.Listings.{listings_of}
 use Rattle.tick_lines.specs.rule.Results.{results_of}
-use Rattle.tick_lines.specs.rule.Usages.{usage_in, usage_of, unsampled_of}
+use Rattle.tick_lines.specs.rule.Truths.{truth_of}
+use Rattle.tick_lines.specs.rule.Usages.{usage_in, usage_of}
 use Rattle.tick_lines.specs.rule.Entries.{entry_of, entries_of}
 use Rattle.tick_lines.specs.rule.Samples.{samples_of}
 use Rattle.tick_lines.specs.rule.Line.{tick_line_of}
@@ -42,7 +43,8 @@ pub record IsEntry (d : Data) (entry : TickEntry) : Type 0 where
   pub listings : listings_of (field_at (codes "containers") d) ≡ Ok entry.listings
   pub results : results_of (field_at (codes "probes") d) ≡ Ok entry.results
   pub usage : usage_of (field_at (codes "usage") d) ≡ Ok entry.usage
-  pub unsampled : unsampled_of (field_at (codes "unsampled") d) ≡ entry.unsampled
+  pub unsampled : truth_of (field_at (codes "unsampled") d) ≡ entry.unsampled
+  pub deleting : truth_of (field_at (codes "deleting") d) ≡ entry.deleting
 
 pub entry_parts : (d : Data) (entry : TickEntry) → entry_of d ≡ Ok entry → IsEntry d entry
 unfolding entry_of
@@ -58,6 +60,7 @@ entry_parts d entry e =
       results = results.1 ∙ ap (λ (x : TickEntry). Ok x.results) same;
       usage = usage.1 ∙ ap (λ (x : TickEntry). Ok x.usage) same;
       unsampled = ap (λ (x : TickEntry). x.unsampled) same;
+      deleting = ap (λ (x : TickEntry). x.deleting) same;
     }
 
 pub record HasUsage (d : Data) (usage : Usage) : Type 0 where

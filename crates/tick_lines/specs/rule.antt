@@ -5,3 +5,4 @@ pub mod Usages
 pub mod Entries
 pub mod Samples
 pub mod Line
+pub mod Truths

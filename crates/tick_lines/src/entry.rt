@@ -10,7 +10,8 @@ use crate::fields::{text_of, written_text};
 use crate::items::{ReadItem, check_items, read_items};
 use crate::listing::Listing;
 use crate::probing::ProbeResult;
-use crate::usage::{UnsampledMember, unsampled_of, usage_of};
+use crate::truth::{TruthMember, truth_of};
+use crate::usage::usage_of;
 use crate::value::TickValue;
 use json_fields::{field, text_at};
 use lists::Sequence;
@@ -30,7 +31,9 @@ pub struct TickEntry {
     /// What the pod used, where the entry has a sample of it.
     pub usage: Option<Usage>,
     /// Whether it says that the pod has no sample. (This project's extended format.)
-    pub unsampled: UnsampledMember,
+    pub unsampled: TruthMember,
+    /// Whether it says that the pod is being deleted. (This project's extended format.)
+    pub deleting: TruthMember,
 }
 
 #[tactic(auto, unfolding(crate::specs::rule::Entries::entry_of))]
@@ -42,7 +45,8 @@ fn entry_of<V: TickValue>(alloc: Global, value: &V) -> Result<TickEntry, TickLin
         listings: read_items::<Listing, V>(alloc, field(value, "containers"))?,
         results: read_items::<ProbeResult, V>(alloc, field(value, "probes"))?,
         usage: usage_of(field(value, "usage"))?,
-        unsampled: unsampled_of(field(value, "unsampled")),
+        unsampled: truth_of(field(value, "unsampled")),
+        deleting: truth_of(field(value, "deleting")),
     })
 }
 

@@ -30,6 +30,12 @@ pub fn unsampled_said()
     ensures { laws.UnsampledSaid }
 {}
 
+/// An entry says that its pod is being deleted exactly where its member `deleting` is true, and nothing of it exactly
+/// where the member is missing, null or false.
+pub fn deleting_said()
+    ensures { laws.DeletingSaid }
+{}
+
 /// A line is refused where it names a signal that it may not name.
 pub fn only_signals()
     ensures { laws.OnlySignals }

@@ -11,6 +11,7 @@ mod listing;
 mod probing;
 mod samples;
 mod tape;
+mod truth;
 mod usage;
 mod value;
 
@@ -23,5 +24,5 @@ pub use tape::{
     EntryText, LineSamples, ListingText, ResultText, entries_text, entry_text, listing_text,
     result_text, samples_text,
 };
-pub use usage::UnsampledMember;
+pub use truth::TruthMember;
 pub use value::TickValue;

@@ -13,8 +13,8 @@ ghost use Rattle.tick_lines.specs.rule.Listings.{attempt_of, state_of, listing_o
 ghost use Rattle.tick_lines.specs.rule.Results.{result_of};
 ghost use Rattle.tick_lines.specs.rule.Samples.{samples_of};
 ghost use Rattle.tick_lines.specs.state.Tape.{text_in, code_in, probe_in, outcome_in, left_in, listing_as, result_as};
-ghost use Rattle.tick_lines.specs.state.Tape.{unsampled_in};
-ghost use Rattle.tick_lines.specs.declared.usage.UnsampledMember.TheVariants.{No};
+ghost use Rattle.tick_lines.specs.state.Tape.{truth_in};
+ghost use Rattle.tick_lines.specs.declared.truth.TruthMember.TheVariants.{No};
 ghost use Rattle.tick_lines.specs.state.Tape.{ListingRead, ResultRead, UsageRead, EntryRead, IsEntry, HasSamples};
 ghost use Rattle.tick_lines.specs.rule.Usages.{usage_in, usage_of};
 
@@ -22,7 +22,7 @@ use crate::fields::quantity_at;
 use crate::listing::{ListedInstance, attempt_of, code_of, state_of};
 use crate::probing::{outcome_named, probe_named};
 use crate::samples::samples_of;
-use crate::usage::{UnsampledMember, unsampled_of};
+use crate::truth::{TruthMember, truth_of};
 use json::Value;
 use json_fields::{MemberNames, Scope, TapeItems, TapeValue};
 use manifest::{Outcome, ProbeKind};
@@ -341,17 +341,17 @@ fn usage_here(value: &TapeValue<'_, '_>) -> Option<Option<Usage>>
     Some(Some(usage))
 }
 
-/// Whether a member says nothing of a pod's samples: it is null or false.
+/// Whether a member that may be true says nothing: it is null or false.
 fn is_silent(value: &TapeValue<'_, '_>) -> bool
-    ensures { IsTrue result → unsampled_in (present (Some (data_at value.now))) ≡ Ok No }
+    ensures { IsTrue result → truth_in (present (Some (data_at value.now))) ≡ Ok No }
 {
     let Some(found) = scalar_here(value) else {
         return false;
     };
-    matches!(unsampled_of(found.as_ref()), UnsampledMember::No)
+    matches!(truth_of(found.as_ref()), TruthMember::No)
 }
 
-/// What was read of an entry, and of one member more: none where it says something of samples, which is rare.
+/// What was read of an entry, and of one member more: none where it has a word, which is rare.
 fn entry_with<'t, 'a>(
     entry: EntryMembers<'t, 'a>,
     name: &str,
@@ -377,13 +377,13 @@ fn entry_with<'t, 'a>(
             usage: usage_here(value)?,
             ..entry
         }),
-        "unsampled" => if is_silent(value) { Some(entry) } else { None },
+        "unsampled" | "deleting" => if is_silent(value) { Some(entry) } else { None },
         _ => Some(entry),
     }
 }
 
 /// What an item of a tick line says of a pod, all but its listings and results; none where it says that the pod has no
-/// sample.
+/// sample, or is being deleted.
 pub fn entry_text<'t, 'a>(value: &TapeValue<'t, 'a>) -> Option<EntryText<'t, 'a>>
     ensures { IfSome result (IsEntry (data_at value.now)) }
 {

@@ -17,8 +17,9 @@ use Rattle.manifest.specs.declared.pod.PodSpec.{PodSpec}
 use Rattle.observations.specs.declared.tick.TickObs.{TickObs}
 use Rattle.observations.specs.declared.container.ContainerObs.{ContainerObs}
 use Rattle.observations.specs.rule.Pods.{PodObs}
-use Rattle.observations.specs.state.Pods.{pod_obs}
+use Rattle.observations.specs.state.Pods.{pod_obs, no_words}
 use Rattle.observations.specs.declared.usage.Sampling.TheVariants.{Unsaid}
+use Rattle.observations.specs.declared.usage.Usage.{Usage}
 use Rattle.roster.specs.rule.Roll.{Roll, number_of, is_present}
 use Rattle.serde_json.specs.Data.{Data}
 use Rattle.tick_lines.specs.declared.entry.TickEntry.{TickEntry}
@@ -28,7 +29,7 @@ use Rattle.tick_lines.specs.declared.listing.Listing.{Listing}
 use Rattle.tick_lines.specs.declared.probing.ProbeResult.{ProbeResult}
 use Rattle.tick_lines.specs.declared.tape.EntryText.{EntryText}
 use Rattle.tick_lines.specs.declared.tape.LineSamples.{LineSamples}
-use Rattle.tick_lines.specs.declared.usage.UnsampledMember.TheVariants.{No}
+use Rattle.tick_lines.specs.declared.truth.TruthMember.TheVariants.{No}
 use Rattle.tick_lines.specs.rule.Entries.{entry_of, entries_of}
 use Rattle.tick_lines.specs.rule.Line.{tick_line_of}
 use Rattle.tick_lines.specs.rule.Listings.{listing_of, listings_of}
@@ -37,19 +38,19 @@ use Rattle.tick_lines.specs.rule.Fields.{items_of}
 use Rattle.tick_lines.specs.state.Tape.{left_in, IsEntry, HasSamples}
 use Rattle.trace.specs.state.Ahead.{IsShown}
 use Rattle.trace.specs.declared.fault.FaultKind.{FaultKind}
+use Rattle.trace.specs.declared.placing.EntrySaid.{EntrySaid}
 use Rattle.trace.specs.declared.placing.PlacedEntry.{PlacedEntry}
 use Rattle.trace.specs.declared.placing.PlacedListing.{PlacedListing}
 use Rattle.trace.specs.declared.placing.PlacedResult.{PlacedResult}
 use Rattle.trace.specs.rule.Observed.{containers_from, pod_observed, pods_from, lacks_code}
 use Rattle.trace.specs.rule.Placing.{number_in, pod_numbered, placed_listing, placed_result, entry_of_pod}
-use Rattle.trace.specs.rule.Placing.{placed_entry, placed_of, repeats, sampled_or}
-use Rattle.trace.specs.state.Placing.{speaks}
+use Rattle.trace.specs.rule.Placing.{placed_entry, placed_of, repeats, sampled_or, said_in}
+use Rattle.trace.specs.state.Placing.{is_word}
 use Rattle.trace.specs.state.Noted.{ListingsNoted, ResultsNoted}
 use Rattle.trace.specs.state.Slots.{slots_from, has_entry}
 use Rattle.trace.specs.state.Tape.{of_item, listing_read, result_read, entry_read, item_speaks, EntriesNoted}
 use Rattle.trace.proofs.NotedItems.{each_more}
 use Rattle.trace.proofs.NotedPods.{apart_more, found_present, slots_length}
-use Rattle.trace.proofs.Placed.{said_of}
 use Rattle.trace.proofs.Silent.{entries_silent}
 use Rattle.trace.proofs.TakenAhead.{shown_record}
 
@@ -77,27 +78,31 @@ read_then_placed {A} {B} f g (d ∷ ds) ys e =
       then_each (g read.0) (each g later.0) one.0 rest.0 read.2 later.2 ∙ rest.2,
     )
 
+-- what an entry without a word says
+abbrev pub said_silent : Option Usage → EntrySaid
+said_silent usage = record { sampling = sampled_or Unsaid usage; words = no_words }
+
 entry_by_parts : (roll : Roll) (entry : TickEntry) (n : ℕ) (pod : PodSpec) (ls : List PlacedListing)
     (rs : List PlacedResult) → number_of roll entry.key ≡ Some n → slice_get roll.pods n ≡ Some pod
     → each (placed_listing pod) entry.listings ≡ Ok ls → each (placed_result pod) entry.results ≡ Ok rs
     → placed_entry false roll entry
-    ≡ Ok (record { pod = n; listings = ls; results = rs; sampling = said_of false entry })
+    ≡ Ok (record { pod = n; listings = ls; results = rs; said = said_in false entry })
 unfolding placed_entry entry_of_pod
 entry_by_parts roll entry n pod ls rs number there listings results = rw (number, there, listings, results) refl
 
 entry_spoken : (d : Data) (key : List ℕ) (ws : List Listing) (ps : List ProbeResult) (text : EntryText)
     → text_at (codes "pod") d ≡ Some key → listings_of (field_at (codes "containers") d) ≡ Ok ws
     → results_of (field_at (codes "probes") d) ≡ Ok ps → IsEntry d text
-    → entry_of d ≡ Ok (record { key = key; listings = ws; results = ps; usage = text.usage; unsampled = No })
+    → entry_of d ≡ Ok (record { key = key; listings = ws; results = ps; usage = text.usage; unsampled = No; deleting = No })
 unfolding entry_of
 entry_spoken d key ws ps text named listings results is =
-    rw (named, listings, results, is.usage, is.unsampled) refl
+    rw (named, listings, results, is.usage, is.unsampled, is.deleting) refl
 
 -- an entry that was read in parts and placed is what its item says, placed
 entry_placed : (roll : Roll) (d : Data) (text : EntryText) (n : ℕ) (pod : PodSpec) (ls : List PlacedListing)
     (rs : List PlacedResult) → IsEntry d text → number_of roll text.key.now ≡ Some n → slice_get roll.pods n ≡ Some pod
     → each (listing_read pod) (left_in text.listings) ≡ Ok ls → each (result_read pod) (left_in text.results) ≡ Ok rs
-    → entry_read roll d ≡ Ok (record { pod = n; listings = ls; results = rs; sampling = sampled_or Unsaid text.usage })
+    → entry_read roll d ≡ Ok (record { pod = n; listings = ls; results = rs; said = said_silent text.usage })
 entry_placed roll d text n pod ls rs is number there read_listings read_results =
     let listings = read_then_placed listing_of (placed_listing pod) (left_in text.listings) ls read_listings in
     let results = read_then_placed result_of (placed_result pod) (left_in text.results) rs read_results in
@@ -107,6 +112,7 @@ entry_placed roll d text n pod ls rs is number there read_listings read_results 
       results = results.0;
       usage = text.usage;
       unsampled = No;
+      deleting = No;
     } in
     let listed : listings_of (field_at (codes "containers") d) ≡ Ok listings.0 = rw is.listings listings.1 in
     let probed : results_of (field_at (codes "probes") d) ≡ Ok results.0 = rw is.results results.1 in
@@ -165,7 +171,7 @@ none_noted roll at slots noted = record {
 
 -- the entry of the pod with the number
 abbrev pub entry_with : ℕ → List PlacedListing → List PlacedResult → EntryText → PlacedEntry
-entry_with n ls rs text = record { pod = n; listings = ls; results = rs; sampling = sampled_or Unsaid text.usage }
+entry_with n ls rs text = record { pod = n; listings = ls; results = rs; said = said_silent text.usage }
 
 -- the entries with one more
 pub one_more_noted : (roll : Roll) (at : ℕ) (ds : List Data) (d : Data) (old new : List (Option PodObs))
@@ -188,7 +194,7 @@ one_more_noted roll at ds d old new text n pod listed all ls rs before is number
       apart = none_more repeats before.entries entry before.apart (rw (ls.once, rs.once) refl);
       coded = none_more (λ (e : PlacedEntry). list_any (λ l. lacks_code l.instance) e.listings) before.entries entry
           before.coded ls.coded;
-      silent = none_more item_speaks ds d before.silent (ap speaks is.unsampled);
+      silent = none_more item_speaks ds d before.silent (or_from _ _ (ap is_word is.unsampled) (ap is_word is.deleting));
       present = All-push (λ (e : PlacedEntry). is_present roll.departures e.pod ≡ true) before.entries entry
           before.present (found_present roll text.key.now n number).0;
       noted = noted;

@@ -8,38 +8,34 @@ use Rattle.json_fields.specs.rule.Reading.{◌>>=◌, each}
 use Rattle.json_fields.proofs.Steps.{bind_ok, then_ok, there_is}
 use Rattle.json_fields.proofs.Only.{same_value}
 use Rattle.manifest.specs.declared.pod.PodSpec.{PodSpec}
-use Rattle.observations.specs.declared.usage.Sampling.{Sampling}
 use Rattle.tick_lines.specs.declared.entry.TickEntry.{TickEntry}
 use Rattle.trace.specs.declared.fault.FaultKind.{FaultKind}
 use Rattle.trace.specs.declared.placing.PlacedListing.{PlacedListing}
 use Rattle.trace.specs.declared.placing.PlacedResult.{PlacedResult}
+use Rattle.trace.specs.declared.placing.EntrySaid.{EntrySaid}
 use Rattle.trace.specs.declared.placing.PlacedEntry.{PlacedEntry}
 use Rattle.json_fields.specs.state.Reading.{GivesUnless}
 use Rattle.trace.specs.state.Memory.{is_memory}
 use Rattle.roster.specs.rule.Roll.{Roll}
 use Rattle.trace.specs.rule.Placing.{number_in, pod_numbered, placed_listing, placed_result}
-use Rattle.trace.specs.rule.Placing.{sampling_of, entry_of_pod, placed_entry, placed_of}
+use Rattle.trace.specs.rule.Placing.{said_in, entry_of_pod, placed_entry, placed_of}
 use Rattle.trace.specs.state.Placing.{entries_of_pods}
 
 -- the steps of an entry
-abbrev pub placed : Sampling → ℕ → List PlacedListing → List PlacedResult → Result PlacedEntry FaultKind
-placed sampling number listings results =
-    Ok (record { pod = number; listings = listings; results = results; sampling = sampling })
+abbrev pub placed : EntrySaid → ℕ → List PlacedListing → List PlacedResult → Result PlacedEntry FaultKind
+placed said number listings results =
+    Ok (record { pod = number; listings = listings; results = results; said = said })
 
-abbrev pub with_listings : Sampling → TickEntry → ℕ → PodSpec → List PlacedListing → Result PlacedEntry FaultKind
-with_listings sampling entry number pod listings =
-    each (placed_result pod) entry.results >>= placed sampling number listings
+abbrev pub with_listings : EntrySaid → TickEntry → ℕ → PodSpec → List PlacedListing → Result PlacedEntry FaultKind
+with_listings said entry number pod listings =
+    each (placed_result pod) entry.results >>= placed said number listings
 
-abbrev pub with_pod : Sampling → TickEntry → ℕ → PodSpec → Result PlacedEntry FaultKind
-with_pod sampling entry number pod =
-    each (placed_listing pod) entry.listings >>= with_listings sampling entry number pod
+abbrev pub with_pod : EntrySaid → TickEntry → ℕ → PodSpec → Result PlacedEntry FaultKind
+with_pod said entry number pod =
+    each (placed_listing pod) entry.listings >>= with_listings said entry number pod
 
-abbrev pub with_number : Sampling → List PodSpec → TickEntry → ℕ → Result PlacedEntry FaultKind
-with_number sampling pods entry number = pod_numbered pods number >>= with_pod sampling entry number
-
--- what an entry says of samples
-abbrev pub said_of : Bool → TickEntry → Sampling
-said_of heeds entry = sampling_of heeds entry.usage entry.unsampled
+abbrev pub with_number : EntrySaid → List PodSpec → TickEntry → ℕ → Result PlacedEntry FaultKind
+with_number said pods entry number = pod_numbered pods number >>= with_pod said entry number
 
 -- what stands before the rest of a list, once its first step is known to go well
 then_all : {A B E : Type 0} (r : Result A E) (f : A → Result B E) (x : A) (rest : Result (List B) E) → r ≡ Ok x
@@ -80,13 +76,13 @@ as_many {B = B} {E = E} f (x ∷ xs) ys e =
     ap (λ (zs : List B). length zs) (sym (same_value {E = E} (one.0 ∷ rest.0) ys rest.2))
     ∙ ap suc (as_many f xs rest.0 rest.1)
 
--- the pod of an entry that could be placed is there, and the entry says what was written of its samples
+-- the pod of an entry that could be placed is there, and the entry says what was written of it
 pub entry_says : (heeds : Bool) (pods : List PodSpec) (n : ℕ) (entry : TickEntry) (e : PlacedEntry)
     → entry_of_pod heeds pods n entry ≡ Ok e
-    → (n < length pods) × (n ≡ e.pod) × (said_of heeds entry ≡ e.sampling)
+    → (n < length pods) × (n ≡ e.pod) × (said_in heeds entry ≡ e.said)
 unfolding entry_of_pod
 entry_says heeds pods n entry e is =
-    let says = said_of heeds entry in
+    let says = said_in heeds entry in
     let pod = bind_ok (pod_numbered pods n) (with_pod says entry n) e is in
     let listings = bind_ok (each (placed_listing pod.0) entry.listings) (with_listings says entry n pod.0) e pod.2 in
     let results = bind_ok (each (placed_result pod.0) entry.results) (placed says n listings.0) e listings.2 in
@@ -94,11 +90,11 @@ entry_says heeds pods n entry e is =
       pod = n;
       listings = listings.0;
       results = results.0;
-      sampling = says;
+      said = says;
     }) e results.2 in (
       slice_get_within pods n pod.0 (there_is _ (slice_get pods n) pod.0 pod.1),
       ap (λ (p : PlacedEntry). p.pod) same,
-      ap (λ (p : PlacedEntry). p.sampling) same,
+      ap (λ (p : PlacedEntry). p.said) same,
     )
 
 entry_known : (heeds : Bool) (pods : List PodSpec) (n : ℕ) (entry : TickEntry) (e : PlacedEntry)

@@ -62,6 +62,11 @@ pub fn unsampled_shown()
     ensures { laws.UnsampledShown }
 {}
 
+/// A tick shows that a pod is being deleted exactly where the text is of version 3 and the pod's entry says so.
+pub fn deleting_shown()
+    ensures { laws.DeletingShown }
+{}
+
 /// What a tick shows of the node's signals is what its line has of them.
 pub fn signals_shown()
     ensures { laws.SignalsShown }

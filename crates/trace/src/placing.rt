@@ -6,18 +6,18 @@ ghost use Rattle.json_fields.specs.state.Reading.{GivesExactly, GivesUnless, che
 ghost use Rattle.trace.specs.state.Memory.{is_memory};
 ghost use Rattle.trace.specs.rule.Placing.{number_in, container_number, placed_listing, placed_result, pod_numbered};
 ghost use Rattle.trace.specs.rule.Placing.{entry_of_pod, has_twice, are_of_one_container, is_of_probe};
-ghost use Rattle.trace.specs.state.Placing.{entries_of_pods, speaks, some_speaks};
+ghost use Rattle.trace.specs.state.Placing.{entries_of_pods, is_word, speaks, some_speaks};
 ghost use Rattle.trace.specs.rule.Placing.{are_of_one_probe, repeats, sampled_or, without_sample};
-ghost use Rattle.trace.specs.rule.Placing.{sampling_of, placed_entry, placed_of};
+ghost use Rattle.trace.specs.rule.Placing.{sampling_of, words_of, said_in, placed_entry, placed_of};
 ghost use Rattle.std.specs.List.{list_any};
 
 use crate::fault::FaultKind;
 use lists::Sequence;
 use manifest::{Outcome, PodSpec, ProbeKind};
-use observations::{Sampling, Usage};
+use observations::{PodWords, Sampling, Usage};
 use roster::Roster;
 use std::alloc::Global;
-use tick_lines::{ListedInstance, Listing, ProbeResult, TickEntry, UnsampledMember};
+use tick_lines::{ListedInstance, Listing, ProbeResult, TickEntry, TruthMember};
 
 /// A listing of the container with the number.
 #[derive(Clone, Copy)]
@@ -34,13 +34,20 @@ pub(crate) struct PlacedResult {
     pub(crate) outcome: Outcome,
 }
 
+/// What an entry says of its pod beside its listings and results.
+#[derive(Clone, Copy)]
+pub(crate) struct EntrySaid {
+    pub(crate) sampling: Sampling,
+    pub(crate) words: PodWords,
+}
+
 /// An entry of the pod with the number.
 #[derive(Drop)]
 pub(crate) struct PlacedEntry {
     pub(crate) pod: usize,
     pub(crate) listings: Sequence<PlacedListing>,
     pub(crate) results: Sequence<PlacedResult>,
-    pub(crate) sampling: Sampling,
+    pub(crate) said: EntrySaid,
 }
 
 /// What places that which is written, by the names that it has.
@@ -128,17 +135,24 @@ pub(crate) fn pod_numbered(pods: &[PodSpec], number: usize) -> Result<&PodSpec, 
 }
 
 /// Whether the member is other than null and false, where there is one.
-fn speaks(unsampled: UnsampledMember) -> bool
-    ensures { result ≡ speaks unsampled }
+fn is_word(member: TruthMember) -> bool
+    ensures { result ≡ is_word member }
 {
-    !matches!(unsampled, UnsampledMember::No)
+    !matches!(member, TruthMember::No)
 }
 
-/// Whether an entry has a member `unsampled` other than null and false.
+/// Whether the entry has a member `unsampled` or `deleting` other than null and false.
+fn speaks(entry: &TickEntry) -> bool
+    ensures { result ≡ speaks entry.now }
+{
+    is_word(entry.unsampled) || is_word(entry.deleting)
+}
+
+/// Whether one of the entries has such a member.
 pub(crate) fn some_speaks(entries: &[TickEntry]) -> bool
     ensures { result ≡ some_speaks entries.now }
 {
-    entries.iter().any(|e| speaks(e.unsampled))
+    entries.iter().any(|e| speaks(e))
 }
 
 /// A sample that came, or this where none did.
@@ -152,17 +166,36 @@ pub(crate) fn sampled_or(other: Sampling, usage: Option<Usage>) -> Sampling
 }
 
 /// What an entry without a sample says of them: that there is none counts where the version heeds it.
-fn without_sample(heeds: bool, unsampled: UnsampledMember) -> Sampling
+fn without_sample(heeds: bool, unsampled: TruthMember) -> Sampling
     ensures { result ≡ without_sample heeds unsampled }
 {
     match unsampled {
-        UnsampledMember::Yes if heeds => Sampling::Unsampled,
+        TruthMember::Yes if heeds => Sampling::Unsampled,
         _ => Sampling::Unsaid,
     }
 }
 
+/// The words of an entry, where the version heeds them.
+fn words_of(heeds: bool, deleting: TruthMember) -> PodWords
+    ensures { result ≡ words_of heeds deleting }
+{
+    PodWords {
+        deleting: heeds && matches!(deleting, TruthMember::Yes),
+    }
+}
+
+/// What an entry says of its pod beside its listings and results.
+fn said_in(heeds: bool, entry: &TickEntry) -> EntrySaid
+    ensures { result ≡ said_in heeds entry.now }
+{
+    EntrySaid {
+        sampling: sampling_of(heeds, entry.usage, entry.unsampled),
+        words: words_of(heeds, entry.deleting),
+    }
+}
+
 /// What an entry says of the samples of its pod.
-fn sampling_of(heeds: bool, usage: Option<Usage>, unsampled: UnsampledMember) -> Sampling
+fn sampling_of(heeds: bool, usage: Option<Usage>, unsampled: TruthMember) -> Sampling
     ensures { result ≡ sampling_of heeds usage unsampled }
 {
     sampled_or(without_sample(heeds, unsampled), usage)
@@ -183,7 +216,7 @@ fn entry_of_pod(
         pod: number,
         listings: place_each(alloc, pod, entry.listings.as_slice())?,
         results: place_each(alloc, pod, entry.results.as_slice())?,
-        sampling: sampling_of(heeds, entry.usage, entry.unsampled),
+        said: said_in(heeds, entry),
     })
 }
 

@@ -10,7 +10,7 @@ ghost use Rattle.trace.specs.rule.TraceSoFar.{with_tick};
 ghost use Rattle.trace.specs.state.ByPod.{AreFirst};
 ghost use Rattle.trace.specs.rule.Placing.{placed_of, is_doubled, repeats};
 ghost use Rattle.trace.specs.declared.fault.FaultKind.TheVariants.{Backwards, Doubled, ExitCode};
-ghost use Rattle.trace.specs.rule.Observed.{seen_in, outcome_in, results_in, listings_of, results_of, sampling_from};
+ghost use Rattle.trace.specs.rule.Observed.{seen_in, outcome_in, results_in, listings_of, results_of, said_from};
 ghost use Rattle.trace.specs.rule.Observed.{seen_listed, containers_from, pod_observed, pods_from, observed};
 ghost use Rattle.trace.specs.rule.Observed.{lacks_code, some_code_missing};
 ghost use Rattle.following.specs.rule.Backwards.{is_backwards};
@@ -24,19 +24,19 @@ ghost use Rattle.trace.specs.rule.Written.{is_of_other_kind, has_other_kind, hee
 use crate::by_pod::{EntriesByPod, entries_by_pod, entry_for};
 use crate::fault::{FaultKind, refused_if};
 use crate::placing::{
-    PlacedEntry, PlacedListing, PlacedResult, check_placed, entries_of_pods, is_of_probe,
+    EntrySaid, PlacedEntry, PlacedListing, PlacedResult, check_placed, entries_of_pods, is_of_probe,
     place_each, some_entry_repeats,
 };
 use crate::trace_so_far::{TraceSoFar, heeds_unsampled};
 use json_lines::TickRecord;
 use lists::Sequence;
 use manifest::{ContainerSpec, Outcome, PodSpec, ProbeKind};
-use observations::{ContainerObs, MOST_TICKS, PodObs, Sampling, TickObs};
+use observations::{ContainerObs, MOST_TICKS, NO_WORDS, PodObs, Sampling, TickObs};
 use quantity::END_OF_TIME;
 use roster::Roster;
 use state_diff::{CriState, Seen};
 use std::alloc::{AllocError, Global};
-use tick_lines::{ListedInstance, TickEntry, TickLine, TickLineFault, UnsampledMember};
+use tick_lines::{ListedInstance, TickEntry, TickLine, TickLineFault, TruthMember};
 
 fn moment_from(ticks: &[TickObs], written: Option<u64>) -> Result<u64, FaultKind>
     ensures { GivesExactly (λ n. n) result (moment_from ticks.now written) }
@@ -135,12 +135,15 @@ fn results_of(entry: Option<&PlacedEntry>) -> &[PlacedResult]
     }
 }
 
-fn sampling_from(entry: Option<&PlacedEntry>) -> Sampling
-    ensures { result ≡ sampling_from (option_map (λ e. e.now) entry.entry) }
+fn said_from(entry: Option<&PlacedEntry>) -> EntrySaid
+    ensures { result ≡ said_from (option_map (λ e. e.now) entry.entry) }
 {
     match entry {
-        None => Sampling::Unsaid,
-        Some(entry) => entry.sampling,
+        None => EntrySaid {
+            sampling: Sampling::Unsaid,
+            words: NO_WORDS,
+        },
+        Some(entry) => entry.said,
     }
 }
 
@@ -155,7 +158,8 @@ fn pod_observed(
     let listings = listings_of(entry);
     let results = results_of(entry);
     let containers = containers_observed(alloc, listings, results, pod.containers.as_slice())?;
-    PodObs::new(alloc, at, &containers, sampling_from(entry))
+    let said = said_from(entry);
+    PodObs::told(alloc, at, &containers, said.sampling, said.words)
 }
 
 /// What a tick shows of a pod, if it is present.
@@ -235,17 +239,19 @@ pub(crate) fn some_code_missing(entries: &[PlacedEntry]) -> bool
         .any(|e| entry_lacks_code(e.listings.as_slice()))
 }
 
-fn is_of_other_kind(unsampled: UnsampledMember) -> bool
-    ensures { result ≡ is_of_other_kind unsampled }
+fn is_of_other_kind(member: TruthMember) -> bool
+    ensures { result ≡ is_of_other_kind member }
 {
-    matches!(unsampled, UnsampledMember::OfOtherKind)
+    matches!(member, TruthMember::OfOtherKind)
 }
 
-/// Whether a member `unsampled` is of another kind than a truth value.
+/// Whether a member `unsampled` or `deleting` is of another kind than a truth value.
 fn has_other_kind(entries: &[TickEntry]) -> bool
     ensures { result ≡ has_other_kind entries.now }
 {
-    entries.iter().any(|e| is_of_other_kind(e.unsampled))
+    entries
+        .iter()
+        .any(|e| is_of_other_kind(e.unsampled) || is_of_other_kind(e.deleting))
 }
 
 /// Refuses these members where the version heeds them.

@@ -1,5 +1,5 @@
 -- What a tick shows of one pod, as it is kept in a block.
-use Rattle.std.specs.Prelude.{ℕ, List, [], ◌∷◌, Option, Some, None}
+use Rattle.std.specs.Prelude.{ℕ, List, [], ◌∷◌, Option, Some, None, false}
 use Rattle.observations.specs.declared.container.ContainerObs.{ContainerObs}
 use Rattle.observations.specs.declared.containers.Containers.{Containers}
 use Rattle.observations.specs.declared.containers.Containers.TheVariants as containers
@@ -9,11 +9,24 @@ use Rattle.observations.specs.declared.packed_containers.PackedContainers.TheVar
 use Rattle.observations.specs.declared.usage.Sampling.{Sampling}
 use Rattle.observations.specs.declared.usage.Sampling.TheVariants.{Unsaid, Unsampled, Sampled}
 use Rattle.observations.specs.declared.usage.Usage.{Usage}
+use Rattle.observations.specs.declared.words.PodWords.{PodWords}
 use Rattle.observations.specs.state.Whole.{memory_as, usage_as}
 use Rattle.observations.specs.rule.Pods.{PodObs}
 
+abbrev pub no_words : PodWords
+no_words = record { deleting = false }
+
+abbrev pub told_obs : ℕ → List ContainerObs → Sampling → PodWords → PodObs
+told_obs at containers sampling words = record {
+  at = at;
+  containers = containers;
+  sampling = sampling;
+  words = words;
+}
+
+-- without a word
 abbrev pub pod_obs : ℕ → List ContainerObs → Sampling → PodObs
-pod_obs at containers sampling = record { at = at; containers = containers; sampling = sampling }
+pod_obs at containers sampling = told_obs at containers sampling no_words
 
 -- what is kept of containers in a block
 abbrev pub containers_in : Containers → List PackedContainer
@@ -31,6 +44,7 @@ kept_in (shown.Unused containers) = containers.items
 kept_in (shown.Unsampled containers) = containers_in containers.value
 kept_in (shown.Whole whole) = containers_in whole.value.containers
 kept_in (shown.Used used) = containers_in used.value.containers
+kept_in (shown.Told told) = containers_in told.value.containers
 
 -- what the tick says of the pod's samples, as its packed containers keep it
 abbrev pub sampling_in : PackedContainers → Sampling
@@ -39,7 +53,13 @@ sampling_in (shown.OneWithMemory one memory) = Sampled (memory_as memory)
 sampling_in (shown.TwoWithMemory one two memory) = Sampled (memory_as memory)
 sampling_in (shown.Whole whole) = Sampled (usage_as whole.value.usage)
 sampling_in (shown.Used used) = Sampled used.value.usage
+sampling_in (shown.Told told) = told.value.sampling
 sampling_in s = Unsaid
+
+-- the tick's words on the pod
+abbrev pub words_in : PackedContainers → PodWords
+words_in (shown.Told told) = told.value.words
+words_in s = no_words
 
 -- the sample that was taken, if one was
 abbrev pub sample_in : Sampling → Option Usage

@@ -1,7 +1,8 @@
 -- The events of a pod at a tick that comes after these ticks of it, by their places: container by
 -- container, then the pod's own. (Kubernetes, "Pod Lifecycle"; the places, and that an end leaves
 -- no events after it, are this profile's rule.)
-use Rattle.std.specs.Prelude.{◌≡◌, ◌⊎◌, ℕ, ◌+◌, ◌<◌, List, [], ◌∷◌, ◌++◌, length, Option, Some, None, option_map}
+use Rattle.std.specs.Prelude.{◌≡◌, ◌⊎◌, ℕ, ◌+◌, ◌<◌, Bool, true, false, List, [], ◌∷◌, ◌++◌, length, Option, Some}
+use Rattle.std.specs.Prelude.{None, option_map}
 use Rattle.std.specs.Prelude.{slice_index_or}
 use Rattle.std.specs.List.{filter_map}
 use Rattle.histories.specs.rule.TheOne.{IsTheOne}
@@ -13,7 +14,7 @@ use Rattle.containers.specs.declared.pod_event_kind.PodEventKind.TheVariants as 
 use Rattle.containers.specs.declared.events.ContainerEvents.{ContainerEvents}
 use Rattle.containers.specs.rule.Events.{AreEvents}
 use Rattle.pod_state.specs.declared.events.PodEvent.{PodEvent}
-use Rattle.pod_state.specs.rule.Pods.{PodTick, ticks_of, OfSpec, HasEnded, IsRawPhaseAfter, IsPhase}
+use Rattle.pod_state.specs.rule.Pods.{PodTick, ticks_of, OfSpec, HasEnded, IsRawPhaseAfter, IsPhase, is_being_deleted}
 
 -- what the tick makes of the container with the number, by itself
 abbrev pub IsMadeOf : PodSpec → ℕ → List PodTick → PodTick → ℕ → ContainerEvents → Type 0
@@ -41,32 +42,45 @@ restart_in Running restart = restart
 restart_in Succeeded restart = None
 restart_in Failed restart = None
 
--- the places of a container's events, in a pod that the tick leaves in this phase
-abbrev pub places_in : Phase → ContainerEvents → List (Option PodEventKind)
-places_in phase made =
-    made.gone ∷ made.started ∷ made.died ∷ made.passed ∷ made.kill ∷ made.readiness ∷ made.backoff
-    ∷ restart_in phase made.restart ∷ []
+-- a container of a pod that is being deleted is not killed by a probe, nor restarted, now or later
+abbrev pub unless_deleting : Bool → Option PodEventKind → Option PodEventKind
+unless_deleting true event = None
+unless_deleting false event = event
+
+-- what comes of a container's events in a pod that the tick leaves in this phase, and that is being deleted or not
+abbrev pub coming_in : Phase → Bool → ContainerEvents → ContainerEvents
+coming_in phase deleting made = record made {
+  kill = unless_deleting deleting made.kill;
+  backoff = unless_deleting deleting made.backoff;
+  restart = unless_deleting deleting (restart_in phase made.restart);
+}
+
+-- the places of a container's events
+abbrev pub places : ContainerEvents → List (Option PodEventKind)
+places made =
+    made.gone ∷ made.started ∷ made.died ∷ made.passed ∷ made.kill ∷ made.readiness ∷ made.backoff ∷ made.restart ∷ []
 
 -- the events of these places: of a container with a number, or of the pod
 abbrev pub events_at : Option ℕ → List (Option PodEventKind) → List PodEvent
 events_at container places = filter_map (option_map (λ kind. record { container = container; kind = kind })) places
 
 -- the events of all containers, numbered from n on
-abbrev pub events_from : Phase → ℕ → List ContainerEvents → List PodEvent
-events_from phase n [] = []
-events_from phase n (made ∷ rest) = events_at (Some n) (places_in phase made) ++ events_from phase (n + 1) rest
+abbrev pub events_from : Phase → Bool → ℕ → List ContainerEvents → List PodEvent
+events_from phase deleting n [] = []
+events_from phase deleting n (made ∷ rest) =
+    events_at (Some n) (places (coming_in phase deleting made)) ++ events_from phase deleting (n + 1) rest
 
 -- the events of a tick of a pod that has not ended before it
 pub record AreEventsOfLivePod (pod : PodSpec) (max_restart_delay : ℕ) (evicted : Option ℕ) (before : List PodTick)
-    (tick : PodTick)
-    (events : List PodEvent) : Type 0 where
+    (tick : PodTick) (events : List PodEvent) : Type 0 where
   pub made : List ContainerEvents
   pub are_made : AreMade pod max_restart_delay before tick made
   pub phase : Phase
   pub is_phase : IsRawPhaseAfter pod (before ++ tick ∷ []) phase
   pub change : Option PodEventKind
   pub changes : IsTheOne (ChangesPhase pod evicted before tick) change
-  pub in_order : events ≡ events_from phase 0 made ++ events_at None (change ∷ [])
+  pub in_order : events
+      ≡ events_from phase (is_being_deleted (before ++ tick ∷ [])) 0 made ++ events_at None (change ∷ [])
 
 -- the events of the tick; a pod that has ended makes none
 abbrev pub AreEventsOf : PodSpec → ℕ → Option ℕ → List PodTick → PodTick → List PodEvent → Type 0

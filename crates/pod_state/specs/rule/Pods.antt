@@ -1,13 +1,14 @@
 -- The phase of a pod after a list of ticks (Kubernetes, "Pod Lifecycle", "Pod phase"; that what is
 -- recorded after the end of a pod changes nothing is this profile's rule). A tick is named by its
 -- place in the list, a container by its number.
-use Rattle.std.specs.Prelude.{◌≡◌, ◌≢◌, ◌⊎◌, ℕ, suc, List, [], ◌∷◌, length, Option, Some, None, IsSomeAnd}
+use Rattle.std.specs.Prelude.{◌≡◌, ◌≢◌, ◌⊎◌, ℕ, suc, Bool, List, [], ◌∷◌, length, Option, Some, None, IsSomeAnd}
 use Rattle.std.specs.Prelude.{unwrap_or, slice_get}
-use Rattle.std.specs.List.{range_with_len}
+use Rattle.std.specs.List.{range_with_len, list_any}
 use Rattle.histories.specs.rule.Histories.{Recorded, recorded, project, up_to, HoldsAt, IsFirstPlace}
 use Rattle.observations.specs.declared.container.ContainerObs.{ContainerObs}
 use Rattle.observations.specs.rule.Pods.{PodObs}
 use Rattle.observations.specs.declared.usage.Sampling.{Sampling}
+use Rattle.observations.specs.declared.words.PodWords.{PodWords}
 use Rattle.state_diff.specs.rule.Instances.{IsSetUp}
 use Rattle.manifest.specs.declared.pod.ContainerSpec.{ContainerSpec}
 use Rattle.manifest.specs.declared.pod.Role.{Role}
@@ -21,11 +22,12 @@ use Rattle.containers.specs.rule.Ticks.{ContainerTick, listings}
 use Rattle.containers.specs.rule.Probed as probed
 use Rattle.containers.specs.rule.Shown as shown
 
--- what a tick shows of a pod: of each container what is listed of it and its probes' results, and
--- what it says of the samples of the pod's use of its node
+-- what a tick shows of a pod: of each container what is listed of it and its probes' results, what it says of the
+-- samples of the pod's use of its node, and its words
 pub record PodEntry : Type 0 where
   pub containers : List ContainerObs
   pub sampling : Sampling
+  pub words : PodWords
 
 -- one tick of a pod: its moment, and what it shows
 abbrev pub PodTick : Type 0
@@ -33,7 +35,16 @@ PodTick = Recorded PodEntry
 
 -- the tick that an observation is
 abbrev pub pod_tick : PodObs → PodTick
-pod_tick observed = recorded observed.at (record { containers = observed.containers; sampling = observed.sampling })
+pod_tick observed = recorded observed.at (record {
+  containers = observed.containers;
+  sampling = observed.sampling;
+  words = observed.words;
+})
+
+-- the pod is being deleted after these ticks: some of them says so (Kubernetes, "Pod Lifecycle", "Termination of
+-- Pods"; the word is this project's)
+abbrev pub is_being_deleted : List PodTick → Bool
+is_being_deleted h = list_any (λ (tick : PodTick). tick.entry.words.deleting) h
 
 -- what a tick shows of a container of which it has no entry: nothing listed, and no results
 abbrev pub unseen : ContainerObs

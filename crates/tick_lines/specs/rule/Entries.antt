@@ -9,7 +9,8 @@ use Rattle.tick_lines.specs.declared.fault.TickLineFault.TheVariants.{Usage}
 use Rattle.tick_lines.specs.rule.Fields.{each_item}
 use Rattle.tick_lines.specs.rule.Listings.{listings_of}
 use Rattle.tick_lines.specs.rule.Results.{results_of}
-use Rattle.tick_lines.specs.rule.Usages.{usage_of, unsampled_of}
+use Rattle.tick_lines.specs.rule.Truths.{truth_of}
+use Rattle.tick_lines.specs.rule.Usages.{usage_of}
 
 unfoldable pub entry_of : Data → Result TickEntry TickLineFault
 entry_of d = do
@@ -22,7 +23,8 @@ entry_of d = do
     listings = listings;
     results = results;
     usage = usage;
-    unsampled = unsampled_of (field_at (codes "unsampled") d);
+    unsampled = truth_of (field_at (codes "unsampled") d);
+    deleting = truth_of (field_at (codes "deleting") d);
   })
 
 -- the entries of a tick line, in order

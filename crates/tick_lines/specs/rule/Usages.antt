@@ -1,14 +1,11 @@
 -- What an entry tells of its pod's use of the node (Kubernetes, "Node-pressure Eviction", "Pod
 -- selection for kubelet eviction").
-use Rattle.std.specs.Prelude.{Bool, true, false, Option, Some, None, Result, Ok, codes}
+use Rattle.std.specs.Prelude.{Option, Some, None, Result, Ok, codes}
 use Rattle.serde_json.specs.Data.{Data}
-use Rattle.serde_json.specs.Find.{as_bool}
 use Rattle.json_fields.specs.rule.Fields.{field_at}
 use Rattle.json_fields.specs.rule.Reading.{◌>>=◌}
 use Rattle.observations.specs.declared.usage.Usage.{Usage}
 use Rattle.tick_lines.specs.declared.fault.TickLineFault.{TickLineFault}
-use Rattle.tick_lines.specs.declared.usage.UnsampledMember.{UnsampledMember}
-use Rattle.tick_lines.specs.declared.usage.UnsampledMember.TheVariants.{No, Yes, OfOtherKind}
 use Rattle.tick_lines.specs.rule.Fields.{only_object, quantity_at}
 
 unfoldable pub usage_in : Data → Result Usage TickLineFault
@@ -26,14 +23,3 @@ usage_in d = do
 abbrev pub usage_of : Option Data → Result (Option Usage) TickLineFault
 usage_of None = Ok None
 usage_of (Some d) = usage_in d >>= λ usage. Ok (Some usage)
-
-abbrev pub unsampled_from : Option Bool → UnsampledMember
-unsampled_from None = OfOtherKind
-unsampled_from (Some true) = Yes
-unsampled_from (Some false) = No
-
--- whether an entry says that its pod has no sample: a member that is no truth value is told apart, and nothing here
--- refuses it
-abbrev pub unsampled_of : Option Data → UnsampledMember
-unsampled_of None = No
-unsampled_of (Some d) = unsampled_from (as_bool d)

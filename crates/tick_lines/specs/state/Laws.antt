@@ -16,8 +16,8 @@ use Rattle.tick_lines.specs.declared.fault.TickLineFault.TheVariants as faults
 use Rattle.tick_lines.specs.declared.line.TickLine.{TickLine}
 use Rattle.tick_lines.specs.declared.listing.Listing.{Listing}
 use Rattle.tick_lines.specs.declared.probing.ProbeResult.{ProbeResult}
-use Rattle.tick_lines.specs.declared.usage.UnsampledMember.{UnsampledMember}
-use Rattle.tick_lines.specs.declared.usage.UnsampledMember.TheVariants.{No, Yes}
+use Rattle.tick_lines.specs.declared.truth.TruthMember.{TruthMember}
+use Rattle.tick_lines.specs.declared.truth.TruthMember.TheVariants.{No, Yes}
 use Rattle.json_fields.specs.declared.scope.Scope.{Scope}
 use Rattle.tick_lines.specs.rule.Listings.{listing_of}
 use Rattle.tick_lines.specs.rule.Results.{result_of}
@@ -81,8 +81,8 @@ SaysUsage (Some d) said = (usage : Usage) × (said ≡ Some usage) × IsUsage d 
 abbrev pub UsageSaid : Type 0
 UsageSaid = (d : Data) (entry : TickEntry) → entry_of d ≡ Ok entry → SaysUsage (field_at (codes "usage") d) entry.usage
 
--- that a pod has no sample is said by true alone, and nothing of it by false and by no value
-pub record SaysUnsampled (found : Option Data) (said : UnsampledMember) : Type 0 where
+-- such a member says its word by true alone, and nothing by false and by no value
+pub record SaysTruth (found : Option Data) (said : TruthMember) : Type 0 where
   pub yes : said ≡ Yes ↔ found ≡ Some (boolean true)
   pub no : said ≡ No ↔ ((found ≡ None) ⊎ (found ≡ Some (boolean false)))
 
@@ -90,7 +90,12 @@ pub record SaysUnsampled (found : Option Data) (said : UnsampledMember) : Type 0
 -- refused
 abbrev pub UnsampledSaid : Type 0
 UnsampledSaid = (d : Data) (entry : TickEntry) → entry_of d ≡ Ok entry
-    → SaysUnsampled (field_at (codes "unsampled") d) entry.unsampled
+    → SaysTruth (field_at (codes "unsampled") d) entry.unsampled
+
+-- and that its pod is being deleted
+abbrev pub DeletingSaid : Type 0
+DeletingSaid = (d : Data) (entry : TickEntry) → entry_of d ≡ Ok entry
+    → SaysTruth (field_at (codes "deleting") d) entry.deleting
 
 -- it is the name of no signal of the file systems
 abbrev pub NamesNoFileSystem : List ℕ → Type 0
@@ -120,7 +125,8 @@ abbrev pub line_fields : List (List ℕ)
 line_fields = codes "pods" ∷ codes "signals" ∷ codes "afterReclaim" ∷ []
 
 abbrev pub entry_fields : List (List ℕ)
-entry_fields = codes "pod" ∷ codes "containers" ∷ codes "probes" ∷ codes "usage" ∷ codes "unsampled" ∷ []
+entry_fields =
+    codes "pod" ∷ codes "containers" ∷ codes "probes" ∷ codes "usage" ∷ codes "unsampled" ∷ codes "deleting" ∷ []
 
 abbrev pub listing_fields : List (List ℕ)
 listing_fields = codes "name" ∷ codes "attempt" ∷ codes "state" ∷ codes "exitCode" ∷ []

@@ -22,13 +22,14 @@ use Rattle.tick_lines.specs.declared.tape.ListingMembers.{ListingMembers}
 use Rattle.tick_lines.specs.declared.tape.ListingText.{ListingText}
 use Rattle.tick_lines.specs.declared.tape.ResultMembers.{ResultMembers}
 use Rattle.tick_lines.specs.declared.tape.ResultText.{ResultText}
-use Rattle.tick_lines.specs.declared.usage.UnsampledMember.{UnsampledMember}
-use Rattle.tick_lines.specs.declared.usage.UnsampledMember.TheVariants.{No}
+use Rattle.tick_lines.specs.declared.truth.TruthMember.{TruthMember}
+use Rattle.tick_lines.specs.declared.truth.TruthMember.TheVariants.{No}
 use Rattle.tick_lines.specs.rule.Fields.{items_of, quantity_at}
 use Rattle.tick_lines.specs.rule.Listings.{attempt_of, state_of, code_of}
 use Rattle.tick_lines.specs.rule.Results.{probe_named, outcome_named}
 use Rattle.tick_lines.specs.rule.Samples.{samples_of}
-use Rattle.tick_lines.specs.rule.Usages.{usage_of, unsampled_of}
+use Rattle.tick_lines.specs.rule.Truths.{truth_of}
+use Rattle.tick_lines.specs.rule.Usages.{usage_of}
 
 -- the data of the items that are left
 abbrev pub left_in : Option (List Token) → List Data
@@ -41,13 +42,15 @@ listing_as l = record { name = l.name.now; instance = l.instance }
 abbrev pub result_as : ResultText → ProbeResult
 result_as r = record { container = r.container.now; probe = r.probe; outcome = r.outcome }
 
--- what is read of an entry before its listings and results; it does not say that its pod has no sample
+-- what is read of an entry before its listings and results; it says neither that its pod has no sample nor that
+-- it is being deleted
 pub record IsEntry (d : Data) (e : EntryText) : Type 0 where
   pub key : text_at (codes "pod") d ≡ Some e.key.now
   pub listings : items_of (field_at (codes "containers") d) ≡ Ok (left_in e.listings)
   pub results : items_of (field_at (codes "probes") d) ≡ Ok (left_in e.results)
   pub usage : usage_of (field_at (codes "usage") d) ≡ Ok e.usage
-  pub unsampled : unsampled_of (field_at (codes "unsampled") d) ≡ No
+  pub unsampled : truth_of (field_at (codes "unsampled") d) ≡ No
+  pub deleting : truth_of (field_at (codes "deleting") d) ≡ No
 
 -- what is read of a line behind its entries
 pub record HasSamples (d : Data) (l : LineSamples) : Type 0 where
@@ -62,9 +65,9 @@ text_in found = some_or faults.Usage (option_and_then as_str found)
 abbrev pub code_in : Option Data → Result (Option ℤ) TickLineFault
 code_in found = Ok (code_of found)
 
--- whether there is no sample; no value is a fault here
-abbrev pub unsampled_in : Option Data → Result UnsampledMember TickLineFault
-unsampled_in found = Ok (unsampled_of found)
+-- whether it is true; no value is a fault here
+abbrev pub truth_in : Option Data → Result TruthMember TickLineFault
+truth_in found = Ok (truth_of found)
 
 abbrev pub probe_in : Option Data → Result ProbeKind TickLineFault
 probe_in found = probe_named (option_and_then as_str found)
@@ -105,4 +108,5 @@ pub record EntryRead (d : Data) (left : List Token) (e : EntryMembers) : Type 0 
   pub listings : IsRead items_of (codes "containers") d left (left_in e.listings)
   pub results : IsRead items_of (codes "probes") d left (left_in e.results)
   pub usage : IsRead usage_of (codes "usage") d left e.usage
-  pub unsampled : IsRead unsampled_in (codes "unsampled") d left No
+  pub unsampled : IsRead truth_in (codes "unsampled") d left No
+  pub deleting : IsRead truth_in (codes "deleting") d left No

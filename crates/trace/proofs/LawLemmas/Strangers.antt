@@ -7,7 +7,7 @@ use Rattle.json_fields.proofs.Steps.{bind_err, then_ok, there_is}
 use Rattle.lists.specs.rule.Names.{place_of}
 use Rattle.manifest.specs.declared.pod.PodSpec.{PodSpec}
 use Rattle.manifest.specs.rule.Containers.{names_of}
-use Rattle.observations.specs.declared.usage.Sampling.{Sampling}
+use Rattle.trace.specs.declared.placing.EntrySaid.{EntrySaid}
 use Rattle.trace.specs.declared.fault.FaultKind.{FaultKind}
 use Rattle.trace.specs.declared.fault.FaultKind.TheVariants.{StrangerPod, StrangerContainer}
 use Rattle.tick_lines.specs.declared.listing.Listing.{Listing}
@@ -19,9 +19,9 @@ use Rattle.trace.specs.declared.placing.PlacedEntry.{PlacedEntry}
 use Rattle.roster.specs.rule.Roll.{Roll, number_of}
 use Rattle.trace.proofs.Keys.{named, unnamed}
 use Rattle.trace.specs.rule.Placing.{number_in, pod_numbered, container_number, placed_listing, placed_result}
-use Rattle.trace.specs.rule.Placing.{entry_of_pod, placed_entry, placed_of}
+use Rattle.trace.specs.rule.Placing.{said_in, entry_of_pod, placed_entry, placed_of}
 use Rattle.trace.specs.state.Laws.{HasNo, NamesOther, NamesStranger, NamesStrangerContainer, Strangers}
-use Rattle.trace.proofs.Placed.{placed, with_listings, with_pod, with_number, said_of}
+use Rattle.trace.proofs.Placed.{placed, with_listings, with_pod, with_number}
 use Rattle.trace.proofs.LawLemmas.Checks.{then_err}
 
 -- the first item that gives a fault
@@ -87,7 +87,7 @@ result_fault pod r kind e =
     ]
 
 -- a fault of an entry of a known pod: it names a container that isn't the pod's
-known_fault : (says : Sampling) (entry : TickEntry) (number : ℕ) (pod : PodSpec) (kind : FaultKind)
+known_fault : (says : EntrySaid) (entry : TickEntry) (number : ℕ) (pod : PodSpec) (kind : FaultKind)
     → with_pod says entry number pod ≡ Err kind → (kind ≡ StrangerContainer) × NamesOther pod entry
 known_fault says entry number pod kind e =
     elim (bind_err (each (placed_listing pod) entry.listings) (with_listings says entry number pod) kind e) [
@@ -105,13 +105,13 @@ known_fault says entry number pod kind e =
               pod = number;
               listings = listings.0;
               results = done.0;
-              sampling = says;
+              said = says;
             }) kind done.2)
           ]
     ]
 
 -- and where it names one, that is its fault
-known_is : (says : Sampling) (entry : TickEntry) (number : ℕ) (pod : PodSpec) → NamesOther pod entry
+known_is : (says : EntrySaid) (entry : TickEntry) (number : ℕ) (pod : PodSpec) → NamesOther pod entry
     → (r : Result (List PlacedListing) FaultKind) → each (placed_listing pod) entry.listings ≡ r
     → with_pod says entry number pod ≡ Err StrangerContainer
 known_is says entry number pod (inl (m, listing, here, unknown)) r e =
@@ -144,7 +144,7 @@ entry_fault : (heeds : Bool) (roll : Roll) (es : List TickEntry) (n : ℕ) (entr
     → NamesStranger roll es ⊎ ((kind ≡ StrangerContainer) × NamesStrangerContainer roll es)
 unfolding placed_entry entry_of_pod
 entry_fault heeds roll es n entry kind here e =
-    let says = said_of heeds entry in
+    let says = said_in heeds entry in
     elim (bind_err (number_in roll entry) (with_number says roll.pods entry) kind e) [
       | inl unknown ↦ inl (record {
         n = n;
@@ -222,7 +222,7 @@ one_entry : (heeds : Bool) (roll : Roll) (es : List TickEntry) → (is : NamesSt
     → placed_entry heeds roll is.entry ≡ Err StrangerContainer
 unfolding placed_entry entry_of_pod
 one_entry heeds roll es is =
-    let says = said_of heeds is.entry in
+    let says = said_in heeds is.entry in
     then_ok (number_in roll is.entry) (with_number says roll.pods is.entry) is.number
     (ap (λ (found : Option ℕ). some_or StrangerPod found) is.known)
     ∙ then_ok (pod_numbered roll.pods is.number) (with_pod says is.entry is.number) is.pod

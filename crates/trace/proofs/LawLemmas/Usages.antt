@@ -1,4 +1,4 @@
--- What a tick shows of a pod's samples and of the node's signals is what its line tells.
+-- What a tick shows of a pod's samples and words and of the node's signals is what its line tells.
 use Rattle.std.proofs.Common.{◌≡◌, ◌∙◌, ℕ, zero, suc, Bool, true, false, List, [], ◌∷◌, Option, Some, None, Result, Ok}
 use Rattle.std.proofs.Common.{Err, refl, ap, sym}
 use Rattle.std.specs.Prelude.{◌↔◌, ◌&&◌, slice_get, option_map}
@@ -17,40 +17,46 @@ use Rattle.observations.specs.declared.usage.Usage.{Usage}
 use Rattle.tick_lines.specs.declared.entry.TickEntry.{TickEntry}
 use Rattle.tick_lines.specs.declared.fault.TickLineFault.{TickLineFault}
 use Rattle.tick_lines.specs.declared.line.TickLine.{TickLine}
-use Rattle.tick_lines.specs.declared.usage.UnsampledMember.{UnsampledMember}
-use Rattle.tick_lines.specs.declared.usage.UnsampledMember.TheVariants.{No, Yes, OfOtherKind}
+use Rattle.tick_lines.specs.declared.truth.TruthMember.{TruthMember}
+use Rattle.tick_lines.specs.declared.truth.TruthMember.TheVariants.{No, Yes, OfOtherKind}
 use Rattle.tick_lines.specs.rule.Line.{tick_line_of}
 use Rattle.tick_lines.proofs.Quantities.{samples_said}
 use Rattle.trace.specs.declared.fault.FaultKind.{FaultKind}
 use Rattle.trace.specs.declared.fault.FaultKind.TheVariants as faults
 use Rattle.trace.specs.declared.fault.FaultKind.TheVariants.{StrangerPod}
+use Rattle.trace.specs.declared.placing.EntrySaid.{EntrySaid}
 use Rattle.trace.specs.declared.placing.PlacedEntry.{PlacedEntry}
-use Rattle.trace.specs.rule.Observed.{sampling_from, entry_for, observed}
+use Rattle.trace.specs.rule.Observed.{said_from, entry_for, observed}
 use Rattle.trace.specs.rule.Placing.{has_twice, are_of_one_pod, number_in, sampling_of, entry_of_pod, placed_entry}
-use Rattle.trace.specs.rule.Placing.{placed_of}
+use Rattle.trace.specs.rule.Placing.{placed_of, said_in, words_of}
 use Rattle.trace.specs.rule.TraceSoFar.{heeds_unsampled}
 use Rattle.trace.specs.rule.Written.{has_other_kind, written_in}
 use Rattle.trace.specs.state.Laws.{Tells, sampling_shown_of, UsageShown, SaysUnsampled, UnsampledShown, SignalsShown}
-use Rattle.trace.proofs.Placed.{said_of, entry_says}
+use Rattle.trace.specs.state.Laws.{deleting_shown_of, SaysDeleting, DeletingShown}
+use Rattle.trace.proofs.Placed.{entry_says}
 use Rattle.trace.proofs.LawLemmas.Listings.{entry_found, entry_given, pod_shown}
+
+-- what an entry says of samples, where there is one
+abbrev says_of : Option PlacedEntry → Sampling
+says_of entry = (said_from entry).sampling
 
 sampling_is : (at : ℕ) (written : TickLine) (es : List PlacedEntry) (roll : Roll) (n : ℕ) (pod : PodSpec)
     → slice_get roll.pods n ≡ Some pod → is_present roll.departures n ≡ true
-    → sampling_shown_of (observed at written es roll) n ≡ Some (sampling_from (entry_for es n))
+    → sampling_shown_of (observed at written es roll) n ≡ Some (says_of (entry_for es n))
 sampling_is at written es roll n pod here present =
     ap (λ (o : Option PodObs). option_map (λ (p : PodObs). p.sampling) o)
     (pod_shown at written es roll n pod here present)
 
 tells : (es : List PlacedEntry) (n : ℕ) (says : Sampling) (entry : Option PlacedEntry) → (says ≡ Unsaid → ⊥)
-    → entry_for es n ≡ entry → sampling_from entry ≡ says → Tells es n says
+    → entry_for es n ≡ entry → says_of entry ≡ says → Tells es n says
 tells es n says None some is e = absurd (some (sym e))
 tells es n says (Some entry) some is e =
     let found = entry_found es n entry is in
     (found.0, entry, found.1, found.2, e)
 
 told : (es : List PlacedEntry) (n : ℕ) (says : Sampling) → has_twice are_of_one_pod es ≡ false → Tells es n says
-    → sampling_from (entry_for es n) ≡ says
-told es n says once (k, entry, here, is, given) = ap sampling_from (entry_given es n entry once k here is) ∙ given
+    → says_of (entry_for es n) ≡ says
+told es n says once (k, entry, here, is, given) = ap says_of (entry_given es n entry once k here is) ∙ given
 
 -- what is shown of samples, where something is, is what the pod's entry tells
 shown_told : (at : ℕ) (written : TickLine) (es : List PlacedEntry) (roll : Roll) (n : ℕ) (pod : PodSpec)
@@ -59,7 +65,7 @@ shown_told : (at : ℕ) (written : TickLine) (es : List PlacedEntry) (roll : Rol
     → (sampling_shown_of (observed at written es roll) n ≡ Some says ↔ Tells es n says)
 shown_told at written es roll n pod says some once here present =
     let is = sampling_is at written es roll n pod here present in (
-      λ e. tells es n says (entry_for es n) some refl (same_Some (sampling_from (entry_for es n)) says (sym is ∙ e)),
+      λ e. tells es n says (entry_for es n) some refl (same_Some (says_of (entry_for es n)) says (sym is ∙ e)),
       λ given. is ∙ ap Some (told es n says once given),
     )
 
@@ -107,16 +113,16 @@ unfolding placed_of
 all_read heeds roll entries es e =
     (bind_ok (each (number_in roll) entries) (λ numbers. each (placed_entry heeds roll) entries) es e).2
 
--- an entry is placed by the number of its pod, and says what was written of its samples
+-- an entry is placed by the number of its pod, and says what was written
 placed_says : (heeds : Bool) (roll : Roll) (entry : TickEntry) (e : PlacedEntry) → placed_entry heeds roll entry ≡ Ok e
-    → (number_of roll entry.key ≡ Some e.pod) × (said_of heeds entry ≡ e.sampling)
+    → (number_of roll entry.key ≡ Some e.pod) × (said_in heeds entry ≡ e.said)
 unfolding placed_entry
 placed_says heeds roll entry e is =
     let number = bind_ok (number_in roll entry) (λ n. entry_of_pod heeds roll.pods n entry) e is in
     let says = entry_says heeds roll.pods number.0 entry e number.2 in
     (there_is StrangerPod (number_of roll entry.key) number.0 number.1 ∙ ap Some says.1, says.2)
 
-says_none : (heeds : Bool) (usage : Option Usage) (unsampled : UnsampledMember)
+says_none : (heeds : Bool) (usage : Option Usage) (unsampled : TruthMember)
     → sampling_of heeds usage unsampled ≡ Unsampled → (heeds ≡ true) × (usage ≡ None) × (unsampled ≡ Yes)
 says_none heeds (Some usage) unsampled e = absurd (cc)
 says_none true None No e = absurd (cc)
@@ -131,11 +137,11 @@ in_three (Some Two) e = absurd (cc)
 in_three (Some Three) e = refl
 
 none_said : (version : Option Version) (entry : TickEntry) → version ≡ Some Three → entry.unsampled ≡ Yes
-    → entry.usage ≡ None → said_of (heeds_unsampled version) entry ≡ Unsampled
+    → entry.usage ≡ None → (said_in (heeds_unsampled version) entry).sampling ≡ Unsampled
 none_said version entry three says alone =
-    ap (λ (v : Option Version). said_of (heeds_unsampled v) entry) three
+    ap (λ (v : Option Version). (said_in (heeds_unsampled v) entry).sampling) three
     ∙ ap (λ (usage : Option Usage). sampling_of true usage entry.unsampled) alone
-    ∙ ap (λ (unsampled : UnsampledMember). sampling_of true None unsampled) says
+    ∙ ap (λ (unsampled : TruthMember). sampling_of true None unsampled) says
 
 told_by : (version : Option Version) (roll : Roll) (entries : List TickEntry) (es : List PlacedEntry) (n : ℕ)
     → each (placed_entry (heeds_unsampled version) roll) entries ≡ Ok es → Tells es n Unsampled
@@ -144,7 +150,7 @@ told_by version roll entries es n all (k, entry, there, is, given) =
     let heeds = heeds_unsampled version in
     let w = item_of (placed_entry heeds roll) entries es k entry all there in
     let says = placed_says heeds roll w.0 entry w.2 in
-    let none = says_none heeds w.0.usage w.0.unsampled (says.1 ∙ given) in (
+    let none = says_none heeds w.0.usage w.0.unsampled (ap (λ (s : EntrySaid). s.sampling) says.1 ∙ given) in (
       in_three version none.0,
       record {
         k = k;
@@ -167,7 +173,7 @@ tells_it version roll entries es n all three w =
       placed.0,
       placed.1,
       same_Some placed.0.pod n (sym says.0 ∙ w.known),
-      sym says.1 ∙ none_said version w.entry three w.says w.alone,
+      ap (λ (s : EntrySaid). s.sampling) (sym says.1) ∙ none_said version w.entry three w.says w.alone,
     )
 
 pub unsampled_shown : UnsampledShown
@@ -176,6 +182,76 @@ unsampled_shown version at written es roll n pod places once here present =
     let shown = shown_told at written es roll n pod Unsampled (λ e. absurd (cc)) once here present in (
       λ e. told_by version roll written.entries es n all (shown.0 e),
       λ is. shown.1 (tells_it version roll written.entries es n all is.0 is.1),
+    )
+
+-- ---- that a pod is being deleted
+
+-- whether an entry says so, where there is one
+abbrev deletes : Option PlacedEntry → Bool
+deletes entry = (said_from entry).words.deleting
+
+deleting_is : (at : ℕ) (written : TickLine) (es : List PlacedEntry) (roll : Roll) (n : ℕ) (pod : PodSpec)
+    → slice_get roll.pods n ≡ Some pod → is_present roll.departures n ≡ true
+    → deleting_shown_of (observed at written es roll) n ≡ Some (deletes (entry_for es n))
+deleting_is at written es roll n pod here present =
+    ap (λ (o : Option PodObs). option_map (λ (p : PodObs). p.words.deleting) o)
+    (pod_shown at written es roll n pod here present)
+
+-- an entry of the pod with the number says so
+abbrev Deletes : List PlacedEntry → ℕ → Type 0
+Deletes es pod = (k : ℕ) × (entry : PlacedEntry) × (slice_get es k ≡ Some entry) × (entry.pod ≡ pod)
+    × (entry.said.words.deleting ≡ true)
+
+deleted_by : (es : List PlacedEntry) (n : ℕ) (entry : Option PlacedEntry) → entry_for es n ≡ entry
+    → deletes entry ≡ true → Deletes es n
+deleted_by es n None is e = absurd (cc)
+deleted_by es n (Some entry) is e =
+    let found = entry_found es n entry is in
+    (found.0, entry, found.1, found.2, e)
+
+word_said : (heeds : Bool) (deleting : TruthMember) → (words_of heeds deleting).deleting ≡ true
+    → (heeds ≡ true) × (deleting ≡ Yes)
+word_said true No e = absurd (cc)
+word_said true Yes e = (refl, refl)
+word_said true OfOtherKind e = absurd (cc)
+word_said false deleting e = absurd (cc)
+
+deleting_by : (version : Option Version) (roll : Roll) (entries : List TickEntry) (es : List PlacedEntry) (n : ℕ)
+    → each (placed_entry (heeds_unsampled version) roll) entries ≡ Ok es → Deletes es n
+    → (version ≡ Some Three) × SaysDeleting roll entries n
+deleting_by version roll entries es n all (k, entry, there, is, given) =
+    let heeds = heeds_unsampled version in
+    let w = item_of (placed_entry heeds roll) entries es k entry all there in
+    let says = placed_says heeds roll w.0 entry w.2 in
+    let word = word_said heeds w.0.deleting (ap (λ (s : EntrySaid). s.words.deleting) says.1 ∙ given) in (
+      in_three version word.0,
+      record { k = k; entry = w.0; here = w.1; known = says.0 ∙ ap Some is; says = word.1 },
+    )
+
+deletes_it : (version : Option Version) (roll : Roll) (entries : List TickEntry) (es : List PlacedEntry) (n : ℕ)
+    → each (placed_entry (heeds_unsampled version) roll) entries ≡ Ok es → version ≡ Some Three
+    → SaysDeleting roll entries n → Deletes es n
+deletes_it version roll entries es n all three w =
+    let heeds = heeds_unsampled version in
+    let placed = read_of (placed_entry heeds roll) entries es w.k w.entry all w.here in
+    let says = placed_says heeds roll w.entry placed.0 placed.2 in (
+      w.k,
+      placed.0,
+      placed.1,
+      same_Some placed.0.pod n (sym says.0 ∙ w.known),
+      ap (λ (s : EntrySaid). s.words.deleting) (sym says.1)
+          ∙ ap (λ (v : Option Version). (words_of (heeds_unsampled v) w.entry.deleting).deleting) three
+          ∙ ap (λ (member : TruthMember). (words_of true member).deleting) w.says,
+    )
+
+pub deleting_shown : DeletingShown
+deleting_shown version at written es roll n pod places once here present =
+    let all = all_read (heeds_unsampled version) roll written.entries es places in
+    let is = deleting_is at written es roll n pod here present in (
+      λ e. deleting_by version roll written.entries es n all
+          (deleted_by es n (entry_for es n) refl (same_Some (deletes (entry_for es n)) true (sym is ∙ e))),
+      λ says. let w = deletes_it version roll written.entries es n all says.0 says.1 in
+          is ∙ ap Some (ap deletes (entry_given es n w.1 once w.0 w.2 w.3) ∙ w.4),
     )
 
 -- a tick line that is taken is as it is read

@@ -1,5 +1,5 @@
 -- What the entries of a tick line show of every pod and container.
-use Rattle.std.specs.Prelude.{ℕ, ◌+◌, ◌==◌, ◌&&◌, Bool, List, [], ◌∷◌, Option, Some, None, is_none, unwrap_or}
+use Rattle.std.specs.Prelude.{ℕ, ◌+◌, ◌==◌, ◌&&◌, Bool, false, List, [], ◌∷◌, Option, Some, None, is_none, unwrap_or}
 use Rattle.std.specs.Prelude.{if◌then◌else◌, pos, refl}
 use Rattle.std.specs.List.{list_any}
 use Rattle.manifest.specs.declared.pod.ContainerSpec.{ContainerSpec}
@@ -14,11 +14,11 @@ use Rattle.manifest.specs.declared.outcome.ProbeKind.{ProbeKind}
 use Rattle.manifest.specs.declared.outcome.ProbeKind.TheVariants.{Startup, Liveness, Readiness}
 use Rattle.trace.specs.declared.placing.PlacedListing.{PlacedListing}
 use Rattle.trace.specs.declared.placing.PlacedResult.{PlacedResult}
+use Rattle.trace.specs.declared.placing.EntrySaid.{EntrySaid}
 use Rattle.trace.specs.declared.placing.PlacedEntry.{PlacedEntry}
 use Rattle.observations.specs.declared.container.ContainerObs.{ContainerObs}
 use Rattle.observations.specs.rule.Pods.{PodObs}
 use Rattle.observations.specs.declared.tick.TickObs.{TickObs}
-use Rattle.observations.specs.declared.usage.Sampling.{Sampling}
 use Rattle.observations.specs.declared.usage.Sampling.TheVariants.{Unsaid}
 use Rattle.tick_lines.specs.declared.line.TickLine.{TickLine}
 use Rattle.roster.specs.rule.Roll.{Roll, is_present}
@@ -66,7 +66,7 @@ abbrev pub entry_for : List PlacedEntry → ℕ → Option PlacedEntry
 entry_for [] n = None
 entry_for (e ∷ es) n = if e.pod == n then Some e else entry_for es n
 
--- a pod without an entry has no listings and no results, and nothing is said of its samples
+-- a pod without an entry has no listings and no results, and nothing is said of it
 abbrev pub listings_of : Option PlacedEntry → List PlacedListing
 listings_of None = []
 listings_of (Some e) = e.listings
@@ -75,16 +75,17 @@ abbrev pub results_of : Option PlacedEntry → List PlacedResult
 results_of None = []
 results_of (Some e) = e.results
 
-abbrev pub sampling_from : Option PlacedEntry → Sampling
-sampling_from None = Unsaid
-sampling_from (Some e) = e.sampling
+abbrev pub said_from : Option PlacedEntry → EntrySaid
+said_from None = record { sampling = Unsaid; words = record { deleting = false } }
+said_from (Some e) = e.said
 
 -- what its entry says of a pod
 abbrev pub pod_observed : ℕ → Option PlacedEntry → PodSpec → PodObs
 pod_observed at entry pod = record {
   at = at;
   containers = containers_from (listings_of entry) (results_of entry) 0 pod.containers;
-  sampling = sampling_from entry;
+  sampling = (said_from entry).sampling;
+  words = (said_from entry).words;
 }
 
 -- what the entries say of each of the pods, numbered from n on; of one that is not present nothing

@@ -9,16 +9,18 @@ use Rattle.manifest.specs.rule.Containers.{names_of}
 use Rattle.observations.specs.declared.usage.Sampling.{Sampling}
 use Rattle.observations.specs.declared.usage.Sampling.TheVariants.{Unsaid, Unsampled, Sampled}
 use Rattle.observations.specs.declared.usage.Usage.{Usage}
+use Rattle.observations.specs.declared.words.PodWords.{PodWords}
 use Rattle.trace.specs.declared.fault.FaultKind.{FaultKind}
 use Rattle.trace.specs.declared.fault.FaultKind.TheVariants.{StrangerPod, StrangerContainer}
 use Rattle.tick_lines.specs.declared.listing.Listing.{Listing}
 use Rattle.tick_lines.specs.declared.entry.TickEntry.{TickEntry}
 use Rattle.tick_lines.specs.declared.probing.ProbeResult.{ProbeResult}
-use Rattle.tick_lines.specs.declared.usage.UnsampledMember.{UnsampledMember}
-use Rattle.tick_lines.specs.declared.usage.UnsampledMember.TheVariants.{No, Yes, OfOtherKind}
+use Rattle.tick_lines.specs.declared.truth.TruthMember.{TruthMember}
+use Rattle.tick_lines.specs.declared.truth.TruthMember.TheVariants.{No, Yes, OfOtherKind}
 use Rattle.manifest.specs.declared.outcome.ProbeKind.{ProbeKind}
 use Rattle.trace.specs.declared.placing.PlacedListing.{PlacedListing}
 use Rattle.trace.specs.declared.placing.PlacedResult.{PlacedResult}
+use Rattle.trace.specs.declared.placing.EntrySaid.{EntrySaid}
 use Rattle.trace.specs.declared.placing.PlacedEntry.{PlacedEntry}
 use Rattle.roster.specs.rule.Roll.{Roll, number_of}
 use Rattle.manifest.specs.rule.ProbeKinds.{place}
@@ -44,7 +46,7 @@ abbrev pub placed_result : PodSpec → ProbeResult → Result PlacedResult Fault
 placed_result pod r = container_number pod r.container
     >>= λ number. Ok (record { container = number; probe = r.probe; outcome = r.outcome })
 
-abbrev pub says_so : UnsampledMember → Bool
+abbrev pub says_so : TruthMember → Bool
 says_so No = false
 says_so Yes = true
 says_so OfOtherKind = false
@@ -55,12 +57,23 @@ sampled_or other None = other
 sampled_or other (Some usage) = Sampled usage
 
 -- what an entry without a sample says of them: that there is none counts where the version heeds it
-abbrev pub without_sample : Bool → UnsampledMember → Sampling
+abbrev pub without_sample : Bool → TruthMember → Sampling
 without_sample heeds unsampled = if heeds && says_so unsampled then Unsampled else Unsaid
 
 -- what an entry says of the samples of its pod
-abbrev pub sampling_of : Bool → Option Usage → UnsampledMember → Sampling
+abbrev pub sampling_of : Bool → Option Usage → TruthMember → Sampling
 sampling_of heeds usage unsampled = sampled_or (without_sample heeds unsampled) usage
+
+-- its words, where the version heeds them
+abbrev pub words_of : Bool → TruthMember → PodWords
+words_of heeds deleting = record { deleting = heeds && says_so deleting }
+
+-- what it says of the pod beside its listings and results
+abbrev pub said_in : Bool → TickEntry → EntrySaid
+said_in heeds entry = record {
+  sampling = sampling_of heeds entry.usage entry.unsampled;
+  words = words_of heeds entry.deleting;
+}
 
 -- an entry of the pod with this number
 unfoldable pub entry_of_pod : Bool → List PodSpec → ℕ → TickEntry → Result PlacedEntry FaultKind
@@ -72,7 +85,7 @@ entry_of_pod heeds pods number entry = do
     pod = number;
     listings = listings;
     results = results;
-    sampling = sampling_of heeds entry.usage entry.unsampled;
+    said = said_in heeds entry;
   })
 
 unfoldable pub placed_entry : Bool → Roll → TickEntry → Result PlacedEntry FaultKind

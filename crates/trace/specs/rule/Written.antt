@@ -1,5 +1,5 @@
 -- What a node line and a tick line say by themselves, with the fault as the kind of a line's.
-use Rattle.std.specs.Prelude.{ℕ, ◌==◌, ◌&&◌, option_and_then, Bool, true, false, List, Option, Some, None, Result, Ok}
+use Rattle.std.specs.Prelude.{ℕ, ◌==◌, ◌&&◌, ◌||◌, option_and_then, Bool, true, false, List, Option, Some, None, Result, Ok}
 use Rattle.std.specs.Prelude.{Err, codes}
 use Rattle.std.specs.List.{list_any}
 use Rattle.serde_json.specs.Data.{Data}
@@ -13,8 +13,8 @@ use Rattle.node_lines.specs.rule.Node.{whole_number, node_of}
 use Rattle.tick_lines.specs.declared.entry.TickEntry.{TickEntry}
 use Rattle.tick_lines.specs.declared.fault.TickLineFault.{TickLineFault}
 use Rattle.tick_lines.specs.declared.line.TickLine.{TickLine}
-use Rattle.tick_lines.specs.declared.usage.UnsampledMember.{UnsampledMember}
-use Rattle.tick_lines.specs.declared.usage.UnsampledMember.TheVariants.{No, Yes, OfOtherKind}
+use Rattle.tick_lines.specs.declared.truth.TruthMember.{TruthMember}
+use Rattle.tick_lines.specs.declared.truth.TruthMember.TheVariants.{No, Yes, OfOtherKind}
 use Rattle.tick_lines.specs.rule.Line.{tick_line_of}
 use Rattle.trace.specs.declared.fault.FaultKind.{FaultKind}
 use Rattle.trace.specs.declared.fault.FaultKind.TheVariants.{Config, Usage}
@@ -41,14 +41,14 @@ is_foreign Extended d = false
 abbrev pub node_in : Format → Data → Result NodeConfig FaultKind
 node_in format d = refused_if (is_foreign format d) Config >>= λ known. of_node_line (node_of d)
 
-abbrev pub is_of_other_kind : UnsampledMember → Bool
+abbrev pub is_of_other_kind : TruthMember → Bool
 is_of_other_kind No = false
 is_of_other_kind Yes = false
 is_of_other_kind OfOtherKind = true
 
--- an entry has a member `unsampled` of another kind than a truth value
+-- an entry has a member `unsampled` or `deleting` of another kind than a truth value
 abbrev pub has_other_kind : List TickEntry → Bool
-has_other_kind entries = list_any (λ e. is_of_other_kind e.unsampled) entries
+has_other_kind entries = list_any (λ e. is_of_other_kind e.unsampled || is_of_other_kind e.deleting) entries
 
 -- where the version heeds these members, one of another kind is refused, once the whole line is read
 abbrev pub heeded : Bool → TickLine → Result TickLine FaultKind

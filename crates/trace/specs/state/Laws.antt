@@ -16,7 +16,7 @@ use Rattle.trace.specs.declared.trace_so_far.LineKind.TheVariants as kinds
 use Rattle.tick_lines.specs.declared.listing.Listing.{Listing}
 use Rattle.tick_lines.specs.declared.entry.TickEntry.{TickEntry}
 use Rattle.tick_lines.specs.declared.probing.ProbeResult.{ProbeResult}
-use Rattle.tick_lines.specs.declared.usage.UnsampledMember.TheVariants.{Yes}
+use Rattle.tick_lines.specs.declared.truth.TruthMember.TheVariants.{Yes}
 use Rattle.lists.specs.rule.Names.{place_of}
 use Rattle.roster.specs.rule.Roll.{Roll, key_of_pod, number_of, is_present}
 use Rattle.manifest.specs.rule.Containers.{names_of}
@@ -336,7 +336,7 @@ ListingsShown = (at : ℕ) (written : TickLine) (es : List PlacedEntry) (roll : 
 -- one of the entries is of the pod with the number, and says this of its samples
 abbrev pub Tells : List PlacedEntry → ℕ → Sampling → Type 0
 Tells es pod sampling = (k : ℕ) × (entry : PlacedEntry) × (slice_get es k ≡ Some entry) × (entry.pod ≡ pod)
-    × (entry.sampling ≡ sampling)
+    × (entry.said.sampling ≡ sampling)
 
 -- what the tick shows of the samples of the pod with the number
 abbrev pub sampling_shown_of : TickObs → ℕ → Option Sampling
@@ -368,6 +368,28 @@ UnsampledShown = (version : Option Version) (at : ℕ) (written : TickLine) (es 
     → slice_get roll.pods n ≡ Some pod → is_present roll.departures n ≡ true
     → (sampling_shown_of (observed at written es roll) n ≡ Some Unsampled
     ↔ ((version ≡ Some Three) × SaysUnsampled roll written.entries n))
+
+-- what the tick shows of whether the pod with the number is being deleted
+abbrev pub deleting_shown_of : TickObs → ℕ → Option Bool
+deleting_shown_of tick n = option_map (λ (p : PodObs). p.words.deleting) (shown_of tick n)
+
+-- one of the entries is of the pod with this number and says that it is being deleted
+pub record SaysDeleting (roll : Roll) (es : List TickEntry) (n : ℕ) : Type 0 where
+  pub k : ℕ
+  pub entry : TickEntry
+  pub here : slice_get es k ≡ Some entry
+  pub known : number_of roll entry.key ≡ Some n
+  pub says : entry.deleting ≡ Yes
+
+-- where no pod is listed twice, a tick shows that a pod is being deleted exactly where the text is of version 3 and the
+-- pod's entry says so
+abbrev pub DeletingShown : Type 0
+DeletingShown = (version : Option Version) (at : ℕ) (written : TickLine) (es : List PlacedEntry) (roll : Roll) (n : ℕ)
+    (pod : PodSpec) → placed_of (heeds_unsampled version) roll written.entries ≡ Ok es
+    → has_twice are_of_one_pod es ≡ false
+    → slice_get roll.pods n ≡ Some pod → is_present roll.departures n ≡ true
+    → (deleting_shown_of (observed at written es roll) n ≡ Some true
+    ↔ ((version ≡ Some Three) × SaysDeleting roll written.entries n))
 
 -- what a tick shows of a signal is exactly the quantity that its line has under the signal's name
 pub record SignalsShown : Type 0 where

@@ -1,24 +1,28 @@
 -- Members that say something, and entries of pods by their numbers.
-use Rattle.std.specs.Prelude.{ℕ, Bool, true, false, List, [], ◌∷◌}
+use Rattle.std.specs.Prelude.{ℕ, ◌||◌, Bool, true, false, List, [], ◌∷◌}
 use Rattle.std.specs.Prelude.{Result, Ok}
 use Rattle.std.specs.List.{list_any}
 use Rattle.json_fields.specs.rule.Reading.{◌>>=◌}
 use Rattle.manifest.specs.declared.pod.PodSpec.{PodSpec}
 use Rattle.trace.specs.declared.fault.FaultKind.{FaultKind}
 use Rattle.tick_lines.specs.declared.entry.TickEntry.{TickEntry}
-use Rattle.tick_lines.specs.declared.usage.UnsampledMember.{UnsampledMember}
-use Rattle.tick_lines.specs.declared.usage.UnsampledMember.TheVariants.{No, Yes, OfOtherKind}
+use Rattle.tick_lines.specs.declared.truth.TruthMember.{TruthMember}
+use Rattle.tick_lines.specs.declared.truth.TruthMember.TheVariants.{No, Yes, OfOtherKind}
 use Rattle.trace.specs.declared.placing.PlacedEntry.{PlacedEntry}
 use Rattle.trace.specs.rule.Placing.{entry_of_pod}
 
 -- the member is other than null and false, where there is one
-abbrev pub speaks : UnsampledMember → Bool
-speaks No = false
-speaks Yes = true
-speaks OfOtherKind = true
+abbrev pub is_word : TruthMember → Bool
+is_word No = false
+is_word Yes = true
+is_word OfOtherKind = true
+
+-- the entry has such a member
+abbrev pub speaks : TickEntry → Bool
+speaks entry = is_word entry.unsampled || is_word entry.deleting
 
 abbrev pub some_speaks : List TickEntry → Bool
-some_speaks entries = list_any (λ e. speaks e.unsampled) entries
+some_speaks entries = list_any speaks entries
 
 -- the entries, each of the pod with its number
 abbrev pub entries_of_pods : Bool → List PodSpec → List ℕ → List TickEntry → Result (List PlacedEntry) FaultKind

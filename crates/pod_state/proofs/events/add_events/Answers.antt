@@ -1,5 +1,4 @@
-use Rattle.std.proofs.Common.{◌∙◌, ◌++◌, ◌∷◌, [], Some, ap}
-use Rattle.pod_state.specs.rule.Events.{events_at}
+use Rattle.std.proofs.Common.{◌++◌, ◌∷◌, [], Some}
 use Rattle.pod_state.proofs.PodEventLemmas.{place_more}
 use Rattle.pod_state.proofs.events.add_events.Goals as goal
 
@@ -15,7 +14,7 @@ returns c =
     let five = four ++ made.kill ∷ [] in
     let six = five ++ made.readiness ∷ [] in
     let seven = six ++ made.backoff ∷ [] in
-    place_more k seven c.restart_in.result old _ _
+    place_more k seven made.restart old _ _
     (place_more k six made.backoff old _ _
     (place_more k five made.readiness old _ _
     (place_more k four made.kill old _ _
@@ -24,4 +23,3 @@ returns c =
     (place_more k one made.started old _ _ c.in_ok-add_event.ensures c.in_ok-add_event-2.ensures)
     c.in_ok-add_event-3.ensures) c.in_ok-add_event-4.ensures) c.in_ok-add_event-5.ensures)
     c.in_ok-add_event-6.ensures) c.in_ok-add_event-7.ensures) c.in_ok-add_event-8.ensures
-    ∙ ap (λ r. old ++ events_at k (seven ++ r ∷ [])) c.restart_in.ensures

@@ -1,4 +1,4 @@
-use Rattle.tick_lines.proofs.Unsampled as lemmas
+use Rattle.tick_lines.proofs.Truths as lemmas
 use Rattle.tick_lines.proofs.laws.unsampled_said.Goals as goal
 
 pub returns : goal.returns

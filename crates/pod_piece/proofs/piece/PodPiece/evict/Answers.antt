@@ -8,8 +8,10 @@ use Rattle.pod_piece.specs.declared.status.PodStatus.{PodStatus}
 use Rattle.pod_piece.specs.state.Kept.{IsKept, piece_of}
 use Rattle.pod_piece.specs.rule.Piece.{place_of}
 use Rattle.pod_piece.specs.state.Piece.{piece, before_last}
-use Rattle.pod_piece.proofs.PieceLemmas.{goes_on, state_free, lives_free, may_self, has_containers, kept_evicted}
-use Rattle.pod_piece.proofs.PieceLemmas.{evicted_state, by_eviction, may_evict}
+use Rattle.pod_piece.proofs.PieceLemmas.{goes_on, state_free, lives_free, may_self, has_containers}
+use Rattle.pod_piece.proofs.EvictedPieces.{kept_evicted}
+use Rattle.pod_piece.proofs.PieceLemmas.{by_eviction}
+use Rattle.pod_piece.proofs.EvictedPieces.{evicted_state, may_evict}
 use Rattle.pod_piece.proofs.UsageLemmas.{usage_evicted}
 use Rattle.pod_piece.proofs.piece.PodPiece.evict.Goals as goal
 

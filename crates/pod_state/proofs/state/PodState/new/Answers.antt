@@ -1,4 +1,4 @@
-use Rattle.std.proofs.Common.{ℕ, List, [], Option, sym, subst}
+use Rattle.std.proofs.Common.{ℕ, List, [], Option, refl, sym, subst}
 use Rattle.phase.specs.declared.view.ContainerView.{ContainerView}
 use Rattle.containers.specs.declared.container.Container.{Container}
 use Rattle.pod_state.specs.state.Pods.{AreViewsOf}
@@ -26,6 +26,7 @@ pub returns-clause-state : goal.returns-clause-state
 returns-clause-state c = λ evicted. record {
   progress = progress c evicted;
   containers = kept_none c.args.spec.now c.args.max_restart_delay evicted c.in_ok-containers.containers.items (are c);
+  deleting = refl;
 }
 
 pub returns-clause-before : goal.returns-clause-before

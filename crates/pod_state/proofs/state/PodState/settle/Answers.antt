@@ -1,4 +1,6 @@
-use Rattle.std.proofs.Common.{◌≡◌, ◌++◌, ◌∷◌, [], ℕ, List, length, Option, Some, false, subst}
+use Rattle.std.proofs.Common.{◌≡◌, ◌∙◌, ◌++◌, ◌∷◌, [], ℕ, List, length, Option, Some, false, ap, subst}
+use Rattle.std.specs.Prelude.{◌||◌}
+use Rattle.observations.specs.declared.words.PodWords.{PodWords}
 use Rattle.manifest.specs.declared.pod.PodSpec.{PodSpec}
 use Rattle.pod_state.specs.rule.Pods.{PodTick, pod_tick}
 use Rattle.pod_state.specs.state.Lifecycles.{IsNext, IsProgressOf}
@@ -8,7 +10,7 @@ use Rattle.pod_state.proofs.StateLemmas.{not_evicted, before_end, events_lives}
 use Rattle.pod_state.proofs.state.PodState.settle.Goals as goal
 
 -- the lifecycle after the tick
-progress : (c : goal.After-self-3-1) (pod : PodSpec) (max_restart_delay : ℕ) (evicted : Option ℕ) (h : List PodTick)
+progress : (c : goal.After-self-4-1) (pod : PodSpec) (max_restart_delay : ℕ) (evicted : Option ℕ) (h : List PodTick)
     → pod.policy ≡ c.args.policy → (evicted ≡ Some (length h) → ⊥)
     → IsStateOf pod max_restart_delay evicted h c.args.self.now
     → AreContainersOf pod max_restart_delay (h ++ pod_tick c.args.observed.now ∷ []) c.args.next.now
@@ -21,16 +23,23 @@ progress c pod max_restart_delay evicted h policy stays st after =
     (λ lives. c.all_ready-ready.ensures pod max_restart_delay (h ++ x ∷ []) after)
     (not_evicted evicted h stays) st.progress
 
+-- whether it is being deleted after it
+said : (c : goal.After-self-4-1) → c.deleting_with-deleting.result
+    ≡ (c.args.self.now.deleting || (pod_tick c.args.observed.now).entry.words.deleting)
+said c =
+    c.deleting_with-deleting.ensures
+    ∙ ap (λ (words : PodWords). c.args.self.now.deleting || words.deleting) c.words.ensures
+
 pub returns-clause-ok : goal.returns-clause-ok
 returns-clause-ok c = λ pod max_restart_delay evicted h policy stays st.
     before_end pod max_restart_delay evicted h (pod_tick c.args.observed.now) c.args.self.now _ c.args.next.now st
-    c.requires.lives c.copy_from_slice.ensures.items (c.requires.containers pod max_restart_delay h)
+    c.requires.lives c.copy_from_slice.ensures.items (said c) (c.requires.containers pod max_restart_delay h)
     (progress c pod max_restart_delay evicted h policy stays st)
 
 pub returns-clause-events : goal.returns-clause-events
 returns-clause-events c = λ pod max_restart_delay evicted h policy stays st.
     events_lives pod max_restart_delay evicted h (pod_tick c.args.observed.now) c.args.self.now c.advance.new.self
-    c.args.made.now _ _ st c.requires.lives stays (c.requires.made pod max_restart_delay h policy)
+    c.args.made.now c.deleting_with-deleting.result _ _ st c.requires.lives stays (c.requires.made pod max_restart_delay h policy)
     (λ before. (progress c pod max_restart_delay evicted h policy stays st
     (c.requires.containers pod max_restart_delay h before)).so_far.phase)
-    c.phase_event-change.ensures c.in_ok-events.ensures
+    c.phase_event-change.ensures (said c) c.in_ok-events.ensures

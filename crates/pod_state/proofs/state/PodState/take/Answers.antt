@@ -1,4 +1,6 @@
-use Rattle.std.proofs.Common.{◌≡◌, ◌∙◌, ◌++◌, ◌∷◌, [], ℕ, List, length, false, refl, sym, subst, arith}
+use Rattle.std.proofs.Common.{◌≡◌, ◌∙◌, ◌++◌, ◌∷◌, [], ℕ, List, length, false, refl, sym, ap, subst, arith}
+use Rattle.std.specs.Prelude.{◌||◌}
+use Rattle.observations.specs.declared.words.PodWords.{PodWords}
 use Rattle.std.proofs.lemmas.Bool.{iff_false}
 use Rattle.phase.specs.declared.view.ContainerView.{ContainerView}
 use Rattle.containers.specs.declared.container.Container.{Container}
@@ -19,6 +21,7 @@ returns-then-has_ended-clause-ok c = λ pod max_restart_delay evicted h policy s
     let ended = c.has_ended.ensures.terminal.0 c.if-has_ended.true in
     let x = pod_tick c.args.observed.now in
     after_end pod max_restart_delay evicted h x c.args.self.now _ st ended refl
+    (c.deleting_with-self.ensures ∙ ap (λ (words : PodWords). c.args.self.now.deleting || words.deleting) c.words.ensures)
     (subst (λ (m : ℕ). IsNext c.args.policy m [] false false c.args.self.now.lifecycle c.advance.new.self)
     c.at.ensures c.advance.ensures pod evicted h x.entry policy (λ lives. absurd (lives ended))
     (λ lives. absurd (lives ended)) (not_evicted evicted h stays) st.progress)
