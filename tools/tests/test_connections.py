@@ -2,6 +2,7 @@
 
 import json
 import os
+import re
 import shutil
 import signal
 import socket
@@ -14,7 +15,10 @@ from http.server import BaseHTTPRequestHandler, ThreadingHTTPServer
 
 from checks import HERE, LONGEST, TOOLS, expect, read, run
 
+import quiet_node
+from replay_tools.record import answers
 from replay_tools.record.connections import NotRead, settings_of
+from replay_tools.record.sources import Failed
 
 ANSWERS = f"{HERE}/recordings/crash_loop/1"
 PATHS = {"/pods": "pods.json", "/configz": "configz.json", "/stats/summary": "summary.json",
@@ -206,6 +210,123 @@ def test_no_token_unchecked():
     expect("no curl was started", place.asked()["curl"], 0)
     place.remove()
     another.remove()
+
+
+# texts that are JSON, and some that are none
+TEXTS = ("", " ", "null", "12", "[1,2]", '"x"', "{}", ' { } ', '{"items":[]}', '{"items":null}',
+         '{"items":[1, {"a":[]}]}', '{"a":1,"items":[{"b":"\\u00e9 \u00e9 \\"]"},-1.5e3 ],"c":{"items":[1]}}', '{"items":[1],"items":[2,3]}\n',
+         '{"items":[1,]}', '{"items":[1}', '{"items":[1]', '{"items":[1]},', '{"items":[1]} 2', '{"a":1,}', "{1:2}",
+         '{"a" 1}', '{"items":[tru]}', '{"items":["x]}', "[" * 100000, '{"items":[' + "[" * 100000, "\ufeff{}",
+         '{"items":[' + ",".join(f'{{"number":{number}}}' for number in range(50)) + "]}")
+
+
+def either(read, text):
+    """What is read of a text, or that it is no JSON."""
+    try:
+        return read(text)
+    except (ValueError, RecursionError):
+        return "no JSON"
+    except Failed as failed:
+        return str(failed).removeprefix("it: the answer is ")
+
+
+def test_long_answers():
+    """A list is read value by value as it would be at once, however much of it is decoded at a time."""
+    kept = answers.PIECE_BYTES
+    for size in (1, 2, 7, 64, kept):
+        answers.PIECE_BYTES = size
+        for text in TEXTS:
+            got = either(lambda given: answers.read_parts(given, "it", "items", lambda value: value), text.encode())
+            expect(f"a long answer by {size} bytes: {text[:60]}", got, either(json.loads, text))
+    answers.PIECE_BYTES = kept
+    long = b'{"items":["' + b"x" * (answers.MOST_VALUE + 1) + b'"]}'
+    expect("a long value", either(lambda given: answers.read_parts(given, "it", "items", len), long),
+           "it: a value in the answer has more than 4 MiB")
+
+
+def test_answers_without_end():
+    """An answer is read up to 32 MiB, in steady memory, which is said."""
+    if not has_openssl():
+        return
+    place = Place()
+    kubelet = Kubelet(place.folder)
+    kubelet.others = {"/metrics/probes": (200, b"# a comment\n" * (3 << 20))}
+    with open(f"{place.folder}/crictl", "w", encoding="utf-8") as file:
+        file.write("#!/bin/sh\nhead -c 300000000 /dev/zero | tee /dev/stderr\n")
+    os.chmod(f"{place.folder}/crictl", 0o755)
+    curl = place.curl_file(f'header = "Authorization: {TOKEN}"\ncacert = "{place.folder}/crt"\n')
+    words = ["--check", "--node", "worker-3", "--kubelet", kubelet.url, "--curl", curl]
+    status, told, said = run(["sh", "-c", 'ulimit -v 400000; exec "$@"', "sh", f"{TOOLS}/record", *words],
+                             **{**place.settings, "PATH": f"{place.folder}:{place.settings['PATH']}"})
+    kubelet.end()
+    lines = [line for line in told.splitlines() if line.startswith("missing")]
+    expect("answers without end", (status, said, [line.partition("; ")[0] for line in lines]), (1, "", [
+        f"missing  {name} answered with more than 32 MiB, the most that is read"
+        for name in ("crictl ps", "/metrics/probes")]))
+    place.remove()
+
+
+def test_a_large_node():
+    """Of 250 pods and 7 MB of them no more is held than they take as bytes, and what is written."""
+    if not has_openssl():
+        return
+    folder = tempfile.mkdtemp()
+    stands = quiet_node.Stands(250, folder, 250)
+    process = subprocess.Popen([f"{TOOLS}/record", "--node", "worker-1", "--kubelet", stands.url, "--curl",
+                                f"{folder}/curl", "--every", "1", "--standard"], stdout=subprocess.PIPE,
+                               env={**os.environ, "PATH": f"{folder}:{os.environ['PATH']}"})
+    ticks = 0
+    while ticks < 3 and (line := process.stdout.readline()):
+        ticks += json.loads(line)["kind"] == "tick"
+    peak = re.search("VmHWM:\\s+([0-9]+) kB", read(f"/proc/{process.pid}/status"))
+    process.kill()
+    process.communicate()
+    stands.end()
+    expect("a large node is recorded in little memory",
+           (ticks, peak is not None and int(peak[1]) < 64 << 10), (3, True))
+    shutil.rmtree(folder)
+
+
+FORBIDDEN = (403, b"Forbidden (user=recorder, verb=get, resource=nodes, subresource=proxy)")
+NOTHING = (404, b"404: Page Not Found")
+
+
+def test_check_of_rights():
+    """--check says of each path what right it wants, and whether the token may start commands."""
+    if not has_openssl():
+        return
+    place = Place()
+    curl = place.curl_file(f'header = "Authorization: {TOKEN}"\ncacert = "{place.folder}/crt"\n')
+    before = "; before it nodes/proxy (deploy/rights-before-1.33.yaml)"
+    for name, others, missing, rights in (
+        ("the finer rights", {"/containerLogs/": FORBIDDEN}, {}, "the token may not get nodes/proxy"),
+        ("the finer rights at a kubelet that does not know them",
+         {"/containerLogs/": FORBIDDEN, "/pods": FORBIDDEN, "/configz": FORBIDDEN},
+         {"/pods": f"get nodes/pods, which a kubelet knows from Kubernetes 1.33 on{before}",
+          "/configz": f"get nodes/configz, which a kubelet knows from Kubernetes 1.33 on{before}"},
+         "the token may not get nodes/proxy"),
+        ("nodes/proxy alone",
+         {"/containerLogs/": NOTHING, "/stats/summary": FORBIDDEN, "/metrics/probes": FORBIDDEN},
+         {"/stats/summary": "get nodes/stats", "/metrics/probes": "get nodes/metrics"},
+         "the token may get nodes/proxy: whoever has it starts commands in each container of the nodes for which it"),
+        ("no debugging handlers", {"/containerLogs/": (405, b"Debug endpoints are disabled.")}, {}, None),
+    ):
+        kubelet = Kubelet(place.folder)
+        kubelet.others = others
+        words = ["--check", "--node", "worker-3", "--kubelet", kubelet.url, "--curl", curl]
+        status, told, said = run([f"{TOOLS}/record", *words], **place.settings)
+        kubelet.end()
+        lines = [line.split(maxsplit=2) for line in told.splitlines()]
+        expect(f"--check with {name}", (status, said, {line[1] for line in lines if line[0] == "missing"}),
+               (1 if missing else 0, "", set(missing)))
+        for path, wanted in missing.items():
+            [line] = [line[2] for line in lines if line[:2] == ["missing", path]]
+            expect(f"--check with {name}: {path}", (line.startswith("answered with 403 Forbidden: Forbidden (user="),
+                                                    f" and wants the permission to {wanted}" in line), (True, True))
+        found = [line.removeprefix("rights   ") for line in told.splitlines() if line.startswith("rights ")]
+        expect(f"--check with {name}: rights", [line.startswith(rights or "") for line in found],
+               [] if rights is None else [True])
+    place.remove()
 
 
 def test_other_settings():

@@ -20,13 +20,11 @@ from dataclasses import dataclass, field
 from typing import Any, Optional
 from urllib.parse import urlsplit
 
-from .sources import ENDPOINT_SECONDS, Failed, Sources
+from .answers import decoded
+from .sources import ENDPOINT_SECONDS, MOST_BYTES, PART_BYTES, Failed, Refused, Sources, shown_line, too_long
 
-PART_BYTES = 1 << 16
 # what an answer fails with: of the connection, and of an address or a header that can't be sent
 FAULTS = (http.client.HTTPException, OSError, ValueError)
-# the longest answer that is read
-MOST_BYTES = 1 << 28
 LINE = re.compile(r"(?:--)?(?P<name>[a-z-]+)(?:\s*[=:]\s*|\s+|$)(?P<value>.*)|-(?P<letter>[A-Za-z])\s*(?P<rest>.*)")
 RESOLVED = re.compile(r"(?P<host>[^:+*]+):(?P<port>[0-9]{1,5}):(?P<address>[0-9.]+|\[[0-9a-fA-F:.]+\])")
 LETTERS = {"H": "header", "k": "insecure", "E": "cert", "s": "silent"}
@@ -119,8 +117,8 @@ class Kept:
         self.connect = connect
         self.connection: http.client.HTTPConnection | None = None
 
-    def get(self, path: str, headers: dict[str, str]) -> str:
-        """The text of an answer; Failed where none comes."""
+    def get(self, path: str, headers: dict[str, str]) -> bytearray:
+        """An answer; Failed where none comes."""
         is_kept = self.connection is not None
         try:
             return self.asked(path, headers)
@@ -142,30 +140,29 @@ class Kept:
         said = unchecked or getattr(error, "strerror", None) or error
         return Failed(f"gave no answer: {said}{NOT_CHECKED if unchecked else ''}")
 
-    def asked(self, path: str, headers: dict[str, str]) -> str:
+    def asked(self, path: str, headers: dict[str, str]) -> bytearray:
         until = time.monotonic() + ENDPOINT_SECONDS
         if self.connection is None:
             self.connection = self.connect()
         self.connection.request("GET", path, headers=headers)
         answer = self.connection.getresponse()
-        text = self.text_of(answer, until)
+        body = self.body_of(answer, until)
         if answer.will_close:
             self.close()
         if answer.status != 200:
-            raise Failed(f"answered with {answer.status} {answer.reason}: {said_in(text)}")
-        return text
+            raise Refused(answer.status, f"answered with {answer.status} {shown_line(answer.reason)}: {said_in(body)}")
+        return body
 
-    def text_of(self, answer: http.client.HTTPResponse, until: float) -> str:
-        parts, count = [], 0
+    def body_of(self, answer: http.client.HTTPResponse, until: float) -> bytearray:
+        body = bytearray()
         while part := answer.read(PART_BYTES):
-            parts.append(part)
-            count += len(part)
+            body += part
             if time.monotonic() > until:
                 raise TimeoutError
-            if count > MOST_BYTES:
+            if len(body) > MOST_BYTES:
                 self.close()
-                raise Failed(f"answered with more than {MOST_BYTES >> 20} MiB")
-        return b"".join(parts).decode("utf-8", "replace")
+                raise too_long()
+        return body
 
     def close(self) -> None:
         if self.connection is not None:
@@ -173,14 +170,15 @@ class Kept:
             self.connection = None
 
 
-def said_in(text: str) -> str:
+def said_in(body: bytearray) -> str:
     """Why an answer is a refusal, in one line: an API server writes an object with a message."""
+    text = decoded(body[:PART_BYTES])
     try:
         answer = json.loads(text)
         text = answer["message"] if isinstance(answer, dict) and "message" in answer else text
     except (ValueError, RecursionError):
         pass
-    return " ".join(str(text).split())[:300]
+    return shown_line(" ".join(str(text).split()))
 
 
 class AddressedConnection(http.client.HTTPSConnection):
@@ -225,7 +223,7 @@ class Kubelet:
         address = self.settings.addresses.get((host, port or 443), host)
         return AddressedConnection(host, port or 443, address, context)
 
-    def endpoint(self, path: str) -> str:
+    def endpoint(self, path: str) -> bytearray:
         try:
             self.read()
         except (OSError, UnicodeDecodeError) as error:
@@ -236,7 +234,7 @@ class Kubelet:
             raise Failed(f"is not asked: {UNSAFE.format(self.curl_file)}")
         return self.kept.get(f"/{path}", self.settings.headers)
 
-    def pods(self) -> Any:
+    def pods(self) -> bytearray:
         return self.endpoint("pods")
 
     def works(self) -> bool:
@@ -253,10 +251,10 @@ class Unasked:
     def __init__(self, reason: str) -> None:
         self.reason = reason
 
-    def endpoint(self, _: str) -> str:
+    def endpoint(self, _: str) -> bytearray:
         raise Failed(f"is not asked: {self.reason}")
 
-    def pods(self) -> str:
+    def pods(self) -> bytearray:
         return self.endpoint("pods")
 
     def works(self) -> bool:
@@ -350,7 +348,7 @@ class Proxy:
                 self.say(f"{failed}: kubectl is started for each answer")
         return self.does_start
 
-    def get(self, path: str) -> str:
+    def get(self, path: str) -> bytearray:
         if self.process is None or self.process.poll() is not None:
             try:
                 self.start()
@@ -358,10 +356,10 @@ class Proxy:
                 raise Failed(f"gave no answer: {failed}") from None
         return self.kept.get(path, {})
 
-    def endpoint(self, path: str) -> str:
+    def endpoint(self, path: str) -> bytearray:
         return self.get(f"/api/v1/nodes/{self.node}/proxy/{path}")
 
-    def pods(self) -> str:
+    def pods(self) -> bytearray:
         return self.get(f"/api/v1/pods?fieldSelector=spec.nodeName%3D{self.node}")
 
     def close(self) -> None:

@@ -11,11 +11,13 @@ from typing import Any, TYPE_CHECKING
 
 from replay_tools.traces import SIGNALS
 
+from .answers import read_json
 from .formats import (at_place, duration_fault, first_fault, is_percentage, limit_fault, name_fault, percentage_fault,
                       seconds_of, whole_fault, without_nones)
-from .sources import Failed, read_json, reads
+from .sources import Failed, reads
 
 if TYPE_CHECKING:
+    from .answers import Answer
     from .lines import Format
     from .summary import Summary
 
@@ -138,7 +140,7 @@ def sets_no_threshold(value: Any) -> bool:
 
 
 @reads("/configz")
-def node_line_of(text: str, name: str, summary: Summary, node_format: Format) -> NodeLine:
+def node_line_of(text: Answer, name: str, summary: Summary, node_format: Format) -> NodeLine:
     """The node line of an answer of /configz; Failed where the formats do not take what it says."""
     answer = read_json(text, "/configz")
     read = answer.get("kubeletconfig") if isinstance(answer, dict) else None

@@ -5,14 +5,19 @@ from __future__ import annotations
 
 import re
 from dataclasses import dataclass
+from typing import TYPE_CHECKING
 
+from .answers import decoded
 from .sources import reads
+
+if TYPE_CHECKING:
+    from .answers import Answer
 
 PROBES = ("startup", "liveness", "readiness")
 RESULTS = ("failure", "success", "unknown")
 PROBE_WORDS = {"Startup": "startup", "Liveness": "liveness", "Readiness": "readiness"}
 RESULT_WORDS = {"successful": "success", "failed": "failure", "unknown": "unknown"}
-SERIES = re.compile(r"prober_probe_total{(?P<labels>.*)} (?P<value>[^ ]+)")
+SERIES = re.compile(rb"^prober_probe_total{(?P<labels>.*)} (?P<value>[^ \n]+)", re.MULTILINE)
 LABEL = re.compile(r'([a-z_]+)="([^"]*)"')
 
 
@@ -25,14 +30,11 @@ class Result:
 
 
 @reads("/metrics/probes")
-def counters_of(text: str) -> dict[tuple[str, str, str], dict[str, int]]:
+def counters_of(text: Answer) -> dict[tuple[str, str, str], dict[str, int]]:
     """The counts of an answer: {(uid, container, probe): {result: count}}."""
     counters: dict[tuple[str, str, str], dict[str, int]] = {}
-    for line in text.split("\n"):
-        series = SERIES.match(line)
-        if series is None:
-            continue
-        labels = dict(LABEL.findall(series["labels"]))
+    for series in SERIES.finditer(text.encode() if isinstance(text, str) else text):
+        labels = dict(LABEL.findall(decoded(series["labels"])))
         probe, result = PROBE_WORDS.get(labels.get("probe_type")), RESULT_WORDS.get(labels.get("result"))
         if probe and result:
             of_probe = counters.setdefault((labels.get("pod_uid"), labels.get("container"), probe), {})

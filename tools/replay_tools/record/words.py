@@ -35,9 +35,11 @@ Where none is left it waits for room. A second recorder of one folder is refused
 
 It needs python3, crictl (as root, on the node) and
   kubectl  that may get nodes/proxy and list pods, which it starts once, as a proxy on a socket of its own; or
-  a kubelet's port, with --kubelet URL, as https://127.0.0.1:10250; FILE is a curl configuration, with a line for the
-           token, as in: header = "Authorization: Bearer ..", and one for the certificate: cacert = "..", or insecure;
-           where it has more than that curl is started for each answer
+  a kubelet's port, with --kubelet URL, as https://127.0.0.1:10250, and a token that may get nodes/pods, nodes/configz,
+           nodes/metrics and nodes/stats (before Kubernetes 1.33 nodes/proxy in place of the first two). FILE is a curl
+           configuration, with a line for the token, as in: header = "Authorization: Bearer ..", and one for what the
+           kubelet's certificate is checked by: cacert = "..". The line insecure takes any, and gives the token to
+           whoever answers. Where it has more than these, cert, key and resolve, curl is started for each answer
 /configz is served at port 10250, which wants a permission, and by the API server's proxy; the read-only port 10255 does
 not serve it. --node-line FILE has a node line in its place.
 
