@@ -214,7 +214,8 @@ def test_no_token_unchecked():
 
 # texts that are JSON, and some that are none
 TEXTS = ("", " ", "null", "12", "[1,2]", '"x"', "{}", ' { } ', '{"items":[]}', '{"items":null}',
-         '{"items":[1, {"a":[]}]}', '{"a":1,"items":[{"b":"\\u00e9 \u00e9 \\"]"},-1.5e3 ],"c":{"items":[1]}}', '{"items":[1],"items":[2,3]}\n',
+         '{"items":[1, {"a":[]}]}', '{"a":1,"items":[{"b":"\\u00e9 \u00e9 \\"]"},-1.5e3 ],"c":{"items":[1]}}',
+         '{"items":[1],"items":[2,3]}\n',
          '{"items":[1,]}', '{"items":[1}', '{"items":[1]', '{"items":[1]},', '{"items":[1]} 2', '{"a":1,}', "{1:2}",
          '{"a" 1}', '{"items":[tru]}', '{"items":["x]}', "[" * 100000, '{"items":[' + "[" * 100000, "\ufeff{}",
          '{"items":[' + ",".join(f'{{"number":{number}}}' for number in range(50)) + "]}")

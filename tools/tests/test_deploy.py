@@ -287,28 +287,35 @@ MMDEBSTRAP = """#!/bin/sh
 for word; do case $word in */root.tar) tar -C / -cf "$word" ./dev/null ;; esac; done
 """
 UMOCI = """#!/bin/sh
+echo "$*" >>"${0%/*}/asked"
 [ "$1" != init ] || {
-    mkdir "$3" && echo '{"manifests":[{"annotations":{"org.opencontainers.image.ref.name":"1.2.3"}}]}' >"$3/index.json"
+    mkdir "$3" && echo '{"manifests":[{"mediaType":"m","digest":"DIGEST","size":2,"annotations":
+        {"org.opencontainers.image.ref.name":"1.2.3"}}]}' >"$3/index.json"
 }
 """
+DIGEST = f"sha256:{'0123456789abcdef' * 4}"
 CONTROL = "Package: kubelet-replay\nVersion: 1.2.3\nArchitecture: amd64\nMaintainer: n <n@n>\nDescription: d\n"
 
 
 def test_image_name():
-    """The runtime names the image as the manifest does, also where only a tag names it."""
+    """The runtime names the image as the manifest does, also where only a tag names it; its digest is printed, and its
+    date is that of the package."""
     if shutil.which("dpkg-deb") is None:
         return
     folder = tempfile.mkdtemp()
     os.makedirs(f"{folder}/package/DEBIAN")
-    for path, text in (("package/DEBIAN/control", CONTROL), ("mmdebstrap", MMDEBSTRAP), ("umoci", UMOCI)):
+    for path, text in (("package/DEBIAN/control", CONTROL), ("mmdebstrap", MMDEBSTRAP), ("umoci", UMOCI.replace("DIGEST", DIGEST))):
         with open(f"{folder}/{path}", "w", encoding="utf-8") as file:
             file.write(text)
         os.chmod(f"{folder}/{path}", 0o755)
-    run(["dpkg-deb", "--build", f"{folder}/package", f"{folder}/made.deb"])
+    run(["dpkg-deb", "--build", f"{folder}/package", f"{folder}/made.deb"], SOURCE_DATE_EPOCH="1000000000")
     made = run([f"{DEPLOY}/image", f"{folder}/made.deb", f"{folder}/made.tar"], PATH=f"{folder}:{os.environ['PATH']}")
-    expect("an image", made, (0, f"{os.path.realpath(folder)}/made.tar\n", ""))
+    expect("an image", made, (0, f"{os.path.realpath(folder)}/made.tar\nkubelet-replay@{DIGEST}\n", ""))
     with tarfile.open(f"{folder}/made.tar") as archive:
         [listed] = json.load(archive.extractfile("./index.json"))["manifests"]
+        expect("the moments in an image", {each.mtime for each in archive.getmembers()}, {1000000000})
+    dates = re.findall("created ([^ \n]+)", read(f"{folder}/asked"))
+    expect("the date of an image", (len(dates), set(dates)), (3, {"2001-09-09T01:46:40Z"}))
     expect("the names of the image", listed["annotations"], {
         "org.opencontainers.image.ref.name": "1.2.3",
         "io.containerd.image.name": "docker.io/library/kubelet-replay:1.2.3"})
