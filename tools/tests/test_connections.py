@@ -2,7 +2,6 @@
 
 import json
 import os
-import re
 import shutil
 import signal
 import socket
@@ -15,10 +14,7 @@ from http.server import BaseHTTPRequestHandler, ThreadingHTTPServer
 
 from checks import HERE, LONGEST, TOOLS, expect, read, run
 
-import quiet_node
-from replay_tools.record import answers
 from replay_tools.record.connections import NotRead, settings_of
-from replay_tools.record.sources import Failed
 
 ANSWERS = f"{HERE}/recordings/crash_loop/1"
 PATHS = {"/pods": "pods.json", "/configz": "configz.json", "/stats/summary": "summary.json",
@@ -32,16 +28,20 @@ class Kubelet(ThreadingHTTPServer):
 
     daemon_threads = True
 
-    def __init__(self, folder, answers_each=10 ** 9):
+    def __init__(self, folder, answers_each=10 ** 9, wants_certificate=False):
         super().__init__(("127.0.0.1", 0), Handler)
         self.connections, self.answers, self.answers_each, self.tokens = 0, 0, answers_each, {TOKEN}
-        # the tokens that came, and the answers that are others than the recorded ones: {path: (status, body)}
+        # the tokens that came, and the answers that are others than the recorded ones: {path: (status, body, bytes that
+        # its length has beside those of the body)}
         self.came, self.others = [], {}
         self.port = self.server_address[1]
         self.url = f"http://127.0.0.1:{self.port}"
         if folder is not None:
             context = ssl.SSLContext(ssl.PROTOCOL_TLS_SERVER)
             context.load_cert_chain(f"{folder}/crt", f"{folder}/key")
+            if wants_certificate:
+                context.verify_mode, self.tokens = ssl.CERT_REQUIRED, {None}
+                context.load_verify_locations(f"{folder}/crt")
             self.socket = context.wrap_socket(self.socket, server_side=True, do_handshake_on_connect=False)
             self.url = f"https://127.0.0.1:{self.port}"
         threading.Thread(target=self.serve_forever, daemon=True).start()
@@ -77,11 +77,12 @@ class Handler(BaseHTTPRequestHandler):
         # as a server that closes what is idle, without a word of it
         self.close_connection = self.close_connection or self.given >= self.server.answers_each
 
-    def answer(self, status, body):
+    def answer(self, status, body, missing=0):
         self.send_response(status)
-        self.send_header("Content-Length", str(len(body)))
+        self.send_header("Content-Length", str(len(body) + missing))
         self.end_headers()
         self.wfile.write(body)
+        self.close_connection = missing > 0
 
     def log_message(self, *_):
         pass
@@ -212,82 +213,6 @@ def test_no_token_unchecked():
     another.remove()
 
 
-# texts that are JSON, and some that are none
-TEXTS = ("", " ", "null", "12", "[1,2]", '"x"', "{}", ' { } ', '{"items":[]}', '{"items":null}',
-         '{"items":[1, {"a":[]}]}', '{"a":1,"items":[{"b":"\\u00e9 \u00e9 \\"]"},-1.5e3 ],"c":{"items":[1]}}',
-         '{"items":[1],"items":[2,3]}\n',
-         '{"items":[1,]}', '{"items":[1}', '{"items":[1]', '{"items":[1]},', '{"items":[1]} 2', '{"a":1,}', "{1:2}",
-         '{"a" 1}', '{"items":[tru]}', '{"items":["x]}', "[" * 100000, '{"items":[' + "[" * 100000, "\ufeff{}",
-         '{"items":[' + ",".join(f'{{"number":{number}}}' for number in range(50)) + "]}")
-
-
-def either(read, text):
-    """What is read of a text, or that it is no JSON."""
-    try:
-        return read(text)
-    except (ValueError, RecursionError):
-        return "no JSON"
-    except Failed as failed:
-        return str(failed).removeprefix("it: the answer is ")
-
-
-def test_long_answers():
-    """A list is read value by value as it would be at once, however much of it is decoded at a time."""
-    kept = answers.PIECE_BYTES
-    for size in (1, 2, 7, 64, kept):
-        answers.PIECE_BYTES = size
-        for text in TEXTS:
-            got = either(lambda given: answers.read_parts(given, "it", "items", lambda value: value), text.encode())
-            expect(f"a long answer by {size} bytes: {text[:60]}", got, either(json.loads, text))
-    answers.PIECE_BYTES = kept
-    long = b'{"items":["' + b"x" * (answers.MOST_VALUE + 1) + b'"]}'
-    expect("a long value", either(lambda given: answers.read_parts(given, "it", "items", len), long),
-           "it: a value in the answer has more than 4 MiB")
-
-
-def test_answers_without_end():
-    """An answer is read up to 32 MiB, in steady memory, which is said."""
-    if not has_openssl():
-        return
-    place = Place()
-    kubelet = Kubelet(place.folder)
-    kubelet.others = {"/metrics/probes": (200, b"# a comment\n" * (3 << 20))}
-    with open(f"{place.folder}/crictl", "w", encoding="utf-8") as file:
-        file.write("#!/bin/sh\nhead -c 300000000 /dev/zero | tee /dev/stderr\n")
-    os.chmod(f"{place.folder}/crictl", 0o755)
-    curl = place.curl_file(f'header = "Authorization: {TOKEN}"\ncacert = "{place.folder}/crt"\n')
-    words = ["--check", "--node", "worker-3", "--kubelet", kubelet.url, "--curl", curl]
-    status, told, said = run(["sh", "-c", 'ulimit -v 400000; exec "$@"', "sh", f"{TOOLS}/record", *words],
-                             **{**place.settings, "PATH": f"{place.folder}:{place.settings['PATH']}"})
-    kubelet.end()
-    lines = [line for line in told.splitlines() if line.startswith("missing")]
-    expect("answers without end", (status, said, [line.partition("; ")[0] for line in lines]), (1, "", [
-        f"missing  {name} answered with more than 32 MiB, the most that is read"
-        for name in ("crictl ps", "/metrics/probes")]))
-    place.remove()
-
-
-def test_a_large_node():
-    """Of 250 pods and 7 MB of them no more is held than they take as bytes, and what is written."""
-    if not has_openssl():
-        return
-    folder = tempfile.mkdtemp()
-    stands = quiet_node.Stands(250, folder, 250)
-    process = subprocess.Popen([f"{TOOLS}/record", "--node", "worker-1", "--kubelet", stands.url, "--curl",
-                                f"{folder}/curl", "--every", "1", "--standard"], stdout=subprocess.PIPE,
-                               env={**os.environ, "PATH": f"{folder}:{os.environ['PATH']}"})
-    ticks = 0
-    while ticks < 3 and (line := process.stdout.readline()):
-        ticks += json.loads(line)["kind"] == "tick"
-    peak = re.search("VmHWM:\\s+([0-9]+) kB", read(f"/proc/{process.pid}/status"))
-    process.kill()
-    process.communicate()
-    stands.end()
-    expect("a large node is recorded in little memory",
-           (ticks, peak is not None and int(peak[1]) < 64 << 10), (3, True))
-    shutil.rmtree(folder)
-
-
 FORBIDDEN = (403, b"Forbidden (user=recorder, verb=get, resource=nodes, subresource=proxy)")
 NOTHING = (404, b"404: Page Not Found")
 
@@ -327,6 +252,28 @@ def test_check_of_rights():
         found = [line.removeprefix("rights   ") for line in told.splitlines() if line.startswith("rights ")]
         expect(f"--check with {name}: rights", [line.startswith(rights or "") for line in found],
                [] if rights is None else [True])
+    place.remove()
+
+
+def test_a_certificate_in_place_of_a_token():
+    """A kubelet that knows a client by its certificate is asked without a token."""
+    if not has_openssl():
+        return
+    place = Place()
+    kubelet = Kubelet(place.folder, wants_certificate=True)
+    kubelet.others = {"/containerLogs/": NOTHING}
+    checked = f'cacert = "{place.folder}/crt"\n'
+    own = f'cert = "{place.folder}/crt"\nkey = "{place.folder}/key"\n'
+    words = ["--node", "worker-3", "--kubelet", kubelet.url, "--curl"]
+    curl = place.curl_file(checked + own)
+    status, trace, said = run([f"{TOOLS}/record", *words, curl, "--standard", "--for", "1"], **place.settings)
+    expect("a client certificate", (status, kinds(trace)[:3], said, kubelet.came), (0, ["node", "pod", "tick"], "", []))
+    status, told, _ = run([f"{TOOLS}/record", "--check", *words, curl], **place.settings)
+    expect("a client certificate: its rights", (status, told.splitlines()[-1].startswith(
+        "rights   the certificate may get nodes/proxy: ")), (0, True))
+    status, trace, said = run([f"{TOOLS}/record", *words, place.curl_file(checked)], **place.settings)
+    expect("no client certificate", (status, trace, said.count("\n")), (1, "", 1))
+    kubelet.end()
     place.remove()
 
 

@@ -1,4 +1,5 @@
-"""Reads answers. A long one is an object with a list of many values, of which one at a time is held beside its bytes."""
+"""Reads answers. A long one is an object with a list of many values, of which one at a time is held beside its
+bytes."""
 
 from __future__ import annotations
 

@@ -80,6 +80,8 @@ def node_checks(sources: Sources, node: str, trace_format: Format) -> list[tuple
 
 def checks_of(sources: Sources, node: str, trace_format: Format) -> list[tuple[str, Callable[..., Any], str]]:
     """Each source with how it is asked and what it wants: (name, ask, wish)."""
+    if sources.alone is not None:
+        return runtime_checks(sources)
     pods = wish(sources, "pods") if sources.kubelet else "it wants the permission to list pods of all namespaces"
     return [*runtime_checks(sources),
             (sources.pods_name(), lambda: counted(len(pods_of(sources.pods(), sources.pods_name())), "pod"), pods),

@@ -20,6 +20,7 @@ from dataclasses import dataclass, field
 from typing import Any, Optional
 from urllib.parse import urlsplit
 
+from .alone import ALONE, RuntimeAlone
 from .answers import decoded
 from .sources import ENDPOINT_SECONDS, MOST_BYTES, PART_BYTES, Failed, Refused, Sources, shown_line, too_long
 
@@ -162,6 +163,8 @@ class Kept:
             if len(body) > MOST_BYTES:
                 self.close()
                 raise too_long()
+        if answer.length:
+            raise ConnectionError("the answer ended before its length")
         return body
 
     def close(self) -> None:
@@ -384,6 +387,8 @@ def kept_sources(node: str, kubelet: str | None, curl_file: str | None, say: Cal
     read here, curl is one too."""
     if kubelet is None:
         return Sources(node, keeps=Proxy(node, say))
+    if kubelet == ALONE:
+        return Sources(node, kubelet, alone=RuntimeAlone())
     try:
         return Sources(node, kubelet, curl_file, keeps=Kubelet(kubelet, curl_file))
     except NotRead as other:

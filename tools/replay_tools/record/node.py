@@ -23,7 +23,8 @@ if TYPE_CHECKING:
 
 GRACES = "evictionSoftGracePeriod"
 RECLAIMS = "evictionMinimumReclaim"
-# what the formats don't read: the ticks say what the kubelet did, so where they say nothing it evicted none
+# what the formats don't read: the ticks say what the kubelet did, so where they say nothing it evicted none; but for a
+# node of which nothing is sampled, as by its runtime alone
 TELLS = {"recordsKubelet": True}
 PERCENT_NUMBER = re.compile(r"[0-9]+[.]?[0-9]*|[.][0-9]+")
 GO_DURATION = re.compile(r"[+]?(0|(([0-9]+[.]?[0-9]*|[.][0-9]+)(h|ms|m|s|us|µs|μs|ns))+)")
@@ -154,7 +155,7 @@ def node_line_of(text: Answer, name: str, summary: Summary, node_format: Format)
         raise Failed(f"{fault}; a node line of your own can be given with --node-line")
     line = {"kind": "node", "version": node_format.version, "name": name, "maxRestartDelay": delay,
             "capacity": summary.capacity, "dedicatedImagefs": summary.has_dedicated_image_fs, **fields,
-            **pause_of(node_format), **TELLS}
+            **pause_of(node_format), **(TELLS if summary.signals else {})}
     return NodeLine(without_nones(line), reader.notes)
 
 

@@ -13,6 +13,7 @@ from dataclasses import dataclass
 from typing import Any, Optional, TYPE_CHECKING
 
 if TYPE_CHECKING:
+    from .alone import RuntimeAlone
     from .answers import Answer
 
 RUNTIME_SECONDS = 10
@@ -115,12 +116,14 @@ class Sources:
     run: Callable[[list[str], float], Answer] = run_command
     keeps: Optional[Any] = None
     crictl: tuple[str, ...] = ("crictl",)
+    # in place of a kubelet, where none is asked
+    alone: Optional[RuntimeAlone] = None
 
     def commands(self) -> list[str]:
         """The commands that are needed on the PATH."""
         if self.kubelet is None:
             return [self.crictl[0], "kubectl"]
-        return [self.crictl[0]] if self.keeps is not None else [self.crictl[0], "curl"]
+        return [self.crictl[0]] if self.keeps or self.alone else [self.crictl[0], "curl"]
 
     def close(self) -> None:
         if self.keeps is not None:
@@ -146,6 +149,8 @@ class Sources:
                 f"{self.kubelet}/{path}"]
 
     def endpoint(self, path: str) -> Answer:
+        if self.alone is not None:
+            return self.alone.pods(self.listed()) if path == "pods" else self.alone.answers[path]
         if self.keeps is not None and self.keeps.works():
             return self.answer(f"/{path}", lambda: self.keeps.endpoint(path))
         # the command's own time-out comes first, and says more
@@ -159,6 +164,8 @@ class Sources:
                         RUNTIME_SECONDS)
 
     def pods_name(self) -> str:
+        if self.alone is not None:
+            return "crictl ps: its pods"
         return "/pods" if self.kubelet is not None else "kubectl get pods"
 
     def pods(self) -> Answer:

@@ -11,6 +11,7 @@ from dataclasses import dataclass
 from typing import Any, Optional
 
 from . import lines
+from .alone import ALONE
 from .formats import MOST_TICKS, name_fault
 
 HELP = """\
@@ -40,6 +41,9 @@ It needs python3, crictl (as root, on the node) and
            configuration, with a line for the token, as in: header = "Authorization: Bearer ..", and one for what the
            kubelet's certificate is checked by: cacert = "..". The line insecure takes any, and gives the token to
            whoever answers. Where it has more than these, cert, key and resolve, curl is started for each answer
+With --kubelet none it asks neither, and records what the runtime alone shows: starts, exits, their codes and reasons,
+as of pods that always restart, without probes, signals, usage, evictions and why containers wait. A pod is there once
+no container of it has come for 20 s; one that comes later is left out, as behind a long init container.
 /configz is served at port 10250, which wants a permission, and by the API server's proxy; the read-only port 10255 does
 not serve it. --node-line FILE has a node line in its place.
 
@@ -243,8 +247,8 @@ def words_of(arguments: list[str]) -> Words:
     if curl_file is not None and not os.access(curl_file, os.R_OK):
         raise BadWord(f"--curl: '{curl_file}' can't be read")
     kubelet = given.get("--kubelet")
-    if kubelet is not None and not re.fullmatch("https?://[^/ ]+/?", kubelet):
-        raise BadWord(f"--kubelet takes a URL as https://127.0.0.1:10250, not '{kubelet}'")
+    if kubelet is not None and kubelet != ALONE and not re.fullmatch("https?://[^/ ]+/?", kubelet):
+        raise BadWord(f"--kubelet takes a URL as https://127.0.0.1:10250, or none, not '{kubelet}'")
     return Words(node, kubelet.rstrip("/") if kubelet else None, curl_file, node_line(given),
                  number(given, "--every", 10), number(given, "--look", 1), number(given, "--ticks", MOST_TICKS),
                  number(given, "--for", None), trace_format(given), "--check" in given, into(given, node),
