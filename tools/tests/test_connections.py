@@ -225,12 +225,13 @@ def test_check_of_rights():
     curl = place.curl_file(f'header = "Authorization: {TOKEN}"\ncacert = "{place.folder}/crt"\n')
     before = "; before it nodes/proxy (deploy/rights-before-1.33.yaml)"
     for name, others, missing, rights in (
-        ("the finer rights", {"/containerLogs/": FORBIDDEN}, {}, "the token may not get nodes/proxy"),
+        ("the finer rights", {"/containerLogs/": FORBIDDEN}, {}, "the token may not get nodes/proxy, so it starts no "
+         "command in a container; the rights of deploy/daemonset.yaml do here"),
         ("the finer rights at a kubelet that does not know them",
          {"/containerLogs/": FORBIDDEN, "/pods": FORBIDDEN, "/configz": FORBIDDEN},
          {"/pods": f"get nodes/pods, which a kubelet knows from Kubernetes 1.33 on{before}",
           "/configz": f"get nodes/configz, which a kubelet knows from Kubernetes 1.33 on{before}"},
-         "the token may not get nodes/proxy"),
+         "the token may not get nodes/proxy, so it starts no command in a container"),
         ("nodes/proxy alone",
          {"/containerLogs/": NOTHING, "/stats/summary": FORBIDDEN, "/metrics/probes": FORBIDDEN},
          {"/stats/summary": "get nodes/stats", "/metrics/probes": "get nodes/metrics"},

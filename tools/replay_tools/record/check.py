@@ -27,6 +27,7 @@ OF_PROXY = "containerLogs/"
 MAY = ("{who} may get nodes/proxy: whoever has it starts commands in each container of the nodes for which it may; "
        "from Kubernetes 1.33 on nodes/pods and nodes/configz do in its place (deploy/daemonset.yaml)")
 MAY_NOT = "{who} may not get nodes/proxy, so it starts no command in a container"
+DO = "; the rights of deploy/daemonset.yaml do here"
 
 
 class NotAsked(Exception):
@@ -101,21 +102,21 @@ def check(sources: Sources, node: str, trace_format: Format, show: Callable[[str
         except Failed as failed:
             works = False
             show(f"missing  {failed}; {wanted}")
-    rights = rights_of(sources)
-    if rights is not None:
-        show(f"rights   {rights}")
+    show_rights(sources, works, show)
     return works
 
 
-def rights_of(sources: Sources) -> str | None:
-    """Whether the token or certificate may do more at the kubelet than is wanted; None where that is not known."""
+def show_rights(sources: Sources, works: bool, show: Callable[[str], None]) -> None:
+    """Shows whether the token or certificate may do more at the kubelet than is wanted, where that can be known."""
     if sources.kubelet is None or sources.keeps is None or not sources.kubelet.startswith("https:"):
-        return None
+        return
     try:
         sources.keeps.endpoint(OF_PROXY)
     except Refused as refused:
-        said = {403: MAY_NOT, 404: MAY}.get(refused.status)
-        return said and said.format(who="the certificate" if sources.keeps.settings.certificate else "the token")
+        who = "the certificate" if sources.keeps.settings.certificate else "the token"
+        said = {403: MAY_NOT + (DO if works else ""), 404: MAY}.get(refused.status)
+        if said is not None:
+            show(f"rights   {said.format(who=who)}")
     except Failed:
+        # why is said of the others
         pass
-    return None
