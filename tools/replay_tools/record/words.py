@@ -70,7 +70,8 @@ sample of, which a kubelet evicts first; without either it is --{default}.
 It leaves out
   - an instance that came and went between two looks and was removed by then, and the code of an exit that neither the
     runtime nor the pod's status knows, which counts as 137: standard error names it;
-  - the order of several results of one probe between two looks: failures stand before the success that ends them;
+  - the order of several results of one probe between two looks: those like its last one before them stand first, and
+    then failures before a success;
   - afterReclaim, so no threshold is reclaimed in the replay; thresholds on other signals, and percentages of a signal
     without a capacity; mergeDefaultEvictionSettings;
   - ephemeral containers, and of a pod's manifest every field that the formats do not read, as its environment;
