@@ -24,11 +24,14 @@ def moment_text(moment):
 
 
 class Node:
-    """Pods of one container each, the last of which runs for some seconds and then waits to be started again."""
+    """Pods of one container each, with some settings in its environment, the last of which runs for some seconds and
+    then waits to be started again."""
 
-    def __init__(self, pods, begun):
+    def __init__(self, pods, begun, settings=1):
         self.pods = pods
         self.begun = begun
+        self.environment = [{"name": "SETTING", "value": PADDING[:1000]}] if settings == 1 else [
+            {"name": f"SETTING_{number}", "value": PADDING[:60]} for number in range(settings)]
 
     def instances(self, number, now):
         """The newest instances of a pod: (attempt, start, exit or None)."""
@@ -77,7 +80,7 @@ class Node:
             "metadata": {"name": f"web-{number}", "namespace": "shop", "uid": f"uid-{number}",
                          "annotations": {"padding": PADDING}},
             "spec": {"restartPolicy": "Always", "containers": [{
-                "name": "app", "image": "web:1", "env": [{"name": "SETTING", "value": PADDING[:1000]}],
+                "name": "app", "image": "web:1", "env": self.environment,
                 "resources": {"requests": {"memory": "64Mi"}, "limits": {"memory": "128Mi"}},
                 "livenessProbe": probe, "readinessProbe": probe}]},
             "status": {"phase": "Running", "containerStatuses": [
@@ -143,8 +146,8 @@ class Stands:
     """The node's kubelet at a port of its own, with a certificate, and its runtime as a command in a folder, until
     `end`."""
 
-    def __init__(self, pods, folder):
-        self.node = Node(pods, time.time())
+    def __init__(self, pods, folder, settings=1):
+        self.node = Node(pods, time.time(), settings)
         self.folder = folder
         subprocess.run(["openssl", "req", "-x509", "-newkey", "ec", "-pkeyopt", "ec_paramgen_curve:prime256v1",
                         "-nodes", "-keyout", f"{folder}/key", "-out", f"{folder}/crt", "-days", "2",
@@ -161,7 +164,8 @@ class Stands:
         self.is_over = threading.Event()
         self.show()
         threading.Thread(target=self.server.serve_forever, daemon=True).start()
-        threading.Thread(target=self.go_on, daemon=True).start()
+        self.showing = threading.Thread(target=self.go_on, daemon=True)
+        self.showing.start()
 
     def write(self, name, text):
         with open(f"{self.folder}/{name}.new", "w", encoding="utf-8") as file:
@@ -181,5 +185,6 @@ class Stands:
 
     def end(self):
         self.is_over.set()
+        self.showing.join()
         self.server.shutdown()
         self.server.server_close()

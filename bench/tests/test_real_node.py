@@ -208,7 +208,9 @@ class TheRecordersPod(Case):
         changed = deployed.manifest_of(text, "/w", "/w/node")
         pairs = [pair for pair in zip(text.split("\n"), changed.split("\n"), strict=True) if pair[0] != pair[1]]
         self.assertEqual([new.strip() for _, new in pairs], [
-            'args: ["--look", "1", "--each", "60s", "--keep", "48h", "--most", "2Gi",',
+            'resources: ["nodes/proxy", "nodes/metrics", "nodes/stats"]',
+            f"image: kubelet-replay:{read(TOP, 'VERSION').strip()}",
+            'args: ["--look", "1", "--each", "60s", "--keep", "48h", "--most", "2Gi",', "value: insecure",
             "hostPath: {path: /w/node, type: DirectoryOrCreate}", "hostPath: {path: /w/bin/crictl, type: File}"])
         with self.assertRaises(RuntimeError):
             deployed.manifest_of(changed, "/w", "/w/node")

@@ -37,6 +37,8 @@ class Answers(Case):
         self.assertEqual(len(counters_of(node.probes(now))), 6)
         summary = summary_of(node.summary(now))
         self.assertEqual(len(summary.pods), 3)
+        large = quiet_node.Node(250, BEGUN, 250)
+        self.assertEqual(round(len(large.pods_answer(now)), -6), 7000000)
         line = node_line_of(node.configuration(now), "worker-1", summary, extended())
         self.assertEqual((line.notes, line.fields["evictionHard"]["nodefs.available"]), ([], "10%"))
 
@@ -49,4 +51,4 @@ class Measured(Case):
         self.assertRegex(out, f"^{LINES}$")
 
     def test_words(self):
-        self.assertEqual(run("recorder", "long"), (3, "", "usage: bench/recorder [SECONDS [WORD ..]]\n"))
+        self.assertEqual(run("recorder", "long"), (3, "", "usage: bench/recorder [--large] [SECONDS [WORD ..]]\n"))

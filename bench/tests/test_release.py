@@ -1,11 +1,12 @@
-"""Tests of the documents of a release: what it has beside its program, made of this repository."""
+"""Tests of a release: the documents that it has beside its program, made of this repository, and its signature."""
 import glob
 import os
+import shutil
 import subprocess
 import sys
 import tempfile
 
-from common import TOP, Case, read
+from common import TOP, Case, read, run
 import links
 import release_files
 
@@ -52,3 +53,46 @@ class Files(Case):
     def test_words(self):
         done = subprocess.run([sys.executable, "-B", FILES, TOP], capture_output=True, text=True, check=False)
         self.assertEqual((done.returncode, done.stderr), (3, "usage: release_files.py TOP FOLDER\n"))
+
+
+# stands in for the program, which is asked for its help alone
+PROGRAM = os.path.join(TOP, "bench/tests/manual/program")
+KEYS = {
+    "openssl": (["openssl", "genpkey", "-algorithm", "ed25519", "-out", "KEY.sec"],
+                ["openssl", "pkey", "-in", "KEY.sec", "-pubout", "-out", "KEY.pub"]),
+    "signify-openbsd": (["signify-openbsd", "-G", "-n", "-p", "KEY.pub", "-s", "KEY.sec"],),
+}
+
+
+class Signed(Case):
+    """The sums of a release are signed by a key of each kind, and checked as its help says."""
+
+    def check(self, signer):
+        if shutil.which(signer) is None:
+            self.skipTest(f"{signer} is missing")
+        room = self.enterContext(tempfile.TemporaryDirectory())
+        for words in KEYS[signer]:
+            subprocess.run(words, cwd=room, check=True, capture_output=True)
+        status, made, said = run("release", "--program", PROGRAM, "--sign", f"{room}/KEY.sec", room)
+        self.assertEqual((status, made.splitlines()[2:]), (0, [f"{room}/SHA256SUMS", f"{room}/SHA256SUMS.sig"]), said)
+        [words] = [line[4:].split() for line in read(TOP, "bench/release").splitlines()
+                   if line.startswith(f"#   {signer} ")]
+        whole = subprocess.run(words, cwd=room, check=False, capture_output=True)
+        self.assertEqual(whole.returncode, 0, whole.stderr)
+        with open(f"{room}/SHA256SUMS", "a", encoding="utf-8") as file:
+            file.write("0\n")
+        self.assertNotEqual(subprocess.run(words, cwd=room, check=False, capture_output=True).returncode, 0)
+
+    def test_by_openssl(self):
+        self.check("openssl")
+
+    def test_by_signify(self):
+        self.check("signify-openbsd")
+
+    def test_what_is_no_key(self):
+        if shutil.which("openssl") is None:
+            self.skipTest("openssl is missing")
+        with tempfile.TemporaryDirectory() as room:
+            status, made, said = run("release", "--program", PROGRAM, "--sign", f"{TOP}/README.md", room)
+            self.assertEqual((status, made, os.path.exists(f"{room}/SHA256SUMS.sig")), (1, "", False))
+            self.assertTrue(said.endswith(f"the release is not signed: openssl does not take {TOP}/README.md\n"), said)

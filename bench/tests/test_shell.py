@@ -58,8 +58,11 @@ class Words(Case):
         self.assertEqual(run("refused_memory", "a", "b", "c"), (
             3, "", "usage: bench/refused_memory [PROGRAM [CALLS]]\n"))
         self.assertEqual(run("release", "--all"), (
-            2, "", "bench/release: the word --all is none of --program and --help\n"))
+            2, "", "bench/release: the word --all is none of --program, --sign and --help\n"))
         self.assertEqual(run("release", "--program"), (2, "", "bench/release: --program wants a file\n"))
+        self.assertEqual(run("release", "--sign"), (2, "", "bench/release: --sign wants a file with a secret key\n"))
+        self.assertEqual(run("release", "--sign", "/nowhere"), (
+            2, "", "bench/release: there is no key /nowhere, or it can't be read\n"))
         self.assertEqual(run("try_release"), (
             2, "", "bench/try_release: usage: bench/try_release FOLDER [ROOT]\n"))
         self.assertEqual(gate("--all"), (2, "", "test: the words --all are none of --install and --without-tools\n"))
@@ -72,7 +75,7 @@ class Words(Case):
         status, said, fault = run("release", "--help")
         self.assertEqual((status, fault), (0, ""))
         self.assertTrue(said.startswith("Makes the archive and the Debian package of a release, from "), said)
-        self.assertTrue(said.endswith("\nIt needs python3, git, dpkg-deb and readelf.\n"), said)
+        self.assertTrue(said.endswith("\nIt needs python3, git, dpkg-deb and readelf; to sign, openssl or signify-openbsd.\n"), said)
 
     def test_commands_that_are_missing(self):
         with tempfile.TemporaryDirectory() as room:

@@ -14,6 +14,7 @@ import xml.dom.minidom
 sys.dont_write_bytecode = True
 import big_node
 import checks
+import test_answers
 import test_command
 import test_cluster
 import test_connections
@@ -30,6 +31,7 @@ import test_json
 import test_kubectl
 import test_page
 import test_plays
+import test_probes
 import test_real_node
 import test_reasons
 import test_record
@@ -38,7 +40,7 @@ from checks import HERE, REPLAY, TOOLS, TOP, expect, expect_kept, expect_refused
 
 MODULES = (test_record, test_connections, test_plays, test_into, test_into_folder, test_joined, test_joined_files,
            test_cluster, test_real_node, test_json, test_why, test_decisions, test_page, test_fleet, test_fleet_nodes,
-           test_kubectl, test_command, test_explain, test_reasons, test_deploy)
+           test_kubectl, test_command, test_explain, test_reasons, test_deploy, test_probes, test_answers)
 RECORDINGS = f"{HERE}/recordings"
 COMMANDS = f"{HERE}/commands"
 

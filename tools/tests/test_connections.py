@@ -23,17 +23,27 @@ TOKEN = "Bearer of-the-test"
 
 
 class Kubelet(ThreadingHTTPServer):
-    """Stands in for a kubelet: it wants a token, and counts its connections and its answers."""
+    """Stands in for a kubelet: it wants a token, and counts its connections and its answers. It has the certificate of
+    a folder, or none."""
 
     daemon_threads = True
 
-    def __init__(self, folder, answers_each=10 ** 9):
+    def __init__(self, folder, answers_each=10 ** 9, wants_certificate=False):
         super().__init__(("127.0.0.1", 0), Handler)
         self.connections, self.answers, self.answers_each, self.tokens = 0, 0, answers_each, {TOKEN}
-        context = ssl.SSLContext(ssl.PROTOCOL_TLS_SERVER)
-        context.load_cert_chain(f"{folder}/crt", f"{folder}/key")
-        self.socket = context.wrap_socket(self.socket, server_side=True, do_handshake_on_connect=False)
-        self.url = f"https://127.0.0.1:{self.server_address[1]}"
+        # the tokens that came, and the answers that are others than the recorded ones: {path: (status, body, bytes that
+        # its length has beside those of the body)}
+        self.came, self.others = [], {}
+        self.port = self.server_address[1]
+        self.url = f"http://127.0.0.1:{self.port}"
+        if folder is not None:
+            context = ssl.SSLContext(ssl.PROTOCOL_TLS_SERVER)
+            context.load_cert_chain(f"{folder}/crt", f"{folder}/key")
+            if wants_certificate:
+                context.verify_mode, self.tokens = ssl.CERT_REQUIRED, {None}
+                context.load_verify_locations(f"{folder}/crt")
+            self.socket = context.wrap_socket(self.socket, server_side=True, do_handshake_on_connect=False)
+            self.url = f"https://127.0.0.1:{self.port}"
         threading.Thread(target=self.serve_forever, daemon=True).start()
 
     def end(self):
@@ -48,7 +58,8 @@ class Handler(BaseHTTPRequestHandler):
     protocol_version = "HTTP/1.1"
 
     def setup(self):
-        self.request.do_handshake()
+        if isinstance(self.request, ssl.SSLSocket):
+            self.request.do_handshake()
         super().setup()
         self.server.connections += 1
         self.given = 0
@@ -56,33 +67,42 @@ class Handler(BaseHTTPRequestHandler):
     def do_GET(self):
         self.server.answers += 1
         self.given += 1
+        self.server.came += filter(None, [self.headers["Authorization"]])
         if self.headers["Authorization"] not in self.server.tokens:
             self.answer(401, b"Unauthorized")
+        elif self.path in self.server.others:
+            self.answer(*self.server.others[self.path])
         else:
             self.answer(200, read(f"{ANSWERS}/{PATHS[self.path]}").encode())
         # as a server that closes what is idle, without a word of it
         self.close_connection = self.close_connection or self.given >= self.server.answers_each
 
-    def answer(self, status, body):
+    def answer(self, status, body, missing=0):
         self.send_response(status)
-        self.send_header("Content-Length", str(len(body)))
+        self.send_header("Content-Length", str(len(body) + missing))
         self.end_headers()
         self.wfile.write(body)
+        self.close_connection = missing > 0
 
     def log_message(self, *_):
         pass
 
 
+def certify(folder, names):
+    """Makes a certificate that is signed by itself, as a kubelet's is, with its key."""
+    words = ["openssl", "req", "-x509", "-newkey", "ec", "-pkeyopt", "ec_paramgen_curve:prime256v1", "-nodes",
+             "-keyout", f"{folder}/key", "-out", f"{folder}/crt", "-days", "3650", "-subj", "/CN=worker-3", "-addext",
+             f"subjectAltName={names}"]
+    subprocess.run(words, check=True, capture_output=True)
+
+
 class Place:
     """A folder with a certificate, a file of curl and the stand-ins' own."""
 
-    def __init__(self):
+    def __init__(self, names="IP:127.0.0.1"):
         self.folder = tempfile.mkdtemp()
-        words = ["openssl", "req", "-x509", "-newkey", "ec", "-pkeyopt", "ec_paramgen_curve:prime256v1", "-nodes",
-                 "-keyout", f"{self.folder}/key", "-out", f"{self.folder}/crt", "-days", "3650", "-subj",
-                 "/CN=worker-3", "-addext", "subjectAltName=IP:127.0.0.1"]
         if shutil.which("openssl") is not None:
-            subprocess.run(words, check=True, capture_output=True)
+            certify(self.folder, names)
         self.settings = {"PATH": f"{HERE}/commands:{os.environ['PATH']}", "RECORDING": f"{HERE}/recordings/crash_loop",
                          "RUN": self.folder, "TMPDIR": self.folder}
 
@@ -163,13 +183,109 @@ def test_refusals():
     place.remove()
 
 
+def test_no_token_unchecked():
+    """The token goes to no server whose certificate was not checked, unless the settings say so; what is to be set is
+    said in one line."""
+    if not has_openssl():
+        return
+    place, another = Place("DNS:worker-3"), Place()
+    own, strange = f'cacert = "{place.folder}/crt"\n', f'cacert = "{another.folder}/crt"\n'
+    for name, has_tls, text, wanted in (
+        ("signed by itself", True, "", 'cacert = "FILE"'),
+        ("of another authority", True, strange, 'cacert = "FILE"'),
+        ("of another name", True, own, "not valid for '127.0.0.1'"),
+        ("none", False, own, "goes to https:// alone, unless it has the line insecure"),
+        ("none, with settings for curl", False, 'referer = "a"\n', "goes to https:// alone"),
+        ("none, as the operator wants it", False, "insecure\n", None),
+        ("not checked, as the operator wants it", True, "insecure\n", None),
+        ("of a name that has an address", True, f'{own}resolve = "worker-3:PORT:127.0.0.1"\n', None),
+    ):
+        kubelet = Kubelet(place.folder if has_tls else None)
+        url = f"https://worker-3:{kubelet.port}" if "resolve" in text else kubelet.url
+        curl = place.curl_file(f'header = "Authorization: {TOKEN}"\n{text.replace("PORT", str(kubelet.port))}')
+        words = ["--node", "worker-3", "--standard", "--kubelet", url, "--curl", curl, "--for", "1"]
+        status, trace, said = run([f"{TOOLS}/record", *words], **place.settings)
+        kubelet.end()
+        expect(f"a certificate, {name}", (status, kubelet.came == [], said.count("\n"), (wanted or "") in said),
+               (0, False, 0, True) if wanted is None else (1, True, 1, True))
+    expect("no curl was started", place.asked()["curl"], 0)
+    place.remove()
+    another.remove()
+
+
+FORBIDDEN = (403, b"Forbidden (user=recorder, verb=get, resource=nodes, subresource=proxy)")
+NOTHING = (404, b"404: Page Not Found")
+
+
+def test_check_of_rights():
+    """--check says of each path what right it wants, and whether the token may start commands."""
+    if not has_openssl():
+        return
+    place = Place()
+    curl = place.curl_file(f'header = "Authorization: {TOKEN}"\ncacert = "{place.folder}/crt"\n')
+    before = "; before it nodes/proxy (deploy/rights-before-1.33.yaml)"
+    for name, others, missing, rights in (
+        ("the finer rights", {"/containerLogs/": FORBIDDEN}, {}, "the token may not get nodes/proxy, so it starts no "
+         "command in a container; the rights of deploy/daemonset.yaml do here"),
+        ("the finer rights at a kubelet that does not know them",
+         {"/containerLogs/": FORBIDDEN, "/pods": FORBIDDEN, "/configz": FORBIDDEN},
+         {"/pods": f"get nodes/pods, which a kubelet knows from Kubernetes 1.33 on{before}",
+          "/configz": f"get nodes/configz, which a kubelet knows from Kubernetes 1.33 on{before}"},
+         "the token may not get nodes/proxy, so it starts no command in a container"),
+        ("nodes/proxy alone",
+         {"/containerLogs/": NOTHING, "/stats/summary": FORBIDDEN, "/metrics/probes": FORBIDDEN},
+         {"/stats/summary": "get nodes/stats", "/metrics/probes": "get nodes/metrics"},
+         "the token may get nodes/proxy: whoever has it starts commands in each container of the nodes for which it"),
+        ("no debugging handlers", {"/containerLogs/": (405, b"Debug endpoints are disabled.")}, {}, None),
+    ):
+        kubelet = Kubelet(place.folder)
+        kubelet.others = others
+        words = ["--check", "--node", "worker-3", "--kubelet", kubelet.url, "--curl", curl]
+        status, told, said = run([f"{TOOLS}/record", *words], **place.settings)
+        kubelet.end()
+        lines = [line.split(maxsplit=2) for line in told.splitlines()]
+        expect(f"--check with {name}", (status, said, {line[1] for line in lines if line[0] == "missing"}),
+               (1 if missing else 0, "", set(missing)))
+        for path, wanted in missing.items():
+            [line] = [line[2] for line in lines if line[:2] == ["missing", path]]
+            expect(f"--check with {name}: {path}", (line.startswith("answered with 403 Forbidden: Forbidden (user="),
+                                                    f" and wants the permission to {wanted}" in line), (True, True))
+        found = [line.removeprefix("rights   ") for line in told.splitlines() if line.startswith("rights ")]
+        expect(f"--check with {name}: rights", [line.startswith(rights or "") for line in found],
+               [] if rights is None else [True])
+    place.remove()
+
+
+def test_a_certificate_in_place_of_a_token():
+    """A kubelet that knows a client by its certificate is asked without a token."""
+    if not has_openssl():
+        return
+    place = Place()
+    kubelet = Kubelet(place.folder, wants_certificate=True)
+    kubelet.others = {"/containerLogs/": NOTHING}
+    checked = f'cacert = "{place.folder}/crt"\n'
+    own = f'cert = "{place.folder}/crt"\nkey = "{place.folder}/key"\n'
+    words = ["--node", "worker-3", "--kubelet", kubelet.url, "--curl"]
+    curl = place.curl_file(checked + own)
+    status, trace, said = run([f"{TOOLS}/record", *words, curl, "--standard", "--for", "1"], **place.settings)
+    expect("a client certificate", (status, kinds(trace)[:3], said, kubelet.came), (0, ["node", "pod", "tick"], "", []))
+    status, told, _ = run([f"{TOOLS}/record", "--check", *words, curl], **place.settings)
+    expect("a client certificate: its rights", (status, told.splitlines()[-1].startswith(
+        "rights   the certificate may get nodes/proxy: ")), (0, True))
+    status, trace, said = run([f"{TOOLS}/record", *words, place.curl_file(checked)], **place.settings)
+    expect("no client certificate", (status, trace, said.count("\n")), (1, "", 1))
+    kubelet.end()
+    place.remove()
+
+
 def test_other_settings():
     """A file of curl with more than is read leaves the answers to curl."""
     for text, wanted in (('header = "A: b\\"c"\n-H "D: e"\n--insecure\n', ({"A": 'b"c', "D": "e"}, True)),
                          ("header: X:y\ncacert /a\n# no\n\n", ({"X": "y"}, False))):
         found = settings_of(text)
         expect(f"settings of {text!r}", (found.headers, found.is_insecure), wanted)
-    for text in ("proxy = a", "header = @file", 'header = "A: b', "cert = a:secret", "-x a", "insecure = no"):
+    for text in ("proxy = a", "header = @file", 'header = "A: b', "cert = a:secret", "-x a", "insecure = no",
+                 "resolve = a:b", "resolve = *:443:127.0.0.1", "resolve = a:443:127.0.0.1,127.0.0.2"):
         try:
             found = settings_of(text)
         except NotRead:

@@ -1,16 +1,24 @@
 """The tests of what starts the recorder on nodes: its words are those of tools/record, and the token is where it is
 read. Nothing is started by a service manager."""
 
+import contextlib
 import json
 import os
+import re
 import shlex
 import shutil
+import socket
 import subprocess
+import sys
 import tarfile
 import tempfile
 
-from checks import TOP, expect, expect_refused, read, run
+from checks import HERE, LONGEST, TOOLS, TOP, expect, expect_refused, read, run
+from test_connections import Kubelet, Place, has_openssl
+from test_record import Recorder
 
+from replay_tools.record.observer import RUNTIME, Observer
+from replay_tools.record.sources import Failed, Sources
 from replay_tools.record.words import words_of
 
 DEPLOY = f"{TOP}/deploy"
@@ -40,18 +48,44 @@ def test_unit():
     expect("the unit has no capability", settings["CapabilityBoundingSet"], [""])
 
 
-def test_daemonset():
-    """Its words are words of the recorder, its image is of this version, and it may get three things and no more."""
+def manifest(name):
+    """The parts of a manifest by their kinds, or None where python3-yaml is missing."""
     try:
         import yaml
     except ImportError:
+        return None
+    return {part["kind"]: part for part in yaml.safe_load_all(read(f"{DEPLOY}/{name}"))}
+
+
+def test_rights():
+    """Of the kubelet the recorder may get four things, none of which starts a command; where a kubelet does not know
+    these rights another role of that name has what it asks for in their place."""
+    parts, before = manifest("daemonset.yaml"), manifest("rights-before-1.33.yaml")
+    if parts is None:
         return
-    parts = {part["kind"]: part for part in yaml.safe_load_all(read(f"{DEPLOY}/daemonset.yaml"))}
-    [rule] = parts["ClusterRole"]["rules"]
-    expect("the role", (rule["verbs"], rule["resources"]), (["get"], ["nodes/proxy", "nodes/metrics", "nodes/stats"]))
+    [rule], [old] = parts["ClusterRole"]["rules"], before["ClusterRole"]["rules"]
+    expect("the role", (rule["verbs"], rule["resources"]),
+           (["get"], ["nodes/pods", "nodes/configz", "nodes/metrics", "nodes/stats"]))
+    expect("the role before 1.33", (old["verbs"], old["resources"]),
+           (["get"], ["nodes/proxy", "nodes/metrics", "nodes/stats"]))
+    expect("the role before 1.33 takes the place of the other", before["ClusterRole"]["metadata"],
+           parts["ClusterRole"]["metadata"])
+    expect("the role before 1.33 brings nothing else", list(before), ["ClusterRole"])
+
+
+def test_daemonset():
+    """Its words are words of the recorder, its image is named by what it has, and it checks the kubelet."""
+    parts = manifest("daemonset.yaml")
+    if parts is None:
+        return
     spec = parts["DaemonSet"]["spec"]["template"]["spec"]
     [container] = spec["containers"]
-    expect("the image", container["image"], f"kubelet-replay:{read(f'{TOP}/VERSION').strip()}")
+    expect("the image", re.fullmatch("registry.example/kubelet-replay@sha256:[0-9a-f]{64}", container["image"])
+           is not None, True)
+    expect("the image that was loaded", f" kubelet-replay:{read(f'{TOP}/VERSION').strip()}\n" in
+           read(f"{DEPLOY}/daemonset.yaml"), True)
+    [checked] = [each["value"] for each in container["env"] if each["name"] == "CERTIFICATE"]
+    expect("the kubelet is checked", checked, "/var/run/secrets/kubernetes.io/serviceaccount/ca.crt")
     with tempfile.TemporaryDirectory() as folder:
         found = words_of(["--node", "n1", "--into", folder, *container["args"]])
     expect("the pod's words", (found.into.each, found.crictl[0]), (3600, "crictl"))
@@ -63,31 +97,193 @@ def test_daemonset():
                             spec.get("hostNetwork")), ({"drop": ["ALL"]}, None, None, None))
 
 
+def entry_in(folder, **settings):
+    """What the entry is started with in a folder, which is its service account's too."""
+    with open(f"{folder}/token", "w", encoding="utf-8") as file:
+        file.write("of-the-test")
+    return {"PATH": f"{folder}:{os.environ['PATH']}", "ACCOUNT": folder, "RUN": f"{folder}/run", "NODE": "worker-3",
+            "ADDRESS": "127.0.0.1", "TRACES": folder, **settings}
+
+
 def test_entry():
     """The entry writes the file that the recorder reads, and starts the recorder with its words and those given."""
     folder = tempfile.mkdtemp()
     with open(f"{folder}/kubelet-replay", "w", encoding="utf-8") as file:
         file.write(SHOWS)
     os.chmod(f"{folder}/kubelet-replay", 0o755)
-    with open(f"{folder}/token", "w", encoding="utf-8") as file:
-        file.write("of-the-test")
-    settings = {"PATH": f"{folder}:{os.environ['PATH']}", "TOKEN": f"{folder}/token", "RUN": f"{folder}/run",
-                "NODE": "n1", "ADDRESS": "192.0.2.1", "TRACES": folder, "SHOWN": f"{folder}/run/kubelet.curl"}
-    process = subprocess.Popen([f"{DEPLOY}/entry", "--look", "5"], env={**os.environ, **settings}, text=True,
-                               stdout=subprocess.PIPE, stderr=subprocess.DEVNULL, start_new_session=True)
-    lines = [process.stdout.readline().rstrip("\n") for _ in range(13)]
-    # what writes the token anew is its child
-    os.killpg(process.pid, 15)
-    process.communicate()
     curl = f"{folder}/run/kubelet.curl"
-    expect("the entry", lines, ["record", "--node", "n1", "--kubelet", "https://192.0.2.1:10250", "--curl", curl,
-                                "--into", folder, "--look", "5", 'header = "Authorization: Bearer of-the-test"',
-                                "insecure"])
-    expect("the entry's file is its owner's", os.stat(curl).st_mode & 0o777, 0o600)
+    for name, settings, url, wanted in (
+        ("as it is", {}, "https://192.0.2.1:10250", [f'cacert = "{folder}/ca.crt"']),
+        ("with a file", {"CERTIFICATE": "/etc/kubelet.crt", "HOST": "n1"}, "https://n1:10250",
+         ['cacert = "/etc/kubelet.crt"', 'resolve = "n1:10250:192.0.2.1"']),
+        ("with another port", {"ADDRESS": "2001:db8::1", "CERTIFICATE": "insecure", "PORT": "10350"},
+         "https://[2001:db8::1]:10350", ["insecure"]),
+    ):
+        settings = entry_in(folder, SHOWN=curl, **{"ADDRESS": "192.0.2.1", **settings})
+        process = subprocess.Popen([f"{DEPLOY}/entry", "--look", "5"], env={**os.environ, **settings}, text=True,
+                                   stdout=subprocess.PIPE, stderr=subprocess.DEVNULL, start_new_session=True)
+        lines = [process.stdout.readline().rstrip("\n") for _ in range(12 + len(wanted))]
+        # what writes the token anew is its child
+        os.killpg(process.pid, 15)
+        process.communicate()
+        expect(f"the entry {name}", lines, [
+            "record", "--node", "worker-3", "--kubelet", url, "--curl", curl, "--into", folder, "--look", "5",
+            'header = "Authorization: Bearer of-the-test"', *wanted])
+        expect(f"the entry {name}: its file is its owner's", os.stat(curl).st_mode & 0o777, 0o600)
     os.unlink(f"{folder}/token")
+    alone = {name: value for name, value in settings.items() if name not in ("ADDRESS", "SHOWN")}
+    status, out, said = run([f"{DEPLOY}/entry", "--look", "5"], longest=10, KUBELET="none", **alone)
+    expect("the entry without a kubelet", (status, out.split("\n"), said), (0, [
+        "record", "--node", "worker-3", "--kubelet", "none", "--into", folder, "--look", "5", ""], ""))
     status, out, said = run([f"{DEPLOY}/entry"], longest=10, **settings)
     expect("the entry without a token", (status, out, f"{folder}/token" in said), (1, "", True))
     shutil.rmtree(folder)
+
+
+def test_entry_gives_no_token_away():
+    """Beside a kubelet with a certificate of its own the recorder says what is to be set, and keeps the token; with
+    that certificate, or told to take any, it records."""
+    if not has_openssl():
+        return
+    place, another = Place("DNS:worker-3"), Place()
+    os.symlink(f"{TOOLS}/kubelet-replay", f"{place.folder}/kubelet-replay")
+    shutil.copy(f"{another.folder}/crt", f"{place.folder}/ca.crt")
+    for name, settings, is_given in (("as it is", {}, False),
+                                     ("with its certificate", {"CERTIFICATE": f"{place.folder}/crt",
+                                                               "HOST": "worker-3"}, True),
+                                     ("told to take any", {"CERTIFICATE": "insecure"}, True)):
+        kubelet, traces = Kubelet(place.folder), tempfile.mkdtemp()
+        kubelet.tokens = {"Bearer of-the-test"}
+        settings = {**place.settings, **entry_in(place.folder), "TRACES": traces, "PORT": str(kubelet.port), **settings}
+        settings["PATH"] = f"{place.folder}:{place.settings['PATH']}"
+        process = subprocess.Popen([f"{DEPLOY}/entry", "--for", "1"], env={**os.environ, **settings}, text=True,
+                                   stdout=subprocess.DEVNULL, stderr=subprocess.PIPE, start_new_session=True)
+        status = process.wait(LONGEST)
+        # what writes the token anew is left where the entry ends
+        with contextlib.suppress(ProcessLookupError):
+            os.killpg(process.pid, 15)
+        said = process.communicate()[1]
+        made = [name for name in os.listdir(traces) if name.endswith(".trace.gz")]
+        expect(f"the entry {name}", (status, kubelet.came != [], made != []), (int(not is_given), is_given, is_given))
+        expect(f"the entry {name}: what is said", (said.count("\n"), "CERTIFICATE of the DaemonSet" in said),
+               (0, False) if is_given else (1, True))
+        kubelet.end()
+        shutil.rmtree(traces)
+    place.remove()
+    another.remove()
+
+
+# a client of a socket, which says for each line that it is given whether a server answers
+CLIENT = """
+import socket, sys
+for _ in sys.stdin:
+    with socket.socket(socket.AF_UNIX) as asked:
+        print(asked.connect_ex(sys.argv[1]), flush=True)
+"""
+
+
+def bound(path):
+    """A server of a socket, as a runtime that is started anew binds it: whatever was there is taken away."""
+    with contextlib.suppress(FileNotFoundError):
+        os.unlink(path)
+    server = socket.socket(socket.AF_UNIX)
+    server.bind(path)
+    server.listen()
+    return server
+
+
+def test_a_runtime_that_is_started_anew():
+    """What the pod mounts of the runtime leads to its socket also once the runtime has bound it anew."""
+    parts, tried = manifest("daemonset.yaml"), ["unshare", "-m", "mount", "-o", "bind", DEPLOY, DEPLOY]
+    if parts is None or shutil.which("unshare") is None or run(tried)[0] != 0:
+        print("left out: a runtime that is started anew, since nothing may be mounted or python3-yaml is missing")
+        return
+    spec = parts["DaemonSet"]["spec"]["template"]["spec"]
+    [container] = spec["containers"]
+    [source] = [volume["hostPath"]["path"] for volume in spec["volumes"] if volume["name"] == "runtime"]
+    [mount] = [mount for mount in container["volumeMounts"] if mount["name"] == "runtime"]
+    socket_path = container["args"][-1].rpartition("unix://")[2]
+    folder = tempfile.mkdtemp()
+    node, pod = f"{folder}/node", f"{folder}/pod"
+    os.makedirs(os.path.dirname(f"{node}{socket_path}"))
+    server = bound(f"{node}{socket_path}")
+    os.makedirs(os.path.dirname(f"{pod}{mount['mountPath']}"))
+    if os.path.isdir(f"{node}{source}"):
+        os.mkdir(f"{pod}{mount['mountPath']}")
+    else:
+        open(f"{pod}{mount['mountPath']}", "w", encoding="utf-8").close()
+    options = "bind,ro" if mount.get("readOnly") else "bind"
+    mounts = 'mount -o "$1" "$2" "$3" && exec "$4" -c "$5" "$6"'
+    client = subprocess.Popen(["unshare", "-m", "sh", "-c", mounts, "sh", options, f"{node}{source}",
+                               f"{pod}{mount['mountPath']}", sys.executable, CLIENT, f"{pod}{socket_path}"],
+                              stdin=subprocess.PIPE, stdout=subprocess.PIPE, text=True)
+    answers = []
+    for _ in range(3):
+        client.stdin.write("\n")
+        client.stdin.flush()
+        answers.append(client.stdout.readline())
+        server.close()
+        server = bound(f"{node}{socket_path}")
+    client.stdin.close()
+    client.stdout.close()
+    expect("a runtime that is started anew answers the pod", (answers, client.wait(LONGEST)), (["0\n"] * 3, 0))
+    server.close()
+    shutil.rmtree(folder)
+
+
+def probed(container, folder):
+    """Whether the pod's probe is content with a folder of traces."""
+    command = container["livenessProbe"]["exec"]["command"]
+    return run([word.replace("/var/lib/kubelet-replay", folder) for word in command])[0] == 0
+
+
+def test_probe():
+    """The pod is started anew once the runtime or the kubelet has given no answer for long."""
+    parts = manifest("daemonset.yaml")
+    recorder = Recorder("crash_loop")
+    folder = f"{recorder.run}/traces"
+    os.mkdir(folder)
+    words = [f"{TOOLS}/record", "--node", "worker-3", "--into", folder, "--for", "3"]
+    status, _, said = run(words, **recorder.settings)
+    expect("no probe: nothing is touched", (status, said, os.path.exists(f"{folder}/.answered")), (0, "", False))
+    for name, is_silent in (("that answers", False), ("that is silent", True)):
+        open(f"{folder}/.answered", "w", encoding="utf-8").close()
+        os.utime(f"{folder}/.answered", (1e9, 1e9))
+        settings = recorder.settings
+        if is_silent:
+            # from its second list on the runtime gives none
+            with open(f"{recorder.run}/crictl", "w", encoding="utf-8") as file:
+                file.write(f'#!/bin/sh\n[ "$1" != ps ] || [ ! -e "{recorder.run}/was" ] || exit 1\n'
+                           f'true >"{recorder.run}/was"\nexec "{HERE}/commands/crictl" "$@"\n')
+            os.chmod(f"{recorder.run}/crictl", 0o755)
+            settings = {**settings, "PATH": f"{recorder.run}:{settings['PATH']}"}
+        status = run(words, **settings)[0]
+        expect(f"a runtime {name} is seen", (status, os.path.getmtime(f"{folder}/.answered") > 1e9),
+               (0, not is_silent))
+        if parts is not None:
+            [container] = parts["DaemonSet"]["spec"]["template"]["spec"]["containers"]
+            expect(f"the probe of a runtime {name}", probed(container, folder), not is_silent)
+    recorder.clean()
+
+
+def test_what_is_silent_for_long():
+    """A source that gives no answer is said, and again after five minutes of that, and that it answers again."""
+    told, answers = [], {1000: "yes", 1700: "yes"}
+
+    def ask(moment):
+        if moment not in answers:
+            raise Failed("crictl ps failed")
+        return answers[moment]
+
+    observer = Observer(Sources("n1"), 10, lambda text, subject=None: told.append(text))
+    got = [observer.attempt(RUNTIME, moment, lambda: ask(moment))
+           for moment in (1000, 1001, 1100, 1300, 1301, 1302, 1601, 1602, 1700, 1701)]
+    wait = "; ticks wait for it up to 30 s, and then list containers as unknown"
+    expect("what is silent for long", told, [
+        f"1001: crictl ps failed{wait}", f"1301: crictl ps failed, for 300 s now{wait}",
+        f"1601: crictl ps failed, for 600 s now{wait}", "1700: crictl ps answers again, after 699 s",
+        f"1701: crictl ps failed{wait}"])
+    expect("what is silent for long: the answers", [answer for answer in got if answer], ["yes", "yes"])
 
 
 # what deploy/image starts: a root of one device, and an image of one tag
@@ -95,28 +291,35 @@ MMDEBSTRAP = """#!/bin/sh
 for word; do case $word in */root.tar) tar -C / -cf "$word" ./dev/null ;; esac; done
 """
 UMOCI = """#!/bin/sh
+echo "$*" >>"${0%/*}/asked"
 [ "$1" != init ] || {
-    mkdir "$3" && echo '{"manifests":[{"annotations":{"org.opencontainers.image.ref.name":"1.2.3"}}]}' >"$3/index.json"
+    mkdir "$3" && echo '{"manifests":[{"mediaType":"m","digest":"DIGEST","size":2,"annotations":
+        {"org.opencontainers.image.ref.name":"1.2.3"}}]}' >"$3/index.json"
 }
 """
+DIGEST = f"sha256:{'0123456789abcdef' * 4}"
 CONTROL = "Package: kubelet-replay\nVersion: 1.2.3\nArchitecture: amd64\nMaintainer: n <n@n>\nDescription: d\n"
 
 
 def test_image_name():
-    """The runtime names the image as the manifest does, also where only a tag names it."""
+    """The runtime names the image as the manifest does, also where only a tag names it; its digest is printed, and its
+    date is that of the package."""
     if shutil.which("dpkg-deb") is None:
         return
     folder = tempfile.mkdtemp()
     os.makedirs(f"{folder}/package/DEBIAN")
-    for path, text in (("package/DEBIAN/control", CONTROL), ("mmdebstrap", MMDEBSTRAP), ("umoci", UMOCI)):
+    for path, text in (("package/DEBIAN/control", CONTROL), ("mmdebstrap", MMDEBSTRAP), ("umoci", UMOCI.replace("DIGEST", DIGEST))):
         with open(f"{folder}/{path}", "w", encoding="utf-8") as file:
             file.write(text)
         os.chmod(f"{folder}/{path}", 0o755)
-    run(["dpkg-deb", "--build", f"{folder}/package", f"{folder}/made.deb"])
+    run(["dpkg-deb", "--build", f"{folder}/package", f"{folder}/made.deb"], SOURCE_DATE_EPOCH="1000000000")
     made = run([f"{DEPLOY}/image", f"{folder}/made.deb", f"{folder}/made.tar"], PATH=f"{folder}:{os.environ['PATH']}")
-    expect("an image", made, (0, f"{os.path.realpath(folder)}/made.tar\n", ""))
+    expect("an image", made, (0, f"{os.path.realpath(folder)}/made.tar\nkubelet-replay@{DIGEST}\n", ""))
     with tarfile.open(f"{folder}/made.tar") as archive:
         [listed] = json.load(archive.extractfile("./index.json"))["manifests"]
+        expect("the moments in an image", {each.mtime for each in archive.getmembers()}, {1000000000})
+    dates = re.findall("created ([^ \n]+)", read(f"{folder}/asked"))
+    expect("the date of an image", (len(dates), set(dates)), (3, {"2001-09-09T01:46:40Z"}))
     expect("the names of the image", listed["annotations"], {
         "org.opencontainers.image.ref.name": "1.2.3",
         "io.containerd.image.name": "docker.io/library/kubelet-replay:1.2.3"})

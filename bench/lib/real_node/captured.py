@@ -32,7 +32,7 @@ def main(path, words):
             """Asks as the recorder does, and keeps the answer or what failed."""
             entry = {"at": round(time.time(), 3), "words": command}
             try:
-                entry["answer"] = sources.run_command(command, seconds)
+                entry["answer"] = sources.run_command(command, seconds).decode("utf-8", "replace")
                 return entry["answer"]
             except sources.Failed as failed:
                 entry["failed"] = str(failed)

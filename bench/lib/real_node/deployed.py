@@ -50,11 +50,16 @@ def content_of(path):
 
 
 def manifest_of(text, folder, traces):
-    """The manifest with what an operator puts in: where crictl and the traces are on this machine, short traces, and
-    each second a look."""
+    """The manifest with what an operator puts in: where crictl and the traces are on this machine, the image that was
+    loaded, the rights that a kubelet 1.20 knows, its certificate, which it has signed itself; short traces, and each
+    second a look."""
+    version = content_of(f"{TOP}/VERSION").decode().strip()
     for old, new in (('"--look", "5"', f'"--look", "{LOOK}"'), ('"--each", "1h"', f'"--each", "{EACH}s"'),
                      ("{path: /usr/local/bin/crictl,", f"{{path: {folder}/bin/crictl,"),
-                     ("{path: /var/lib/kubelet-replay,", f"{{path: {traces},")):
+                     ("{path: /var/lib/kubelet-replay,", f"{{path: {traces},"),
+                     (f"registry.example/kubelet-replay@sha256:{'0' * 64}", f"kubelet-replay:{version}"),
+                     ('["nodes/pods", "nodes/configz", ', '["nodes/proxy", '),
+                     ("value: /var/run/secrets/kubernetes.io/serviceaccount/ca.crt", "value: insecure")):
         if text.count(old) != 1:
             raise RuntimeError(f"deploy/daemonset.yaml has {old} {text.count(old)} times")
         text = text.replace(old, new)

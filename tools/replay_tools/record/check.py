@@ -10,7 +10,7 @@ from .node import node_line_of
 from .pods import pods_of
 from .probes import counters_of
 from .runtime import inspected_of, instances_of
-from .sources import Failed
+from .sources import Failed, Refused
 from .summary import Summary, summary_of
 
 if TYPE_CHECKING:
@@ -19,6 +19,15 @@ if TYPE_CHECKING:
 
 PROXY = "it wants the permission to get nodes/proxy, and the node's name in the cluster as --node"
 PORT = "it is at the kubelet's port 10250, and wants the permission to get nodes/{what}"
+# rights of their own that a kubelet has for what nodes/proxy opens too
+FINER = ("pods", "configz")
+BEFORE = ", which a kubelet knows from Kubernetes 1.33 on; before it nodes/proxy (deploy/rights-before-1.33.yaml)"
+# it wants nodes/proxy in each version, and names no container, so that whoever may ask finds nothing
+OF_PROXY = "containerLogs/"
+MAY = ("{who} may get nodes/proxy: whoever has it starts commands in each container of the nodes for which it may; "
+       "from Kubernetes 1.33 on nodes/pods and nodes/configz do in its place (deploy/daemonset.yaml)")
+MAY_NOT = "{who} may not get nodes/proxy, so it starts no command in a container"
+DO = "; the rights of deploy/daemonset.yaml do here"
 
 
 class NotAsked(Exception):
@@ -31,7 +40,7 @@ def counted(count: int, what: str) -> str:
 
 def wish(sources: Sources, what: str) -> str:
     """What a source at the kubelet wants."""
-    return PROXY if sources.kubelet is None else PORT.replace("{what}", what)
+    return PROXY if sources.kubelet is None else PORT.replace("{what}", what) + (BEFORE if what in FINER else "")
 
 
 def runtime_checks(sources: Sources) -> list[tuple[str, Callable[..., Any], str]]:
@@ -67,12 +76,14 @@ def node_checks(sources: Sources, node: str, trace_format: Format) -> list[tuple
 
     own = "; the read-only port 10255 does not serve it; --node-line FILE takes its place"
     return [("/stats/summary", summarize, wish(sources, "stats")),
-            ("/configz", configure, wish(sources, "proxy") + own)]
+            ("/configz", configure, wish(sources, "configz") + own)]
 
 
 def checks_of(sources: Sources, node: str, trace_format: Format) -> list[tuple[str, Callable[..., Any], str]]:
     """Each source with how it is asked and what it wants: (name, ask, wish)."""
-    pods = wish(sources, "proxy") if sources.kubelet else "it wants the permission to list pods of all namespaces"
+    if sources.alone is not None:
+        return runtime_checks(sources)
+    pods = wish(sources, "pods") if sources.kubelet else "it wants the permission to list pods of all namespaces"
     return [*runtime_checks(sources),
             (sources.pods_name(), lambda: counted(len(pods_of(sources.pods(), sources.pods_name())), "pod"), pods),
             ("/metrics/probes", lambda: f"{counted(len(counters_of(sources.probes())), 'probe')} with results",
@@ -91,4 +102,21 @@ def check(sources: Sources, node: str, trace_format: Format, show: Callable[[str
         except Failed as failed:
             works = False
             show(f"missing  {failed}; {wanted}")
+    show_rights(sources, works, show)
     return works
+
+
+def show_rights(sources: Sources, works: bool, show: Callable[[str], None]) -> None:
+    """Shows whether the token or certificate may do more at the kubelet than is wanted, where that can be known."""
+    if sources.kubelet is None or sources.keeps is None or not sources.kubelet.startswith("https:"):
+        return
+    try:
+        sources.keeps.endpoint(OF_PROXY)
+    except Refused as refused:
+        who = "the certificate" if sources.keeps.settings.certificate else "the token"
+        said = {403: MAY_NOT + (DO if works else ""), 404: MAY}.get(refused.status)
+        if said is not None:
+            show(f"rights   {said.format(who=who)}")
+    except Failed:
+        # why is said of the others
+        pass

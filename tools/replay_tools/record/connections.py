@@ -20,17 +20,21 @@ from dataclasses import dataclass, field
 from typing import Any, Optional
 from urllib.parse import urlsplit
 
-from .sources import ENDPOINT_SECONDS, Failed, Sources
+from .alone import ALONE, RuntimeAlone
+from .answers import decoded
+from .sources import ENDPOINT_SECONDS, MOST_BYTES, PART_BYTES, Failed, Refused, Sources, shown_line, too_long
 
-PART_BYTES = 1 << 16
 # what an answer fails with: of the connection, and of an address or a header that can't be sent
 FAULTS = (http.client.HTTPException, OSError, ValueError)
-# the longest answer that is read
-MOST_BYTES = 1 << 28
 LINE = re.compile(r"(?:--)?(?P<name>[a-z-]+)(?:\s*[=:]\s*|\s+|$)(?P<value>.*)|-(?P<letter>[A-Za-z])\s*(?P<rest>.*)")
+RESOLVED = re.compile(r"(?P<host>[^:+*]+):(?P<port>[0-9]{1,5}):(?P<address>[0-9.]+|\[[0-9a-fA-F:.]+\])")
 LETTERS = {"H": "header", "k": "insecure", "E": "cert", "s": "silent"}
 ESCAPES = {"t": "\t", "n": "\n", "r": "\r", "v": "\v"}
 DEATH_SIGNAL = 1
+UNSAFE = "what {0} has of a token goes to https:// alone, unless it has the line insecure"
+INSECURE = re.compile(r"^\s*(?:(?:--)?insecure|-k)\s*$", re.MULTILINE)
+NOT_CHECKED = ('; what the kubelet signed itself is checked by its own file, as cacert = "FILE" (CERTIFICATE of the '
+               "DaemonSet), or taken unchecked, as insecure")
 
 
 class NotRead(Exception):
@@ -45,6 +49,8 @@ class Settings:
     authority: Optional[str] = None
     certificate: Optional[str] = None
     key: Optional[str] = None
+    # the addresses of names, by (name, port)
+    addresses: dict = field(default_factory=dict)
 
 
 def settings_of(text: str) -> Settings:
@@ -83,8 +89,26 @@ def take(settings: Any, name: str, value: Any) -> None:
         settings.certificate = value
     elif name == "key":
         settings.key = value
+    elif name == "resolve" and (resolved := RESOLVED.fullmatch(value)):
+        settings.addresses[resolved["host"], int(resolved["port"])] = resolved["address"].strip("[]")
     elif name not in ("silent", "show-error", "fail"):
         raise NotRead(f"'{name}'")
+
+
+def text_of(curl_file: str | None) -> str:
+    """The text of a file of curl; none where there is no file."""
+    if curl_file is None:
+        return ""
+    with open(curl_file, encoding="utf-8") as file:
+        return file.read()
+
+
+def says_insecure(curl_file: str) -> bool:
+    """Whether a file of curl that is not read here has the line that no certificate is checked."""
+    try:
+        return INSECURE.search(text_of(curl_file)) is not None
+    except (OSError, UnicodeDecodeError):
+        return False
 
 
 class Kept:
@@ -94,8 +118,8 @@ class Kept:
         self.connect = connect
         self.connection: http.client.HTTPConnection | None = None
 
-    def get(self, path: str, headers: dict[str, str]) -> str:
-        """The text of an answer; Failed where none comes."""
+    def get(self, path: str, headers: dict[str, str]) -> bytearray:
+        """An answer; Failed where none comes."""
         is_kept = self.connection is not None
         try:
             return self.asked(path, headers)
@@ -113,33 +137,35 @@ class Kept:
         self.close()
         if isinstance(error, TimeoutError):
             return Failed(f"gave no answer within {ENDPOINT_SECONDS} s")
-        said = getattr(error, "verify_message", None) or getattr(error, "strerror", None) or error
-        return Failed(f"gave no answer: {said}")
+        unchecked = getattr(error, "verify_message", None)
+        said = unchecked or getattr(error, "strerror", None) or error
+        return Failed(f"gave no answer: {said}{NOT_CHECKED if unchecked else ''}")
 
-    def asked(self, path: str, headers: dict[str, str]) -> str:
+    def asked(self, path: str, headers: dict[str, str]) -> bytearray:
         until = time.monotonic() + ENDPOINT_SECONDS
         if self.connection is None:
             self.connection = self.connect()
         self.connection.request("GET", path, headers=headers)
         answer = self.connection.getresponse()
-        text = self.text_of(answer, until)
+        body = self.body_of(answer, until)
         if answer.will_close:
             self.close()
         if answer.status != 200:
-            raise Failed(f"answered with {answer.status} {answer.reason}: {said_in(text)}")
-        return text
+            raise Refused(answer.status, f"answered with {answer.status} {shown_line(answer.reason)}: {said_in(body)}")
+        return body
 
-    def text_of(self, answer: http.client.HTTPResponse, until: float) -> str:
-        parts, count = [], 0
+    def body_of(self, answer: http.client.HTTPResponse, until: float) -> bytearray:
+        body = bytearray()
         while part := answer.read(PART_BYTES):
-            parts.append(part)
-            count += len(part)
+            body += part
             if time.monotonic() > until:
                 raise TimeoutError
-            if count > MOST_BYTES:
+            if len(body) > MOST_BYTES:
                 self.close()
-                raise Failed(f"answered with more than {MOST_BYTES >> 20} MiB")
-        return b"".join(parts).decode("utf-8", "replace")
+                raise too_long()
+        if answer.length:
+            raise ConnectionError("the answer ended before its length")
+        return body
 
     def close(self) -> None:
         if self.connection is not None:
@@ -147,19 +173,34 @@ class Kept:
             self.connection = None
 
 
-def said_in(text: str) -> str:
+def said_in(body: bytearray) -> str:
     """Why an answer is a refusal, in one line: an API server writes an object with a message."""
+    text = decoded(body[:PART_BYTES])
     try:
         answer = json.loads(text)
         text = answer["message"] if isinstance(answer, dict) and "message" in answer else text
     except (ValueError, RecursionError):
         pass
-    return " ".join(str(text).split())[:300]
+    return shown_line(" ".join(str(text).split()))
+
+
+class AddressedConnection(http.client.HTTPSConnection):
+    """A connection to an address, at which a server has to show the certificate of a name."""
+
+    def __init__(self, host: str, port: int, address: str, context: ssl.SSLContext) -> None:
+        super().__init__(host, port, timeout=ENDPOINT_SECONDS, context=context)
+        self.address = address
+        self.checks = context
+
+    def connect(self) -> None:
+        plain = socket.create_connection((self.address, self.port), self.timeout)
+        self.sock = self.checks.wrap_socket(plain, server_hostname=self.host)
 
 
 class Kubelet:
     """A kubelet at its URL, with the settings of a file of curl, which is read again where it has changed, as a token
-    does. Raises NotRead for settings that it does not know."""
+    does. A header, as that with the token, goes to no server whose certificate was not checked, unless the settings say
+    so. Raises NotRead for settings that it does not know."""
 
     def __init__(self, url: str, curl_file: str | None) -> None:
         self.url, self.curl_file = urlsplit(url), curl_file
@@ -168,10 +209,7 @@ class Kubelet:
         self.read()
 
     def read(self) -> None:
-        text = ""
-        if self.curl_file is not None:
-            with open(self.curl_file, encoding="utf-8") as file:
-                text = file.read()
+        text = text_of(self.curl_file)
         if text != self.text:
             self.settings, self.text = settings_of(text), text
             self.kept.close()
@@ -185,18 +223,21 @@ class Kubelet:
             context.check_hostname, context.verify_mode = False, ssl.CERT_NONE
         if self.settings.certificate is not None:
             context.load_cert_chain(self.settings.certificate, self.settings.key)
-        return http.client.HTTPSConnection(host, port or 443, timeout=ENDPOINT_SECONDS, context=context)
+        address = self.settings.addresses.get((host, port or 443), host)
+        return AddressedConnection(host, port or 443, address, context)
 
-    def endpoint(self, path: str) -> str:
+    def endpoint(self, path: str) -> bytearray:
         try:
             self.read()
         except (OSError, UnicodeDecodeError) as error:
             raise Failed(f"can't be asked: {self.curl_file} can't be read: {error}") from None
         except NotRead as other:
             raise Failed(f"can't be asked: {self.curl_file} has {other}, which is not read") from None
+        if self.url.scheme == "http" and self.settings.headers and not self.settings.is_insecure:
+            raise Failed(f"is not asked: {UNSAFE.format(self.curl_file)}")
         return self.kept.get(f"/{path}", self.settings.headers)
 
-    def pods(self) -> Any:
+    def pods(self) -> bytearray:
         return self.endpoint("pods")
 
     def works(self) -> bool:
@@ -205,6 +246,25 @@ class Kubelet:
 
     def close(self) -> None:
         self.kept.close()
+
+
+class Unasked:
+    """A kubelet that is not asked; why stands in place of each answer."""
+
+    def __init__(self, reason: str) -> None:
+        self.reason = reason
+
+    def endpoint(self, _: str) -> bytearray:
+        raise Failed(f"is not asked: {self.reason}")
+
+    def pods(self) -> bytearray:
+        return self.endpoint("pods")
+
+    def works(self) -> bool:
+        return True
+
+    def close(self) -> None:
+        """Nothing was opened."""
 
 
 class SocketConnection(http.client.HTTPConnection):
@@ -291,7 +351,7 @@ class Proxy:
                 self.say(f"{failed}: kubectl is started for each answer")
         return self.does_start
 
-    def get(self, path: str) -> str:
+    def get(self, path: str) -> bytearray:
         if self.process is None or self.process.poll() is not None:
             try:
                 self.start()
@@ -299,10 +359,10 @@ class Proxy:
                 raise Failed(f"gave no answer: {failed}") from None
         return self.kept.get(path, {})
 
-    def endpoint(self, path: str) -> str:
+    def endpoint(self, path: str) -> bytearray:
         return self.get(f"/api/v1/nodes/{self.node}/proxy/{path}")
 
-    def pods(self) -> str:
+    def pods(self) -> bytearray:
         return self.get(f"/api/v1/pods?fieldSelector=spec.nodeName%3D{self.node}")
 
     def close(self) -> None:
@@ -327,9 +387,13 @@ def kept_sources(node: str, kubelet: str | None, curl_file: str | None, say: Cal
     read here, curl is one too."""
     if kubelet is None:
         return Sources(node, keeps=Proxy(node, say))
+    if kubelet == ALONE:
+        return Sources(node, kubelet, alone=RuntimeAlone())
     try:
         return Sources(node, kubelet, curl_file, keeps=Kubelet(kubelet, curl_file))
     except NotRead as other:
+        if kubelet.startswith("http:") and not says_insecure(curl_file):
+            return Sources(node, kubelet, curl_file, keeps=Unasked(UNSAFE.format(curl_file)))
         say(f"{curl_file} has {other}, which is not read here: curl is started for each answer")
     except (OSError, UnicodeDecodeError) as error:
         say(f"{curl_file} can't be read: {error}")

@@ -7,6 +7,7 @@ import json
 from collections.abc import Callable, Iterator
 from typing import Any, TYPE_CHECKING
 
+from .answered import Answered
 from .folder import FULL, Folder, Refused, why
 from .formats import MOST_BYTES, MOST_PODS
 from .lasting import LastingRecorder, forget_strangers, set_back
@@ -278,6 +279,7 @@ class LastingRecording(Recording):
         super().__init__(words, sources, clock, output, say)
         self.say = say
         self.recorder = LastingRecorder(words.format, words.every, say)
+        self.observer.answered = Answered(output.folder.path, say)
 
     def begin(self) -> None:
         super().begin()

@@ -11,17 +11,20 @@ from typing import Any, TYPE_CHECKING
 
 from replay_tools.traces import SIGNALS
 
+from .answers import read_json
 from .formats import (at_place, duration_fault, first_fault, is_percentage, limit_fault, name_fault, percentage_fault,
                       seconds_of, whole_fault, without_nones)
-from .sources import Failed, read_json, reads
+from .sources import Failed, reads
 
 if TYPE_CHECKING:
+    from .answers import Answer
     from .lines import Format
     from .summary import Summary
 
 GRACES = "evictionSoftGracePeriod"
 RECLAIMS = "evictionMinimumReclaim"
-# what the formats don't read: the ticks say what the kubelet did, so where they say nothing it evicted none
+# what the formats don't read: the ticks say what the kubelet did, so where they say nothing it evicted none; but for a
+# node of which nothing is sampled, as by its runtime alone
 TELLS = {"recordsKubelet": True}
 PERCENT_NUMBER = re.compile(r"[0-9]+[.]?[0-9]*|[.][0-9]+")
 GO_DURATION = re.compile(r"[+]?(0|(([0-9]+[.]?[0-9]*|[.][0-9]+)(h|ms|m|s|us|µs|μs|ns))+)")
@@ -138,7 +141,7 @@ def sets_no_threshold(value: Any) -> bool:
 
 
 @reads("/configz")
-def node_line_of(text: str, name: str, summary: Summary, node_format: Format) -> NodeLine:
+def node_line_of(text: Answer, name: str, summary: Summary, node_format: Format) -> NodeLine:
     """The node line of an answer of /configz; Failed where the formats do not take what it says."""
     answer = read_json(text, "/configz")
     read = answer.get("kubeletconfig") if isinstance(answer, dict) else None
@@ -152,7 +155,7 @@ def node_line_of(text: str, name: str, summary: Summary, node_format: Format) ->
         raise Failed(f"{fault}; a node line of your own can be given with --node-line")
     line = {"kind": "node", "version": node_format.version, "name": name, "maxRestartDelay": delay,
             "capacity": summary.capacity, "dedicatedImagefs": summary.has_dedicated_image_fs, **fields,
-            **pause_of(node_format), **TELLS}
+            **pause_of(node_format), **(TELLS if summary.signals else {})}
     return NodeLine(without_nones(line), reader.notes)
 
 

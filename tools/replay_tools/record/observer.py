@@ -35,7 +35,10 @@ LIST_SECONDS = 1.5
 STATUS_SECONDS = 3
 # a list is asked for anew so often where a container has gone between it and `crictl inspect`
 MOST_LISTS = 3
+# what is silent for so long is said again, as often
+SILENT_SECONDS = 300
 RUNTIME, PROBES, PODS, SUMMARY = "crictl ps", "/metrics/probes", "the list of pods", "/stats/summary"
+KUBELETS = {PROBES, PODS, SUMMARY}
 MEANWHILE = {
     RUNTIME: "ticks wait for it up to 30 s, and then list containers as unknown",
     PROBES: "ticks wait for it up to 30 s; its results are written once it answers",
@@ -56,6 +59,9 @@ class Observer:
         self.decided: set[str] = set()
         self.asked_at: dict[str, float] = {}
         self.silent: dict[str, Any] = {}
+        self.said_at: dict[str, float] = {}
+        # what is told at each look whether the runtime and the kubelet answer
+        self.answered: Callable[[bool], None] | None = None
         self.details: dict[str, Any] = {}
         self.states: dict[str, Any] = {}
         # the instances whose code is not known yet, and since when the runtime has them no more
@@ -110,6 +116,8 @@ class Observer:
         if self.wants_summary(seen.pods, moment):
             seen.summary = self.attempt(SUMMARY, moment, lambda: self.take_summary(moment))
         seen.is_summary_silent, seen.low = SUMMARY in self.silent, self.near.low
+        if self.answered is not None:
+            self.answered(RUNTIME not in self.silent and not self.silent.keys() >= KUBELETS)
         return seen
 
     def wants_pods(self, moment: float) -> bool:
@@ -125,19 +133,25 @@ class Observer:
         return not (is_still and is_sure and 0 <= moment - self.listed_at < LIST_SECONDS)
 
     def attempt(self, source: str, moment: float, ask: Callable[..., Any], is_whole: bool = True) -> Any:
-        """An answer, or None; that a source is silent is said once, and so is that its whole answer is there again."""
+        """An answer, or None; that a source is silent is said, and again after minutes, and so is that its whole answer
+        is there again."""
         try:
             answer = ask()
         except Failed as failed:
-            if source not in self.silent:
-                self.silent[source] = moment
-                self.say(f"{int(moment)}: {failed}; {MEANWHILE[source]}", (source, moment))
+            self.say_silent(source, moment, failed)
             return None
         since = self.silent.pop(source, None) if is_whole else None
         if since is not None:
             self.say(f"{int(moment)}: {source} answers again, after {round(moment - since)} s",
                      (source, moment, "again"))
         return answer
+
+    def say_silent(self, source: str, moment: float, failed: Failed) -> None:
+        since = self.silent.setdefault(source, moment)
+        if since == moment or not 0 <= moment - self.said_at[source] < SILENT_SECONDS:
+            silence = "" if since == moment else f", for {round(moment - since)} s now"
+            self.said_at[source] = moment
+            self.say(f"{int(moment)}: {failed}{silence}; {MEANWHILE[source]}", (source, moment))
 
     def is_due(self, source: str, moment: float, seconds: int | None = None) -> bool:
         """Whether so many whole seconds have passed since a source was asked, also where it gave no answer."""

@@ -5,13 +5,17 @@ from __future__ import annotations
 
 from collections.abc import Iterator
 from dataclasses import dataclass, field
-from typing import Any, Optional
+from typing import Any, Optional, TYPE_CHECKING
 
+from .answers import read_parts
 from .decisions import Decision, decision_of
 from .formats import (at_place, first_fault, label_fault, name_fault, quantity_fault, whole_fault, without_nones)
 from .reasons import reason_of, waits_in
 from .runtime import End, code_fault, moment_of
-from .sources import Failed, read_json, reads
+from .sources import Failed, reads
+
+if TYPE_CHECKING:
+    from .answers import Answer
 
 PROBES = {"startup": "startupProbe", "liveness": "livenessProbe", "readiness": "readinessProbe"}
 PROBE_FIELDS = ("initialDelaySeconds", "periodSeconds", "timeoutSeconds", "successThreshold", "failureThreshold")
@@ -58,15 +62,15 @@ class Pod:
 
 
 @reads("pods")
-def pods_of(text: str, what: str) -> list[Pod]:
+def pods_of(text: Answer, what: str) -> list[Pod]:
     """The pods of an answer, by their keys."""
-    answer = read_json(text, what)
+    answer = read_parts(text, what, "items", pod_of)
     items = answer.get("items") if isinstance(answer, dict) else None
     if items is None and isinstance(answer, dict) and str(answer.get("kind", "")).endswith("List"):
         items = []
     if not isinstance(items, list):
         raise Failed(f"{what}: no list of pods in the answer")
-    return sorted(map(pod_of, items), key=lambda pod: pod.key)
+    return sorted(items, key=lambda pod: pod.key)
 
 
 def pod_of(item: Any) -> Pod:

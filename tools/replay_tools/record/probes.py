@@ -5,14 +5,23 @@ from __future__ import annotations
 
 import re
 from dataclasses import dataclass
+from typing import Optional, TYPE_CHECKING
 
-from .sources import reads
+from .answers import decoded
+from .sources import ENDPOINT_SECONDS, reads
+
+if TYPE_CHECKING:
+    from .answers import Answer
 
 PROBES = ("startup", "liveness", "readiness")
 RESULTS = ("failure", "success", "unknown")
+# what a kubelet takes a probe to find before its first result
+FIRST = {"startup": "failure", "liveness": "success", "readiness": "failure"}
+# results of a probe beside one each period: at its begin, and at both ends of what is counted
+MOST_BESIDE = 3
 PROBE_WORDS = {"Startup": "startup", "Liveness": "liveness", "Readiness": "readiness"}
 RESULT_WORDS = {"successful": "success", "failed": "failure", "unknown": "unknown"}
-SERIES = re.compile(r"prober_probe_total{(?P<labels>.*)} (?P<value>[^ ]+)")
+SERIES = re.compile(rb"^prober_probe_total{(?P<labels>.*)} (?P<value>[^ \n]+)", re.MULTILINE)
 LABEL = re.compile(r'([a-z_]+)="([^"]*)"')
 
 
@@ -25,14 +34,11 @@ class Result:
 
 
 @reads("/metrics/probes")
-def counters_of(text: str) -> dict[tuple[str, str, str], dict[str, int]]:
+def counters_of(text: Answer) -> dict[tuple[str, str, str], dict[str, int]]:
     """The counts of an answer: {(uid, container, probe): {result: count}}."""
     counters: dict[tuple[str, str, str], dict[str, int]] = {}
-    for line in text.split("\n"):
-        series = SERIES.match(line)
-        if series is None:
-            continue
-        labels = dict(LABEL.findall(series["labels"]))
+    for series in SERIES.finditer(text.encode() if isinstance(text, str) else text):
+        labels = dict(LABEL.findall(decoded(series["labels"])))
         probe, result = PROBE_WORDS.get(labels.get("probe_type")), RESULT_WORDS.get(labels.get("result"))
         if probe and result:
             of_probe = counters.setdefault((labels.get("pod_uid"), labels.get("container"), probe), {})
@@ -40,15 +46,28 @@ def counters_of(text: str) -> dict[tuple[str, str, str], dict[str, int]]:
     return counters
 
 
+def most_results(period: int, seconds: float) -> float:
+    """How many results a probe may have had within some seconds, the later end of which is not exact."""
+    return (max(seconds, 0) + ENDPOINT_SECONDS) / period + MOST_BESIDE
+
+
+def have_begun_anew(before: dict[str, int], now: dict[str, int], most: float) -> bool:
+    """Whether the counts of one probe began anew, as they do with the kubelet: one fell, and there was time for all."""
+    return any(now.get(result, 0) < count for result, count in before.items()) and sum(now.values()) <= most
+
+
 def grown(before: dict[str, int], now: dict[str, int]) -> dict[str, int]:
-    """What the counts of one probe grew by. A count that fell began anew with the kubelet, so all of it came since."""
-    growth = {result: now.get(result, 0) - before.get(result, 0) for result in RESULTS}
-    return {result: number if number >= 0 else now.get(result, 0) for result, number in growth.items()}
+    """What the counts of one probe grew by; those that an answer leaves out did not."""
+    return {result: max(now.get(result, 0) - before.get(result, 0), 0) for result in RESULTS}
 
 
-def results_of(probe: str, growth: dict[str, int], period: int, since: float, until: float) -> list[Result]:
-    """The results of one probe between two looks, in an order: failures before the success that ends them, the last at
-    the later look and each other one a period before the next, but none before the earlier look."""
-    outcomes = [result for result in RESULTS for _ in range(growth.get(result, 0))]
+def results_of(probe: str, growth: dict[str, int], period: int, since: float, until: float,
+               last: Optional[str] = None) -> list[Result]:
+    """The results of one probe between two looks, in an order: those that equal the last one before them first, as a
+    probe goes on with what it found, then failures before a success; the last at the later look and each other one a
+    period before the next, but none before the earlier look."""
+    last = FIRST[probe] if last is None else last
+    order = sorted(RESULTS, key=lambda result: result != last)
+    outcomes = [result for result in order for _ in range(growth.get(result, 0))]
     return [Result(max(since, until - period * (len(outcomes) - 1 - place)), probe, result)
             for place, result in enumerate(outcomes)]

@@ -9,7 +9,7 @@ from typing import Any, Optional, TYPE_CHECKING
 from .decisions import EVICTED, REFUSED
 from .formats import MOST_PODS
 from .lines import line_of
-from .probes import PROBES, grown, results_of
+from .probes import PROBES, grown, have_begun_anew, most_results, results_of
 from .runtime import EXITED, RUNNING, Container
 from .timeline import Timeline
 
@@ -55,7 +55,7 @@ class Seen:
 class Recorded:
     """A pod of the trace, the second of its line, that from which on its containers change, what was seen of them, and
     what is not planned yet; `usage` has its newest samples, `sampled_at` is when a summary had it last, `unsampled_at`
-    since when none has it, and `waits` says why its containers wait."""
+    since when none has it, `waits` says why its containers wait, and `found` what each of their probes found last."""
     pod: Pod
     arrived: int
     changes_from: int
@@ -65,6 +65,7 @@ class Recorded:
     sampled_at: float = 0
     unsampled_at: Optional[float] = None
     waits: dict = field(default_factory=dict)
+    found: dict = field(default_factory=dict)
     is_followed: bool = True
     going_since: Optional[float] = None
     evicted_at: Optional[int] = None
@@ -97,6 +98,11 @@ class Recorder:
         self.evicted_behind: list = []
         self.counters: dict = {}
         self.planned_counters: dict = {}
+        # when an answer had them last, and when the last answer was
+        self.counted_at: dict = {}
+        self.planned_counted_at: dict = {}
+        self.answered_at: Optional[float] = None
+        self.planned_answered_at: Optional[float] = None
 
     def begin(self, node_line: NodeLine) -> str:
         """The first line."""
@@ -110,9 +116,11 @@ class Recorder:
         self.check_clock(seen.moment)
         if self.is_first:
             self.begun = self.planned_at = self.listed_at = self.sampled_at = seen.moment
-            self.planned_counters = seen.counters
+            self.planned_counters, self.planned_answered_at = seen.counters, seen.moment
+            self.planned_counted_at = dict.fromkeys(seen.counters, seen.moment)
             self.timeline.place_look(seen.moment)
-        self.counters = self.counters if seen.counters is None else seen.counters
+        if seen.counters is not None:
+            self.take_counters(seen)
         self.listed = self.listed if seen.pods is None else seen.pods
         self.take_pods(seen)
         if seen.instances is not None:
@@ -125,6 +133,14 @@ class Recorder:
         if int(seen.moment) - self.timeline.latest >= self.every:
             self.timeline.place_look(seen.moment)
         self.is_first = False
+
+    def take_counters(self, seen: Seen) -> None:
+        """The counts of a pod that is there stay where an answer leaves them out."""
+        uids = {pod.uid for pod in (*self.listed, *(recorded.pod for recorded in self.followed()))}
+        kept = {series: counts for series, counts in self.counters.items() if series[0] in uids}
+        self.counted_at = {**{series: self.counted_at[series] for series in kept},
+                           **dict.fromkeys(seen.counters, seen.moment)}
+        self.counters, self.answered_at = {**kept, **seen.counters}, seen.moment
 
     def check_clock(self, moment: float) -> None:
         is_behind = int(moment) < self.timeline.next_second - 1
@@ -319,27 +335,46 @@ class Recorder:
         for recorded in self.followed():
             self.plan_pod(recorded, moment)
         self.planned_counters, self.planned_at = self.counters, moment
+        self.planned_counted_at, self.planned_answered_at = self.counted_at, self.answered_at
 
     def plan_pod(self, recorded: Recorded, moment: float) -> None:
         for name in recorded.pod.containers():
             changes = recorded.changes.pop(name, [])
-            results = self.results(recorded.pod, name, moment)
+            results = self.results(recorded, name, moment)
             self.timeline.place_container(recorded.pod, name, changes, results, recorded.changes_from)
 
-    def results(self, pod: Pod, name: str, moment: float) -> list[Result]:
+    def results(self, recorded: Recorded, name: str, moment: float) -> list[Result]:
         """The results of a container's probes since what was planned last."""
+        pod = recorded.pod
         found = []
         for probe in PROBES:
-            series = pod.uid, name, probe
-            before, now = self.planned_counters.get(series, {}), self.counters.get(series, {})
-            if now == before:
-                continue
-            results = results_of(probe, grown(before, now), pod.period(name, probe), self.planned_at, moment)
+            growth = self.growth(pod, name, probe)
+            results = results_of(probe, growth, pod.period(name, probe), self.planned_at, moment,
+                                 recorded.found.get((name, probe)))
             if len(results) > 1:
                 self.say(f"{pod.key} {name} {probe}: {len(results)} results between two looks: their order and moments "
                          "are inferred, here and wherever it is so", "results")
+            recorded.found.update({(name, probe): each.result for each in results})
             found += results
         return found
+
+    def growth(self, pod: Pod, name: str, probe: str) -> dict[str, int]:
+        """What the counts of a probe grew by since what was planned last. Counts that an answer before had left out, as
+        an empty one, come back as more than there was time for, and are no results of now."""
+        series = pod.uid, name, probe
+        before, now = self.planned_counters.get(series, {}), self.counters.get(series, {})
+        if not now or now == before:
+            return {}
+        since = self.planned_counted_at.get(series, self.planned_answered_at)
+        most = most_results(pod.period(name, probe), self.counted_at[series] - since)
+        before = {} if have_begun_anew(before, now, most) else before
+        self.counters[series] = {**before, **now}
+        growth = grown(before, now)
+        if sum(growth.values()) <= most:
+            return growth
+        self.say(f"{pod.key} {name} {probe}: {sum(growth.values())} results are more than there was time for since the "
+                 "last look, and are left out")
+        return {}
 
     # --- what the node has left ---
 

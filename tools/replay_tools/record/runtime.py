@@ -6,11 +6,15 @@ import calendar
 import re
 from collections.abc import Callable
 from dataclasses import dataclass, replace
-from typing import Any, Optional
+from typing import Any, Optional, TYPE_CHECKING
 
+from .answers import read_json, read_parts
 from .formats import whole_fault
 from .reasons import OUT_OF_MEMORY, Reason, environment_of_process, reason_of
-from .sources import Failed, read_json, reads
+from .sources import Failed, reads
+
+if TYPE_CHECKING:
+    from .answers import Answer
 
 CREATED, RUNNING, EXITED, UNKNOWN = ("CONTAINER_CREATED", "CONTAINER_RUNNING", "CONTAINER_EXITED", "CONTAINER_UNKNOWN")
 MOMENT = re.compile(r"(\d{4})-(\d\d)-(\d\d)T(\d\d):(\d\d):(\d\d)([.]\d+)?(Z|([+-])(\d\d):(\d\d))")
@@ -107,17 +111,17 @@ def instance_of(item: Any) -> Instance:
 
 
 @reads("crictl ps")
-def instances_of(text: str) -> list[Instance]:
+def instances_of(text: Answer) -> list[Instance]:
     """The instances of a list, in the order in which they were created."""
-    answer = read_json(text, "crictl ps")
+    answer = read_parts(text, "crictl ps", "containers", instance_of)
     containers = answer.get("containers") if isinstance(answer, dict) else None
     if not isinstance(containers, list):
         raise Failed("crictl ps: no list of containers in the answer")
-    return sorted(map(instance_of, containers), key=lambda instance: (instance.created, instance.attempt))
+    return sorted(containers, key=lambda instance: (instance.created, instance.attempt))
 
 
 @reads("crictl inspect")
-def inspected_of(text: str, instance: Instance) -> Instance:
+def inspected_of(text: Answer, instance: Instance) -> Instance:
     """An instance with what `crictl inspect` says of it. A code of 0 may be left out of an answer."""
     answer: Any = read_json(text, f"crictl inspect {instance.id}")
     answer = answer[0] if isinstance(answer, list) and answer else answer

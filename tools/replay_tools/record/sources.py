@@ -4,41 +4,93 @@ does not come is Failed."""
 from __future__ import annotations
 
 import functools
-import json
+import os
+import selectors
 import subprocess
+import time
 from collections.abc import Callable
 from dataclasses import dataclass
-from typing import Any, Optional
+from typing import Any, Optional, TYPE_CHECKING
+
+if TYPE_CHECKING:
+    from .alone import RuntimeAlone
+    from .answers import Answer
 
 RUNTIME_SECONDS = 10
 ENDPOINT_SECONDS = 10
+# the longest answer that is read
+MOST_BYTES = 32 << 20
+PART_BYTES = 1 << 16
+# what is kept of what a command says on standard error
+MOST_SAID = 1 << 12
 
 
 class Failed(Exception):
     """A source that gave no answer, or none that can be read; its text says which source, and why."""
 
 
-def run_command(words: list[str], seconds: float) -> str:
-    """What a command writes on standard output; Failed where it fails or takes longer than this many seconds."""
+class Refused(Failed):
+    """An answer of a server with another status than 200."""
+
+    def __init__(self, status: int, text: str) -> None:
+        super().__init__(text)
+        self.status = status
+
+
+def too_long() -> Failed:
+    return Failed(f"answered with more than {MOST_BYTES >> 20} MiB, the most that is read")
+
+
+def shown_line(text: str) -> str:
+    """The first line of what somebody else says, without what a terminal would follow, and not too long."""
+    line = text.split("\n", 1)[0][:300]
+    return "".join(character if character.isprintable() else " " for character in line)
+
+
+def run_command(words: list[str], seconds: float) -> bytearray:
+    """What a command writes on standard output; Failed where it fails, takes longer than this many seconds, or writes
+    more than is read."""
     try:
-        done = subprocess.run(words, stdin=subprocess.DEVNULL, capture_output=True, timeout=seconds, check=False)
-    except subprocess.TimeoutExpired:
-        raise Failed(f"gave no answer within {seconds} s") from None
+        process = subprocess.Popen(words, stdin=subprocess.DEVNULL, stdout=subprocess.PIPE, stderr=subprocess.PIPE)
     except FileNotFoundError:
         raise Failed(f"can't be asked: {words[0]} is not on the PATH") from None
     except OSError as error:
         raise Failed(f"can't be started: {error.strerror}") from None
-    if done.returncode != 0:
-        said = done.stderr.decode("utf-8", "replace").split("\n")[0]
-        raise Failed(f"failed with status {done.returncode}: {said}")
-    return done.stdout.decode("utf-8", "replace")
-
-
-def read_json(text: str, what: str) -> Any:
+    until = time.monotonic() + seconds
     try:
-        return json.loads(text)
-    except (ValueError, RecursionError):
-        raise Failed(f"{what}: the answer is no JSON") from None
+        written, said = outputs_of(process, until)
+        status = process.wait(max(until - time.monotonic(), 0))
+    except subprocess.TimeoutExpired:
+        raise Failed(f"gave no answer within {seconds} s") from None
+    finally:
+        process.kill()
+        process.stdout.close()
+        process.stderr.close()
+        process.wait()
+    if status != 0:
+        raise Failed(f"failed with status {status}: {shown_line(said.decode('utf-8', 'replace'))}")
+    return written
+
+
+def outputs_of(process: subprocess.Popen, until: float) -> tuple[bytearray, bytearray]:
+    """What a command writes on standard output, and the begin of what it writes on standard error."""
+    written, said = bytearray(), bytearray()
+    with selectors.DefaultSelector() as open_ones:
+        open_ones.register(process.stdout, selectors.EVENT_READ, written)
+        open_ones.register(process.stderr, selectors.EVENT_READ, said)
+        while open_ones.get_map():
+            left = until - time.monotonic()
+            if left <= 0:
+                raise subprocess.TimeoutExpired(process.args, 0)
+            for key, _ in open_ones.select(left):
+                part = os.read(key.fd, PART_BYTES)
+                key.data.extend(part)
+                if not part:
+                    open_ones.unregister(key.fileobj)
+            del said[MOST_SAID:]
+            if len(written) > MOST_BYTES:
+                raise too_long()
+    return written, said
 
 
 def reads(what: str) -> Callable[..., Any]:
@@ -61,25 +113,27 @@ class Sources:
     node: str
     kubelet: Optional[str] = None
     curl_file: Optional[str] = None
-    run: Callable[[list[str], float], str] = run_command
+    run: Callable[[list[str], float], Answer] = run_command
     keeps: Optional[Any] = None
     crictl: tuple[str, ...] = ("crictl",)
+    # in place of a kubelet, where none is asked
+    alone: Optional[RuntimeAlone] = None
 
     def commands(self) -> list[str]:
         """The commands that are needed on the PATH."""
         if self.kubelet is None:
             return [self.crictl[0], "kubectl"]
-        return [self.crictl[0]] if self.keeps is not None else [self.crictl[0], "curl"]
+        return [self.crictl[0]] if self.keeps or self.alone else [self.crictl[0], "curl"]
 
     def close(self) -> None:
         if self.keeps is not None:
             self.keeps.close()
 
-    def ask(self, what: str, words: list[str], seconds: int) -> str:
+    def ask(self, what: str, words: list[str], seconds: int) -> Answer:
         return self.answer(what, lambda: self.run(words, seconds))
 
     @staticmethod
-    def answer(what: str, ask: Callable[..., Any]) -> str:
+    def answer(what: str, ask: Callable[..., Any]) -> Answer:
         """An answer; where none comes it is said of what."""
         try:
             return ask()
@@ -94,23 +148,27 @@ class Sources:
         return ["curl", *settings, "--fail", "--silent", "--show-error", "--max-time", str(ENDPOINT_SECONDS),
                 f"{self.kubelet}/{path}"]
 
-    def endpoint(self, path: str) -> str:
+    def endpoint(self, path: str) -> Answer:
+        if self.alone is not None:
+            return self.alone.pods(self.listed()) if path == "pods" else self.alone.answers[path]
         if self.keeps is not None and self.keeps.works():
             return self.answer(f"/{path}", lambda: self.keeps.endpoint(path))
         # the command's own time-out comes first, and says more
         return self.ask(f"/{path}", self.endpoint_words(path), ENDPOINT_SECONDS + 5)
 
-    def listed(self) -> str:
+    def listed(self) -> Answer:
         return self.ask("crictl ps", [*self.crictl, "ps", "-a", "-o", "json"], RUNTIME_SECONDS)
 
-    def inspected(self, container_id: str) -> str:
+    def inspected(self, container_id: str) -> Answer:
         return self.ask(f"crictl inspect {container_id}", [*self.crictl, "inspect", "-o", "json", container_id],
                         RUNTIME_SECONDS)
 
     def pods_name(self) -> str:
+        if self.alone is not None:
+            return "crictl ps: its pods"
         return "/pods" if self.kubelet is not None else "kubectl get pods"
 
-    def pods(self) -> str:
+    def pods(self) -> Answer:
         if self.kubelet is not None:
             return self.endpoint("pods")
         if self.keeps is not None and self.keeps.works():
@@ -119,11 +177,11 @@ class Sources:
                  "-o", "json", f"--request-timeout={ENDPOINT_SECONDS}s"]
         return self.ask(self.pods_name(), words, ENDPOINT_SECONDS + 5)
 
-    def summary(self) -> str:
+    def summary(self) -> Answer:
         return self.endpoint("stats/summary")
 
-    def probes(self) -> str:
+    def probes(self) -> Answer:
         return self.endpoint("metrics/probes")
 
-    def configuration(self) -> str:
+    def configuration(self) -> Answer:
         return self.endpoint("configz")

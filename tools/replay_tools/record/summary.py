@@ -5,12 +5,18 @@ from __future__ import annotations
 from dataclasses import dataclass
 from typing import Any, Optional, TYPE_CHECKING
 
+from .answers import read_parts
 from .formats import is_whole, without_nones
 from .runtime import moment_of
-from .sources import Failed, read_json, reads
+from .sources import Failed, reads
 
 if TYPE_CHECKING:
+    from .answers import Answer
     from .pods import Pod
+
+
+# what is read of the stats of a container
+CONTAINER_PARTS = ("memory", "rootfs", "logs")
 
 
 @dataclass(frozen=True)
@@ -57,9 +63,9 @@ def difference(whole: int | None, part: int | None) -> int | None:
 
 
 @reads("/stats/summary")
-def summary_of(text: str) -> Summary:
+def summary_of(text: Answer) -> Summary:
     """The capacities and samples of the summary, by the names that the formats have for signals."""
-    answer = read_json(text, "/stats/summary")
+    answer = read_parts(text, "/stats/summary", "pods", stats_of)
     node = answer.get("node") if isinstance(answer, dict) else None
     if not isinstance(node, dict):
         raise Failed("/stats/summary: no node in the answer")
@@ -81,16 +87,19 @@ def summary_of(text: str) -> Summary:
     sampled: dict[str, dict[str, Any]] = {"memory": memory, "nodefs": file_system, "imagefs": images, "pid": {}}
     moments = {signal: moment_of(sampled[signal.split(".")[0]].get("time")) for signal in signals}
     samples = {signal: Sample(value, moments[signal]) for signal, value in whole_values(signals).items()}
-    return Summary(whole_values(capacity), is_dedicated(images, file_system), samples, pods_in(answer))
+    pods = answer.get("pods") or []
+    if not isinstance(pods, list):
+        raise Failed("/stats/summary: no list of pods in the answer")
+    return Summary(whole_values(capacity), is_dedicated(images, file_system), samples, dict(pods))
 
 
-def pods_in(answer: dict[str, Any]) -> dict[str, dict[str, Any]]:
-    """The stats of the pods by their uids, such as can be read."""
-    pods = {str(fields_of(stats.get("podRef")).get("uid")): stats for stats in answer.get("pods") or []}
-    for stats in pods.values():
-        volumes = {volume.get("name") for volume in stats.get("volume") or []}
-        usage_of(stats, volumes)
-    return pods
+def stats_of(stats: Any) -> tuple[str, dict[str, Any]]:
+    """The uid of a pod, and what is read of its stats, such as can be read."""
+    kept = {name: stats[name] for name in ("memory", "volume", "process_stats") if name in stats}
+    kept["containers"] = [{part: container.get(part) for part in CONTAINER_PARTS}
+                          for container in stats.get("containers") or []]
+    usage_of(kept, {volume.get("name") for volume in stats.get("volume") or []})
+    return str(fields_of(stats.get("podRef")).get("uid")), kept
 
 
 def is_dedicated(images: dict[str, int | str], file_system: dict[str, int | str]) -> bool:

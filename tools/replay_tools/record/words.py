@@ -11,6 +11,7 @@ from dataclasses import dataclass
 from typing import Any, Optional
 
 from . import lines
+from .alone import ALONE
 from .formats import MOST_TICKS, name_fault
 
 HELP = """\
@@ -35,9 +36,14 @@ Where none is left it waits for room. A second recorder of one folder is refused
 
 It needs python3, crictl (as root, on the node) and
   kubectl  that may get nodes/proxy and list pods, which it starts once, as a proxy on a socket of its own; or
-  a kubelet's port, with --kubelet URL, as https://127.0.0.1:10250; FILE is a curl configuration, with a line for the
-           token, as in: header = "Authorization: Bearer ..", and one for the certificate: cacert = "..", or insecure;
-           where it has more than that curl is started for each answer
+  a kubelet's port, with --kubelet URL, as https://127.0.0.1:10250, and a token that may get nodes/pods, nodes/configz,
+           nodes/metrics and nodes/stats (before Kubernetes 1.33 nodes/proxy in place of the first two). FILE is a curl
+           configuration, with a line for the token, as in: header = "Authorization: Bearer ..", and one for what the
+           kubelet's certificate is checked by: cacert = "..". The line insecure takes any, and gives the token to
+           whoever answers. Where it has more than these, cert, key and resolve, curl is started for each answer
+With --kubelet none it asks neither, and records what the runtime alone shows: starts, exits, their codes and reasons,
+as of pods that always restart, without probes, signals, usage, evictions and why containers wait. A pod is there once
+no container of it has come for 20 s; one that comes later is left out, as behind a long init container.
 /configz is served at port 10250, which wants a permission, and by the API server's proxy; the read-only port 10255 does
 not serve it. --node-line FILE has a node line in its place.
 
@@ -64,7 +70,8 @@ sample of, which a kubelet evicts first; without either it is --{default}.
 It leaves out
   - an instance that came and went between two looks and was removed by then, and the code of an exit that neither the
     runtime nor the pod's status knows, which counts as 137: standard error names it;
-  - the order of several results of one probe between two looks: failures stand before the success that ends them;
+  - the order of several results of one probe between two looks: those like its last one before them stand first, and
+    then failures before a success;
   - afterReclaim, so no threshold is reclaimed in the replay; thresholds on other signals, and percentages of a signal
     without a capacity; mergeDefaultEvictionSettings;
   - ephemeral containers, and of a pod's manifest every field that the formats do not read, as its environment;
@@ -241,8 +248,8 @@ def words_of(arguments: list[str]) -> Words:
     if curl_file is not None and not os.access(curl_file, os.R_OK):
         raise BadWord(f"--curl: '{curl_file}' can't be read")
     kubelet = given.get("--kubelet")
-    if kubelet is not None and not re.fullmatch("https?://[^/ ]+/?", kubelet):
-        raise BadWord(f"--kubelet takes a URL as https://127.0.0.1:10250, not '{kubelet}'")
+    if kubelet is not None and kubelet != ALONE and not re.fullmatch("https?://[^/ ]+/?", kubelet):
+        raise BadWord(f"--kubelet takes a URL as https://127.0.0.1:10250, or none, not '{kubelet}'")
     return Words(node, kubelet.rstrip("/") if kubelet else None, curl_file, node_line(given),
                  number(given, "--every", 10), number(given, "--look", 1), number(given, "--ticks", MOST_TICKS),
                  number(given, "--for", None), trace_format(given), "--check" in given, into(given, node),

@@ -39,6 +39,7 @@ class Play:
     probes      {"pod", "container", "probe", "result", "at": [moments that rise]}
     samples     {moment: {signal: value}} of the node, as the kubelet takes them
     fails       {"kind", "from", "until", "text"}: answers that do not come
+    empty       [from, until]: when no probe is counted
     configz     the object `kubeletconfig`
     """
 
@@ -92,7 +93,8 @@ class Play:
             "id": each["id"], "metadata": {"name": each["name"], "attempt": each["attempt"]},
             "state": self.state(each, moment),
             "createdAt": str(round((self.begin + each.get("created", each.get("started", 0))) * 1e9)),
-            "labels": {"io.kubernetes.container.name": each["name"], "io.kubernetes.pod.uid": self.uid(each)}}
+            "labels": {"io.kubernetes.container.name": each["name"], "io.kubernetes.pod.uid": self.uid(each),
+                       **dict(zip(("io.kubernetes.pod.namespace", "io.kubernetes.pod.name"), each["pod"].split("/")))}}
             for each in listed]})
 
     def inspected(self, identity, moment):
@@ -111,6 +113,8 @@ class Play:
     # --- the kubelet ---
 
     def probes(self, moment):
+        if any(since <= moment < until for since, until in self.script.get("empty", [])):
+            return ""
         counts = {}
         for each in self.script.get("probes", []):
             labels = (each["container"], self.uid(each), each["probe"].capitalize(), RESULTS[each["result"]])
