@@ -35,12 +35,18 @@ import test_probes
 import test_real_node
 import test_reasons
 import test_record
+import test_secrets
 import test_why
 from checks import HERE, REPLAY, TOOLS, TOP, expect, expect_kept, expect_refused, read, run
 
 MODULES = (test_record, test_connections, test_plays, test_into, test_into_folder, test_joined, test_joined_files,
            test_cluster, test_real_node, test_json, test_why, test_decisions, test_page, test_fleet, test_fleet_nodes,
+<<<<<<< HEAD
            test_kubectl, test_command, test_explain, test_reasons, test_deploy, test_probes, test_answers)
+=======
+           test_kubectl, test_command, test_explain, test_reasons, test_secrets,
+           test_deploy, test_answers)
+>>>>>>> 62ce90c016462536a747a4eacf37a4c842b4d3b1
 RECORDINGS = f"{HERE}/recordings"
 COMMANDS = f"{HERE}/commands"
 

@@ -157,12 +157,12 @@ def test_odd_reasons():
 
 
 def test_reasons_hold_no_environment():
-    """A message has a variable's name in place of its value, and is cut; whole lists of a pod's words are not there."""
+    """A message has no value of a container's environment, and is cut; test_secrets has each other place."""
     trace = read(f"{PLAYED}/trace")
     expect("reasons: no value of the environment", ("hunter-2" in read(f"{PLAYED}/play.json"), "hunter-2" in trace),
            (True, False))
     messages = re.findall(r'"message":"((?:[^"\\]|\\.)*)"', trace)
-    expect("reasons: short messages", (len(messages) > 3, max(len(json.loads(f'"{text}"')) for text in messages)),
-           (True, 200))
+    expect("reasons: short messages", (len(messages) > 3, max(len(json.loads(f'"{text}"')) for text in messages) > 200),
+           (True, False))
     expect("reasons: the folder of examples", sorted(os.listdir(f"{TOP}/examples/recorded")),
            ["out_of_memory.report", "out_of_memory.trace"])

@@ -53,7 +53,7 @@ class Asides:
                              **self.members((uid, name), ended.attempt, ended.reason)}
         return said
 
-    def of_waits(self, pod: Pod, listings: dict[str, Listing]) -> list[dict[str, str]] | None:
+    def of_waits(self, pod: Pod, listings: dict[str, Listing]) -> list[dict[str, Any]] | None:
         """The member of an entry: the containers that wait, but for those that have begun to run since; None where none
         does."""
         waits = self.waits.get(pod.uid, {})
@@ -64,11 +64,12 @@ class Asides:
         return [{"container": name, **self.members((pod.uid, name, "waits"), None, waits[name])}
                 for name in waiting] or None
 
-    def members(self, place: tuple[str, ...], what: int | None, reason: Reason | None) -> dict[str, str]:
+    def members(self, place: tuple[str, ...], what: int | None, reason: Reason | None) -> dict[str, Any]:
         if reason is None:
             return {}
-        message = reason.message if self.is_new(place, (what, reason)) else None
-        return without_nones({"reason": reason.word, "message": message})
+        is_new = self.is_new(place, (what, reason))
+        return without_nones({"reason": reason.word, "message": reason.message if is_new else None,
+                              "messageLeftOut": is_new and reason.is_left_out or None})
 
     def is_new(self, place: tuple[str, ...], said: Any) -> bool:
         before, self.told[place] = self.told.get(place), said

@@ -7,6 +7,7 @@ from dataclasses import dataclass
 from typing import Any, Optional
 
 from .formats import without_nones
+from .messages import message_kept
 from .runtime import moment_of
 
 EVICTED, REFUSED = "evicted", "refused"
@@ -34,9 +35,9 @@ def decision_of(status: dict[str, Any]) -> Decision | None:
     """The kubelet's decision that a pod's status says, or None."""
     if status.get("phase") != "Failed" or status.get("reason") != "Evicted":
         return None
-    message = str(status.get("message") or "").strip()[:LONGEST_MESSAGE]
+    message = str(status.get("message") or "")
     kind = REFUSED if PRESSURE.search(message) else EVICTED
-    return Decision(kind, moment_in(status), status["reason"], message)
+    return Decision(kind, moment_in(status), status["reason"], message_kept(status["reason"], message, LONGEST_MESSAGE) or "")
 
 
 def moment_in(status: dict[str, Any]) -> float | None:

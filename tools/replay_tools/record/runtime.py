@@ -10,7 +10,7 @@ from typing import Any, Optional, TYPE_CHECKING
 
 from .answers import read_json, read_parts
 from .formats import whole_fault
-from .reasons import OUT_OF_MEMORY, Reason, environment_of_process, reason_of
+from .reasons import OUT_OF_MEMORY, Reason, reason_of
 from .sources import Failed, reads
 
 if TYPE_CHECKING:
@@ -135,7 +135,7 @@ def inspected_of(text: Answer, instance: Instance) -> Instance:
     if code_fault(code):
         raise Failed(f"crictl inspect {instance.id}: the exit code is {code}")
     return replace(instance, state=EXITED, started=started, finished=moment_of(status.get("finishedAt")),
-                   exit_code=code, reason=reason_of(status, environment_of_process(answer)))
+                   exit_code=code, reason=reason_of(status))
 
 
 class Container:

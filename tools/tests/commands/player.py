@@ -29,13 +29,14 @@ def kind_of(words):
 class Play:
     """A script: its moments are seconds from `begin` on. It has
     clock       what the clock says at each look, where it is no good one, and `true` the moments of these looks
-    pods        {key: {"from", "until", "spec", "deleted", "evicted", "refused", "message", "condition", "waits"}}; a
-                key may have a list of them, one after the other; `condition` is the moment that an evicted pod's status
-                says, and `waits` a list of {"container", "from", "until", "reason", "message"}, of its status too
+    pods        {key: {"from", "until", "spec", "annotations", "deleted", "evicted", "refused", "message", "condition",
+                "waits"}}; a key may have a list of them, one after the other; `condition` is the moment that an
+                evicted pod's status says, and `waits` a list of {"container", "from", "until", "reason", "message"},
+                of its status too
     containers  {"id", "pod", "name", "attempt", "created", "started", "exited", "code", "removed", "lost", "told",
-                "reason", "message", "env", "told_reason", "shown"}: `lost` is when `crictl inspect` no longer knows it
-                while a list still has it, and `told` when its pod's status has its exit, for `told_reason` where it is
-                another; until then that has `shown` of it too
+                "reason", "message", "env", "told_reason", "told_message", "shown"}: `lost` is when `crictl inspect` no
+                longer knows it while a list still has it, and `told` when its pod's status has its exit, for
+                `told_reason` and with `told_message` where they are others; until then that has `shown` of it too
     probes      {"pod", "container", "probe", "result", "at": [moments that rise]}
     samples     {moment: {signal: value}} of the node, as the kubelet takes them
     fails       {"kind", "from", "until", "text"}: answers that do not come
@@ -136,6 +137,8 @@ class Play:
         metadata = {"namespace": namespace, "name": name, "uid": life.get("uid", f"uid-{name}")}
         if life.get("deleted", float("inf")) <= moment:
             metadata["deletionTimestamp"] = moment_text(self.begin + life["deleted"])
+        if "annotations" in life:
+            metadata["annotations"] = life["annotations"]
         return {"metadata": metadata, "spec": life["spec"], "status": self.status(life, metadata["uid"], moment)}
 
     def status(self, life, uid, moment):
@@ -162,7 +165,7 @@ class Play:
         return {"name": each["name"], "state": {"terminated": {
             "containerID": f"containerd://{each['id']}", "startedAt": moment_text(started),
             "finishedAt": moment_text(self.begin + each["exited"]), "exitCode": each["code"],
-            "reason": each.get("told_reason", each.get("reason", ""))}}}
+            "reason": each.get("told_reason", each.get("reason", "")), "message": each.get("told_message", "")}}}
 
     def summary(self, moment):
         samples = {float(at): sample for at, sample in self.script["samples"].items()}
