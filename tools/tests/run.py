@@ -18,6 +18,7 @@ import test_command
 import test_cluster
 import test_connections
 import test_decisions
+import test_deletions
 import test_deploy
 import test_explain
 import test_fleet
@@ -38,7 +39,7 @@ from checks import HERE, REPLAY, TOOLS, TOP, expect, expect_kept, expect_refused
 
 MODULES = (test_record, test_connections, test_plays, test_into, test_into_folder, test_joined, test_joined_files,
            test_cluster, test_real_node, test_json, test_why, test_decisions, test_page, test_fleet, test_fleet_nodes,
-           test_kubectl, test_command, test_explain, test_reasons, test_deploy)
+           test_kubectl, test_command, test_explain, test_reasons, test_deletions, test_deploy)
 RECORDINGS = f"{HERE}/recordings"
 COMMANDS = f"{HERE}/commands"
 
