@@ -174,6 +174,8 @@ class Trace:
     """what the kubelet did, in the order of the ticks"""
     reasons: Reasons = field(default_factory=Reasons)
     """why instances ended and containers wait"""
+    deleted: dict[int, int] = field(default_factory=dict)
+    """since when a pod is being deleted, by its number"""
     gaps: list[tuple[int, int]] = field(default_factory=list)
     """of one that is joined of several, the spans in which nothing was recorded"""
 
@@ -217,7 +219,7 @@ class Trace:
         return not pod.is_present(place) or all(one is None or one.state == STATES[2] for one in listed)
 
     def heeds_unsampled(self) -> bool:
-        """Whether an entry may say that its pod has no sample."""
+        """Whether an entry may say that its pod has no sample, or is being deleted."""
         return self.settings.get("version") == 3
 
     def tells(self) -> bool:
@@ -364,6 +366,8 @@ def trace_with(trace: Trace | None, present: dict[str, Pod], lines: Lines, begin
         present.pop(found["pod"]).gone = len(trace.ticks)
     elif kind == "tick":
         add_tick(trace, present, tick_of(found, lines, begin, end))
+        for pod_number, at in deletions(trace, present):
+            trace.deleted.setdefault(pod_number, at)
         trace.decisions += decisions_of(trace, found)
         trace.reasons.take(lines.text[begin:end], found["at"], trace.ticks[-1].entries, present)
     else:
@@ -387,6 +391,15 @@ def entries_of(found: dict[str, Any]) -> dict[str, dict[str, Any]]:
     if not all(isinstance(key, str) for key in entries):
         raise ValueError("pod")
     return entries
+
+
+def deletions(trace: Trace, present: dict[str, Pod]) -> Iterator[tuple[int, int]]:
+    """The pods that are being deleted, as the newest tick says, each with its moment."""
+    tick = trace.ticks[-1]
+    if trace.heeds_unsampled() and tick.may_have(b"deleting"):
+        for key, entry in tick.entries.items():
+            if entry.get("deleting") is True:
+                yield present[key].number, tick.at
 
 
 def decisions_of(trace: Trace, found: dict[str, Any]) -> Iterator[Decision]:

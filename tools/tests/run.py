@@ -15,10 +15,11 @@ sys.dont_write_bytecode = True
 import big_node
 import checks
 import test_answers
-import test_command
 import test_cluster
+import test_command
 import test_connections
 import test_decisions
+import test_deletions
 import test_deploy
 import test_explain
 import test_fleet
@@ -41,12 +42,8 @@ from checks import HERE, REPLAY, TOOLS, TOP, expect, expect_kept, expect_refused
 
 MODULES = (test_record, test_connections, test_plays, test_into, test_into_folder, test_joined, test_joined_files,
            test_cluster, test_real_node, test_json, test_why, test_decisions, test_page, test_fleet, test_fleet_nodes,
-<<<<<<< HEAD
-           test_kubectl, test_command, test_explain, test_reasons, test_deploy, test_probes, test_answers)
-=======
-           test_kubectl, test_command, test_explain, test_reasons, test_secrets,
-           test_deploy, test_answers)
->>>>>>> 62ce90c016462536a747a4eacf37a4c842b4d3b1
+           test_kubectl, test_command, test_explain, test_reasons, test_deploy, test_probes, test_answers,
+           test_secrets, test_deletions)
 RECORDINGS = f"{HERE}/recordings"
 COMMANDS = f"{HERE}/commands"
 

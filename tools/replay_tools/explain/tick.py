@@ -44,7 +44,8 @@ def field_faults(line: dict[str, Any], before: earlier.Before) -> Iterator[Found
     for index, entry in enumerate(pods if isinstance(pods, list) else []):
         yield from entry_faults(entry, ("pods", index))
         if before.version == 3 and isinstance(entry, dict):
-            yield from unsampled_faults(entry, ("pods", index, "unsampled"))
+            yield from truth_faults(entry, ("pods", index, "unsampled"))
+            yield from truth_faults(entry, ("pods", index, "deleting"))
     yield from signal_faults(line, "signals", SIGNALS)
     yield from signal_faults(line, "afterReclaim", FREED)
 
@@ -84,9 +85,9 @@ def entry_faults(entry: Any, path: tuple[Any, ...]) -> Iterator[Found]:
     yield from usage_faults(entry.get("usage"), (*path, "usage"))
 
 
-def unsampled_faults(entry: Any, path: tuple[Any, ...]) -> Iterator[Found]:
-    if not isinstance(entry.get("unsampled"), (bool, type(None))):
-        yield is_(path, entry["unsampled"], "it is true or false, without quotes")
+def truth_faults(entry: Any, path: tuple[Any, ...]) -> Iterator[Found]:
+    if not isinstance(entry.get(path[-1]), (bool, type(None))):
+        yield is_(path, entry[path[-1]], "it is true or false, without quotes")
 
 
 def missing_or(around: Any, path: tuple[Any, ...], wanted: str) -> Found:

@@ -30,6 +30,7 @@ def join_traces(found: list[parts.Part], borders: list[reports.Border], numbers:
         dropped = take_ticks(made, part.trace, border)
         take_pods(made, part.trace, of, place, dropped)
         take_decisions(made, part.trace, of)
+        made.deleted = {**{of[number]: at for number, at in part.trace.deleted.items()}, **made.deleted}
         take_reasons(made, part.trace, of, border)
     made.gaps = [(border.since, border.at) for border in borders if border.is_gap]
     made.places = {tick.at: place for place, tick in enumerate(made.ticks)}

@@ -21,8 +21,8 @@ class TooLong(Exception):
 
 @dataclass(frozen=True)
 class Format:
-    """A version of the formats: whether it says that a pod has gone or has no sample, and for how many seconds no pod
-    is evicted after an eviction unless the evicted one has ended (None where it can't say so)."""
+    """A version of the formats: whether it says that a pod goes, has gone or has no sample, and for how many seconds no
+    pod is evicted after an eviction unless the evicted one has ended (None where it can't say so)."""
     version: int
     says_gone: bool
     eviction_pause: Optional[int]
@@ -68,19 +68,19 @@ def container_fields(name: str, listing: Listing) -> dict[str, int | str]:
 
 
 def entry_of(pod: Pod, listings: dict[str, Listing], results: dict[tuple[str, str], str], usage: dict[str, int] | None,
-             is_unsampled: bool, asides: Asides) -> dict[str, Any] | None:
+             is_unsampled: bool, is_deleted: bool, asides: Asides) -> dict[str, Any] | None:
     """One pod's entry of a tick: {container: listing}, {(container, probe): result}, its usage or None, whether it has
-    no sample from here on, and what stands beside; None where there is nothing to say of it."""
+    no sample from here on, whether it is being deleted from here on, and what stands beside; None where there is
+    nothing to say of it."""
     containers = [container_fields(name, listing) | asides.of_listing(pod.uid, name, listing)
                   for name, listing in sorted(listings.items())]
     probes = [{"container": name, "probe": probe, "result": results[name, probe]}
               for name in pod.containers() for probe in ("startup", "liveness", "readiness")
               if (name, probe) in results]
     waiting = asides.of_waits(pod, listings)
-    if not containers and not probes and not usage and not is_unsampled and not waiting:
-        return None
-    return without_nones({"pod": pod.key, "containers": containers, "probes": probes or None, "usage": usage,
-                          "unsampled": is_unsampled or None, "waiting": waiting})
+    said = without_nones({"probes": probes or None, "usage": usage or None, "unsampled": is_unsampled or None,
+                          "deleting": is_deleted or None, "waiting": waiting})
+    return {"pod": pod.key, "containers": containers, **said} if containers or said else None
 
 
 def told(second: int, decisions: list[tuple[str, Decision, bool]]) -> dict[str, list[dict[str, Any]]] | None:

@@ -27,9 +27,10 @@ MOST_SECONDS = 2 ** 31 - 1
 @dataclass(frozen=True)
 class Pod:
     """A pod as a source lists it; `fault` says why the formats do not take its manifest, or is None. `decision` is what
-    the kubelet did to it, `is_deleted` that it was told to go; `ends` has the instances that its status says have
-    ended, by their ids, and is None where its status has no container; `waits` why its containers wait, by their
-    names; `probed` has of each container that runs its restarts, whether it has started, and whether it is ready."""
+    the kubelet did to it, `is_deleted` that it was told to go, and `deleted_at` when, if that is known; `ends` has the
+    instances that its status says have ended, by their ids, and is None where its status has no container; `waits` why
+    its containers wait, by their names; `probed` has of each container that runs its restarts, whether it has started,
+    and whether it is ready."""
     key: str
     uid: str
     manifest: dict
@@ -37,6 +38,7 @@ class Pod:
     local_volumes: frozenset
     decision: Optional[Decision] = None
     is_deleted: bool = False
+    deleted_at: Optional[float] = None
     ends: Optional[dict] = field(default=None, compare=False)
     waits: dict = field(default_factory=dict, compare=False)
     probed: dict = field(default_factory=dict, compare=False)
@@ -83,8 +85,15 @@ def pod_of(item: Any) -> Pod:
     except (KeyError, TypeError, AttributeError):
         manifest, volumes, fault = {}, frozenset(), "no manifest"
     return Pod(f"{metadata.get('namespace') or 'default'}/{metadata.get('name')}", str(uid_of(metadata)), manifest,
-               fault, volumes, decision_of(status), metadata.get("deletionTimestamp") is not None, ends_in(status),
-               waits_in(item), probed_in(status))
+               fault, volumes, decision_of(status), metadata.get("deletionTimestamp") is not None,
+               deleted_at(metadata), ends_in(status), waits_in(item), probed_in(status))
+
+
+def deleted_at(metadata: dict[str, Any]) -> float | None:
+    """When a pod was told to go: its object has the moment at which its grace is over, and the grace; None where it has
+    no such moment."""
+    end, grace = moment_of(metadata.get("deletionTimestamp")), metadata.get("deletionGracePeriodSeconds")
+    return end if end is None or whole_fault(grace, 0, MOST_SECONDS) else end - grace
 
 
 def ends_in(status: dict[str, Any]) -> dict[str, End] | None:

@@ -67,6 +67,7 @@ class Recorded:
     waits: dict = field(default_factory=dict)
     found: dict = field(default_factory=dict)
     is_followed: bool = True
+    is_deleting: bool = False
     going_since: Optional[float] = None
     evicted_at: Optional[int] = None
 
@@ -163,6 +164,8 @@ class Recorder:
                 self.see_waits(recorded, pod.waits, seen)
             if pod is not None and pod.decision is not None:
                 self.see_decision(pod, seen)
+            if pod is None or pod.is_deleted:
+                self.see_deletion(recorded, pod, seen)
             # the status of a pod that was evicted may be written anew
             if pod is None or pod.is_deleted or pod.uid in self.decided:
                 self.see_going(recorded, pod is not None, seen)
@@ -251,6 +254,14 @@ class Recorder:
         moments = [each.finished for each in (seen.instances or {}).get(pod.uid, [])
                    if each.finished is not None and each.finished > self.planned_at]
         return min([seen.moment, *moments] if pod.decision.moment is None else [seen.moment, pod.decision.moment])
+
+    def see_deletion(self, recorded: Recorded, pod: Pod | None, seen: Seen) -> None:
+        """A pod was told to go, or is no longer listed: nothing of it is restarted from then on, which is said once."""
+        if self.format.says_gone and not recorded.is_deleting:
+            recorded.is_deleting = True
+            told_at = None if pod is None else pod.deleted_at
+            moment = seen.moment if told_at is None else min(told_at, seen.moment)
+            self.timeline.place_deletion(recorded.pod, max(moment, recorded.arrived))
 
     def see_going(self, recorded: Recorded, is_listed: bool, seen: Seen) -> None:
         """A pod is no longer listed, was told to go, or the kubelet ended it. It is gone once each of its containers

@@ -215,6 +215,7 @@ class Pod:
                            for each in inits + spec["containers"]}
         self.usage: dict[str, Any] = {}
         self.is_unsampled = False
+        self.is_deleting = False
         self.waiting: dict[str, Any] = {}
         self.decisions: list[Any] = []
 
@@ -231,6 +232,7 @@ class Pod:
             self.usage, self.is_unsampled = {**self.usage, **entry["usage"]}, False
         elif entry.get("unsampled"):
             self.usage, self.is_unsampled = {}, True
+        self.is_deleting = self.is_deleting or entry.get("deleting") is True
         # a message stands in the first tick alone
         before, self.waiting = self.waiting, {}
         for each in entry.get("waiting") or []:
@@ -245,13 +247,13 @@ class Pod:
 
     def entry(self, second: int, back: int) -> dict[str, Any] | None:
         """Its entry of a tick that stands so many before the border: usage, and why it waits, are in that of the border
-        alone."""
+        alone; that it is being deleted is in each."""
         containers = [each.listed(second, back) for _, each in sorted(self.containers.items())
                       if each.listing is not None]
         rows = [(name, each.carried()) for name, each in self.containers.items()]
         probes = [{"container": name, "probe": probe, "result": result} for name, carried in rows
                   if len(carried) > back for probe, result in carried[-1 - back].items()]
-        said: dict[str, Any] = {"probes": probes or None}
+        said: dict[str, Any] = {"probes": probes or None, "deleting": self.is_deleting or None}
         if back == 0:
             said |= {"usage": self.usage or None, "unsampled": self.is_unsampled or None,
                      "waiting": list(self.waiting.values()) or None}

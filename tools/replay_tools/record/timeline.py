@@ -43,6 +43,7 @@ class Tick:
     results: dict = field(default_factory=dict)
     usages: dict = field(default_factory=dict)
     unsampled: set = field(default_factory=set)
+    deleted: set = field(default_factory=set)
     waits: dict = field(default_factory=dict)
     signals: dict = field(default_factory=dict)
     decisions: list = field(default_factory=list)
@@ -111,6 +112,7 @@ class Timeline:
         self.results: dict[tuple[str, ...], str] = {}
         self.usages: dict[str, dict[str, Any]] = {}
         self.unsampled: set[str] = set()
+        self.deleted: set[str] = set()
         self.signals: dict[str, int] = {}
         # when the kubelet evicted a pod last, and the signals that were not sampled since
         self.evicted_at: int | None = None
@@ -175,6 +177,10 @@ class Timeline:
         tick = self.tick(self.second_of(moment), False)
         tick.usages.pop(pod.uid, None)
         tick.unsampled.add(pod.uid)
+
+    def place_deletion(self, pod: Pod, moment: float) -> None:
+        """From this moment on a pod is being deleted, which stands in the first tick that is written then."""
+        self.tick(self.second_of(moment), False).deleted.add(pod.uid)
 
     def place_container(self, pod: Pod, container: str, changes: list[Change], results: list[Result],
                         arrived: int) -> None:
@@ -249,6 +255,7 @@ class Timeline:
         copied.present, copied.results = list(self.present), dict(self.results)
         copied.listings = {uid: dict(listings) for uid, listings in self.listings.items()}
         copied.usages = {uid: dict(usages) for uid, usages in self.usages.items()}
+        copied.deleted = set(self.deleted)
         copied.asides = self.asides.copied()
         copied.place_look(moment)
         return list(copied.due(float("inf"), silent_from))
@@ -265,6 +272,7 @@ class Timeline:
             self.results = {place: result for place, result in self.results.items() if place[:2] != (uid, container)}
         self.results.update(tick.results)
         self.take_usages(tick)
+        self.deleted |= tick.deleted
         for uid, waits in tick.waits.items():
             self.asides.take_waits(uid, waits)
         self.signals = without_nones({**self.signals, **tick.signals})
@@ -274,7 +282,7 @@ class Timeline:
             entries = [self.entry(pod, changed) for pod in self.present]
             entries = [entry for entry in entries if entry is not None]
             lines.append(tick_line(second, entries, signals, told(second, tick.decisions)))
-            self.results, self.usages, self.unsampled = {}, {}, set()
+            self.results, self.usages, self.unsampled, self.deleted = {}, {}, set(), set()
         if self.format.says_gone:
             lines += [gone_line(pod) for pod in tick.departures]
             self.depart(tick.departures)
@@ -321,4 +329,5 @@ class Timeline:
                     for name, listing in self.listings.get(pod.uid, {}).items() if listing is not None}
         of_pod = {(container, probe): result for (uid, container, probe), result in self.results.items()
                   if uid == pod.uid}
-        return entry_of(pod, listings, of_pod, self.usages.get(pod.uid), pod.uid in self.unsampled, self.asides)
+        return entry_of(pod, listings, of_pod, self.usages.get(pod.uid), pod.uid in self.unsampled,
+                        pod.uid in self.deleted, self.asides)
