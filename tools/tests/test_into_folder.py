@@ -1,6 +1,7 @@
 """The tests of the folder of `tools/record --into`: nothing that was whole is lost in it, by a clock or by a crash, and
 the recorder goes on where there is no room."""
 
+import contextlib
 import fcntl
 import glob
 import gzip
@@ -8,10 +9,9 @@ import json
 import os
 import random
 import signal
-import time
 
 from chance import BEGIN, SECONDS
-from checks import HERE, LONGEST, TOOLS, expect, expect_refused, read, run
+from checks import HERE, LONGEST, TOOLS, expect, expect_refused, read, run, wait_until
 from into_plays import Into, follows, laid, parts_of, probed_play, unpacked
 from test_into import told_in
 from test_plays import quiet_node, report_of
@@ -335,12 +335,13 @@ def content(path):
         return data
 
 
-def wait_until(holds):
-    for _ in range(3000):
-        if holds():
-            return True
-        time.sleep(0.01)
-    return False
+def parts_in(folder):
+    """The sizes of the traces that are written, by name; what is being packed is none of them."""
+    found = {}
+    for path in glob.glob(f"{folder}/*.trace.part"):
+        with contextlib.suppress(FileNotFoundError):
+            found[os.path.basename(path)] = os.path.getsize(path)
+    return found
 
 
 def test_ends():
@@ -351,17 +352,17 @@ def test_ends():
         os.mkdir(folder)
         words = ["--node", "worker-3", "--into", folder, "--every", "1"]
         process = recorder.start(*words)
-        begun = wait_until(lambda: any(os.path.getsize(path) > 2000 for path in glob.glob(f"{folder}/*.part")))
+        wait_until("a tick", lambda: any(size > 2000 for size in parts_in(folder).values()))
         process.send_signal(number)
         said = process.communicate(timeout=LONGEST)[1].decode()
         made = sorted(os.listdir(folder))
-        expect(f"{name}: the trace", (begun, process.returncode, said, [path[30:] for path in made]),
-               (True, 0 if number == signal.SIGTERM else -number, "",
+        expect(f"{name}: the trace", (process.returncode, said, [path[30:] for path in made]),
+               (0 if number == signal.SIGTERM else -number, "",
                 ["trace.gz" if number == signal.SIGTERM else "trace.part"]))
         if number == signal.SIGKILL:
             process = recorder.start(*words)
             # it has said so before it begins a part of its own
-            wait_until(lambda: any(os.path.basename(path) != made[0] for path in glob.glob(f"{folder}/*.part")))
+            wait_until("the next one's part", lambda: set(parts_in(folder)) - set(made))
             process.send_signal(signal.SIGTERM)
             said = process.communicate(timeout=LONGEST)[1].decode()
             expect(f"{name}: the next one ends it", f"{made[0]} was left by a recorder that did not end" in said, True)

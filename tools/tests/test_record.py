@@ -8,10 +8,10 @@ import signal
 import subprocess
 import sys
 import tempfile
-import time
 from concurrent.futures import ThreadPoolExecutor
 
-from checks import HERE, LONGEST, REPLAY, TOOLS, TOP, expect, expect_kept, expect_refused, read, replayed, run
+from checks import (HERE, LONGEST, REPLAY, TOOLS, TOP, expect, expect_kept, expect_refused, read, replayed, run,
+                    wait_until)
 
 from replay_tools.record import formats
 from replay_tools.record.lines import STANDARD
@@ -235,19 +235,12 @@ def test_limits():
 def ended(process, name):
     """What a process that was interrupted leaves: its status, whether its last line is whole, what it said."""
     try:
-        out, said = process.communicate(timeout=10)
+        out, said = process.communicate(timeout=LONGEST)
     except subprocess.TimeoutExpired:
         os.killpg(process.pid, signal.SIGKILL)
         process.communicate()
         return expect(name, "it went on", "it ended")
     return process.returncode, out.decode(), said.decode()
-
-
-def wait_for(path):
-    for _ in range(500):
-        if os.path.exists(path):
-            return
-        time.sleep(0.01)
 
 
 def test_interrupts():
@@ -261,7 +254,7 @@ def test_interrupts():
         process = recorder.start("--node", "worker-3", "--standard", "--look", "1" if settings else "60")
         first = process.stdout.readline().decode()
         if settings:
-            wait_for(f"{recorder.run}/waits")
+            wait_until("the command that waits", lambda: os.path.exists(f"{recorder.run}/waits"))
         (os.killpg if whole_group else os.kill)(process.pid, number)
         answer = ended(process, name)
         if answer:
