@@ -27,6 +27,8 @@ import test_fleet
 import test_fleet_nodes
 import test_into
 import test_into_folder
+import test_into_kills
+import test_into_room
 import test_joined
 import test_joined_files
 import test_json
@@ -43,9 +45,10 @@ from checks import HERE, REPLAY, TOOLS, TOP, expect, expect_kept, expect_refused
 import ending
 import processes
 
-MODULES = (test_record, test_connections, test_plays, test_into, test_into_folder, test_joined, test_joined_files,
-           test_cluster, test_real_node, test_json, test_why, test_decisions, test_page, test_fleet, test_fleet_nodes,
-           test_kubectl, test_command, test_explain, test_reasons, test_deploy, test_tests)
+MODULES = (test_record, test_connections, test_plays, test_into, test_into_folder, test_into_kills, test_into_room,
+           test_joined, test_joined_files, test_cluster, test_real_node, test_json, test_why, test_decisions, test_page,
+           test_fleet, test_fleet_nodes, test_kubectl, test_command, test_explain, test_reasons, test_deploy,
+           test_tests)
 RECORDINGS = f"{HERE}/recordings"
 COMMANDS = f"{HERE}/commands"
 
