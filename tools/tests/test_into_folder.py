@@ -264,7 +264,8 @@ def test_crashes():
                "".join(line for line in whole.splitlines(True) if not line.startswith(own)))
         expect(f"killed at {second}: the last look", BEGIN + second in [tick["at"] for tick in ticks], True)
         status, _, said = into.into("--for", "10")
-        expect(f"killed at {second}: the next one", (status, said), (0, f"record: {names[-1]} was left by a recorder that "
+        expect(f"killed at {second}: the next one", (status, said), (
+            0, f"record: {names[-1]} was left by a recorder that "
                f"did not end: it is {names[-1].replace('.part', '.gz')} now\n"))
         into.clean()
 

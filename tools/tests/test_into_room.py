@@ -38,7 +38,7 @@ def is_said(said, text):
 
 @contextlib.contextmanager
 def fsync_fails(error):
-    """As of a volume that is thin and full: what was written does not come onto the disk, though it says it has room."""
+    """As of a volume that is thin and full: what was written does not come onto the disk, which says it has room."""
     real = os.fsync
 
     def fsync(descriptor):
@@ -51,7 +51,8 @@ def fsync_fails(error):
 
 
 def test_room_that_is_not_made():
-    """Of twenty traces one goes for the packing of the others, and since that does not help no more; all is recorded."""
+    """Of twenty traces one goes for the packing of the others, and no more since that does not help; all is recorded.
+    """
     for error in (errno.ENOSPC, errno.EDQUOT):
         into = Into(quiet_node(3, 100))
         whole = into.record("--for", "90", "--every", "1", "--extended")[1]

@@ -18,7 +18,8 @@ from typing import Any, BinaryIO
 from .part import PART, Ahead, Part, created, opened
 
 STAMP = "%Y-%m-%dT%H-%M-%SZ"
-NAME = r"[.](?P<stamp>[0-9]{4}-[0-9]{2}-[0-9]{2}T[0-9]{2}-[0-9]{2}-[0-9]{2}Z)(?:_(?P<number>[1-9][0-9]{0,8}))?[.]trace[.]"
+NAME = (r"[.](?P<stamp>[0-9]{4}-[0-9]{2}-[0-9]{2}T[0-9]{2}-[0-9]{2}-[0-9]{2}Z)"
+        r"(?:_(?P<number>[1-9][0-9]{0,8}))?[.]trace[.]")
 PACKED, PACKING = "gz", "gz.part"
 # that much of the file system stays free, at most so many bytes
 FREE_SHARE = 50
@@ -84,8 +85,8 @@ class Folder:
         write, unless it is sticky and what has the names of the recorder's files there is its own."""
         status, own = os.fstat(self.descriptor), os.geteuid()
         if status.st_uid not in (own, ROOT):
-            raise Refused(f"--into: '{self.path}' belongs to another user (uid {status.st_uid}), who may change what is "
-                          "written there")
+            raise Refused(f"--into: '{self.path}' belongs to another user (uid {status.st_uid}), who may change what "
+                          "is written there")
         if not status.st_mode & (stat.S_IWGRP | stat.S_IWOTH):
             return
         if not status.st_mode & stat.S_ISVTX:

@@ -1,4 +1,4 @@
-"""A trace that is being written: lines that are settled, and behind them those that what comes next may still change."""
+"""A trace that is being written: lines that are settled, and behind them those that may still change."""
 
 from __future__ import annotations
 
@@ -62,7 +62,8 @@ class Ahead:
             os.unlink(self.path)
 
     def kept(self) -> tuple[str, int, bytes] | None:
-        """The name of the part, its bytes that are settled, and the lines behind them; None where none are there whole."""
+        """The name of the part, its bytes that are settled, and the lines behind them; None where they are not whole.
+        """
         try:
             with opened(self.path) as file:
                 head = json.loads(file.readline(4096))
@@ -101,8 +102,9 @@ class Part:
                 put(self.descriptor, data[len(self.tail):], kept)
             else:
                 self.ahead.keep(self.name, self.size, data)
+                # whoever reads it meanwhile finds whole lines
+                os.ftruncate(self.descriptor, self.size)
                 put(self.descriptor, data, self.size)
-                os.ftruncate(self.descriptor, self.size + len(data))
         except OSError:
             # where this fails too, what is packed ends before it
             with contextlib.suppress(OSError):
