@@ -54,7 +54,7 @@ class Into:
         self.run = tempfile.mkdtemp()
         self.recording = recording or self.run
         self.folder = f"{self.run}/traces"
-        os.mkdir(self.folder)
+        os.mkdir(self.folder, 0o755)
         with open(f"{self.run}/play.json", "w", encoding="utf-8") as file:
             json.dump(play, file)
 

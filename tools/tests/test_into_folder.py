@@ -58,7 +58,7 @@ folder=$2; shift 3; "$@"; status=$?; cp -a "$folder/." "$folder.made"; exit $sta
 
 def on_a_mount(into, options, again, *words):
     """Records into a file system of its own, of what lies beside the folder as `seed`; then it is copied out."""
-    os.makedirs(f"{into.folder}.seed", exist_ok=True)
+    os.makedirs(f"{into.folder}.seed", 0o755, exist_ok=True)
     os.mkdir(f"{into.folder}.made")
     return into.into(*words, before=["unshare", "-rm", "sh", "-c", MOUNTED, "sh", options, into.folder, again])
 
@@ -157,7 +157,7 @@ def test_a_full_file_system():
     if not can_mount():
         return
     into = Into(quiet_node(30, 100))
-    os.mkdir(f"{into.folder}.seed")
+    os.mkdir(f"{into.folder}.seed", 0o755)
     for hour in range(4):
         with open(f"{into.folder}.seed/n1.2025-12-31T0{hour}-00-00Z.trace.gz", "wb") as file:
             file.write(gzip.compress(random.Random(hour).randbytes(150000)))
@@ -171,7 +171,7 @@ def test_a_full_file_system():
     into.clean()
 
     into = Into(quiet_node(30, 100))
-    os.mkdir(f"{into.folder}.seed")
+    os.mkdir(f"{into.folder}.seed", 0o755)
     with open(f"{into.folder}.seed/another", "wb") as file:
         file.write(bytes(765000))
     answer = on_a_mount(into, "size=768k", "", "--for", "60", "--every", "1", "--each", "20s")
@@ -400,13 +400,13 @@ def test_ends():
     for name, number in (("told to end", signal.SIGTERM), ("killed", signal.SIGKILL)):
         recorder = Recorder("crash_loop")
         folder = f"{recorder.run}/traces"
-        os.mkdir(folder)
+        os.mkdir(folder, 0o755)
         words = ["--node", "worker-3", "--into", folder, "--every", "1"]
         process = recorder.start(*words)
         wait_until("a tick", lambda: any(size > 2000 for size in parts_in(folder).values()))
         process.send_signal(number)
         said = process.communicate(timeout=LONGEST)[1].decode()
-        made = sorted(os.listdir(folder))
+        made = sorted(name for name in os.listdir(folder) if ".trace." in name)
         expect(f"{name}: the trace", (process.returncode, said, [path[30:] for path in made]),
                (0 if number == signal.SIGTERM else -number, "",
                 ["trace.gz" if number == signal.SIGTERM else "trace.part"]))
@@ -435,7 +435,7 @@ def test_ends_while_it_packs():
     recorder = Recorder("crash_loop")
     folder, names = f"{recorder.run}/traces", [f"worker-3.2025-12-31T0{hour}-00-00Z.trace" for hour in range(2)]
     for number in (signal.SIGTERM, signal.SIGINT, signal.SIGHUP):
-        os.mkdir(folder)
+        os.mkdir(folder, 0o755)
         for name, text in zip(names, (long_trace(BEGIN - 86400, 200000), long_trace(BEGIN - 82800, 10))):
             with open(f"{folder}/{name}.part", "wb") as file:
                 file.write(text)

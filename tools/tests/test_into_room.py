@@ -106,7 +106,7 @@ def test_a_disk_that_another_fills():
     if not can_mount():
         return
     into = Into(quiet_node(3, 100))
-    os.mkdir(f"{into.folder}.seed")
+    os.mkdir(f"{into.folder}.seed", 0o755)
     for name in HOURS[:4]:
         with open(f"{into.folder}.seed/{name}", "wb") as file:
             file.write(packed(name, 2200))

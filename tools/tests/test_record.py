@@ -273,9 +273,9 @@ def test_interrupts_at_first():
     for words in (["record", "--node", "worker-3", "--standard"], ["record", "--node", "worker-3", "--check"],
                   ["story", "shop/web"]):
         found = []
-        for moment in range(30):
+        for moment in range(20):
             process = recorder.start(*words[1:], tool=words[0], stdin=subprocess.PIPE)
-            time.sleep(moment / 100)
+            time.sleep(moment / 60)
             os.killpg(process.pid, signal.SIGINT)
             _, said = process.communicate(timeout=LONGEST)
             found += [(process.returncode, said)] * (said != b"" or process.returncode not in (-signal.SIGINT, 0, 130))

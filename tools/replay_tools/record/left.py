@@ -99,8 +99,10 @@ class Left:
             os.unlink(path)
             self.say(f"{name}.{PART} has no whole line, and is removed")
         else:
-            cut_at(path, found.whole)
-            made, more = self.ended(name, found.whole), found.size - found.whole
+            more = found.size - found.whole
+            if more:
+                cut_at(path, found.whole)
+            made = self.ended(name, found.whole)
             cut = f", without the {more} bytes behind its last whole line" if more else ""
             self.say(f"{name}.{PART} was left by a recorder that did not end: it is {made} now{cut}")
 
