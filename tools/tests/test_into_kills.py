@@ -1,12 +1,14 @@
 """What a recorder of `tools/record --into` leaves that is killed at any moment: all that it had written, once."""
 
+import json
 import os
 import signal
 import sys
 import traceback
+import zlib
 
 from chance import BEGIN
-from checks import expect
+from checks import expect, read
 from into_plays import Into, ClockUntil, Killed, laid, probed_play
 from test_plays import quiet_node
 
@@ -154,3 +156,39 @@ def test_kills_where_a_trace_is_full():
     """The same of a trace that has as many ticks as it may."""
     words = ["--each", "1h", "--ticks", "30", "--every", "1"]
     expect("kills in the look of a trace that is full", list(faults_of(quiet_node(3, 60), words, 30, 40))[:1], [])
+
+
+def kept_ahead(name, size, data, torn=0):
+    """The file of lines ahead, as it is written."""
+    head = {"part": name, "size": size, "bytes": len(data), "sum": zlib.crc32(data)}
+    whole = json.dumps(head).encode() + b"\n" + data
+    return whole[:len(whole) - torn]
+
+
+def test_lines_ahead():
+    """Those that are whole and newer than what stands in the part are put there, and no others."""
+    name = "n1.2026-01-01T00-00-00Z.trace"
+    node, ticks = b'{"kind":"node","version":3,"name":"n1"}\n', [b'{"kind":"tick","at":%d}\n' % at for at in range(5)]
+    settled = node + ticks[0]
+    for what, text, kept, wanted in (
+        ("that were not written yet", settled + ticks[1], kept_ahead(name, len(settled), ticks[2]), settled + ticks[2]),
+        ("that were written in part", settled + ticks[2][:9], kept_ahead(name, len(settled), ticks[2]),
+         settled + ticks[2]),
+        ("that are cut", settled + ticks[1], kept_ahead(name, len(settled), ticks[2], 3), settled + ticks[1]),
+        ("that are older", settled + ticks[1] + ticks[3], kept_ahead(name, len(settled), ticks[2]),
+         settled + ticks[1] + ticks[3]),
+        ("of a place within a line", settled + ticks[1], kept_ahead(name, len(settled) - 2, ticks[2]),
+         settled + ticks[1]),
+        ("of a place behind the end", settled, kept_ahead(name, 10 ** 9, ticks[2]), settled),
+        ("of another file", settled, kept_ahead("../precious", 0, ticks[2]), settled),
+        ("that are none", settled, b'{"part":[],"size":{},"bytes":"x"}\n', settled),
+    ):
+        place = Into(quiet_node(1, 9))
+        place.put(f"{name}.part", text)
+        place.put("n1.ahead", kept)
+        with open(f"{place.run}/precious.part", "wb") as file:
+            file.write(b"precious\n")
+        end_left(place)
+        expect(f"lines ahead {what}", (place.names(), place.texts()), ([f"{name}.gz"], [wanted.decode()]))
+        expect(f"lines ahead {what}: what lies beside the folder", read(f"{place.run}/precious.part"), "precious\n")
+        place.clean()

@@ -127,8 +127,7 @@ class Left:
         if kept is not None and self.folder.form.fullmatch(f"{kept[0]}.{PART}"):
             name, size, data = kept
             with contextlib.suppress(OSError), opened(self.folder.place(name, PART), os.O_RDWR) as file:
-                found = scan_of(file)
-                if found is not None and size <= found.size and found.last <= last_of(data):
+                if is_behind_a_line(file, size) and last_of(file.read()) <= last_of(data):
                     put(file.fileno(), data, size)
                     os.ftruncate(file.fileno(), size + len(data))
         self.folder.ahead.drop()
@@ -171,6 +170,14 @@ def scanned(path: str, until: float = float("inf")) -> Scan | None:
         if error.errno is None:
             return None
         raise
+
+
+def is_behind_a_line(file: BinaryIO, place: int) -> bool:
+    """Whether a place of a file, which is read from there on, is its begin or comes behind a line."""
+    if place < 0 or place > os.fstat(file.fileno()).st_size:
+        return False
+    file.seek(max(place - 1, 0))
+    return place == 0 or file.read(1) == b"\n"
 
 
 def last_of(data: bytes) -> float:
