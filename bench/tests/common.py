@@ -5,6 +5,7 @@ import os
 import shutil
 import subprocess
 import sys
+import time
 import unittest
 
 TESTS = os.path.dirname(os.path.realpath(__file__))
@@ -23,6 +24,15 @@ def run(script, *words, **settings):
     done = subprocess.run([os.path.join(TOP, "bench", script), *words], stdin=subprocess.DEVNULL, capture_output=True,
                           text=True, check=False, timeout=LONGEST, env={**os.environ, **settings})
     return done.returncode, done.stdout, done.stderr
+
+
+def wait_until(holds):
+    """Waits for what comes in time on a machine that is not at a standstill."""
+    until = time.monotonic() + LONGEST
+    while not holds():
+        if time.monotonic() > until:
+            raise TimeoutError(f"it did not come in {LONGEST} s")
+        time.sleep(0.01)
 
 
 def loaded(script):

@@ -313,7 +313,7 @@ class Whole(Case):
                 while not os.path.exists(f"{self.top}/out/waits") and gate_.poll() is None:
                     time.sleep(0.01)
                 gate_.send_signal(number)
-                _, said = gate_.communicate(timeout=30)
+                _, said = gate_.communicate(timeout=60)
             self.assertEqual((gate_.returncode, said), (ends, b""))
             self.assertEqual((self.ran()[-1], self.new(), self.page()), ("ci text", ["marks"], False))
             with self.assertRaises(ProcessLookupError):

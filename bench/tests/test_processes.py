@@ -4,10 +4,9 @@ import signal
 import subprocess
 import sys
 import tempfile
-import time
 from unittest import mock
 
-from common import Case, read
+from common import Case, read, wait_until
 import processes
 
 # holds 64 MiB, and works for some tenths of a second
@@ -45,18 +44,15 @@ class Processes(Case):
             self.assertEqual(said.read(), b"text\n")
 
     def test_a_run_is_ended_with_all_that_it_began(self):
-        begun = time.monotonic()
         with tempfile.TemporaryFile() as written:
-            cost = processes.run(["sh", "-c", "sleep 20 & echo $!; wait"], written=written, longest=0.5)
+            cost = processes.run(["sh", "-c", "sleep 600 & echo $!; wait"], written=written, longest=3)
             written.seek(0)
             below = int(written.read())
         self.assertEqual((cost.status, cost.late), (-9, True))
-        while is_there(below):
-            self.assertLess(time.monotonic() - begun, 10)
-            time.sleep(0.01)
+        wait_until(lambda: not is_there(below))
 
     def test_a_run_is_interrupted(self):
-        begun, wait, ended = time.monotonic(), processes.wait, []
+        wait, ended = processes.wait, []
         # it ends once nobody can write to it
         read_end, write_end = os.pipe()
 
@@ -69,16 +65,12 @@ class Processes(Case):
             processes.run(["cat"], given=read_end)
         os.close(read_end)
         self.assertEqual(ended, [0])
-        self.assertLess(time.monotonic() - begun, 10)
 
     def test_a_child_that_has_ended_is_still_there(self):
         with subprocess.Popen(["cat"], stdin=subprocess.PIPE) as child:
             self.assertFalse(processes.has_ended(child.pid))
             child.stdin.close()
-            begun = time.monotonic()
-            while not processes.has_ended(child.pid):
-                self.assertLess(time.monotonic() - begun, 10)
-                time.sleep(0.01)
+            wait_until(lambda: processes.has_ended(child.pid))
             self.assertEqual(processes.wait(child.pid)[0], 0)
             child.returncode = 0
 
@@ -94,23 +86,25 @@ class Processes(Case):
         self.assertGreater(ran.peak, 64 << 20)
 
     def test_a_whole_command_is_interrupted(self):
-        for words, ended in ("exec cat", -signal.SIGTERM), ("trap 'exit 3' TERM; cat", 3), ("trap '' TERM; cat", -9):
+        for words, grace, ended in (("echo; exec cat", 60, -signal.SIGTERM),
+                                    ("trap 'exit 3' TERM; echo; cat", 60, 3), ("trap '' TERM; echo; cat", 1, -9)):
             # it ends by itself once nobody can write to it
             read_end, write_end = os.pipe()
-            started, real = [], subprocess.Popen
+            started, real, said = [], subprocess.Popen, self.enterContext(tempfile.TemporaryFile())
 
             def popen(*given, **more):
                 started.append(real(*given, **{**more, "stdin": read_end}))
                 return started[-1]
 
             def wait4(*_):
-                time.sleep(0.3)
+                # behind its trap
+                wait_until(lambda: os.fstat(said.fileno()).st_size)
                 raise KeyboardInterrupt
 
             with mock.patch.object(processes.subprocess, "Popen", popen), \
-                    mock.patch.object(processes.os, "wait4", wait4), mock.patch.object(processes, "GRACE", 1), \
+                    mock.patch.object(processes.os, "wait4", wait4), mock.patch.object(processes, "GRACE", grace), \
                     self.assertRaises(KeyboardInterrupt):
-                processes.run_whole(["sh", "-c", words], "/", subprocess.DEVNULL)
+                processes.run_whole(["sh", "-c", words], "/", said)
             os.close(read_end)
             os.close(write_end)
             self.assertEqual(started[0].returncode, ended, words)

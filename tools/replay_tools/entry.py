@@ -6,6 +6,7 @@ from __future__ import annotations
 import argparse
 import io
 import os
+import signal
 import sys
 from collections.abc import Callable, Iterable
 from typing import Any, BinaryIO, TextIO
@@ -156,6 +157,8 @@ def run(tool: str, main: Callable[[list[str]], int]) -> int:
         return 1
     sys.stdout = standard_output()
     try:
+        # start holds an interrupt back until it is heard here
+        signal.pthread_sigmask(signal.SIG_UNBLOCK, [signal.SIGINT])
         status = version(tool) if is_version(sys.argv[1:]) else answered(main, sys.argv[1:])
         sys.stdout.flush()
         return status

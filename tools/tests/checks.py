@@ -3,6 +3,7 @@
 import os
 import subprocess
 import sys
+import time
 
 HERE = os.path.dirname(os.path.realpath(__file__))
 TOOLS = os.path.dirname(HERE)
@@ -52,6 +53,15 @@ def run(words, given="", longest=LONGEST, **settings):
     except subprocess.TimeoutExpired:
         return None, "", f"it went on for {longest} s"
     return done.returncode, done.stdout.decode("utf-8", "replace"), done.stderr.decode("utf-8", "replace")
+
+
+def wait_until(what, holds):
+    """Waits for what comes in time on a machine that is not at a standstill; else the test that wants it ends."""
+    until = time.monotonic() + LONGEST
+    while not holds():
+        if time.monotonic() > until:
+            raise TimeoutError(f"{what}: it did not come in {LONGEST} s")
+        time.sleep(0.01)
 
 
 def replayed(trace):

@@ -10,6 +10,42 @@ import tempfile
 from chance import BEGIN
 from checks import HERE, LONGEST, run
 
+from player import Play
+from replay_tools.record.folder import Folder
+from replay_tools.record.into import LastingRecording, Traces
+from replay_tools.record.sources import Sources
+from replay_tools.record.words import words_of
+
+
+class Clock:
+    """One that stands but for its waits."""
+
+    def __init__(self, moment):
+        self.moment = moment
+
+    def now(self):
+        return self.moment
+
+    def wait(self, seconds):
+        self.moment += seconds
+
+
+class Killed(Exception):
+    """The recorder is no more."""
+
+
+class ClockUntil(Clock):
+    """One at whose moment the recorder is killed."""
+
+    def __init__(self, moment, end):
+        super().__init__(moment)
+        self.end = end
+
+    def wait(self, seconds):
+        if self.moment + seconds > self.end:
+            raise Killed
+        super().wait(seconds)
+
 
 class Into:
     """A folder that plays are recorded into."""
@@ -18,7 +54,7 @@ class Into:
         self.run = tempfile.mkdtemp()
         self.recording = recording or self.run
         self.folder = f"{self.run}/traces"
-        os.mkdir(self.folder)
+        os.mkdir(self.folder, 0o755)
         with open(f"{self.run}/play.json", "w", encoding="utf-8") as file:
             json.dump(play, file)
 
@@ -39,10 +75,26 @@ class Into:
 
     def texts(self):
         """The traces in their order."""
-        return [unpacked(path) for path in sorted(glob.glob(f"{self.folder}/*.gz"))]
+        return self.texts_of("")
+
+    def texts_of(self, begin):
+        """Those whose names begin so."""
+        return [unpacked(path) for path in sorted(glob.glob(f"{self.folder}/{begin}*.gz"))]
 
     def clean(self):
         shutil.rmtree(self.run)
+
+
+def recorded_here(into, clock, *words):
+    """Records a play in this process, which may stand in for the system; what is said."""
+    play, said = Play(f"{into.run}/play.json"), []
+    sources = Sources("n1", run=lambda asked, _: play.answer(asked, clock.now()))
+    words = words_of(["--node", "n1", "--into", into.folder, *words])
+    folder = Folder(into.folder, "n1", words.into.keep, words.into.most, said.append)
+    output = Traces(folder, words.into.each, words.ticks, lambda text, subject=None: said.append(text))
+    LastingRecording(words, sources, clock, output, lambda *_: None).run()
+    os.close(folder.descriptor)
+    return said
 
 
 def unpacked(path):

@@ -2,13 +2,16 @@
 here. With `--write` it writes what the tools answer in place of what was kept, to be looked at; other words choose the
 tests whose names have one of them."""
 
+import contextlib
 import os
 import re
 import shutil
+import signal
 import subprocess
 import sys
 import tempfile
 import time
+import traceback
 import xml.dom.minidom
 
 sys.dont_write_bytecode = True
@@ -26,6 +29,8 @@ import test_fleet
 import test_fleet_nodes
 import test_into
 import test_into_folder
+import test_into_kills
+import test_into_room
 import test_joined
 import test_joined_files
 import test_json
@@ -37,13 +42,17 @@ import test_real_node
 import test_reasons
 import test_record
 import test_secrets
+import test_tests
 import test_why
 from checks import HERE, REPLAY, TOOLS, TOP, expect, expect_kept, expect_refused, read, run
+
+import ending
+import processes
 
 MODULES = (test_record, test_connections, test_plays, test_into, test_into_folder, test_joined, test_joined_files,
            test_cluster, test_real_node, test_json, test_why, test_decisions, test_page, test_fleet, test_fleet_nodes,
            test_kubectl, test_command, test_explain, test_reasons, test_deploy, test_probes, test_answers,
-           test_secrets, test_deletions)
+           test_secrets, test_deletions, test_into_kills, test_into_room, test_tests)
 RECORDINGS = f"{HERE}/recordings"
 COMMANDS = f"{HERE}/commands"
 
@@ -429,7 +438,32 @@ def test_missing_commands():
                    127, "/nonexistent/program is missing")
 
 
+# --- the run ---
+
+
+def run_test(name, test):
+    """A test that fails by what it raises ends alone: what it has started ends with it, and the others run."""
+    try:
+        test()
+    except (Exception, SystemExit) as fault:
+        checks.failed += 1
+        print(f"FAILED {name}: ended by {type(fault).__name__}\n{traceback.format_exc().rstrip()}", flush=True)
+        for identity in ending.children():
+            processes.end_group(identity)
+            with contextlib.suppress(OSError):
+                os.kill(identity, signal.SIGKILL)
+                os.waitpid(identity, 0)
+
+
 def main():
+    with tempfile.TemporaryDirectory(ignore_cleanup_errors=True) as room:
+        # others than this user look into some folders of the tests
+        os.chmod(room, 0o711)
+        tempfile.tempdir = room
+        return run_tests()
+
+
+def run_tests():
     began = time.monotonic()
     # it may have to be built first, which takes longer than any test may
     first = subprocess.run([REPLAY], input=b'{"kind":"node","name":"n1"}\n', capture_output=True, check=False)
@@ -440,7 +474,7 @@ def main():
     for module in (sys.modules[__name__], *MODULES):
         for name, test in list(vars(module).items()):
             if name.startswith("test_") and callable(test) and (not wanted or any(word in name for word in wanted)):
-                test()
+                run_test(name, test)
     print(f"{time.monotonic() - began:.0f} s", file=sys.stderr)
     print(f"{checks.passed} passed, {checks.failed} failed")
     return 1 if checks.failed else 0

@@ -9,10 +9,10 @@ import ssl
 import subprocess
 import tempfile
 import threading
-import time
+from collections import Counter
 from http.server import BaseHTTPRequestHandler, ThreadingHTTPServer
 
-from checks import HERE, LONGEST, TOOLS, expect, read, run
+from checks import HERE, LONGEST, TOOLS, expect, read, run, wait_until
 
 from replay_tools.record.connections import NotRead, settings_of
 
@@ -31,6 +31,8 @@ class Kubelet(ThreadingHTTPServer):
     def __init__(self, folder, answers_each=10 ** 9, wants_certificate=False):
         super().__init__(("127.0.0.1", 0), Handler)
         self.connections, self.answers, self.answers_each, self.tokens = 0, 0, answers_each, {TOKEN}
+        # how often it was asked with each token
+        self.given = Counter()
         # the tokens that came, and the answers that are others than the recorded ones: {path: (status, body, bytes that
         # its length has beside those of the body)}
         self.came, self.others = [], {}
@@ -68,6 +70,7 @@ class Handler(BaseHTTPRequestHandler):
         self.server.answers += 1
         self.given += 1
         self.server.came += filter(None, [self.headers["Authorization"]])
+        self.server.given[self.headers["Authorization"]] += 1
         if self.headers["Authorization"] not in self.server.tokens:
             self.answer(401, b"Unauthorized")
         elif self.path in self.server.others:
@@ -302,13 +305,13 @@ def test_other_settings():
 
 
 def test_a_token_that_changes():
-    """The file is read again where it has changed."""
+    """The file is read again where it has changed: no answer is wanted with the old token from then on."""
     if not has_openssl():
         return
     place = Place()
     kubelet = Kubelet(place.folder)
     curl = place.curl_file(f'header = "Authorization: {TOKEN}"\ninsecure\n')
-    words = ["--node", "worker-3", "--standard", "--kubelet", kubelet.url, "--curl", curl, "--for", "4"]
+    words = ["--node", "worker-3", "--standard", "--kubelet", kubelet.url, "--curl", curl]
     settings = {**os.environ, **place.settings}
     process = subprocess.Popen([f"{TOOLS}/record", *words], env=settings, stdout=subprocess.PIPE,
                                stderr=subprocess.PIPE)
@@ -316,8 +319,11 @@ def test_a_token_that_changes():
     later = "Bearer of-the-next-hour"
     kubelet.tokens.add(later)
     place.curl_file(f'header = "Authorization: {later}"\ninsecure\n')
-    time.sleep(1.5)
+    wait_until("the new token", lambda: kubelet.given[later] > 0)
     kubelet.tokens.remove(TOKEN)
+    answers = kubelet.given[later]
+    wait_until("more answers", lambda: kubelet.given[later] > answers + 2)
+    process.send_signal(signal.SIGTERM)
     out, said = process.communicate(timeout=LONGEST)
     expect("a token that changes", (process.returncode, kinds(first + out.decode())[:3], said.decode()),
            (0, ["node", "pod", "tick"], ""))
@@ -346,14 +352,11 @@ def test_proxy():
 
 def until_refused(path):
     """Whether a socket comes to have no server."""
-    for _ in range(100):
+    def is_refused():
         with socket.socket(socket.AF_UNIX, socket.SOCK_STREAM) as asked:
-            try:
-                asked.connect(path)
-            except OSError:
-                return True
-        time.sleep(0.05)
-    return False
+            return asked.connect_ex(path) != 0
+    wait_until("the end of the server", is_refused)
+    return True
 
 
 def test_no_proxy():

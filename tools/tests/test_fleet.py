@@ -14,7 +14,7 @@ import sys
 import tempfile
 import time
 
-from checks import HERE, REPLAY, TOOLS, TOP, expect, expect_kept, expect_refused, read, run
+from checks import HERE, LONGEST, REPLAY, TOOLS, TOP, expect, expect_kept, expect_refused, read, run, wait_until
 
 import fleet_runs
 import node_traces
@@ -198,22 +198,30 @@ def test_fleet_begins_again():
     shutil.rmtree(folder)
 
 
+def hold(folder):
+    """From now on a run stands still in its eighth replay and those behind it, until the file `hold` is gone."""
+    with open(f"{folder}/runs", "w", encoding="ascii"), open(f"{folder}/hold", "w", encoding="ascii"):
+        pass
+
+
 def test_fleet_is_stopped():
     """A run that is ended leaves no database and no process, and a further one does what is left."""
     folder = make_traces()
-    settings = {**COUNTED, "RUNS": f"{folder}/runs", "WAIT": "0.3"}
+    settings = {**COUNTED, "RUNS": f"{folder}/runs", "HOLD": f"{folder}/hold"}
     database = f"{folder}/fleet.db"
     words = [FLEET, "run", f"{folder}/traces", "--out", database, "--processes", "2"]
     for number, status in ((signal.SIGKILL, -9), (signal.SIGINT, 130)):
         before = rows_kept(database)
+        hold(folder)
         # what a shell begins in the background ignores an interrupt
         process = subprocess.Popen(words, env={**os.environ, **settings}, stderr=subprocess.PIPE,
                                    preexec_fn=lambda: signal.signal(signal.SIGINT, signal.SIG_DFL))
-        wait_until(lambda: rows_kept(database) > before + 2)
+        wait_until("rows", lambda: rows_kept(database) > before + 2)
         busy = run(words, **settings)
         process.send_signal(number)
+        os.remove(settings["HOLD"])
         # each of its processes holds this end of its standard error, so no process is left behind it
-        said = process.communicate(timeout=60)[1].decode()
+        said = process.communicate(timeout=LONGEST)[1].decode()
         expect(f"fleet ended by {number.name}", (process.returncode, said, os.path.exists(database)),
                (status, "", False))
         expect_refused("fleet: two runs at a time", busy, 2, "another run writes")
@@ -229,22 +237,18 @@ def test_fleet_whose_place_is_taken():
     """What came under the name of the database while a run went on is not replaced at its end."""
     folder = make_traces()
     database = f"{folder}/fleet.db"
+    hold(folder)
+    settings = {**COUNTED, "RUNS": f"{folder}/runs", "HOLD": f"{folder}/hold"}
     started = subprocess.Popen([FLEET, "run", f"{folder}/traces", "--out", database], stderr=subprocess.PIPE,
-                               env={**os.environ, **COUNTED, "RUNS": f"{folder}/runs", "WAIT": "0.2"})
-    wait_until(lambda: rows_kept(database) >= 3)
+                               env={**os.environ, **settings})
+    wait_until("rows", lambda: rows_kept(database) >= 3)
     with open(database, "w") as file:
         file.write("something else\n")
-    said = started.communicate()[1].decode()
+    os.remove(settings["HOLD"])
+    said = started.communicate(timeout=LONGEST)[1].decode()
     expect_refused("fleet: its place is taken", (started.returncode, "", said), 2, "can't be written")
     expect("what took the place stays", read(database), "something else\n")
     shutil.rmtree(folder)
-
-
-def wait_until(holds):
-    for _ in range(1000):
-        if holds():
-            return
-        time.sleep(0.02)
 
 
 def test_fleet_failures():
@@ -392,7 +396,7 @@ def test_fleet_on_dask():
         expect_refused("fleet without distributed", answer, 127, "python3-distributed")
         shutil.rmtree(folder)
         return
-    settings = {**COUNTED, "RUNS": f"{folder}/runs"}
+    settings = {**COUNTED, "RUNS": f"{folder}/runs", "HOLD": f"{folder}/hold"}
     run([*words, f"{folder}/one.db", "--processes", "1"], **settings)
     for workers, wait, check in ((3, "0.03", check_workers_that_end), (1, "0.1", check_scheduler_that_closes)):
         os.environ.update(settings, WAIT=wait)
@@ -417,22 +421,22 @@ def check_workers_that_end(words, cluster, folder):
     for kept in range(1, 11):
         database = f"{folder}/dask_{kept}.db"
         started = begun(words(database))
-        wait_until(lambda: rows_kept(database) >= kept)
+        wait_until("rows", lambda: rows_kept(database) >= kept)
         if kept % 2:
             end_worker_with_answers(started, cluster, f"{folder}/runs")
         else:
             cluster.end_worker()
         cluster.add_worker()
-        told, said = started.communicate()
+        told, said = started.communicate(timeout=LONGEST)
         expect(f"fleet on Dask, a worker ended after {kept}", (started.returncode, said), (0, b""))
         expect(f"fleet on Dask, a worker ended after {kept}: the database",
                os.path.exists(database) and content(database) == one, True)
     expect("fleet on Dask: what it prints", plain(told.decode(), folder), read(f"{KEPT}/printed"))
-    check_lost(words, cluster.end_scheduler, f"{folder}/ended.db", "that is ended")
+    check_lost(words, cluster.end_scheduler, folder, "that is ended")
 
 
 def check_scheduler_that_closes(words, cluster, folder):
-    check_lost(words, cluster.close_scheduler, f"{folder}/closed.db", "that closes")
+    check_lost(words, cluster.close_scheduler, folder, "that closes")
 
 
 def begun(words):
@@ -450,12 +454,15 @@ def end_worker_with_answers(started, cluster, runs):
     started.send_signal(signal.SIGCONT)
 
 
-def check_lost(words, end, database, how):
+def check_lost(words, end, folder, how):
     """A run whose scheduler goes away."""
+    database = f"{folder}/{end.__name__}.db"
+    hold(folder)
     started = begun(words(database))
-    wait_until(lambda: rows_kept(database) >= 3)
+    wait_until("rows", lambda: rows_kept(database) >= 3)
     end()
-    told, said = started.communicate()
+    told, said = started.communicate(timeout=LONGEST)
+    os.remove(f"{folder}/hold")
     expect_refused(f"fleet: a scheduler {how}", (started.returncode, told.decode(), said.decode()), 2,
                    "the scheduler went away")
 

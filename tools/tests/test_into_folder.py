@@ -1,18 +1,20 @@
 """The tests of the folder of `tools/record --into`: nothing that was whole is lost in it, by a clock or by a crash, and
 the recorder goes on where there is no room."""
 
+import contextlib
 import fcntl
 import glob
 import gzip
 import json
 import os
 import random
+import shutil
 import signal
-import time
 
 from chance import BEGIN, SECONDS
-from checks import HERE, LONGEST, TOOLS, expect, expect_refused, read, run
-from into_plays import Into, follows, laid, parts_of, probed_play, unpacked
+from checks import HERE, LONGEST, TOOLS, expect, expect_refused, read, run, wait_until
+from into_plays import (Clock, ClockUntil, Into, Killed, follows, laid, parts_of, probed_play, recorded_here,
+                        unpacked)
 from test_into import told_in
 from test_plays import quiet_node, report_of
 from test_record import Recorder
@@ -56,7 +58,7 @@ folder=$2; shift 3; "$@"; status=$?; cp -a "$folder/." "$folder.made"; exit $sta
 
 def on_a_mount(into, options, again, *words):
     """Records into a file system of its own, of what lies beside the folder as `seed`; then it is copied out."""
-    os.makedirs(f"{into.folder}.seed", exist_ok=True)
+    os.makedirs(f"{into.folder}.seed", 0o755, exist_ok=True)
     os.mkdir(f"{into.folder}.made")
     return into.into(*words, before=["unshare", "-rm", "sh", "-c", MOUNTED, "sh", options, into.folder, again])
 
@@ -83,12 +85,79 @@ def test_folders_that_cannot_be():
     into.clean()
 
 
+def test_folders_of_others():
+    """One that others may write is refused, but for a sticky one in which the recorder's names are its own."""
+    into = Into(quiet_node(1, 60))
+    for mode in (0o777, 0o775, 0o2770):
+        os.chmod(into.folder, mode)
+        expect_refused(f"a folder of mode {mode:o}", into.into("--for", "10"), 1,
+                       f"--into: other users may write into '{into.folder}', and change what is there: chmod go-w")
+    os.chmod(into.folder, 0o1777)
+    expect("a sticky folder", (into.into("--for", "10"), into.names()),
+           ((0, "", ""), ["n1.2026-01-01T00-00-00Z.trace.gz"]))
+    if os.getuid() == 0:
+        for name in ("n1.2025-12-31T00-00-00Z.trace.gz", "n1.2025-12-31T00-00-00Z.trace.part", "n1.ahead"):
+            into.put(name, b"")
+            os.chown(f"{into.folder}/{name}", 12345, 12345)
+            expect_refused(f"a sticky folder with {name} of another", into.into("--for", "10"), 1,
+                           f"--into: other users may write into '{into.folder}', and {name} there is another's")
+            os.remove(f"{into.folder}/{name}")
+        os.chmod(into.folder, 0o755)
+        os.chown(into.folder, 12345, -1)
+        expect_refused("a folder of another", into.into("--for", "10"), 1, "belongs to another user (uid 12345)")
+    into.clean()
+
+
+def test_links_in_a_folder():
+    """What lies under a name that the recorder would give, as a link, is not written through and not read."""
+    into, aside, name = Into(quiet_node(1, 60)), "precious\n", "n1.2026-01-01T00-00-00Z.trace"
+    with open(f"{into.run}/target", "w", encoding="utf-8") as file:
+        file.write(aside)
+    for kind in (f"{name}.gz.part", f"{name}.part", f"{name}.gz", "n1.ahead"):
+        os.symlink(f"{into.run}/target", f"{into.folder}/{kind}")
+        status, _, said = into.into("--for", "10", "--each", "10s")
+        expect(f"a link {kind[-8:]}", (status, read(f"{into.run}/target"), said if "left as it is" not in said else ""),
+               (0, aside, ""))
+        expect(f"a link {kind[-8:]}: the trace", [text.count('"kind":"node"') for path, text in made_in(into)], [1])
+        for left in into.names():
+            os.remove(f"{into.folder}/{left}")
+    clock = LinkingClock(f"{into.run}/target", f"{into.folder}/{name}.gz.part")
+    expect("a link that comes before a trace is packed",
+           (recorded_here(into, clock, "--for", "30"), read(f"{into.run}/target"), into.names()),
+           ([], aside, [f"{name}.gz"]))
+    os.remove(f"{into.folder}/{name}.gz")
+    os.mkfifo(f"{into.folder}/n1.2025-12-31T00-00-00Z.trace.part")
+    os.mkfifo(f"{into.folder}/n1.2025-12-31T00-00-00Z.trace.gz")
+    expect("pipes in a folder", into.into("--for", "10"),
+           (0, "", "record: n1.2025-12-31T00-00-00Z.trace.part is no trace, and is left as it is\n"))
+    into.clean()
+
+
+class LinkingClock(Clock):
+    """One that makes a link as it comes to its tenth second."""
+
+    def __init__(self, target, link):
+        super().__init__(BEGIN)
+        self.target, self.link = target, link
+
+    def wait(self, seconds):
+        super().wait(seconds)
+        if self.moment == BEGIN + 10:
+            os.symlink(self.target, self.link)
+
+
+def made_in(into):
+    """The traces of a folder that are files, with their texts."""
+    paths = [f"{into.folder}/{name}" for name in into.names() if name.endswith(".gz")]
+    return [(path, unpacked(path)) for path in paths if os.path.isfile(path) and not os.path.islink(path)]
+
+
 def test_a_full_file_system():
     """The oldest traces go first. Where there is none the recorder says so once, and goes on to its end."""
     if not can_mount():
         return
     into = Into(quiet_node(30, 100))
-    os.mkdir(f"{into.folder}.seed")
+    os.mkdir(f"{into.folder}.seed", 0o755)
     for hour in range(4):
         with open(f"{into.folder}.seed/n1.2025-12-31T0{hour}-00-00Z.trace.gz", "wb") as file:
             file.write(gzip.compress(random.Random(hour).randbytes(150000)))
@@ -96,17 +165,18 @@ def test_a_full_file_system():
     answer = on_a_mount(into, "size=640k", "", "--for", "60", "--every", "1", "--each", "20s")
     made = sorted(glob.glob(f"{into.folder}.made/*"))
     expect("a full file system: the oldest traces go", (answer, [os.path.basename(path)[3:16] for path in made[:4]]),
-           ((0, "", ""), ["2025-12-31T01", "2025-12-31T02", "2025-12-31T03", "2026-01-01T00"]))
+           ((0, "", "record: n1.2025-12-31T00-00-00Z.trace.gz is removed, to make room for the packing of a trace: No "
+             "space left on device\n"), ["2025-12-31T01", "2025-12-31T02", "2025-12-31T03", "2026-01-01T00"]))
     expect("a full file system: nothing is lost", laid(map(unpacked, made[3:])) == whole, True)
     into.clean()
 
     into = Into(quiet_node(30, 100))
-    os.mkdir(f"{into.folder}.seed")
+    os.mkdir(f"{into.folder}.seed", 0o755)
     with open(f"{into.folder}.seed/another", "wb") as file:
         file.write(bytes(765000))
     answer = on_a_mount(into, "size=768k", "", "--for", "60", "--every", "1", "--each", "20s")
     expect("a full file system without a trace", (answer, os.listdir(f"{into.folder}.made")),
-           ((0, "", f"record: {BEGIN}: nothing is written into '{into.folder}' until it can be: the file system has no "
+           ((1, "", f"record: {BEGIN}: nothing is written into '{into.folder}' until it can be: the file system has no "
              "room to spare\n"), ["another"]))
     into.clean()
 
@@ -121,19 +191,6 @@ def test_lines_that_are_written_in_part():
     expect("lines that are written in part", (answer, max(sizes) <= 51200, len(sizes) > 3, laid(into.texts()) == whole),
            ((0, "", ""), True, True, True))
     into.clean()
-
-
-class Clock:
-    """One that stands but for its waits."""
-
-    def __init__(self, moment):
-        self.moment = moment
-
-    def now(self):
-        return self.moment
-
-    def wait(self, seconds):
-        self.moment += seconds
 
 
 class Narrow(Folder):
@@ -158,35 +215,21 @@ def test_room_that_comes_again():
     output = Traces(folder, 3600, 20000, lambda text, subject=None: said.append(text))
     LastingRecording(words, sources, clock, output, lambda *_: None).run()
     texts = into.texts()
-    at = follows(texts[1])
-    expect("room that comes again: two traces", (len(texts), at["until"] < BEGIN + 20, at["at"] > BEGIN + 25,
-                                                  at["trace"]), (2, True, True, "n1.2026-01-01T00-00-00Z.trace.gz"))
+    at = follows(texts[-1])
+    # as the room goes a trace ends early, and the next one has what the kept room takes
+    expect("room that comes again: a trace behind the others", (len(texts), at["until"] <= BEGIN + 25, at["at"]
+                                                                 > BEGIN + 25, at["trace"] in into.names()),
+           (3, True, True, True))
     expect("room that comes again: it is said twice", [line.split(": ", 1)[1] for line in said],
            [f"nothing is written into '{into.folder}' until it can be: the file system has no room to spare",
             "there is room again, and a trace begins"])
     expect("room that comes again: all else is there",
-           (whole.startswith(texts[0]), whole.endswith(parts_of(texts[1])[1]), report_of(texts[1])[0]), (True, True, 0))
+           (whole.startswith(laid(texts[:-1])), whole.endswith(parts_of(texts[-1])[1]),
+            [report_of(text)[0] for text in texts]), (True, True, [0, 0, 0]))
     into.clean()
 
 
 # --- a crash ---
-
-
-class Killed(Exception):
-    """The recorder is no more."""
-
-
-class ClockUntil(Clock):
-    """One at whose moment the recorder is killed."""
-
-    def __init__(self, moment, end):
-        super().__init__(moment)
-        self.end = end
-
-    def wait(self, seconds):
-        if self.moment + seconds > self.end:
-            raise Killed
-        super().wait(seconds)
 
 
 def killed_at(into, play, second, *words):
@@ -200,9 +243,11 @@ def killed_at(into, play, second, *words):
         recording.begin()
         recording.go_on()
     except Killed:
-        os.close(folder.descriptor)
-        os.close(recording.output.part.descriptor)
-    return into.names(), laid([*into.texts(), read(f"{into.folder}/{into.names()[-1]}")])
+        for descriptor in (folder.descriptor, recording.output.part.descriptor, folder.ahead.descriptor):
+            if descriptor is not None:
+                os.close(descriptor)
+    names = [name for name in into.names() if not name.endswith(".ahead")]
+    return names, laid([*into.texts(), read(f"{into.folder}/{names[-1]}")])
 
 
 def test_crashes():
@@ -219,7 +264,8 @@ def test_crashes():
                "".join(line for line in whole.splitlines(True) if not line.startswith(own)))
         expect(f"killed at {second}: the last look", BEGIN + second in [tick["at"] for tick in ticks], True)
         status, _, said = into.into("--for", "10")
-        expect(f"killed at {second}: the next one", (status, said), (0, f"record: {names[-1]} was left by a recorder that "
+        expect(f"killed at {second}: the next one", (status, said), (
+            0, f"record: {names[-1]} was left by a recorder that "
                f"did not end: it is {names[-1].replace('.part', '.gz')} now\n"))
         into.clean()
 
@@ -305,6 +351,11 @@ def left_files():
          f"{ended} {name[:-6]}_2.trace.gz now\nrecord: {name}.gz is damaged, and is left as it is: Compressed file "
          "ended before the end-of-stream marker was reached\n",
          {f"{name[:-6]}_2.trace.gz": whole, f"{name}.gz": gzip.compress(whole)[:99]}),
+        ("an older trace that is damaged", {f"{name}.gz": gzip.compress(whole)[:99], "n1.2025-12-31T23-30-00Z.trace.gz":
+                                            gzip.compress(whole)},
+         f"record: {name}.gz is damaged, and is left as it is: Compressed file ended before the end-of-stream marker "
+         "was reached\n",
+         {f"{name}.gz": gzip.compress(whole)[:99], "n1.2025-12-31T23-30-00Z.trace.gz": whole}),
         ("a damaged trace", {f"{name}.gz": b"\x1f\x8b" + bytes(60)},
          f"record: {name}.gz is damaged, and is left as it is: Unknown compression method\n",
          {f"{name}.gz": b"\x1f\x8b" + bytes(60)}),
@@ -335,12 +386,13 @@ def content(path):
         return data
 
 
-def wait_until(holds):
-    for _ in range(3000):
-        if holds():
-            return True
-        time.sleep(0.01)
-    return False
+def parts_in(folder):
+    """The sizes of the traces that are written, by name; what is being packed is none of them."""
+    found = {}
+    for path in glob.glob(f"{folder}/*.trace.part"):
+        with contextlib.suppress(FileNotFoundError):
+            found[os.path.basename(path)] = os.path.getsize(path)
+    return found
 
 
 def test_ends():
@@ -348,20 +400,20 @@ def test_ends():
     for name, number in (("told to end", signal.SIGTERM), ("killed", signal.SIGKILL)):
         recorder = Recorder("crash_loop")
         folder = f"{recorder.run}/traces"
-        os.mkdir(folder)
+        os.mkdir(folder, 0o755)
         words = ["--node", "worker-3", "--into", folder, "--every", "1"]
         process = recorder.start(*words)
-        begun = wait_until(lambda: any(os.path.getsize(path) > 2000 for path in glob.glob(f"{folder}/*.part")))
+        wait_until("a tick", lambda: any(size > 2000 for size in parts_in(folder).values()))
         process.send_signal(number)
         said = process.communicate(timeout=LONGEST)[1].decode()
-        made = sorted(os.listdir(folder))
-        expect(f"{name}: the trace", (begun, process.returncode, said, [path[30:] for path in made]),
-               (True, 0 if number == signal.SIGTERM else -number, "",
+        made = sorted(name for name in os.listdir(folder) if ".trace." in name)
+        expect(f"{name}: the trace", (process.returncode, said, [path[30:] for path in made]),
+               (0 if number == signal.SIGTERM else -number, "",
                 ["trace.gz" if number == signal.SIGTERM else "trace.part"]))
         if number == signal.SIGKILL:
             process = recorder.start(*words)
             # it has said so before it begins a part of its own
-            wait_until(lambda: any(os.path.basename(path) != made[0] for path in glob.glob(f"{folder}/*.part")))
+            wait_until("the next one's part", lambda: set(parts_in(folder)) - set(made))
             process.send_signal(signal.SIGTERM)
             said = process.communicate(timeout=LONGEST)[1].decode()
             expect(f"{name}: the next one ends it", f"{made[0]} was left by a recorder that did not end" in said, True)
@@ -369,6 +421,40 @@ def test_ends():
         lines = [json.loads(line)["kind"] for line in unpacked(made[0]).splitlines()]
         expect(f"{name}: its lines", (lines[:3], set(lines[3:])), (["node", "pod", "tick"], {"tick"}))
         recorder.clean()
+
+
+def long_trace(second, lines):
+    """The bytes of a trace with so many ticks."""
+    tick = {"kind": "tick", "at": second, "pods": [], "signals": {"memory.available": 4294967296}}
+    head = b'{"kind":"node","version":3,"name":"worker-3"}\n'
+    return head + b"".join(json.dumps({**tick, "at": second + place}).encode() + b"\n" for place in range(lines))
+
+
+def test_ends_while_it_packs():
+    """One that is told to end while it ends what another one has left does that first; what it has not begun stays."""
+    recorder = Recorder("crash_loop")
+    folder, names = f"{recorder.run}/traces", [f"worker-3.2025-12-31T0{hour}-00-00Z.trace" for hour in range(2)]
+    for number in (signal.SIGTERM, signal.SIGINT, signal.SIGHUP):
+        os.mkdir(folder, 0o755)
+        for name, text in zip(names, (long_trace(BEGIN - 86400, 200000), long_trace(BEGIN - 82800, 10))):
+            with open(f"{folder}/{name}.part", "wb") as file:
+                file.write(text)
+        process = recorder.start("--node", "worker-3", "--into", folder)
+        wait_until("the packing", lambda: os.path.exists(f"{folder}/{names[0]}.gz.part")
+                   or os.path.exists(f"{folder}/{names[0]}.gz"))
+        process.send_signal(number)
+        said = process.communicate(timeout=LONGEST)[1].decode()
+        lines = [f"record: {name}.part was left by a recorder that did not end: it is {name}.gz now\n"
+                 for name in names]
+        expect(f"{number.name} while it packs", (process.returncode, said in (lines[0], "".join(lines))), (0, True))
+        made = {name: content(f"{folder}/{name}") for name in sorted(os.listdir(folder))[:2]}
+        expect(f"{number.name} while it packs: the one that it was at",
+               made.get(f"{names[0]}.gz") == long_trace(BEGIN - 86400, 200000), True)
+        expect(f"{number.name} while it packs: the other one",
+               [data for name, data in made.items() if name in (f"{names[1]}.gz", f"{names[1]}.part")],
+               [long_trace(BEGIN - 82800, 10)])
+        shutil.rmtree(folder)
+    recorder.clean()
 
 
 def test_crictl_words():

@@ -11,7 +11,7 @@ import sys
 import tempfile
 import time
 
-from checks import HERE, REPLAY, TOP, expect, expect_kept, read, run
+from checks import HERE, REPLAY, TOP, expect, expect_kept, read, run, wait_until
 
 import beside
 import counted
@@ -203,10 +203,7 @@ def interrupted(folder, numbers, **settings):
     words = [sys.executable, f"{TOP}/bench/real_node", folder]
     process = subprocess.Popen(words, stdout=subprocess.PIPE, stderr=subprocess.PIPE, text=True, env={
         **os.environ, "PATH": f"{os.environ['PATH']}:{folder}/host", "KUBELET_REPLAY": REPLAY, **settings})
-    for _ in range(3000):
-        if os.path.exists(f"{folder}/waits"):
-            break
-        time.sleep(0.02)
+    wait_until("what waits", lambda: os.path.exists(f"{folder}/waits"))
     time.sleep(0.3)
     for number in numbers:
         process.send_signal(number)

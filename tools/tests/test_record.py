@@ -11,7 +11,8 @@ import tempfile
 import time
 from concurrent.futures import ThreadPoolExecutor
 
-from checks import HERE, LONGEST, REPLAY, TOOLS, TOP, expect, expect_kept, expect_refused, read, replayed, run
+from checks import (HERE, LONGEST, REPLAY, TOOLS, TOP, expect, expect_kept, expect_refused, read, replayed, run,
+                    wait_until)
 
 from replay_tools.record import formats
 from replay_tools.record.lines import STANDARD
@@ -44,11 +45,11 @@ class Recorder:
     def whole(self):
         return run([self.tool, *self.words], **self.settings)
 
-    def start(self, *words):
+    def start(self, *words, tool="record", **more):
         """Begins a run in a session of its own, as from a terminal, by the node's clock."""
-        return subprocess.Popen([f"{TOOLS}/record", *words], env={**os.environ, **self.settings},
+        return subprocess.Popen([f"{TOOLS}/{tool}", *words], env={**os.environ, **self.settings},
                                 stdout=subprocess.PIPE, stderr=subprocess.PIPE, start_new_session=True, bufsize=0,
-                                preexec_fn=lambda: signal.signal(signal.SIGINT, signal.SIG_DFL))
+                                preexec_fn=lambda: signal.signal(signal.SIGINT, signal.SIG_DFL), **more)
 
     def left(self):
         """The folders for its own use that a run has left."""
@@ -235,19 +236,12 @@ def test_limits():
 def ended(process, name):
     """What a process that was interrupted leaves: its status, whether its last line is whole, what it said."""
     try:
-        out, said = process.communicate(timeout=10)
+        out, said = process.communicate(timeout=LONGEST)
     except subprocess.TimeoutExpired:
         os.killpg(process.pid, signal.SIGKILL)
         process.communicate()
         return expect(name, "it went on", "it ended")
     return process.returncode, out.decode(), said.decode()
-
-
-def wait_for(path):
-    for _ in range(500):
-        if os.path.exists(path):
-            return
-        time.sleep(0.01)
 
 
 def test_interrupts():
@@ -261,7 +255,7 @@ def test_interrupts():
         process = recorder.start("--node", "worker-3", "--standard", "--look", "1" if settings else "60")
         first = process.stdout.readline().decode()
         if settings:
-            wait_for(f"{recorder.run}/waits")
+            wait_until("the command that waits", lambda: os.path.exists(f"{recorder.run}/waits"))
         (os.killpg if whole_group else os.kill)(process.pid, number)
         answer = ended(process, name)
         if answer:
@@ -271,6 +265,37 @@ def test_interrupts():
             expect(name, (status, said, kinds, lines[-1]), (0, "", ["node", "pod", "tick"], ""))
         expect(f"{name}: nothing is left behind", recorder.left(), [])
         recorder.clean()
+
+
+def test_interrupts_at_first():
+    """An interrupt in the first moments of a tool, while Python itself begins too, ends it without a word."""
+    recorder = Recorder("crash_loop")
+    for words in (["record", "--node", "worker-3", "--standard"], ["record", "--node", "worker-3", "--check"],
+                  ["story", "shop/web"]):
+        found = []
+        for moment in range(20):
+            process = recorder.start(*words[1:], tool=words[0], stdin=subprocess.PIPE)
+            time.sleep(moment / 60)
+            os.killpg(process.pid, signal.SIGINT)
+            _, said = process.communicate(timeout=LONGEST)
+            found += [(process.returncode, said)] * (said != b"" or process.returncode not in (-signal.SIGINT, 0, 130))
+        expect(f"interrupts at first of {' '.join(words)}", found[:1], [])
+    recorder.clean()
+
+
+def test_lost_outputs():
+    """What standard output does not take is no success, and no recording begins where it is closed."""
+    recorder = Recorder("crash_loop")
+    for words, output, said in (("--help", ">/dev/full", "standard output takes no more: No space left on device"),
+                                ("--node worker-3 --check", ">/dev/full", "standard output takes no more: No space"),
+                                ("--help", ">&-", "standard output is closed"),
+                                ("--node worker-3 --for 2", ">&-", "standard output is closed"),
+                                ("--node worker-3 --check", ">&-", "standard output is closed")):
+        answer = run(["sh", "-c", f"exec '{TOOLS}'/record {words} {output}"], **recorder.settings)
+        expect_refused(f"record {words} {output}", answer, 1, f"record: {said}")
+    trace = run(["sh", "-c", f"exec '{TOOLS}'/record --node worker-3 --standard --for 1 2>&-"], **recorder.settings)[1]
+    expect("a recording with standard error closed", trace[:14], '{"kind":"node"')
+    recorder.clean()
 
 
 def test_closed_output():

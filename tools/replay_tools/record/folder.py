@@ -1,4 +1,4 @@
-"""The folder of the traces that stand one behind the other: their names, what was left there, and what goes."""
+"""The folder of the traces that stand one behind the other: their names, who may write there, and what goes."""
 
 from __future__ import annotations
 
@@ -7,31 +7,28 @@ import contextlib
 import errno
 import fcntl
 import gzip
-import json
 import os
 import re
-import shutil
 import stat
 import time
-import zlib
 from collections.abc import Callable
 from dataclasses import dataclass
-from typing import Any
+from typing import Any, BinaryIO
 
-from .formats import LONGEST_LINE
+from .part import PART, Ahead, Part, created, opened
 
 STAMP = "%Y-%m-%dT%H-%M-%SZ"
-NAME = r"[.](?P<stamp>[0-9]{4}-[0-9]{2}-[0-9]{2}T[0-9]{2}-[0-9]{2}-[0-9]{2}Z)(?:_(?P<number>[1-9][0-9]*))?[.]trace[.]"
-PACKED, PART, PACKING = "gz", "part", "gz.part"
+NAME = (r"[.](?P<stamp>[0-9]{4}-[0-9]{2}-[0-9]{2}T[0-9]{2}-[0-9]{2}-[0-9]{2}Z)"
+        r"(?:_(?P<number>[1-9][0-9]{0,8}))?[.]trace[.]")
+PACKED, PACKING = "gz", "gz.part"
 # that much of the file system stays free, at most so many bytes
 FREE_SHARE = 50
 MOST_FREE = 256 << 20
 # more than a border makes is not taken away for its age at once: a clock may be wrong
 OLD_AT_ONCE = 2
 PIECE = 1 << 18
-NODE_LINE = b'{"kind":"node"'
-FULL = (errno.ENOSPC, errno.EDQUOT, errno.EFBIG)
-DAMAGES = (OSError, EOFError, zlib.error)
+# the user of the node itself
+ROOT = 0
 
 
 class Refused(Exception):
@@ -51,52 +48,6 @@ def why(error: Any) -> Any:
     return error.strerror or str(error) if isinstance(error, OSError) else str(error)
 
 
-class Part:
-    """A trace that is being written: whole lines, each of them or none."""
-
-    def __init__(self, folder: str, name: str) -> None:
-        self.name = name
-        self.size = self.ticks = self.pods = 0
-        self.has_more = False
-        # the bytes that it begins with, once they are written
-        self.head = float("inf")
-        self.descriptor = os.open(os.path.join(folder, f"{name}.{PART}"),
-                                  os.O_WRONLY | os.O_CREAT | os.O_EXCL | os.O_APPEND | os.O_CLOEXEC, 0o640)
-
-    def write(self, data: bytes) -> None:
-        self.take_back()
-        try:
-            left = data
-            while left:
-                left = left[os.write(self.descriptor, left):]
-        except OSError:
-            # where this fails too, what is packed ends before it
-            with contextlib.suppress(OSError):
-                os.ftruncate(self.descriptor, self.size)
-            raise
-        self.size += len(data)
-
-    def write_ahead(self, data: bytes) -> None:
-        """Writes lines that stand until the next ones are written, or none of them."""
-        with contextlib.suppress(OSError):
-            self.take_back()
-            self.has_more = True
-            if os.write(self.descriptor, data) < len(data):
-                self.take_back()
-
-    def take_back(self) -> None:
-        """Takes away what was written ahead."""
-        if self.has_more:
-            os.ftruncate(self.descriptor, self.size)
-            self.has_more = False
-
-    def close(self) -> None:
-        with contextlib.suppress(OSError):
-            self.take_back()
-        with contextlib.suppress(OSError):
-            os.close(self.descriptor)
-
-
 class Folder:
     """A folder that one recorder writes into, and the traces of its node there; it keeps them for some seconds, and
     some bytes of them. `say` takes what is said."""
@@ -108,7 +59,9 @@ class Folder:
         self.say = say
         self.node = node
         self.form = re.compile(re.escape(node) + NAME + f"(?P<kind>{PACKED}|{PART}|{re.escape(PACKING)})")
+        self.ahead = Ahead(path, node)
         self.lock()
+        self.refuse_others()
 
     def lock(self) -> None:
         """Refuses a folder that can't be written, and the second recorder of one."""
@@ -127,6 +80,22 @@ class Folder:
             raise Refused(f"--into: '{self.path}' can't be written: "
                           + os.strerror(errno.EROFS if is_read_only else errno.EACCES))
 
+    def refuse_others(self) -> None:
+        """Refuses a folder in which another user may change what is written: one that is another's, or that others may
+        write, unless it is sticky and what has the names of the recorder's files there is its own."""
+        status, own = os.fstat(self.descriptor), os.geteuid()
+        if status.st_uid not in (own, ROOT):
+            raise Refused(f"--into: '{self.path}' belongs to another user (uid {status.st_uid}), who may change what "
+                          "is written there")
+        if not status.st_mode & (stat.S_IWGRP | stat.S_IWOTH):
+            return
+        if not status.st_mode & stat.S_ISVTX:
+            raise Refused(f"--into: other users may write into '{self.path}', and change what is there: chmod go-w")
+        for entry in sorted(self.entries()):
+            if self.form.fullmatch(entry) or os.path.join(self.path, entry) == self.ahead.path:
+                if os.lstat(os.path.join(self.path, entry)).st_uid != own:
+                    raise Refused(f"--into: other users may write into '{self.path}', and {entry} there is another's")
+
     def place(self, name: str, kind: str) -> str:
         return os.path.join(self.path, f"{name}.{kind}")
 
@@ -141,23 +110,24 @@ class Folder:
 
     def part(self, second: int) -> Part:
         """A new trace that begins at a second; a loss of power leaves it."""
-        part = Part(self.path, self.free_name(second))
+        part = Part(self.path, self.free_name(second), self.ahead)
         with contextlib.suppress(OSError):
             os.fsync(self.descriptor)
         return part
 
-    def traces(self) -> list[Trace]:
-        """The traces of the node that have ended, in the order in which they begin."""
+    def traces(self, kind: str = PACKED) -> list[Trace]:
+        """The traces of the node that have ended, in the order in which they begin; or those of another kind."""
         found = []
         for entry in self.entries():
             parts = self.form.fullmatch(entry)
-            if parts is not None and parts["kind"] == PACKED:
+            if parts is not None and parts["kind"] == kind:
                 try:
                     begun = calendar.timegm(time.strptime(parts["stamp"], STAMP))
-                    size = os.stat(os.path.join(self.path, entry)).st_size
+                    status = os.lstat(os.path.join(self.path, entry))
                 except (ValueError, OSError):
                     continue
-                found.append(Trace(entry, begun, int(parts["number"] or 1), size))
+                if stat.S_ISREG(status.st_mode):
+                    found.append(Trace(entry, begun, int(parts["number"] or 1), status.st_size))
         return sorted(found, key=lambda trace: (trace.begun, trace.number))
 
     def entries(self) -> list[str]:
@@ -168,10 +138,10 @@ class Folder:
 
     # --- room ---
 
-    def has_room(self, wanted: int) -> bool:
-        """Whether so many bytes can be written, and some of the file system stays free behind them."""
+    def lacking(self, wanted: int) -> int:
+        """How many bytes are lacking where so many are written, and some of the file system stays free behind them."""
         free, left = self.room()
-        return free >= left + wanted
+        return max(left + wanted - free, 0)
 
     def has_room_again(self) -> bool:
         """Whether so much is free that it is not full again at once."""
@@ -184,13 +154,7 @@ class Folder:
         return (system.f_bavail * system.f_frsize,
                 min(system.f_blocks * system.f_frsize // FREE_SHARE, MOST_FREE))
 
-    def give_way(self) -> Any:
-        """Takes away the oldest trace, but for the newest one; whether there was one."""
-        for trace in self.traces()[:-1]:
-            return self.remove(trace)
-        return False
-
-    def remove(self, trace: Any) -> Any:
+    def remove(self, trace: Trace) -> bool:
         try:
             os.unlink(os.path.join(self.path, trace.name))
         except OSError as error:
@@ -213,24 +177,23 @@ class Folder:
 
     # --- the end of a trace ---
 
-    def pack(self, name: str, size: int, packed_name: Any = None) -> str:
+    def pack(self, name: str, size: int, packed_name: str | None = None) -> str:
         """Packs so many bytes of a part: once they are on the disk they get their name, and the part goes. The name of
-        the trace; OSError where it can't be, which leaves the part as it is."""
+        the trace. NotPacked where it can't be, which leaves the part as it is."""
         made = packed_name or name
         temporary = self.place(made, PACKING)
-        try:
-            with open(self.place(name, PART), "rb") as source, open(temporary, "wb") as file:
-                with gzip.GzipFile("", "wb", 6, file, 0) as packed:
-                    while piece := source.read(min(PIECE, size - source.tell())):
-                        packed.write(piece)
-                file.flush()
-                os.fsync(file.fileno())
-            shutil.copymode(self.place(name, PART), temporary)
-            os.rename(temporary, self.place(made, PACKED))
-        except OSError:
-            with contextlib.suppress(OSError):
+        with opened(self.place(name, PART)) as source:
+            with contextlib.suppress(FileNotFoundError):
                 os.unlink(temporary)
-            raise
+            descriptor, reached = created(temporary), 0
+            try:
+                write_packed(source, size, descriptor)
+                os.rename(temporary, self.place(made, PACKED))
+            except OSError as error:
+                with contextlib.suppress(OSError):
+                    reached = os.lstat(temporary).st_size
+                    os.unlink(temporary)
+                raise NotPacked(error, reached) from None
         os.fsync(self.descriptor)
         os.unlink(self.place(name, PART))
         return f"{made}.{PACKED}"
@@ -242,99 +205,53 @@ class Folder:
         except OSError as error:
             self.say(f"{name}.{PART} can't be removed: {why(error)}")
 
-    # --- what was left ---
 
-    def end_left(self) -> None:
-        """Ends the traces that a recorder has left, and says what else lies there that is no whole trace."""
-        newest = self.traces()[-1:]
-        for entry in sorted(self.entries()):
-            if entry.endswith(f".{PART}"):
-                try:
-                    self.end_entry(entry, self.form.fullmatch(entry))
-                except OSError as error:
-                    self.say(f"{entry} can't be ended, and is left as it is: {why(error)}")
-        for trace in newest:
-            fault = damage(os.path.join(self.path, trace.name))
-            if fault is not None:
-                self.say(f"{trace.name} is damaged, and is left as it is: {fault}")
-
-    def end_entry(self, entry: Any, parts: Any) -> None:
-        if parts is None:
-            self.say(f"{entry} is not of this recorder, and is left as it is")
-        elif parts["kind"] == PACKING:
-            os.unlink(os.path.join(self.path, entry))
-        else:
-            self.end_one(entry.removesuffix(f".{PART}"))
-
-    def end_one(self, name: str) -> None:
-        """Ends one trace behind its last whole line."""
-        path = self.place(name, PART)
-        is_file = stat.S_ISREG(os.lstat(path).st_mode)
-        whole, size = whole_bytes(path) if is_file else (None, 0)
-        if whole is None:
-            self.say(f"{name}.{PART} is no trace, and is left as it is")
-        elif whole == 0:
-            os.unlink(path)
-            self.say(f"{name}.{PART} has no whole line, and is removed")
-        else:
-            made = self.ended(name, whole)
-            cut = f", without the {size - whole} bytes behind its last whole line" if size > whole else ""
-            self.say(f"{name}.{PART} was left by a recorder that did not end: it is {made} now{cut}")
-
-    def ended(self, name: str, size: Any) -> Any:
-        """Packs a part that was left. Where its trace is there, whole, it was only not yet removed."""
-        packed = self.place(name, PACKED)
-        if not os.path.lexists(packed):
-            return self.pack(name, size)
-        if is_same(packed, self.place(name, PART)):
-            os.unlink(self.place(name, PART))
-            return f"{name}.{PACKED}"
-        parts = self.form.fullmatch(f"{name}.{PACKED}")
-        return self.pack(name, size, self.free_name(calendar.timegm(time.strptime(parts["stamp"], STAMP))))
+def write_packed(source: BinaryIO, size: int, descriptor: int) -> None:
+    """Packs so many bytes of a file into another one, whose descriptor it closes once they are on the disk."""
+    with os.fdopen(descriptor, "wb") as file:
+        with gzip.GzipFile("", "wb", 6, file, 0) as packed:
+            while piece := source.read(min(PIECE, size - source.tell())):
+                packed.write(piece)
+        file.flush()
+        os.fchmod(descriptor, stat.S_IMODE(os.fstat(source.fileno()).st_mode))
+        os.fsync(descriptor)
 
 
-def whole_bytes(path: str) -> Any:
-    """How many bytes of a part are whole lines of a trace, and how many it has. None where it is no trace: what was cut
-    within its first line still begins as one."""
-    whole = 0
-    with open(path, "rb") as file:
-        size = os.fstat(file.fileno()).st_size
-        for line in iter(lambda: file.readline(LONGEST_LINE + 2), b""):
-            if whole == 0 and not line.startswith(NODE_LINE[:len(line)]):
-                return None, size
-            if not line.endswith(b"\n") or not is_record(line):
-                break
-            whole += len(line)
-    return whole, size
+class NotPacked(OSError):
+    """A part can't be packed: why, and how many bytes of the packed trace could be written."""
+
+    def __init__(self, error: OSError, reached: int) -> None:
+        super().__init__(error.errno, why(error))
+        self.reached = reached
 
 
-def is_record(line: bytes) -> bool:
-    try:
-        return "kind" in json.loads(line)
-    except (ValueError, TypeError, RecursionError):
-        return False
+class GivingWay:
+    """Takes the oldest traces away for something that has no room, but for the newest one, and only while that brings
+    it further. Where it does not none goes any more, until there was room for it."""
 
+    def __init__(self, folder: Folder, purpose: str) -> None:
+        self.folder = folder
+        self.purpose = purpose
+        self.begin()
 
-def damage(path: str) -> Any:
-    """What is wrong with a packed file, or None."""
-    try:
-        with gzip.open(path, "rb") as file:
-            while file.read(PIECE):
-                pass
-    except DAMAGES as error:
-        return why(error)
-    return None if os.path.getsize(path) else "it is empty"
+    def begin(self) -> None:
+        """There was room for it."""
+        self.reached, self.freed, self.is_over = -1, 0, False
 
-
-def is_same(packed: Any, plain: Any) -> bool:
-    """Whether a packed file has the bytes of another one."""
-    try:
-        with gzip.open(packed, "rb") as one, open(plain, "rb") as other:
-            while True:
-                piece = one.read(PIECE)
-                if piece != other.read(len(piece) or 1):
-                    return False
-                if not piece:
-                    return True
-    except DAMAGES:
-        return False
+    def goes(self, reason: str, reached: int, wanted: int, lacking: int = 0) -> bool:
+        """Whether a trace went. What failed for this reason has come so far, by a number that grows as it comes
+        further, and so many bytes should bring it further; so many are lacking in all, as far as that is known."""
+        traces = self.folder.traces()[:-1]
+        if self.is_over or not traces or sum(trace.size for trace in traces) < lacking:
+            return False
+        if reached > self.reached:
+            self.reached, self.freed = reached, 0
+        elif self.freed >= wanted:
+            self.is_over = True
+            self.folder.say(f"no more traces are removed for {self.purpose}, since that makes no room: {reason}")
+            return False
+        if not self.folder.remove(traces[0]):
+            return False
+        self.freed += max(traces[0].size, 1)
+        self.folder.say(f"{traces[0].name} is removed, to make room for {self.purpose}: {reason}")
+        return True

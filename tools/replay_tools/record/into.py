@@ -3,20 +3,23 @@ the one before it ends."""
 
 from __future__ import annotations
 
+import contextlib
+import errno
 import json
 from collections.abc import Callable, Iterator
 from typing import Any, TYPE_CHECKING
 
 from .answered import Answered
-from .folder import FULL, Folder, Refused, why
+from .folder import Folder, GivingWay, NotPacked, Refused, why
 from .formats import MOST_BYTES, MOST_PODS
 from .lasting import LastingRecorder, forget_strangers, set_back
+from .left import Left, damages
 from .lines import line_of
-from .program import Output, Recording, watch
+from .program import Ended, Output, Recording, watch
 from .standing import Standing
 
 if TYPE_CHECKING:
-    from .folder import Part
+    from .part import Part
     from .sources import Sources
     from .words import Words
 
@@ -30,6 +33,10 @@ POD_LINE = '{"kind":"pod"'
 # a trace with so many times what it begins with is long
 SHORT = 2
 AGAIN_SECONDS = 5
+# where these are said there is no room
+FULL = (errno.ENOSPC, errno.EDQUOT)
+# a file that is made wants so much
+BLOCK = 4096
 
 
 def say_again(say: Callable[..., None], text: str) -> None:
@@ -51,6 +58,10 @@ class Traces(Output):
         # what the pods' statuses say at the first look
         self.probed: dict[str, Any] = {}
         self.part: Part | None = None
+        # those that have ended, and whose lines ahead stand until the next one has them
+        self.ended: list[Part] = []
+        self.for_lines = GivingWay(folder, "what is recorded")
+        self.for_packing = GivingWay(folder, "the packing of a trace")
         # the second at which the newest trace begins, its name, and up to when it has all that happened
         self.begun: int | None = None
         self.last: str | None = None
@@ -68,9 +79,20 @@ class Traces(Output):
             self.standing.take(json.loads(line))
 
     def write_due(self, due: Iterator[Any]) -> None:
+        self.take_look(list(due), None, [])
+
+    def take_look(self, due: list[Any], second: float | None, ahead: list[Any]) -> None:
+        """Takes what a look settles, all of which is before a second, and what it shows that may still change. First
+        all of it is written at once, in place of what the look before showed so: a crash then loses nothing of either,
+        wherever the borders between traces are. Each trace that has ended is packed behind that."""
+        self.write_ahead([*due, *ahead])
         for lines, _ in due:
             if lines:
                 self.take(lines)
+        if second is not None:
+            self.settle(second)
+        self.write_ahead(ahead)
+        self.finish()
 
     def take(self, lines: list[str]) -> None:
         """Takes the lines of a second, one of which is a tick."""
@@ -117,13 +139,17 @@ class Traces(Output):
             self.go_on(second)
 
     def write_ahead(self, due: list[tuple[list[str], bool]]) -> None:
-        """Writes what is seen and not settled, so that a crash loses nothing of it; where there is room for it."""
+        """Writes what is seen and not settled, where there is room for it. Where the trace has no place for it, and a
+        new one has, that begins."""
         lines = [line for lines, _ in due for line in lines]
         data = "".join(f"{line}\n" for line in lines).encode()
         arrivals, ticks = sum(line.startswith(POD_LINE) for line in lines), sum(has_tick for _, has_tick in due)
-        if self.part is not None:
-            fits = not self.is_full(len(data), arrivals, ticks) and self.has_room_for(len(data))
-            self.part.write_ahead(data if fits else b"")
+        if self.part is not None and self.is_full(len(data), arrivals, ticks) \
+                and self.fits_anew(len(data), arrivals, ticks):
+            self.turn(self.standing.at)
+        if self.part is not None and not self.is_full(len(data), arrivals, ticks) and self.has_room_for(len(data)):
+            with contextlib.suppress(OSError):
+                self.part.foresee(data)
 
     def border(self, second: Any) -> int | None:
         """The newest border before a second, behind the begin of the trace; or None."""
@@ -135,12 +161,17 @@ class Traces(Output):
         return (part.ticks + ticks > self.most_ticks or part.size + size > self.most_bytes
                 or part.pods + arrivals > MOST_PODS)
 
+    def fits_anew(self, size: int, arrivals: int, ticks: int) -> bool:
+        """Whether a trace that begins now would have place for so much, and as much again."""
+        return (self.part.size > self.part.head and 2 * ticks < self.most_ticks
+                and self.part.head + 2 * size < self.most_bytes and len(self.standing.pods) + arrivals <= MOST_PODS)
+
     # --- traces end and begin ---
 
     def turn(self, second: int) -> None:
         """The trace ends, and the next one begins at this second."""
         self.until = max(self.until, second)
-        self.end()
+        self.leave()
         self.begin(second)
         self.has_turned = True
 
@@ -154,37 +185,49 @@ class Traces(Output):
 
     def end(self) -> None:
         """Ends the trace that is written, if one is."""
-        if self.part is None:
-            return
-        self.leave()
-        self.pack()
-        self.folder.prune(self.until, self.each, (PARTS - 2) * self.most_bytes)
+        if self.part is not None:
+            self.leave()
+        self.finish()
 
     def leave(self) -> None:
-        """Closes the part; where it has a tick it is to be packed."""
-        part, self.part = self.part, None
-        part.close()
-        if part.ticks:
-            self.last = f"{part.name}.gz"
-            self.unpacked[part.name] = part.size
-        else:
-            self.folder.drop(part.name)
+        """The trace has ended; what stands ahead in it stays for now."""
+        if self.part.ticks:
+            self.last = f"{self.part.name}.gz"
+        self.ended.append(self.part)
+        self.part = None
+
+    def finish(self) -> None:
+        """The next trace has all that stands ahead in those that have ended: it goes there, and they are packed."""
+        if not self.ended:
+            return
+        ended, self.ended = self.ended, []
+        for part in ended:
+            part.close()
+            if part.ticks:
+                self.unpacked[part.name] = part.size
+            else:
+                self.folder.drop(part.name)
+        self.pack()
+        if self.until is not None:
+            self.folder.prune(self.until, self.each, (PARTS - 2) * self.most_bytes)
 
     def pack(self) -> None:
         """Packs what has ended."""
         self.unpacked = {name: size for name, size in self.unpacked.items() if not self.is_packed(name, size)}
 
     def is_packed(self, name: str, size: int) -> bool:
-        """Packs one part; whether that is done. Where there is no room the oldest traces go."""
+        """Packs one part; whether that is done. Where there is no room the oldest traces go, as long as that helps."""
         while True:
             try:
                 self.folder.pack(name, size)
+                self.for_packing.begin()
                 return True
             except FileNotFoundError:
                 self.say(f"{name}.part is no longer there")
                 return True
             except OSError as error:
-                if error.errno not in FULL or not self.folder.give_way():
+                reached = error.reached if isinstance(error, NotPacked) else 0
+                if error.errno not in FULL or not self.for_packing.goes(why(error), reached, 1):
                     self.say(f"{name}.part can't be packed yet: {why(error)}")
                     return False
 
@@ -204,7 +247,7 @@ class Traces(Output):
             try:
                 self.part = self.folder.part(second)
             except OSError as error:
-                if error.errno in FULL and self.folder.give_way():
+                if error.errno in FULL and self.makes_room(why(error), BLOCK):
                     continue
                 self.lose(second, why(error))
                 return False
@@ -215,20 +258,34 @@ class Traces(Output):
 
     def put(self, data: bytes, second: int) -> bool:
         """Writes whole lines into the trace; whether they were. Where there is no room it is cut short, then the oldest
-        traces go, and where there is none of these what comes is lost until there is room."""
+        traces go, and where there is none of these what comes is lost until there is room. What is kept free is there
+        for a trace that begins as the one before it has ended."""
         while True:
-            reason = "the file system has no room to spare"
+            lacking, number, reason = 0, errno.ENOSPC, "the file system has no room to spare"
             try:
-                if self.folder.has_room(len(data)):
-                    self.part.write(data)
+                lacking = 0 if self.ended or self.part.has(data) else self.folder.lacking(len(data))
+                if lacking == 0:
+                    self.part.settle(data)
+                    self.for_lines.begin()
                     return True
-                is_full = True
             except OSError as error:
-                is_full, reason = error.errno in FULL, why(error)
-            if not is_full or not (self.is_cut_short() or self.folder.give_way()):
+                number, reason = error.errno, why(error)
+            is_shorter = number in (*FULL, errno.EFBIG) and self.is_cut_short()
+            if not is_shorter and not (number in FULL and self.makes_room(reason, len(data), lacking)):
                 self.lose(second, reason)
             if self.part is None:
                 return False
+
+    def makes_room(self, reason: str, wanted: int, lacking: int = 0) -> bool:
+        """Whether there may be room for so many bytes now, since what has ended was packed or the oldest trace went."""
+        if self.ended:
+            self.finish()
+            return True
+        try:
+            reached = self.folder.room()[0] if lacking else 0
+        except OSError:
+            return False
+        return self.for_lines.goes(reason, reached, 1 if lacking else wanted, lacking)
 
     def is_cut_short(self) -> bool:
         """Where there is no room the trace ends, if it is long: packed it is a small part of what it was."""
@@ -258,7 +315,7 @@ class Traces(Output):
 
     def has_room_for(self, size: int) -> bool:
         try:
-            return self.folder.has_room(size)
+            return bool(self.ended) or self.folder.lacking(size) == 0
         except OSError:
             return False
 
@@ -279,6 +336,7 @@ class LastingRecording(Recording):
         super().__init__(words, sources, clock, output, say)
         self.say = say
         self.recorder = LastingRecorder(words.format, words.every, say)
+        self.damages = damages(output.folder)
         self.observer.answered = Answered(output.folder.path, say)
 
     def begin(self) -> None:
@@ -295,10 +353,10 @@ class LastingRecording(Recording):
             seen = self.observer.look(moment)
             with self.output.undisturbed():
                 self.recorder.take(seen)
-                self.output.write_due(self.recorder.due(moment))
-                self.output.settle(self.recorder.timeline.next_second)
-                self.output.write_ahead(self.recorder.foreseen(moment))
+                due = list(self.recorder.due(moment))
+                self.output.take_look(due, self.recorder.timeline.next_second, self.recorder.foreseen(moment))
                 self.forget()
+                next(self.damages, None)
 
     def see_clock(self, before: float, moment: float) -> None:
         """What the clock says at a look, behind the look before."""
@@ -322,19 +380,25 @@ class LastingRecording(Recording):
             forget_strangers(self.observer)
 
     def run(self) -> None:
+        with self.output.undisturbed():
+            Left(self.output.folder).end(lambda: self.output.is_stopped)
+        if self.output.is_stopped:
+            return
         try:
             super().run()
         finally:
             with self.output.undisturbed():
                 self.output.end()
                 self.output.pack()
+                self.output.folder.ahead.drop()
+        if self.output.is_lost and self.output.last is None:
+            raise Ended(1)
 
 
 def recorded_into(words: Words, sources: Sources, clock: Any, say: Callable[..., None]) -> int:
     """Records traces one behind the other; the status."""
     try:
         folder = Folder(words.into.folder, words.node, words.into.keep, words.into.most, say)
-        folder.end_left()
     except Refused as refused:
         say(str(refused))
         return 1

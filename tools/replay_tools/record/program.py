@@ -69,8 +69,9 @@ class Output:
         self.is_stopped = False
 
     def interrupt(self, *_: object) -> None:
-        self.is_stopped = True
-        if not self.is_busy:
+        """The first one ends what is done, those behind it do not end that end."""
+        is_first, self.is_stopped = not self.is_stopped, True
+        if is_first and not self.is_busy:
             raise Stopped
 
     @contextmanager
@@ -176,13 +177,20 @@ def recorded(words: Words, sources: Sources, clock: Any, say: Callable[..., None
 
 
 def watch(output: Traces | Output, recording: LastingRecording | Recording, say: Callable[..., None]) -> int:
-    """Runs a recording until its end or an interrupt; the status."""
-    for number in INTERRUPTS:
-        signal.signal(number, output.interrupt)
+    """Runs a recording until its end or an interrupt, behind which none is heard any more; the status."""
+    try:
+        for number in INTERRUPTS:
+            signal.signal(number, output.interrupt)
+        return status_of(recording, say)
+    finally:
+        for number in INTERRUPTS:
+            signal.signal(number, signal.SIG_IGN)
+
+
+def status_of(recording: LastingRecording | Recording, say: Callable[..., None]) -> int:
+    """The status of a recording that is run."""
     try:
         recording.run()
-    except Stopped:
-        return 0
     except TooLong as failed:
         say(str(failed))
         return 1
@@ -193,20 +201,9 @@ def watch(output: Traces | Output, recording: LastingRecording | Recording, say:
     return 0
 
 
-def version() -> Any:
-    """That of the release, or of the checkout, with the end of its line."""
-    with open(os.path.join(os.path.dirname(os.path.realpath(__file__)), "../../../VERSION"), encoding="utf-8") as file:
-        return file.read()
-
-
-def checked(words: Words, sources: Sources, say: Callable[..., None]) -> int:
+def checked(words: Words, sources: Sources) -> int:
     """Shows which sources work; the status."""
-    try:
-        works = check(sources, words.node, words.format, lambda line: print(line, flush=True))
-    except OSError:
-        say("standard output takes no more")
-        return 1
-    return 0 if works else 1
+    return 0 if check(sources, words.node, words.format, lambda line: print(line, flush=True)) else 1
 
 
 def main(arguments: list[str], clock: Any = None, make_sources: Callable[..., Any] | None = None) -> int:
@@ -214,9 +211,6 @@ def main(arguments: list[str], clock: Any = None, make_sources: Callable[..., An
     say = Says()
     if "--help" in arguments or "-h" in arguments:
         print(help_text(), end="")
-        return 0
-    if arguments in (["--version"], ["-V"]):
-        print(f"record {version()}", end="")
         return 0
     try:
         words = words_of(arguments)
@@ -232,7 +226,9 @@ def main(arguments: list[str], clock: Any = None, make_sources: Callable[..., An
             say(f"not on the PATH: {', '.join(missing)} (--check asks the other sources)")
             return 127
         if words.is_check:
-            return checked(words, sources, say)
+            return checked(words, sources)
         return recorded(words, sources, clock or Clock(), say)
+    except Stopped:
+        return 0
     finally:
         sources.close()
