@@ -11,6 +11,7 @@ from collections.abc import Callable, Iterable
 from typing import Any, BinaryIO, TextIO
 
 from replay_tools import events, first_bytes, report as reports
+from replay_tools.outside import visible
 
 
 # the tool that runs, which says what it says under its name
@@ -197,12 +198,6 @@ def version(tool: str) -> int:
     with open(os.path.join(top, "VERSION"), encoding="utf-8") as file:
         sys.stdout.write(f"{tool} {file.read()}")
     return 0
-
-
-def visible(text: str) -> str:
-    """A text as one line that a terminal only shows, whatever names are in it: what can't be printed, as an escape byte
-    or the end of a line, is written as Python writes it."""
-    return "".join(each if each.isprintable() else each.encode("unicode_escape").decode("ascii") for each in text)
 
 
 def counted(count: int, what: str) -> str:

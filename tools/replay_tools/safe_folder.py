@@ -41,8 +41,9 @@ def is_own(folder: int, name: str) -> bool:
 
 
 def made(folder: int, name: str, mode: int = 0o640) -> int:
-    """The descriptor of a new file of a folder, to be written. Raises OSError, also where something has its name."""
-    return os.open(name, os.O_WRONLY | os.O_CREAT | os.O_EXCL | os.O_NOFOLLOW | os.O_CLOEXEC, mode, dir_fd=folder)
+    """The descriptor of a new file of a folder, to be written and read. Raises OSError, also where something has its
+    name."""
+    return os.open(name, os.O_RDWR | os.O_CREAT | os.O_EXCL | os.O_NOFOLLOW | os.O_CLOEXEC, mode, dir_fd=folder)
 
 
 def made_anew(folder: int, name: str, mode: int = 0o640) -> int:

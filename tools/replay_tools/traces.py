@@ -23,7 +23,7 @@ BYTE_SIGNALS = SIGNALS[:3]
 DEFAULT_HARD = {"memory.available": "100Mi", "nodefs.available": "10%", "imagefs.available": "15%",
                 "nodefs.inodesFree": "5%", "imagefs.inodesFree": "5%"}
 # what the program takes
-LONGEST_TRACE = 64 << 20
+LONGEST_TRACE, LONGEST_LINE = 64 << 20, 1 << 20
 USAGES = ("memory", "volumes", "logs", "writable", "inodes", "pids")
 
 
