@@ -10,6 +10,8 @@ from typing import Any
 # docs/formats.md has the range of a moment, and a database holds no greater number
 LAST_MOMENT = 2 ** 40 - 1
 GREATEST = 2 ** 63 - 1
+# of an attempt and, with one less than its negative, of an exit's code
+MOST_OF_CODE = 2 ** 31 - 1
 MOST_DIGITS = 19
 # longer words are cut: a column of a table is as wide as its widest cell
 LONGEST_TEXT = 4096

@@ -57,17 +57,17 @@ def is_sound(file: BinaryIO, most: int) -> bool:
     return True
 
 
-def first_line(path: str, longest: int) -> bytes:
-    """The first line of a file, unpacked, or so many bytes of it. Raises OSError and Damaged."""
-    with regular(path) as file:
-        head = file.read(longest)
-    if not is_packed(head):
-        return head.partition(b"\n")[0]
-    try:
-        made = zlib.decompressobj(wbits=zlib.MAX_WBITS | 16).decompress(head, longest)
-    except zlib.error as fault:
-        raise Damaged(f"it is damaged, and can't be unpacked: {fault}") from None
-    return made.partition(b"\n")[0]
+def first_line(file: BinaryIO, longest: int) -> bytes:
+    """The first line of an open file that is not blank, unpacked; of the file so many bytes are read. Raises OSError
+    and Damaged."""
+    file.seek(0)
+    head = file.read(longest)
+    if is_packed(head):
+        try:
+            head = zlib.decompressobj(wbits=zlib.MAX_WBITS | 16).decompress(head, longest)
+        except zlib.error as fault:
+            raise Damaged(f"it is damaged, and can't be unpacked: {fault}") from None
+    return head.lstrip(b" \t\r\n").partition(b"\n")[0]
 
 
 def is_packed(data: bytes) -> bool:

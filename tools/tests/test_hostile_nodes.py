@@ -1,6 +1,7 @@
 """The tests of nodes that send what they like: names of other nodes, listings and traces of any shape, more than there
 is room for; and of folders into which others may write."""
 
+import gzip
 import os
 import shutil
 import sys
@@ -25,10 +26,14 @@ def test_a_node_that_names_another():
             whole = file.read()
         os.mkdir(f"{cluster.path}/recorder-e")
         shutil.copy(folder.place(40), f"{cluster.path}/recorder-e/{FIRST}")
-        shutil.copy(folder.place(20), f"{cluster.path}/recorder-e/evil.2026-01-01T00-00-20Z.trace.gz")
+        for second, name in ((20, "n1"), (40, "evil"), (60, "n1")):
+            with gzip.open(f"{cluster.path}/recorder-e/evil.2026-01-01T00-00-{second}Z.trace.gz", "wt") as file:
+                file.write("\n" + folder.text(20).replace('"n1"', f'"{name}"'))
         status, told, said = cluster.fetch("evil")
-        expect("a node that names another", (status, told.split(" into")[0], said), (
-            1, "evil: 1 trace copied", f"fetch: evil: {FIRST} is of another node, and is left out\n"))
+        expect("a node that names another", (status, told.split(" into")[0], said.split("\n")), (1, (
+            "evil: 1 trace copied"), [f"fetch: evil: {FIRST} is of another node, and is left out", *(
+                f"fetch: evil: evil.2026-01-01T00-00-{second}Z.trace.gz does not begin with the node line of evil"
+                for second in (20, 60)), ""]))
         with open(f"{cluster.path}/here/{FIRST}", "rb") as file:
             expect("a node that names another replaces nothing", file.read() == whole, True)
 
@@ -97,8 +102,9 @@ def test_more_than_there_is_room_for():
         cluster.put("recorder-z.lists", f"{name} {10 ** 15} 1767225681\n{name.replace('Z.', 'Z_2.')} 5 1767225681\n")
         cluster.put("recorder-z.sends", "5")
         status, told, said = cluster.fetch("n9")
-        expect("a trace that is said to be too long", (status, told.split(" into")[0], said), (
-            1, "n9: 1 trace copied", f"fetch: n9: {name} has 909.49Ti, more than a trace may\n"))
+        expect("a trace that is said to be too long", (status, told, said.split("\n")), (1, "", [
+            f"fetch: n9: {name} has 909.49Ti, more than a trace may",
+            f"fetch: n9: {name.replace('Z.', 'Z_2.')} does not begin with the node line of n9", ""]))
 
 
 def test_most_of_a_node():
@@ -106,7 +112,9 @@ def test_most_of_a_node():
         cluster.list([("n9", "recorder-z", "Running")])
         os.mkdir(f"{cluster.path}/recorder-z")
         for second in range(3):
-            cluster.put(f"recorder-z/n9.2026-01-01T00-00-0{second}Z.trace.gz", "x" * (500 << 10))
+            # what can't be unpacked is copied as it lies there
+            with open(f"{cluster.path}/recorder-z/n9.2026-01-01T00-00-0{second}Z.trace.gz", "wb") as file:
+                file.write(b"\x1f\x8b" + b"x" * (500 << 10))
         status, told, said = cluster.fetch("n9", "--most", "1Mi")
         expect("the most of a node", (status, told.split(" into")[0], said), (
             1, "n9: 2 traces copied", "fetch: n9: 1 more trace would pass 1Mi, the most that is copied (--most)\n"))

@@ -161,6 +161,7 @@ def take(cluster: asking.Cluster, recorder: asking.Recorder, file: asking.File, 
             is_part, until = name.endswith(files.PART), None
             if is_part:
                 until = cut(copy, name)
+            check_node(copy, recorder.node, name)
             copy.seek(0, os.SEEK_END)
             size = copy.tell()
         safe_folder.rename(folder, made, name)
@@ -208,6 +209,17 @@ def cut(copy: BinaryIO, name: str) -> int | None:
     if until is None:
         raise asking.NoAnswer(f"{name} ends with a tick that is none")
     return until
+
+
+def check_node(copy: BinaryIO, node: str, name: str) -> None:
+    """Raises NoAnswer where a trace says that it is of another node, as which it would be told and counted."""
+    try:
+        found = outside.json_of(packed.first_line(copy, traces.LONGEST_LINE))
+    except packed.Damaged:
+        # it may lie there so
+        return
+    if not isinstance(found, dict) or found.get("name") != node:
+        raise asking.NoAnswer(f"{name} does not begin with the node line of {node}")
 
 
 def last_tick(copy: BinaryIO) -> tuple[int, bytes | None]:

@@ -10,6 +10,8 @@ from contextlib import contextmanager
 from dataclasses import replace
 from typing import Any, TYPE_CHECKING
 
+from replay_tools import outside
+
 from .check import check
 from .clock import Clock
 from .connections import kept_sources
@@ -56,7 +58,7 @@ class Says:
             self.said[subject] = True
             if len(self.said) > MOST_REMEMBERED:
                 del self.said[next(iter(self.said))]
-            print(f"record: {text}", file=sys.stderr, flush=True)
+            print(f"record: {outside.text_of(text)}", file=sys.stderr, flush=True)
 
 
 class Output:
@@ -202,7 +204,7 @@ def version() -> Any:
 def checked(words: Words, sources: Sources, say: Callable[..., None]) -> int:
     """Shows which sources work; the status."""
     try:
-        works = check(sources, words.node, words.format, lambda line: print(line, flush=True))
+        works = check(sources, words.node, words.format, lambda line: print(outside.text_of(line), flush=True))
     except OSError:
         say("standard output takes no more")
         return 1
