@@ -8,7 +8,7 @@ import io
 import os
 import sys
 from collections.abc import Callable, Iterable
-from typing import Any, BinaryIO, TextIO
+from typing import Any, BinaryIO, IO, TextIO
 
 from replay_tools import events, first_bytes, report as reports
 from replay_tools.outside import visible
@@ -16,6 +16,8 @@ from replay_tools.outside import visible
 
 # the tool that runs, which says what it says under its name
 TOOL = ["kubelet-replay"]
+# that of the formats
+LONGEST_INPUT = 64 << 20
 
 
 class Fault(Exception):
@@ -110,16 +112,25 @@ def standard_input() -> BinaryIO:
 
 def read_report() -> reports.Report:
     """The report of standard input."""
-    text, given = b"", standard_input()
+    given = standard_input()
     if given.isatty():
         raise Fault("it wants a report on standard input, as kubelet_replay run TRACE > REPORT writes it: .. < REPORT")
+    text = read_bounded(given, "standard input")
     try:
-        text = given.read()
         return reports.read_report(text.decode("utf-8", "replace"))
     except reports.ReportFault as fault:
         raise Fault(first_bytes.instead_of_report(text) or str(fault)) from None
+
+
+def read_bounded(given: IO[bytes], what: str) -> bytes:
+    """The bytes of what may have no end, as a device or a pipe. Raises Fault where they are more than a trace has."""
+    try:
+        text = given.read(LONGEST_INPUT + 1)
     except OSError as fault:
-        raise Fault(f"standard input can't be read: {fault.strerror}") from None
+        raise Fault(f"{what} can't be read: {fault.strerror}") from None
+    if len(text) > LONGEST_INPUT:
+        raise Fault(f"{what} has more than 64 MiB, which is the most that is read")
+    return text
 
 
 class OutputFault(OSError):

@@ -23,6 +23,7 @@ import test_explain
 import test_fleet
 import test_fleet_nodes
 import test_hostile_nodes
+import test_hostile_traces
 import test_into
 import test_into_folder
 import test_joined
@@ -38,8 +39,8 @@ import test_why
 from checks import HERE, REPLAY, TOOLS, TOP, expect, expect_kept, expect_refused, read, run
 
 MODULES = (test_record, test_connections, test_plays, test_into, test_into_folder, test_joined, test_joined_files,
-           test_cluster, test_hostile_nodes, test_real_node, test_json, test_why, test_decisions, test_page, test_fleet,
-           test_fleet_nodes, test_kubectl, test_command, test_explain, test_reasons, test_deploy)
+           test_cluster, test_hostile_nodes, test_hostile_traces, test_real_node, test_json, test_why, test_decisions,
+           test_page, test_fleet, test_fleet_nodes, test_kubectl, test_command, test_explain, test_reasons, test_deploy)
 RECORDINGS = f"{HERE}/recordings"
 COMMANDS = f"{HERE}/commands"
 
