@@ -160,3 +160,27 @@ def test_folders_of_others():
         os.chmod(here, 0o755)
         expect_refused("fetch into a folder of another user", cluster.fetch("n1"), 2,
                        f"{here} belongs to another user (65534)")
+
+
+# --- what commands say ---
+
+
+def test_escapes_of_commands():
+    """What crictl and kubectl say on standard error is shown, and does nothing to a terminal."""
+    with Folder() as folder, Cluster(folder) as cluster:
+        os.mkdir(f"{cluster.path}/bin")
+        for name in ("crictl", "kubectl"):
+            with open(f"{cluster.path}/bin/{name}", "w", encoding="utf-8") as file:
+                file.write("#!/bin/sh\nprintf '\\033]0;owned\\007 \\302\\233m no socket\\n' >&2\nexit 1\n")
+            os.chmod(f"{cluster.path}/bin/{name}", 0o755)
+        cluster.put("recorder-b.fails", "\x1b]0;owned\x07 no socket\n")
+        bare = {"PATH": f"{cluster.path}/bin:{os.environ['PATH']}"}
+        for name, answer in (
+            ("record --check", run([f"{TOOLS}/record", "--check", "--node", "n1"], **bare)),
+            ("record", run([f"{TOOLS}/record", "--node", "n1", "--ticks", "1"], **bare)),
+            ("nodes of a kubectl that fails", run([f"{TOOLS}/nodes"], **bare)),
+            ("nodes", cluster.run("nodes")), ("fetch", cluster.fetch("n2")),
+        ):
+            shown = answer[1] + answer[2]
+            odd = sorted({each for each in shown if not each.isprintable() and each != "\n"})
+            expect(f"{name} of escapes", (answer[0], "x1b]0;owned" in shown, odd), (1, True, []))
