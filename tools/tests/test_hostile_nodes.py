@@ -39,7 +39,8 @@ def test_a_node_that_names_another():
 
 
 ODD = (f"{FIRST} xx 1767225681.5", f"{FIRST} -5 1767225681.5", f"{FIRST} 1 inf", f"{FIRST} 1 nan", f"{FIRST} 1 1e30",
-       f"{FIRST} {'9' * 5000} 1767225681", f"{FIRST} 1 {'9' * 5000}", f"n1.2026-01-01T00-00-00Z_{'9' * 5000}.trace.gz 1 1",
+       f"{FIRST} {'9' * 5000} 1767225681", f"{FIRST} 1 {'9' * 5000}",
+       f"n1.2026-01-01T00-00-00Z_{'9' * 5000}.trace.gz 1 1",
        "n1.2026-01-01T00-00-00Z.trace.gz (copy).trace.gz 1 1", "n1\0.2026-01-01T00-00-00Z.trace.gz 1 1",
        "../n1.2026-01-01T00-00-00Z.trace.gz 1 1", "n1.0001-01-01T00-00-00Z.trace.gz 1 1",
        "n1.2026-13-01T00-00-00Z.trace.gz 1 1", "\x1b[31m.trace.gz 1 1", FIRST, ".trace.part")

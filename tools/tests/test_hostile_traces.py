@@ -29,7 +29,7 @@ def test_reports_out_of_range():
         ("a moment", "event 15 ", f"event {FAR} "), ("a moment of many digits", "event 15 ", f"event {LONGER} "),
         ("pods", "pods=1", f"pods={LONGER}"), ("ticks", "ticks=", f"ticks={FAR}"),
         ("totals", "updates=", f"updates={LONGER}"), ("restarts", "restarts=", f"restarts={FAR}"),
-        ("the moment of a condition", "nodecondition MemoryPressure False 0", f"nodecondition MemoryPressure False {FAR}"),
+        ("the moment of a condition", "MemoryPressure False 0", f"MemoryPressure False {FAR}"),
         ("an attempt", " started 0", f" started {FAR}"), ("a number of a pod", "pod 0 ", f"pod {LONGER} "),
         ("an escape", "shop/", "shop/\x1b[31m"), ("a control of one byte", "shop/", "shop/\u009b31m"),
     ):
@@ -216,14 +216,15 @@ def test_edits_without_an_end():
 
 def text_of(pods):
     """A trace of pods, each by its namespace and its name."""
-    lines = [{"kind": "node", "name": "n1"}, *({"kind": "pod", "pod": {"metadata": {"name": name, "namespace": namespace},
-                                                                    "spec": {}}} for namespace, name in pods)]
+    made = [{"metadata": {"name": name, "namespace": namespace}, "spec": {}} for namespace, name in pods]
+    lines = [{"kind": "node", "name": "n1"}, *({"kind": "pod", "pod": pod} for pod in made)]
     return "".join(f"{json.dumps(line)}\n" for line in lines)
 
 
 def test_completion_runs_nothing():
     """Completion hands out the names that the formats take, and no other."""
-    names = ("web$(touch${IFS}/tmp/x)", "web`id`", "web;id", "web\tid", "-web", "we b", "web\n", "Web", "plain", 5, ["x"])
+    names = ("web$(touch${IFS}/tmp/x)", "web`id`", "web;id", "web\tid", "-web", "we b", "web\n", "Web", "plain", 5,
+             ["x"])
     with Made() as made:
         trace = made.put("odd.trace", text_of([(namespace, name) for name in names for namespace in ("shop", "$(id)")])
                          + '{"metadata":0}\n{"pod":{"metadata":[0]}}\n{"metadata":' + "[" * 100_000 + "\n")

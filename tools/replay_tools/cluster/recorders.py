@@ -51,8 +51,8 @@ class Held:
         """What is left out, in words; None where nothing is."""
         if not self.left_out:
             return None
-        more = len(self.left_out) - 1
-        return f"{self.left_out[0]}; it and {more} more are left out" if more else f"{self.left_out[0]}, and is left out"
+        first, more = self.left_out[0], len(self.left_out) - 1
+        return f"{first}; it and {more} more are left out" if more else f"{first}, and is left out"
 
 
 @dataclass
