@@ -34,8 +34,15 @@ def answer(program: str, program_sum: str, path: str, known: tuple[str | None, i
     known are the SHA-256 of the trace that was answered before, or None, and up to when it says all that happened,
     where one that follows it says so. Where the trace is still the same there are neither rows nor report, and the
     status is "known"."""
-    known_sum, until = known
     check_program(program, program_sum)
+    try:
+        return answer_of(program, path, *known)
+    except Exception as fault:
+        # whatever it is, it must not end the work on the other traces
+        return failed(path, f"it can't be told: {type(fault).__name__}")
+
+
+def answer_of(program: str, path: str, known_sum: str | None, until: int | None) -> dict[str, Any]:
     try:
         text, size = read_trace(path)
     except OSError as fault:
@@ -55,9 +62,6 @@ def answer(program: str, program_sum: str, path: str, known: tuple[str | None, i
     except reports.ReportFault as fault:
         said = str(fault).replace("standard input", "the report")
         return answered(record_of(path, trace_sum, size, "failed", fault=said))
-    except Exception as fault:
-        # whatever it is, it must not end the work on the other traces
-        return answered(record_of(path, trace_sum, size, "failed", fault=f"it can't be told: {type(fault).__name__}"))
     return answered(record_of(path, trace_sum, size, "replayed") | {"until": until}, rows, done.stdout)
 
 
