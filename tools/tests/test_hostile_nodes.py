@@ -67,6 +67,10 @@ def test_odd_listings():
         cluster.put("recorder-a.lists", "".join(f"{line}\n" for line in ODD))
         expect_refused("fetch of odd names alone", cluster.run("kubectl-replay", "story", "web", "--node", "n1"), 1,
                        "it and 15 more are left out; its recorder holds no trace yet")
+        cluster.put("recorder-a.lists", "".join(f"{FIRST.replace('Z.', f'Z_{number}.')} 1 1\n"
+                                                for number in range(2, 20_010)))
+        expect_refused("fetch of a listing of very many traces", cluster.fetch("n1"), 1,
+                       "n1: its folder lists more than 20000 traces")
         cluster.put("recorder-a.lists", "x" * (9 << 20))
         status, told, _ = cluster.run("nodes")
         expect("nodes with a listing without an end", (status, told.count("more than 8Mi came, and no more is taken")),

