@@ -9,13 +9,16 @@ import os
 import signal
 import sys
 from collections.abc import Callable, Iterable
-from typing import Any, BinaryIO, TextIO
+from typing import Any, BinaryIO, IO, TextIO
 
 from replay_tools import events, first_bytes, report as reports
+from replay_tools.outside import visible
 
 
 # the tool that runs, which says what it says under its name
 TOOL = ["kubelet-replay"]
+# that of the formats
+LONGEST_INPUT = 64 << 20
 
 
 class Fault(Exception):
@@ -110,16 +113,25 @@ def standard_input() -> BinaryIO:
 
 def read_report() -> reports.Report:
     """The report of standard input."""
-    text, given = b"", standard_input()
+    given = standard_input()
     if given.isatty():
         raise Fault("it wants a report on standard input, as kubelet_replay run TRACE > REPORT writes it: .. < REPORT")
+    text = read_bounded(given, "standard input")
     try:
-        text = given.read()
         return reports.read_report(text.decode("utf-8", "replace"))
     except reports.ReportFault as fault:
         raise Fault(first_bytes.instead_of_report(text) or str(fault)) from None
+
+
+def read_bounded(given: IO[bytes], what: str) -> bytes:
+    """The bytes of what may have no end, as a device or a pipe. Raises Fault where they are more than a trace has."""
+    try:
+        text = given.read(LONGEST_INPUT + 1)
     except OSError as fault:
-        raise Fault(f"standard input can't be read: {fault.strerror}") from None
+        raise Fault(f"{what} can't be read: {fault.strerror}") from None
+    if len(text) > LONGEST_INPUT:
+        raise Fault(f"{what} has more than 64 MiB, which is the most that is read")
+    return text
 
 
 class OutputFault(OSError):
@@ -200,12 +212,6 @@ def version(tool: str) -> int:
     with open(os.path.join(top, "VERSION"), encoding="utf-8") as file:
         sys.stdout.write(f"{tool} {file.read()}")
     return 0
-
-
-def visible(text: str) -> str:
-    """A text as one line that a terminal only shows, whatever names are in it: what can't be printed, as an escape byte
-    or the end of a line, is written as Python writes it."""
-    return "".join(each if each.isprintable() else each.encode("unicode_escape").decode("ascii") for each in text)
 
 
 def counted(count: int, what: str) -> str:

@@ -4,13 +4,28 @@ from __future__ import annotations
 
 import gzip
 import io
+import os
+import stat
 import zlib
+from typing import BinaryIO
 
 GZIP = b"\x1f\x8b"
+DAMAGES = (OSError, EOFError, zlib.error)
+PIECE = 1 << 16
 
 
 class Damaged(Exception):
     """What is packed can't be unpacked; the message says why."""
+
+
+def regular(path: str) -> BinaryIO:
+    """A file to be read, of a folder that may hold anything: a pipe would be waited for, and a device may never end.
+    Raises OSError."""
+    descriptor = os.open(path, os.O_RDONLY | os.O_NONBLOCK | os.O_CLOEXEC)
+    if stat.S_ISREG(os.fstat(descriptor).st_mode):
+        return os.fdopen(descriptor, "rb")
+    os.close(descriptor)
+    raise OSError(0, "it is no file")
 
 
 def read(path: str, most: int) -> bytes:
@@ -26,8 +41,33 @@ def unpacked(data: bytes, most: int) -> bytes:
         return data
     try:
         return gzip.GzipFile(fileobj=io.BytesIO(data)).read(most + 1)
-    except (OSError, EOFError, zlib.error) as fault:
+    except DAMAGES as fault:
         raise Damaged(f"it is damaged, and can't be unpacked: {fault}") from None
+
+
+def is_sound(file: BinaryIO, most: int) -> bool:
+    """Whether an open file is a packed one that can be unpacked, as far as so many bytes."""
+    file.seek(0)
+    source, left = gzip.GzipFile(fileobj=file), most
+    try:
+        while left > 0 and (piece := source.read(min(left, PIECE))):
+            left -= len(piece)
+    except DAMAGES:
+        return False
+    return True
+
+
+def first_line(file: BinaryIO, longest: int) -> bytes:
+    """The first line of an open file that is not blank, unpacked; of the file so many bytes are read. Raises OSError
+    and Damaged."""
+    file.seek(0)
+    head = file.read(longest)
+    if is_packed(head):
+        try:
+            head = zlib.decompressobj(wbits=zlib.MAX_WBITS | 16).decompress(head, longest)
+        except zlib.error as fault:
+            raise Damaged(f"it is damaged, and can't be unpacked: {fault}") from None
+    return head.lstrip(b" \t\r\n").partition(b"\n")[0]
 
 
 def is_packed(data: bytes) -> bool:

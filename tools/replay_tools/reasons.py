@@ -6,7 +6,7 @@ from __future__ import annotations
 from dataclasses import dataclass
 from typing import Any, TYPE_CHECKING
 
-from replay_tools import amounts, entry
+from replay_tools import amounts, outside
 
 if TYPE_CHECKING:
     from replay_tools import report as reports, traces
@@ -73,8 +73,10 @@ class Reasons:
 
     def take_end(self, number: int, name: str, said: dict[str, int | str]) -> None:
         """A later reason is the better one, and a message stands in the first tick alone."""
-        reason, code, attempt = text_at(said, "reason"), said.get("exitCode"), said.get("attempt", 0)
-        if not isinstance(code, int) or not isinstance(name, str) or not isinstance(attempt, int):
+        reason, code = text_at(said, "reason"), outside.whole(said.get("exitCode"), -outside.MOST_OF_CODE - 1,
+                                                             outside.MOST_OF_CODE)
+        attempt = outside.whole(said.get("attempt", 0), 0, outside.MOST_OF_CODE)
+        if code is None or attempt is None or not isinstance(name, str):
             return
         end = self.ends.setdefault((number, name, attempt), End(code))
         end.reason = reason or end.reason
@@ -109,8 +111,7 @@ def dicts_at(found: dict[str, Any], name: str) -> list[dict[str, Any]]:
 
 
 def text_at(found: dict[str, int | str], name: str) -> str | None:
-    value = found.get(name)
-    return entry.visible(value) if isinstance(value, str) and value else None
+    return outside.text_of(found.get(name))
 
 
 # --- in words ---

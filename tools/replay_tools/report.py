@@ -9,7 +9,7 @@ from dataclasses import dataclass, field
 from datetime import datetime, timezone
 from typing import Any
 
-from replay_tools import events
+from replay_tools import events, outside
 
 CONDITIONS = ("MemoryPressure", "DiskPressure", "PIDPressure")
 POD_CONDITIONS = ("PodScheduled", "Initialized", "ContainersReady", "Ready")
@@ -168,12 +168,24 @@ def forms() -> dict[str, re.Pattern[str]]:
 
 
 def parts_of(line: str) -> tuple[str | None, tuple[Any, ...]]:
-    """What kind of line it is, with its parts."""
+    """What kind of line it is, with its parts, which are names and words that can be shown."""
     for kind, form in forms().items():
         found = form.fullmatch(line)
-        if found:
+        if found and line.isprintable():
             return kind, found.groups()
     return None, ()
+
+
+def counted(digits: str, least: int = 0, most: int = outside.GREATEST) -> int:
+    """A number of a line. Raises ValueError where it is out of its range."""
+    found = outside.number_of(digits, least, most)
+    if found is None:
+        raise ValueError
+    return found
+
+
+def moment(digits: str) -> int:
+    return counted(digits, 0, outside.LAST_MOMENT)
 
 
 def read_report(text: str) -> Report:
@@ -187,17 +199,17 @@ def read_report(text: str) -> Report:
     ended = False
     for number, line in enumerate(lines, 1):
         kind, parts = parts_of(line)
-        if kind is None or ended or (report is None) != (kind == "node"):
-            raise ReportFault(f"line {number} of standard input is no line of a report there")
-        if kind == "node":
-            report = Report(parts[0], int(parts[1]), int(parts[2]))
-        elif kind == "totals":
-            report.totals, ended = tuple(map(int, parts)), True
-        else:
-            try:
+        try:
+            if kind is None or ended or (report is None) != (kind == "node"):
+                raise ValueError
+            if kind == "node":
+                report = Report(parts[0], counted(parts[1]), counted(parts[2]))
+            elif kind == "totals":
+                report.totals, ended = tuple(map(counted, parts)), True
+            else:
                 add_line(report, kind, parts)
-            except (IndexError, ValueError):
-                raise ReportFault(f"line {number} of standard input is no line of a report there") from None
+        except (IndexError, ValueError):
+            raise ReportFault(f"line {number} of standard input is no line of a report there") from None
     if not ended:
         raise ReportFault("standard input has no whole report: the line of totals is missing")
     check_whole(report)
@@ -268,29 +280,38 @@ def add_line(report: Report, kind: str, parts: tuple[Any, ...]) -> None:
     """Adds what a line says. Raises IndexError or ValueError where it is none of this report."""
     if kind == "event":
         at, pod, container, word, rest = parts
-        report.events.append(checked(Event(int(at), pod, None if container == "-" else container, word, rest.split())))
+        container = None if container == "-" else container
+        report.events.append(checked(Event(moment(at), pod, container, word, rest.split())))
     elif kind == "node event":
         at, word, rest = parts
         rest = rest.split()
-        report.events.append(checked(Event(int(at), rest[0] if word == "evicted" else None, None, word, rest)))
+        report.events.append(checked(Event(moment(at), rest[0] if word == "evicted" else None, None, word, rest)))
     elif kind == "pod":
-        if int(parts[0]) != len(report.pods):
+        if counted(parts[0]) != len(report.pods):
             raise ValueError
-        report.pods.append(Pod(int(parts[0]), *parts[1:]))
+        report.pods.append(Pod(len(report.pods), *parts[1:]))
     elif kind == "condition":
-        report.pods[int(parts[0])].conditions.append(Condition(parts[1], parts[2], int(parts[3]), parts[4]))
+        report.pods[counted(parts[0])].conditions.append(Condition(parts[1], parts[2], moment(parts[3]), parts[4]))
     elif kind == "container":
-        report.pods[int(parts[0])].containers.append(Container(*parts[1:]))
+        made = Container(*parts[1:])
+        counted(made.restarts, 0, outside.MOST_OF_CODE)
+        if made.code != "-":
+            counted(made.code, -outside.MOST_OF_CODE - 1, outside.MOST_OF_CODE)
+        report.pods[counted(parts[0])].containers.append(made)
     elif kind == "node condition":
-        report.conditions.append(Condition(parts[0], parts[1], int(parts[2]), None))
+        report.conditions.append(Condition(parts[0], parts[1], moment(parts[2]), None))
     else:
         at, pod, signal, kind, grace = parts
-        report.evictions.append(Eviction(int(at), pod, signal, kind, int(grace)))
+        report.evictions.append(Eviction(moment(at), pod, signal, kind, counted(grace)))
 
 
 def checked(event: Event) -> Event:
-    if not events.kinds()[event.word].form.fullmatch(" ".join(event.rest)):
+    kind = events.kinds()[event.word]
+    if not kind.form.fullmatch(" ".join(event.rest)):
         raise ValueError
+    for field_of, text in zip(kind.fields, event.rest):
+        if field_of.is_number:
+            counted(text, -outside.GREATEST)
     return event
 
 

@@ -8,7 +8,7 @@ from collections.abc import Callable, Iterator
 from dataclasses import dataclass, field
 from typing import Any, TYPE_CHECKING
 
-from replay_tools import amounts, first_bytes, packed
+from replay_tools import amounts, first_bytes, outside, packed
 from replay_tools.reasons import Reasons
 
 if TYPE_CHECKING:
@@ -23,7 +23,7 @@ BYTE_SIGNALS = SIGNALS[:3]
 DEFAULT_HARD = {"memory.available": "100Mi", "nodefs.available": "10%", "imagefs.available": "15%",
                 "nodefs.inodesFree": "5%", "imagefs.inodesFree": "5%"}
 # what the program takes
-LONGEST_TRACE = 64 << 20
+LONGEST_TRACE, LONGEST_LINE = 64 << 20, 1 << 20
 USAGES = ("memory", "volumes", "logs", "writable", "inodes", "pids")
 
 
@@ -227,18 +227,21 @@ class Trace:
         return self.settings.get("recordsKubelet") is True or bool(self.decisions)
 
     def follows(self) -> dict[str, Any] | None:
-        """What its node line says of the trace before it: its name, `until`, up to when that says all, and `at`, up to
-        when this one shows what was so before; None where it says nothing of this form."""
-        said = self.settings.get("follows")
-        return said if is_follows(said) else None
+        return follows_of(self.settings)
 
     def dedicated(self) -> bool:
         return value_at(self.settings, "dedicatedImagefs", False)
 
 
-def is_follows(said: Any) -> bool:
-    return (isinstance(said, dict) and isinstance(said.get("trace"), str)
-            and all(isinstance(said.get(name), int) for name in ("until", "at")))
+def follows_of(node_line: Any) -> dict[str, Any] | None:
+    """What a node line says of the trace before it: its name, `until`, up to when that says all, and `at`, up to when
+    this one shows what was so before; None where it says nothing of this form."""
+    said = node_line.get("follows") if isinstance(node_line, dict) else None
+    if not isinstance(said, dict):
+        return None
+    found = {"trace": outside.text_of(said.get("trace")), "until": outside.moment(said.get("until")),
+             "at": outside.moment(said.get("at"))}
+    return None if None in found.values() else found
 
 
 def present_at_each(trace: Trace) -> Iterator[dict[str, Pod]]:
@@ -403,17 +406,17 @@ def deletions(trace: Trace, present: dict[str, Pod]) -> Iterator[tuple[int, int]
 
 
 def decisions_of(trace: Trace, found: dict[str, Any]) -> Iterator[Decision]:
-    """What a tick says that the kubelet did, to the last pod of a key unless it is left out. Since the formats do not
-    read it, what has another shape says nothing."""
+    """What a tick says that the kubelet did, by its own moment, to the last pod of a key unless it is left out. Since
+    the formats do not read it, what has another shape says nothing."""
     told = found.get("kubelet")
     for kind in ("evicted", "refused"):
         each_of = told.get(kind) if isinstance(told, dict) else None
         for each in each_of if isinstance(each_of, list) else []:
             if isinstance(each, dict) and isinstance(each.get("pod"), str):
-                at, key = each.get("at"), each["pod"]
+                at, key = outside.whole(each.get("at"), 0, found["at"]), outside.text_of(each["pod"]) or ""
                 pods = [] if each.get("leftOut") is True else [pod for pod in trace.pods if pod.key == key]
-                yield Decision(kind, at if isinstance(at, int) else found["at"], key, pods[-1].number if pods else None,
-                               str(each.get("reason") or ""), str(each.get("message") or ""))
+                yield Decision(kind, found["at"] if at is None else at, key, pods[-1].number if pods else None,
+                               *(outside.text_of(each.get(name)) or "" for name in ("reason", "message")))
 
 
 def samples(found: dict[str, Any], name: str) -> dict[str, int]:
@@ -487,10 +490,9 @@ def check_pods(trace: Trace, report: reports.Report, path: str) -> None:
     for ours, theirs in zip(trace.pods, report.pods):
         named = [container.name for container in theirs.containers]
         if ours.key != theirs.key or [container.name for container in ours.containers] != named:
-            raise TraceFault(f"{path} does not belong to the report: pod {ours.number} is {ours.key} with other "
-                             f"containers than the report's {theirs.key}" if ours.key == theirs.key else
-                             f"{path} does not belong to the report: pod {ours.number} is {ours.key}, the report's "
-                             f"{theirs.key}")
+            others = " with other containers than" if ours.key == theirs.key else ","
+            raise TraceFault(f"{path} does not belong to the report: pod {ours.number} is {ours.key}{others} the "
+                             f"report's {theirs.key}")
 
 
 def check_events(trace: Trace, report: reports.Report, path: str) -> None:

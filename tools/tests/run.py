@@ -27,6 +27,8 @@ import test_deploy
 import test_explain
 import test_fleet
 import test_fleet_nodes
+import test_hostile_nodes
+import test_hostile_traces
 import test_into
 import test_into_folder
 import test_into_kills
@@ -52,7 +54,8 @@ import processes
 MODULES = (test_record, test_connections, test_plays, test_into, test_into_folder, test_joined, test_joined_files,
            test_cluster, test_real_node, test_json, test_why, test_decisions, test_page, test_fleet, test_fleet_nodes,
            test_kubectl, test_command, test_explain, test_reasons, test_deploy, test_probes, test_answers,
-           test_secrets, test_deletions, test_into_kills, test_into_room, test_tests)
+           test_secrets, test_deletions, test_into_kills, test_into_room, test_tests, test_hostile_nodes,
+           test_hostile_traces)
 RECORDINGS = f"{HERE}/recordings"
 COMMANDS = f"{HERE}/commands"
 

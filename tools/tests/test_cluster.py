@@ -140,15 +140,18 @@ def test_fetch_refused():
             (["n3"], 1, "n3: its recorder recorder-c is Pending"),
             (["n1", "--recorders", "other"], 2, "no recorder in the namespace other"),
         ):
-            expect_refused(f"fetch {' '.join(words)}", cluster.fetch(*words), status, said)
+            on_the_node = "may still lie on" if said.startswith("no recorder on") else None
+            expect_refused(f"fetch {' '.join(words)}", cluster.fetch(*words), status, said, on_the_node)
         expect_refused("fetch into a file", cluster.run("fetch", "n1", "--into", f"{HERE}/run.py"), 2, "can't be made")
         cluster.put("recorder-a.cut", "100")
         status, _, said = cluster.fetch("n1")
-        expect("fetch of what comes cut", (status, said), (
-            1, "fetch: n1: n1.2026-01-01T00-00-00Z.trace.gz did not come whole: 100 of "
-               f"{os.path.getsize(folder.place(0))} bytes\n"))
+        expect("fetch of what comes cut", (status, said), (1, "".join(
+            f"fetch: n1: n1.2026-01-01T00-00-{second:02}Z.trace.gz did not come whole: 100 of "
+            f"{os.path.getsize(folder.place(second))} bytes\n" for second in (0, 20, 40))
+            + "fetch: n1: 2 more traces are not asked for\n"))
         expect("fetch keeps nothing of what comes cut", cluster.here(), [])
-        expect("fetch asks for what comes cut once more", cluster.asked(), ["00-00-00"] * 2)
+        expect("fetch asks for what comes cut once more", cluster.asked(),
+               [name for name in ("00-00-00", "00-00-20", "00-00-40") for _ in range(2)])
         cluster.put("recorder-a.cut", str(os.path.getsize(f"{cluster.traces}/{PART}") - 20))
         status, told, said = cluster.fetch("n1", "--since", "2026-01-01T00:01:21Z")
         expect("fetch of a part that is shorter by now", (status, said, told.split(" copied")[0], cluster.asked()),
@@ -190,7 +193,8 @@ def test_story_of_a_cluster():
             (["story", "web", "--node"], 2, "--node wants a value"),
             (["story", "web", "--node", "n1", "-f", folder.path, "--recorders", "x"], 2, "--recorders is for"),
         ):
-            expect_refused(f"kubectl replay {' '.join(words)}", cluster.run("kubectl-replay", *words), status, said)
+            answer, on_the_node = cluster.run("kubectl-replay", *words), "may still lie on" if "n12" in words else None
+            expect_refused(f"kubectl replay {' '.join(words)}", answer, status, said, on_the_node)
         answer = cluster.run("kubectl-replay", "story", "shop/wab", "--node", "n1")
         expect("kubectl replay of a pod that is not on the node", (answer[0], answer[1], answer[2].split("\n")[1:]),
                (2, "", ["story: the report has no pod shop/wab; the nearest: shop/web", ""]))

@@ -1,29 +1,28 @@
-"""The pods of the recorder's DaemonSet, asked by kubectl. Their image has find and cat, and no more is wanted of it."""
+"""The pods of the recorder's DaemonSet, asked by kubectl. Their image has find and cat, and no more is wanted of it.
+Whoever has a node may answer anything in their place."""
 
 from __future__ import annotations
 
 import difflib
 import json
-import os
-import subprocess
 from argparse import Namespace
-from collections.abc import Iterable
-from dataclasses import dataclass
+from collections.abc import Callable, Iterable
+from dataclasses import dataclass, field
 from typing import Any
 
-from replay_tools import entry
+from replay_tools import entry, outside
+from replay_tools.cluster import kubectl
+from replay_tools.cluster.kubectl import NoAnswer
 from replay_tools.joined import files
 
 # as deploy/daemonset.yaml has them
 NAMESPACE, LABEL, CONTAINER = "kubelet-replay", "app=kubelet-replay-recorder", "recorder"
 FOLDER = "/var/lib/kubelet-replay"
-# kubectl says so behind what the command itself said
-ENDED = "command terminated with exit code"
 SECONDS, SECONDS_OF_COPY = 60, 600
-
-
-class NoAnswer(Exception):
-    """Something was asked and not answered; the message says why."""
+# a pod of the list takes some thousand bytes, a file of a listing a hundred
+MOST_OF_PODS, MOST_OF_LISTING = 512 << 20, 8 << 20
+# two days of traces, each of ten seconds
+MOST_HELD = 20_000
 
 
 @dataclass
@@ -44,6 +43,21 @@ class File:
 
 
 @dataclass
+class Held:
+    """The traces that a recorder holds, in their order, and why others are left out that its folder lists."""
+
+    files: list[File] = field(default_factory=list)
+    left_out: list[str] = field(default_factory=list)
+
+    def left_words(self) -> str | None:
+        """What is left out, in words; None where nothing is."""
+        if not self.left_out:
+            return None
+        first, more = self.left_out[0], len(self.left_out) - 1
+        return f"{first}; it and {more} more are left out" if more else f"{first}, and is left out"
+
+
+@dataclass
 class Recorder:
     """A recorder's pod, and the node that it is on."""
 
@@ -60,32 +74,21 @@ class Cluster:
     context: str | None = None
     namespace: str = NAMESPACE
 
-    def ask(self, *words: str, seconds: float = SECONDS) -> bytes:
-        """What kubectl answers, as bytes. Raises NoAnswer."""
+    def ask(self, *words: str, most: int, take: Callable[[bytes], object], seconds: float = SECONDS) -> None:
+        """Hands on what kubectl answers, so many bytes at most. Raises NoAnswer."""
         context = ["--context", self.context] if self.context else []
-        try:
-            done = subprocess.run(["kubectl", *context, *words], stdin=subprocess.DEVNULL, capture_output=True,
-                                  check=False, timeout=seconds)
-        except FileNotFoundError:
-            raise entry.Fault("kubectl is missing", 127) from None
-        except OSError as fault:
-            raise entry.Fault(f"kubectl can't be started: {fault.strerror}", 127) from None
-        except subprocess.TimeoutExpired:
-            raise NoAnswer(f"kubectl has not answered within {seconds} s") from None
-        if done.returncode != 0:
-            said = [line.strip() for line in done.stderr.decode("utf-8", "replace").split("\n")
-                    if line.strip() and not line.startswith(ENDED)]
-            raise NoAnswer(said[-1] if said else f"kubectl ended with status {done.returncode}")
-        return done.stdout
+        kubectl.answer([*context, *words], most, seconds, take)
 
     def recorders(self) -> dict[str, Recorder]:
         """The recorders by their nodes; of several of one node, as while they are replaced, the one that is ready."""
+        answer = bytearray()
         try:
-            items = json.loads(self.ask("get", "pods", "-n", self.namespace, "-l", LABEL, "-o", "json"))["items"]
-            found = [recorder_of(item) for item in items]
+            self.ask("get", "pods", "-n", self.namespace, "-l", LABEL, "-o", "json", most=MOST_OF_PODS,
+                     take=answer.extend)
+            found = [recorder_of(item) for item in json.loads(answer)["items"]]
         except NoAnswer as fault:
             raise entry.Fault(f"the recorders can't be listed: {fault}", 1) from None
-        except (ValueError, KeyError, TypeError, AttributeError):
+        except (ValueError, KeyError, TypeError, AttributeError, RecursionError):
             raise entry.Fault("the recorders can't be listed: kubectl's answer is no list of pods", 1) from None
         by_node = {}
         for recorder in sorted(found, key=lambda one: (one.is_ready, one.pod)):
@@ -96,34 +99,60 @@ class Cluster:
                               "each node, and --recorders names another namespace")
         return dict(sorted(by_node.items()))
 
-    def run(self, recorder: Recorder, *words: str, seconds: float = SECONDS) -> bytes:
-        """What a command answers in a recorder's pod."""
-        return self.ask("exec", "-n", self.namespace, recorder.pod, "-c", CONTAINER, "--", *words, seconds=seconds)
+    def run(self, recorder: Recorder, *words: str, most: int, take: Callable[[bytes], object],
+            seconds: float = SECONDS) -> None:
+        """Hands on what a command answers in a recorder's pod."""
+        self.ask("exec", "-n", self.namespace, recorder.pod, "-c", CONTAINER, "--", *words, most=most, take=take,
+                 seconds=seconds)
 
-    def held(self, recorder: Recorder) -> list[File]:
-        """The traces that a recorder holds, in their order."""
+    def held(self, recorder: Recorder) -> Held:
+        """The traces that a recorder holds. Raises NoAnswer."""
         if recorder.phase != "Running":
             raise NoAnswer(f"its recorder {recorder.pod} is {recorder.phase}")
-        said = self.run(recorder, "find", FOLDER, "-maxdepth", "1", "-type", "f", "-name", "*.trace.*", "-printf",
-                        "%f %s %T@\\n")
-        found = []
-        for line in said.decode("utf-8", "replace").split("\n"):
-            name, _, rest = line.partition(" ")
-            # a name becomes that of a file here
-            if os.path.basename(name) == name and name.endswith(files.ENDINGS) and files.parts_of(name)[1] is not None:
-                size, _, changed = rest.partition(" ")
-                found.append(File(name, int(size), int(float(changed))))
-        return sorted(found, key=lambda file: (file.begun, files.parts_of(file.name)[2], file.is_part))
+        answer = bytearray()
+        self.run(recorder, "find", FOLDER, "-maxdepth", "1", "-type", "f", "-name", "*.trace.*", "-printf",
+                 "%f %s %T@\\n", most=MOST_OF_LISTING, take=answer.extend)
+        found = Held()
+        for line in answer.decode("utf-8", "replace").split("\n"):
+            file, fault = file_of(line, recorder.node)
+            if file is not None:
+                found.files.append(file)
+            elif fault is not None:
+                found.left_out.append(fault)
+        if len(found.files) > MOST_HELD:
+            raise NoAnswer(f"its folder lists more than {MOST_HELD} traces")
+        found.files.sort(key=lambda file: (file.begun, files.parts_of(file.name)[2], file.is_part))
+        return found
 
-    def content(self, recorder: Recorder, file: File) -> bytes:
-        """The bytes of a trace that a recorder holds."""
-        return self.run(recorder, "cat", f"{FOLDER}/{file.name}", seconds=SECONDS_OF_COPY)
+    def content(self, recorder: Recorder, file: File, most: int, take: Callable[[bytes], object]) -> None:
+        """Hands on the bytes of a trace that a recorder holds, so many at most. Raises NoAnswer."""
+        self.run(recorder, "cat", f"{FOLDER}/{file.name}", most=most, take=take, seconds=SECONDS_OF_COPY)
+
+
+def file_of(line: str, node: str) -> tuple[File | None, str | None]:
+    """The trace of a line of a folder's listing, which has to be of this node, or why it is left out. What is no
+    trace's name is passed over, as that of one that is packed right now."""
+    name, size, changed_at, *_ = [*line.rsplit(" ", 2), "", ""]
+    if not name.endswith(files.ENDINGS):
+        return None, None
+    owner, begun, _ = files.parts_of(name)
+    shown, bytes_of, changed = outside.text_of(name), outside.number_of(size), outside.moment_of(changed_at)
+    if begun is None or "/" in name:
+        return None, f"{shown} is no name of a trace"
+    if owner != node:
+        return None, f"{shown} is of another node"
+    if bytes_of is None or changed is None:
+        return None, f"{shown} has no size or no time that can be"
+    return File(name, bytes_of, changed), None
 
 
 def recorder_of(item: dict[str, Any]) -> Recorder:
     ready = [one.get("ready") for one in item.get("status", {}).get("containerStatuses") or []]
-    return Recorder(item["spec"].get("nodeName") or "", item["metadata"]["name"],
-                    item.get("status", {}).get("phase", "Unknown"), bool(ready) and all(ready))
+    node, pod = item["spec"].get("nodeName") or "", item["metadata"]["name"]
+    phase = item.get("status", {}).get("phase", "Unknown")
+    if not all(isinstance(text, str) for text in (node, pod, phase)):
+        raise ValueError("pod")
+    return Recorder(node, pod, phase, bool(ready) and all(ready))
 
 
 def add_words(words: entry.Words) -> None:
@@ -143,5 +172,11 @@ def on_nodes(recorders: dict[str, Recorder], nodes: Iterable[str]) -> list[Recor
         if node not in recorders:
             near = difflib.get_close_matches(node, list(recorders), 3)
             known = f"the nearest: {', '.join(near)}" if near else f"there are those of {files.listed(list(recorders))}"
-            raise entry.Fault(f"no recorder on {node}; {known}")
+            raise entry.Fault(f"no recorder on {node}; {known}", means=on_the_node(node))
     return [recorders[node] for node in dict.fromkeys(nodes)]
+
+
+def on_the_node(node: str) -> str:
+    """How to get the traces of a node whose recorder is gone."""
+    return (f"if its pod is gone its traces may still lie on {node}, in {FOLDER}: root reads them there, or a pod of "
+            f"kubectl debug node/{node} --image=IMAGE in /host{FOLDER} (docs/recorder.md)")

@@ -16,7 +16,7 @@ from replay_tools import entry
 
 
 # of which form the rows are: those of another one are no answers
-FORM = "3"
+FORM = "4"
 
 
 class Kept:

@@ -3,16 +3,13 @@
 from __future__ import annotations
 
 import glob
-import gzip
-import json
 import os
-import zlib
 from typing import Any
 
-from replay_tools import entry, packed, traces
+from replay_tools import entry, outside, packed, traces
+from replay_tools.joined import files
 
 ENDINGS = (".trace", ".trace.gz")
-LONGEST_LINE = 1 << 20
 
 
 def paths_of(words: list[str]) -> list[str]:
@@ -50,7 +47,7 @@ def known_ends(paths: list[str]) -> dict[str, int]:
         by_name.setdefault(plain_name(path), []).append(path)
     ends = {}
     for path in paths:
-        follows = follows_of(path)
+        follows = own_follows(path)
         named = by_name.get(plain_name(follows["trace"]), []) if follows else []
         beside = [other for other in named if os.path.dirname(other) == os.path.dirname(path)]
         for other in beside or named:
@@ -63,19 +60,18 @@ def plain_name(path: str) -> str:
     return os.path.basename(path).removesuffix(".gz")
 
 
-def follows_of(path: str) -> dict[str, Any] | None:
-    """What the node line of a trace says of the one before it; None where it says nothing, or can't be read."""
-    if not os.path.isfile(path):
-        # a pipe would be waited for
-        return None
+def own_follows(path: str) -> dict[str, Any] | None:
+    """What the node line of a trace says of the one before it, of its own node; None where it says nothing, or can't be
+    read."""
     try:
-        with open(path, "rb") as plain:
-            head = plain.read(len(packed.GZIP))
-        with gzip.open(path, "rb") if packed.is_packed(head) else open(path, "rb") as file:
-            said = json.loads(file.readline(LONGEST_LINE)).get("follows")
-    except (OSError, EOFError, zlib.error, ValueError, AttributeError, RecursionError):
+        with packed.regular(path) as file:
+            node_line = outside.json_of(packed.first_line(file, traces.LONGEST_LINE))
+    except (OSError, packed.Damaged):
         return None
-    return said if traces.is_follows(said) else None
+    follows = traces.follows_of(node_line)
+    if follows is None:
+        return None
+    return follows if files.parts_of(follows["trace"])[0] in (None, node_line.get("name")) else None
 
 
 def shown(path: str) -> str:

@@ -10,12 +10,12 @@ import io
 import json
 import os
 import re
-import stat
 import subprocess
 from collections.abc import Iterator
 from typing import Any
 
-from replay_tools import entry, kubelet as kubelets, packed, program as programs, records, report as reports, traces
+from replay_tools import (entry, kubelet as kubelets, outside, packed, program as programs, records,
+                          report as reports, traces)
 
 LONGEST_INPUT = 64 << 20
 # events are in the report alone: they would be most of the rows
@@ -34,8 +34,15 @@ def answer(program: str, program_sum: str, path: str, known: tuple[str | None, i
     known are the SHA-256 of the trace that was answered before, or None, and up to when it says all that happened,
     where one that follows it says so. Where the trace is still the same there are neither rows nor report, and the
     status is "known"."""
-    known_sum, until = known
     check_program(program, program_sum)
+    try:
+        return answer_of(program, path, *known)
+    except Exception as fault:
+        # whatever it is, it must not end the work on the other traces
+        return failed(path, f"it can't be told: {type(fault).__name__}")
+
+
+def answer_of(program: str, path: str, known_sum: str | None, until: int | None) -> dict[str, Any]:
     try:
         text, size = read_trace(path)
     except OSError as fault:
@@ -51,17 +58,24 @@ def answer(program: str, program_sum: str, path: str, known: tuple[str | None, i
         said = done.stderr.decode("utf-8", "replace").split("\n")[0]
         return answered(record_of(path, trace_sum, size, **refusal(done.returncode, said)) | {"until": until})
     try:
-        report = reports.read_report(done.stdout.decode("utf-8", "replace"))
+        rows = rows_of(text, done.stdout, until)
     except reports.ReportFault as fault:
         said = str(fault).replace("standard input", "the report")
         return answered(record_of(path, trace_sum, size, "failed", fault=said))
+    return answered(record_of(path, trace_sum, size, "replayed") | {"until": until}, rows, done.stdout)
+
+
+def rows_of(text: bytes, made: bytes, until: int | None) -> list[dict[str, Any]]:
+    """The records of a trace and its report. Raises ReportFault."""
+    report = reports.read_report(made.decode("utf-8", "replace"))
     trace, kubelet = beside(text, report)
     span, begun = span_of(text), begun_of(text)
     if span:
+        # what it shows of the time before it ends with its last tick
+        begun = None if begun is None else min(begun, span[1])
         span = span[0] if begun is None else max(span[0], begun), max(span[1], until or 0)
-    made = records.records_of(report, kubelet, trace, span, records.NEVER if begun is None else begun)
-    rows = [record for record in made if record["record"] in KINDS]
-    return answered(record_of(path, trace_sum, size, "replayed") | {"until": until}, rows, done.stdout)
+    found = records.records_of(report, kubelet, trace, span, records.NEVER if begun is None else begun)
+    return [record for record in found if record["record"] in KINDS]
 
 
 def beside(text: bytes, report: reports.Report) -> tuple[traces.Trace | None, kubelets.Kubelet | None]:
@@ -80,11 +94,8 @@ def beside(text: bytes, report: reports.Report) -> tuple[traces.Trace | None, ku
 
 def begun_of(text: bytes) -> int | None:
     """The moment behind which a trace that follows another one says what happened; None of any other."""
-    try:
-        said = json.loads(text.lstrip().split(b"\n", 1)[0]).get("follows")
-    except (ValueError, AttributeError, RecursionError):
-        return None
-    return said["at"] if traces.is_follows(said) else None
+    said = traces.follows_of(outside.json_of(text.lstrip().split(b"\n", 1)[0]))
+    return said["at"] if said is not None else None
 
 
 def span_of(text: bytes) -> tuple[int, int] | None:
@@ -114,8 +125,9 @@ def moment_of(line: bytes) -> dict[str, Any] | None:
     """A tick line as it is read, or None."""
     if b'"tick"' not in line:
         return None
-    found = json.loads(line)
-    return found if found.get("kind") == "tick" else None
+    found = outside.json_of(line)
+    is_tick = isinstance(found, dict) and found.get("kind") == "tick" and outside.moment(found.get("at")) is not None
+    return found if is_tick else None
 
 
 @functools.lru_cache
@@ -131,13 +143,10 @@ def check_program(program: str, program_sum: str) -> None:
 
 def read_trace(path: str) -> tuple[bytes, int]:
     """The bytes of a trace, unpacked, one more than the longest at most, and how many it has."""
-    with open(os.open(path, os.O_RDONLY | os.O_NONBLOCK), "rb") as file:
-        found = os.fstat(file.fileno())
-        if not stat.S_ISREG(found.st_mode):
-            raise OSError(0, "it is no file")
-        data = file.read(LONGEST_INPUT + 1)
+    with packed.regular(path) as file:
+        size, data = os.fstat(file.fileno()).st_size, file.read(LONGEST_INPUT + 1)
     text = packed.unpacked(data, LONGEST_INPUT)
-    return text, found.st_size if text is data else len(text)
+    return text, size if text is data else len(text)
 
 
 def refusal(status: int, said: str) -> dict[str, Any]:

@@ -2,6 +2,7 @@
 
 from __future__ import annotations
 
+import os
 import sqlite3
 from collections.abc import Iterator
 
@@ -95,7 +96,8 @@ def lines_of(connection: sqlite3.Connection, by: str, top: int) -> list[str]:
 def meanings(connection: sqlite3.Connection) -> Iterator[list[str]]:
     """Of each fault what the refusal of its first trace means, as far as that trace can still be read."""
     for fault, _, path, line, code in connection.execute(REFUSED):
-        said = beside.meaning_of(path, line, code, fault)
+        # what stands there by now may be a pipe, for which it would wait
+        said = beside.meaning_of(path, line, code, fault) if os.path.isfile(path) else None
         if said:
             yield [fault, said]
 

@@ -3,7 +3,7 @@
 from __future__ import annotations
 
 
-from replay_tools import entry, report as reports
+from replay_tools import entry, outside, report as reports
 from replay_tools.joined import files, parts
 
 
@@ -12,18 +12,23 @@ def borders_of(found: list[parts.Part]) -> list[reports.Border]:
     return [border_of(before, part) for before, part in zip(found, found[1:])]
 
 
+def name_of(part: parts.Part) -> str:
+    """The name of a part's file, which may have any bytes."""
+    return outside.visible(part.source.name)
+
+
 def border_of(before: parts.Part, part: parts.Part) -> reports.Border:
     follows = part.follows
     if follows is None:
         at = first_behind(before, part)
-        return reports.Border(min(before.last, at), at, part.source.name)
+        return reports.Border(min(before.last, at), at, name_of(part))
     if is_of(follows["trace"], before):
         check_order(before, part, follows["at"])
-        return reports.Border(max(follows["until"], before.last), follows["at"], part.source.name)
+        return reports.Border(max(follows["until"], before.last), follows["at"], name_of(part))
     check_order(before, part, follows["at"])
     # the one that it follows may be the one before under another name: then its time says so
     missing = None if follows["until"] <= before.last else follows["trace"]
-    return reports.Border(before.last if missing else follows["at"], follows["at"], part.source.name, missing)
+    return reports.Border(before.last if missing else follows["at"], follows["at"], name_of(part), missing)
 
 
 def is_of(name: str, before: parts.Part) -> bool:

@@ -10,13 +10,13 @@ import time
 from dataclasses import dataclass
 from typing import TYPE_CHECKING
 
-from replay_tools import entry, report as reports
+from replay_tools import entry, outside, report as reports
 
 if TYPE_CHECKING:
     from replay_tools.joined import asked
 
 # as tools/record --into names them
-NAME = re.compile(r"(?P<node>.+)[.](?P<stamp>\d{4}-\d\d-\d\dT\d\d-\d\d-\d\dZ)(?:_(?P<number>[1-9]\d*))?"
+NAME = re.compile(r"(?P<node>.+)[.](?P<stamp>\d{4}-\d\d-\d\dT\d\d-\d\d-\d\dZ)(?:_(?P<number>[1-9]\d{0,8}))?"
                   r"[.]trace(?:[.]gz|[.]part)?", re.ASCII)
 STAMP = "%Y-%m-%dT%H-%M-%SZ"
 PART = ".trace.part"
@@ -57,7 +57,7 @@ def parts_of(name: str) -> tuple[str | None, int | None, int]:
     """The node, the begin and the number that a name says; None for what it does not say."""
     parts = NAME.fullmatch(name)
     try:
-        begun = calendar.timegm(time.strptime(parts["stamp"], STAMP)) if parts else None
+        begun = outside.moment(calendar.timegm(time.strptime(parts["stamp"], STAMP))) if parts else None
     except ValueError:
         begun = None
     return (None, None, 1) if begun is None else (parts["node"], begun, int(parts["number"] or 1))

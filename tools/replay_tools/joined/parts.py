@@ -91,7 +91,7 @@ def parts_of(asked: asked.Asked) -> list[Part]:
 
 def is_report(source: files.Source) -> bool:
     try:
-        with open(source.path, "rb") as file:
+        with packed.regular(source.path) as file:
             return first_bytes.kind_of(file.read(first_bytes.LOOKED_AT)) == first_bytes.REPORT
     except OSError:
         return False
@@ -132,7 +132,8 @@ def text_of(source: files.Source) -> bytes:
     if os.path.exists(source.path) and not os.path.isfile(source.path):
         raise Unusable("it is a device or a pipe")
     try:
-        text = packed.read(source.path, traces.LONGEST_TRACE)
+        with packed.regular(source.path) as file:
+            text = packed.unpacked(file.read(traces.LONGEST_TRACE + 1), traces.LONGEST_TRACE)
     except OSError as fault:
         raise Unusable(f"it can't be read: {fault.strerror}") from None
     except packed.Damaged as fault:

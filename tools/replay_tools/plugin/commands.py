@@ -123,7 +123,7 @@ def keys(command: words.Command, found: words.Words, report: IO[bytes]) -> tuple
     named = words.pods_meant(command, found)
     if named is not None:
         return named, report
-    report = files.whole(report)
+    report = files.whole(report, "standard input" if found.file is None else "the report")
     named = files.pods_in(report, found.namespace)
     if not named:
         raise entry.Fault(f"the report has no pod in the namespace {found.namespace}")

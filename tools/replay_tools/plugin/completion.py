@@ -16,7 +16,7 @@ COUNTS = ("--workers", "--processes", "--scheduler", "--top", "--node", "--every
           "--kubelet", "--crictl", "--eviction-pause", "--each", "--keep", "--most", "--since", "--at", "--recorders")
 OF_CLUSTER = ("--context", "--recorders")
 # of the tools that ask a cluster, and take no file
-CLUSTER_WORDS = {"fetch": ("--all", "--at", "--into", "--since", *OF_CLUSTER), "nodes": OF_CLUSTER}
+CLUSTER_WORDS = {"fetch": ("--all", "--at", "--into", "--most", "--since", *OF_CLUSTER), "nodes": OF_CLUSTER}
 
 
 def candidates(given: list[str], is_of_kubectl: bool = True) -> tuple[list[str], int]:

@@ -2,8 +2,6 @@
 
 from __future__ import annotations
 
-import io
-import json
 import os
 import signal
 import stat
@@ -12,7 +10,7 @@ import sys
 import tempfile
 from typing import Any, IO, NoReturn
 
-from replay_tools import entry, packed, program as programs, report as reports, traces
+from replay_tools import entry, outside, packed, program as programs, report as reports, traces
 from replay_tools.explain import beside
 from replay_tools.joined import files as traces_of
 
@@ -46,7 +44,7 @@ def plain(path: str) -> str:
         return path
     except packed.Damaged as fault:
         raise entry.Fault(f"{path}: {fault}") from None
-    copy = path_of(whole(io.BytesIO(text)))
+    copy = path_of(kept(text))
     NAMES[copy] = shown(path)
     return copy
 
@@ -122,25 +120,30 @@ def with_format(path: str) -> tuple[str, IO[bytes] | None, list[str]]:
         return path, None, []
     except packed.Damaged as fault:
         raise entry.Fault(f"{path}: {fault}") from None
-    copy = whole(io.BytesIO(text))
+    copy = kept(text)
     return "/dev/stdin", copy, format_words_of(copy)
 
 
 def pods_in(report: IO[bytes], namespace: str) -> list[str]:
     """The keys of the pods of a namespace in an open report, each once; the report can be read once more after that."""
     try:
-        found = reports.read_report(report.read().decode("utf-8", "replace"))
+        found = reports.read_report(entry.read_bounded(report, "the report").decode("utf-8", "replace"))
     except reports.ReportFault as fault:
         raise entry.Fault(str(fault)) from None
     report.seek(0)
     return list(dict.fromkeys(pod.key for pod in found.pods if pod.key.startswith(namespace + "/")))
 
 
-def whole(report: IO[bytes]) -> IO[bytes]:
+def whole(report: IO[bytes], what: str = "the report") -> IO[bytes]:
     """The same as a file that can be read twice."""
+    return kept(entry.read_bounded(report, what))
+
+
+def kept(text: bytes) -> IO[bytes]:
+    """A file without a name that has these bytes."""
     copy = temporary()
     try:
-        copy.write(report.read())
+        copy.write(text)
         copy.seek(0)
     except OSError as fault:
         raise no_room(fault.strerror) from None
@@ -149,19 +152,31 @@ def whole(report: IO[bytes]) -> IO[bytes]:
 
 
 def keys_of(path: str) -> list[str]:
-    """The keys of the pods that a trace or a report names, or the last trace of a folder, for a completion: without one
-    where it can't be read."""
+    """The keys of the pods that a trace or a report names, or the last trace of a folder, for a completion: none where
+    it can't be read, and none that the formats don't take, since a shell may read more in it than a name."""
     try:
         if os.path.isdir(path):
             path = os.path.join(path, max(name for name in os.listdir(path) if name.endswith(traces_of.ENDINGS)))
-        if is_report(path):
-            with open(path, encoding="utf-8") as file:
-                return [pod.key for pod in reports.read_report(file.read()).pods]
-        lines = packed.read(path, traces.LONGEST_TRACE).decode().split("\n")
-        manifests = [json.loads(line)["pod"]["metadata"] for line in lines if '"metadata"' in line]
-    except (OSError, ValueError, KeyError, TypeError, packed.Damaged, entry.Fault, reports.ReportFault):
+        is_of_report = is_report(path)
+        with packed.regular(path) as file:
+            text = packed.unpacked(entry.read_bounded(file, path), traces.LONGEST_TRACE).decode()
+        if is_of_report:
+            keys = [pod.key for pod in reports.read_report(text).pods]
+        else:
+            keys = [key_of(line) for line in text.split("\n") if '"metadata"' in line]
+    except (OSError, ValueError, packed.Damaged, entry.Fault, reports.ReportFault):
         return []
-    return [f"{found.get('namespace') or 'default'}/{found.get('name')}" for found in manifests]
+    return [key for key in keys if outside.is_key(key)]
+
+
+def key_of(line: str) -> str:
+    """The key of the pod of a line of a trace; an empty text of any other."""
+    found = outside.json_of(line)
+    pod = found.get("pod") if isinstance(found, dict) else None
+    metadata = pod.get("metadata") if isinstance(pod, dict) else None
+    if not isinstance(metadata, dict) or not isinstance(metadata.get("name"), str):
+        return ""
+    return f"{metadata.get('namespace') or 'default'}/{metadata['name']}"
 
 
 def run_beside(program: str, words: list[str], path: str, given: IO[bytes] | None, caller: str,
@@ -213,7 +228,7 @@ def kept_input() -> str:
     given = entry.standard_input()
     if given.isatty():
         raise entry.Fault("-f - wants a trace or a report on standard input")
-    return path_of(whole(given))
+    return path_of(whole(given, "standard input"))
 
 
 def run_on(tool: str, words: list[str], report: IO[bytes] | None = None) -> NoReturn:

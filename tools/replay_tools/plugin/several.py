@@ -60,11 +60,11 @@ def run_fetched(found: words.Words, node: str, words_for: Callable[[str], list[s
     except OSError as fault:
         raise files.no_room(fault.strerror) from None
     with folder as path:
-        [came] = fetching.fetched(cluster, [recorder], path, first, last)
-        if came.fault and not came.copied:
-            raise entry.Fault(f"{node}: {came.fault}", 1)
-        if came.fault:
-            entry.say(f"{node}: {came.fault}")
+        [came] = fetching.fetched(cluster, [recorder], path, fetching.Wanted(first, last))
+        if not came.copied:
+            raise entry.Fault(f"{node}: {'; '.join(came.faults)}", 1)
+        for said in came.faults:
+            entry.say(f"{node}: {said}")
         sys.stdout.flush()
         process = subprocess.Popen(words_for(path), stdin=subprocess.DEVNULL)
         try:

@@ -7,13 +7,13 @@ import json
 import re
 from typing import Any
 
+from replay_tools.outside import LABEL, NAME
+
 MOST_PODS = 256
 MOST_TICKS = 20000
 MOST_BYTES = 64 * 1024 * 1024
 LONGEST_LINE = 1024 * 1024
 
-NAME = re.compile(r"[a-z0-9]([-.a-z0-9]{0,251}[a-z0-9])?")
-LABEL = re.compile(r"[a-z0-9]([-a-z0-9]{0,61}[a-z0-9])?")
 QUANTITY = re.compile(r"[+]?(?P<number>[0-9]+[.]?[0-9]*|[.][0-9]+)"
                       r"(|[numkMGTPE]|[KMGTPE]i|[eE][+-]?(?P<power>[0-9]{1,2}))")
 PERCENTAGE = re.compile(r"[0-9]{1,3}([.][0-9]{1,2})?%")

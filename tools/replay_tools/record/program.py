@@ -10,6 +10,8 @@ from contextlib import contextmanager
 from dataclasses import replace
 from typing import Any, TYPE_CHECKING
 
+from replay_tools import outside
+
 from .check import check
 from .clock import Clock
 from .connections import kept_sources
@@ -56,7 +58,7 @@ class Says:
             self.said[subject] = True
             if len(self.said) > MOST_REMEMBERED:
                 del self.said[next(iter(self.said))]
-            print(f"record: {text}", file=sys.stderr, flush=True)
+            print(f"record: {outside.text_of(text)}", file=sys.stderr, flush=True)
 
 
 class Output:
@@ -203,7 +205,8 @@ def status_of(recording: LastingRecording | Recording, say: Callable[..., None])
 
 def checked(words: Words, sources: Sources) -> int:
     """Shows which sources work; the status."""
-    return 0 if check(sources, words.node, words.format, lambda line: print(line, flush=True)) else 1
+    works = check(sources, words.node, words.format, lambda line: print(outside.text_of(line), flush=True))
+    return 0 if works else 1
 
 
 def main(arguments: list[str], clock: Any = None, make_sources: Callable[..., Any] | None = None) -> int:

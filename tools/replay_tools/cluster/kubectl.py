@@ -1,0 +1,75 @@
+"""kubectl, asked for one answer. It is handed on piece by piece, so that nobody sends more than there is room for."""
+
+from __future__ import annotations
+
+import os
+import selectors
+import subprocess
+import time
+from collections.abc import Callable
+
+from replay_tools import amounts, entry, outside
+
+# kubectl says so behind what the command itself said
+ENDED = "command terminated with exit code"
+PIECE = 1 << 16
+# of what it says on standard error so much is kept, the last of it
+MOST_SAID = 1 << 14
+
+
+class NoAnswer(Exception):
+    """Something was asked and not answered; the message says why."""
+
+
+def answer(words: list[str], most: int, seconds: float, take: Callable[[bytes], object]) -> None:
+    """Hands on what kubectl answers, which has to be whole within so many seconds, and has so many bytes at most.
+    Raises NoAnswer."""
+    process = started(words)
+    try:
+        said = handed_on(process, most, time.monotonic() + seconds, take)
+        status = process.wait(seconds)
+    except (TimeoutError, subprocess.TimeoutExpired):
+        raise NoAnswer(f"kubectl has not answered within {seconds} s") from None
+    finally:
+        process.kill()
+        process.wait()
+        process.stdout.close()
+        process.stderr.close()
+    if status != 0:
+        lines = [line.strip() for line in said.decode("utf-8", "replace").split("\n")
+                 if line.strip() and not line.startswith(ENDED)]
+        raise NoAnswer(outside.text_of(lines[-1]) if lines else f"kubectl ended with status {status}")
+
+
+def started(words: list[str]) -> subprocess.Popen:
+    try:
+        return subprocess.Popen(["kubectl", *words], stdin=subprocess.DEVNULL, stdout=subprocess.PIPE,
+                                stderr=subprocess.PIPE)
+    except FileNotFoundError:
+        raise entry.Fault("kubectl is missing", 127) from None
+    except OSError as fault:
+        raise entry.Fault(f"kubectl can't be started: {fault.strerror}", 127) from None
+
+
+def handed_on(process: subprocess.Popen, most: int, until: float, take: Callable[[bytes], object]) -> bytes:
+    """Hands on what a process writes, until a moment of the clock; gives what it said last on standard error."""
+    size, said = 0, b""
+    with selectors.DefaultSelector() as selector:
+        for stream in (process.stdout, process.stderr):
+            selector.register(stream, selectors.EVENT_READ)
+        while selector.get_map():
+            left = until - time.monotonic()
+            if left <= 0:
+                raise TimeoutError
+            for key, _ in selector.select(left):
+                piece = os.read(key.fd, PIECE)
+                if not piece:
+                    selector.unregister(key.fileobj)
+                elif key.fileobj is process.stderr:
+                    said = (said + piece)[-MOST_SAID:]
+                else:
+                    size += len(piece)
+                    if size > most:
+                        raise NoAnswer(f"more than {amounts.amount_text(1000 * most, True)} came, and no more is taken")
+                    take(piece)
+    return said
