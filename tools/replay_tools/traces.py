@@ -416,7 +416,7 @@ def decisions_of(trace: Trace, found: dict[str, Any]) -> Iterator[Decision]:
                 at, key = outside.whole(each.get("at"), 0, found["at"]), outside.text_of(each["pod"]) or ""
                 pods = [] if each.get("leftOut") is True else [pod for pod in trace.pods if pod.key == key]
                 yield Decision(kind, found["at"] if at is None else at, key, pods[-1].number if pods else None,
-                               *(outside.text_of(each.get(name)) or "" for name in ("reason", "message")))
+                               *(outside.text_of(str(each.get(name) or "")) or "" for name in ("reason", "message")))
 
 
 def samples(found: dict[str, Any], name: str) -> dict[str, int]:
