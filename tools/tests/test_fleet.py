@@ -217,7 +217,7 @@ def test_fleet_is_stopped():
         process = subprocess.Popen(words, env={**os.environ, **settings}, stderr=subprocess.PIPE,
                                    preexec_fn=lambda: signal.signal(signal.SIGINT, signal.SIG_DFL))
         wait_until("rows", lambda: rows_kept(database) > before + 2)
-        busy = run(words, **settings)
+        busy = run(words, **{**settings, "HOLD": ""})
         process.send_signal(number)
         os.remove(settings["HOLD"])
         # each of its processes holds this end of its standard error, so no process is left behind it
