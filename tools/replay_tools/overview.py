@@ -5,12 +5,13 @@ from __future__ import annotations
 from collections.abc import Callable
 from typing import TYPE_CHECKING
 
-from replay_tools import entry, reasons, records, report as reports, telling
+from replay_tools import entry, kubelet as kubelets, reasons, records, report as reports, telling
 
 if TYPE_CHECKING:
     from replay_tools import traces
 
-# what is worse stands before
+# what is worse stands before; first what the kubelet did, which is a fact where the trace has it
+EVICTED_BY_KUBELET = -1
 WORST = ("evicted", "kill", "died otherwise", "backoff", "failed", "restart", "unready", "died")
 
 
@@ -47,8 +48,12 @@ def last_wait(pod: reports.Pod, trace: traces.Trace | None) -> tuple[str, reason
     return next(((name, wait) for name, wait in waits if wait.until is None), None)
 
 
-def worst_cells(pod: reports.Pod, trace: traces.Trace | None, show: Callable[[int], str]) -> tuple[int, list[str]]:
+def worst_cells(pod: reports.Pod, trace: traces.Trace | None, kubelet: kubelets.Kubelet | None,
+                show: Callable[[int], str]) -> tuple[int, list[str]]:
     """How bad the worst is that happened to a pod, its moment and what it is."""
+    fact = kubelet.fact(pod.number) if kubelet else None
+    if fact is not None:
+        return EVICTED_BY_KUBELET, [show(fact.decision.at), kubelets.event_words(fact.decision)]
     place, found = worst_event(pod)
     waiting = last_wait(pod, trace)
     if not found and waiting:
@@ -58,14 +63,15 @@ def worst_cells(pod: reports.Pod, trace: traces.Trace | None, show: Callable[[in
 
 
 def text(report: reports.Report, namespace: str | None, show: Callable[[int], str],
-         trace: traces.Trace | None = None) -> str:
-    """The table of the pods of a namespace, or of all without one."""
+         trace: traces.Trace | None = None, kubelet: kubelets.Kubelet | None = None) -> str:
+    """The table of the pods of a namespace, or of all without one. A pod is not ready up to the last moment of the
+    trace, and without that up to the last one that the report names."""
     pods = [pod for pod in report.pods if namespace is None or pod.key.startswith(f"{namespace}/")]
     if namespace is not None and not pods:
         raise entry.Fault(f"the report has no pod in the namespace {namespace}")
-    last, found = records.last_moment(report), []
+    last, found = trace.ticks[-1].at if trace and trace.ticks else records.last_moment(report), []
     for pod in pods:
-        place, cells = worst_cells(pod, trace, show)
+        place, cells = worst_cells(pod, trace, kubelet, show)
         record = records.pod_record(report, pod, last)
         found.append(((place, -record["restarts"], -record["unready_seconds"], pod.number),
                       [pod.key + reports.number_words(report, pod), pod.phase, str(record["restarts"]),

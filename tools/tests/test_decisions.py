@@ -172,3 +172,29 @@ def test_no_decisions():
     told = run([f"{TOOLS}/story", "shop/agree", "--trace", path], read(f"{FOLDER}/report"))[1]
     expect("story without decisions", ("the kubelet" in told, "by the rules Failed" in told), (False, False))
     shutil.rmtree(folder)
+
+
+def test_list_of_pods():
+    """Whom the kubelet evicted stands first in the list of all pods, also where the rules evict nobody; and seconds
+    without readiness count up to the end of the trace."""
+    calm = re.sub(r'"memory.available":\d+', '"memory.available":4294967296',
+                  read(f"{HERE}/recordings/kubelet_evicts_extended/trace"))
+    folder = tempfile.mkdtemp()
+    with open(f"{folder}/trace", "w") as file:
+        file.write(calm)
+    told = run([f"{TOOLS}/story", "--trace", f"{folder}/trace"], replayed(calm)[1])[1]
+    shutil.rmtree(folder)
+    rows = [line.split() for line in told.splitlines()[2:]]
+    expect("the list of pods: whom the kubelet evicted", [(row[0], row[1], " ".join(row[5:8])) for row in rows], [
+        ("shop/hog", "Running", "the kubelet evicted"), ("shop/new", "Running", "the kubelet evicted"),
+        ("shop/web", "Running", "-")])
+    unready = ('{"kind":"node","name":"n1"}\n'
+               '{"kind":"pod","pod":{"metadata":{"name":"a"},"spec":{"containers":[{"name":"c","readinessProbe":{}}]}}}\n')
+    unready += "".join(f'{{"kind":"tick","at":{at},"pods":[{{"pod":"default/a","containers":[{{"name":"c","attempt":0,'
+                       f'"state":"CONTAINER_RUNNING"}}]}}]}}\n' for at in (0, 54, 64))
+    with tempfile.NamedTemporaryFile("w", suffix=".trace") as file:
+        file.write(unready)
+        file.flush()
+        told = run([f"{TOOLS}/story", "--trace", file.name], replayed(unready)[1])[1]
+    expect("the list of pods: seconds up to the end", told.splitlines()[2].split()[:4],
+           ["default/a", "Running", "0", "64"])

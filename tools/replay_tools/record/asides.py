@@ -14,6 +14,17 @@ if TYPE_CHECKING:
     from .runtime import Listing
 
 
+def stands(wait: Reason, listing: Listing | None) -> bool:
+    """Whether a container still waits so as its newest instance is listed: it does not run, and is the one behind which
+    the status says that it waits."""
+    return listing is None or (listing.state != RUNNING and wait.behind in (None, listing.attempt))
+
+
+def is_over(wait: Reason, listing: Listing | None) -> bool:
+    """Whether the instance for which a container waited runs, so that it waits no more once that has ended."""
+    return listing is not None and listing.state == RUNNING and wait.behind != listing.attempt
+
+
 class Asides:
     """What stands at the last tick, and what was told of it: a reason stands in each tick, its message in the first."""
 
@@ -56,9 +67,11 @@ class Asides:
     def of_waits(self, pod: Pod, listings: dict[str, Listing]) -> list[dict[str, Any]] | None:
         """The member of an entry: the containers that wait, but for those that have begun to run since; None where none
         does."""
-        waits = self.waits.get(pod.uid, {})
-        waiting = [name for name in pod.containers() if name in waits
-                   and (name not in listings or listings[name].state != RUNNING)]
+        waits = {name: wait for name, wait in self.waits.get(pod.uid, {}).items()
+                 if not is_over(wait, listings.get(name))}
+        if pod.uid in self.waits:
+            self.waits[pod.uid] = waits
+        waiting = [name for name in pod.containers() if name in waits and stands(waits[name], listings.get(name))]
         for name in set(pod.containers()).difference(waiting):
             self.told.pop((pod.uid, name, "waits"), None)
         return [{"container": name, **self.members((pod.uid, name, "waits"), None, waits[name])}

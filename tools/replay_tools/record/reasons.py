@@ -3,16 +3,17 @@
 from __future__ import annotations
 
 import re
-from dataclasses import dataclass
+from dataclasses import dataclass, replace
 from typing import Any, Optional
 
-from .formats import without_nones
+from .formats import whole_fault, without_nones
 from .messages import message_kept
 
 OUT_OF_MEMORY = "OOMKilled"
 # what a runtime says where it knows no more than the code
 PLAIN = ("Error", "")
 LONGEST_REASON = 64
+MOST_ATTEMPTS = 2 ** 31 - 1
 WORD = re.compile(rf"[A-Za-z][A-Za-z0-9]{{0,{LONGEST_REASON - 1}}}")
 # in place of a reason that is no word of the runtime's or the kubelet's
 OTHER = "Other"
@@ -21,10 +22,11 @@ OTHER = "Other"
 @dataclass(frozen=True)
 class Reason:
     """One word of why, and what is kept of the message that stood beside it; whether a message was left out, since
-    nothing of it is known to have no secret."""
+    nothing of it is known to have no secret; and of a wait the attempt behind which it is, if that is known."""
     word: str
     message: Optional[str] = None
     is_left_out: bool = False
+    behind: Optional[int] = None
 
 
 def reason_of(said: Any) -> Reason | None:
@@ -50,8 +52,9 @@ def waits_in(item: Any) -> dict[str, Reason]:
 def waits_of(statuses: list[dict[str, Any]] | None) -> dict[str, Reason]:
     found = {}
     for each in statuses or []:
-        waiting = (each.get("state") or {}).get("waiting") or {}
-        found[each["name"]] = reason_of(waiting)
+        wait, count = reason_of((each.get("state") or {}).get("waiting") or {}), each.get("restartCount")
+        is_known = wait is not None and not whole_fault(count, 0, MOST_ATTEMPTS)
+        found[each["name"]] = replace(wait, behind=count) if is_known else wait
     return without_nones(found)
 
 

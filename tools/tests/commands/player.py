@@ -31,8 +31,8 @@ class Play:
     clock       what the clock says at each look, where it is no good one, and `true` the moments of these looks
     pods        {key: {"from", "until", "spec", "annotations", "deleted", "evicted", "refused", "message", "condition",
                 "waits"}}; a key may have a list of them, one after the other; `condition` is the moment that an
-                evicted pod's status says, and `waits` a list of {"container", "from", "until", "reason", "message"},
-                of its status too
+                evicted pod's status says, and `waits` a list of {"container", "from", "until", "count", "reason",
+                "message"}, of its status too, with its count of restarts
     containers  {"id", "pod", "name", "attempt", "created", "started", "exited", "code", "removed", "lost", "told",
                 "reason", "message", "env", "told_reason", "told_message", "shown"}: `lost` is when `crictl inspect` no
                 longer knows it while a list still has it, and `told` when its pod's status has its exit, for
@@ -152,8 +152,8 @@ class Play:
             return status
         told = [each for each in self.script["containers"] if self.uid(each) == uid and "told" in each]
         listed = [self.told(each, moment) for each in told]
-        listed += [{"name": each["container"], "state": {"waiting": {"reason": each["reason"],
-                                                                     "message": each.get("message", "")}}}
+        listed += [{"name": each["container"], **({"restartCount": each["count"]} if "count" in each else {}),
+                    "state": {"waiting": {"reason": each["reason"], "message": each.get("message", "")}}}
                    for each in life.get("waits", []) if each["from"] <= moment < each.get("until", float("inf"))]
         return {"phase": "Running", **({"containerStatuses": listed} if listed else {})}
 
