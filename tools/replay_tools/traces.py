@@ -9,6 +9,7 @@ from dataclasses import dataclass, field
 from typing import Any, TYPE_CHECKING
 
 from replay_tools import amounts, first_bytes, outside, packed
+from replay_tools.decided import Decision, decisions_of, deletions
 from replay_tools.reasons import Reasons
 
 if TYPE_CHECKING:
@@ -81,20 +82,6 @@ class Listing:
     attempt: int
     state: str
     code: int | None
-
-
-@dataclass
-class Decision:
-    """What the kubelet did to a pod, as a recording of it says; the formats do not read that."""
-
-    kind: str
-    """evicted or refused"""
-    at: int
-    pod: str
-    number: int | None
-    """that of the pod; None where it has no line in the trace"""
-    reason: str
-    message: str
 
 
 class Lines:
@@ -394,29 +381,6 @@ def entries_of(found: dict[str, Any]) -> dict[str, dict[str, Any]]:
     if not all(isinstance(key, str) for key in entries):
         raise ValueError("pod")
     return entries
-
-
-def deletions(trace: Trace, present: dict[str, Pod]) -> Iterator[tuple[int, int]]:
-    """The pods that are being deleted, as the newest tick says, each with its moment."""
-    tick = trace.ticks[-1]
-    if trace.heeds_unsampled() and tick.may_have(b"deleting"):
-        for key, entry in tick.entries.items():
-            if entry.get("deleting") is True:
-                yield present[key].number, tick.at
-
-
-def decisions_of(trace: Trace, found: dict[str, Any]) -> Iterator[Decision]:
-    """What a tick says that the kubelet did, by its own moment, to the last pod of a key unless it is left out. Since
-    the formats do not read it, what has another shape says nothing."""
-    told = found.get("kubelet")
-    for kind in ("evicted", "refused"):
-        each_of = told.get(kind) if isinstance(told, dict) else None
-        for each in each_of if isinstance(each_of, list) else []:
-            if isinstance(each, dict) and isinstance(each.get("pod"), str):
-                at, key = outside.whole(each.get("at"), 0, found["at"]), outside.text_of(each["pod"]) or ""
-                pods = [] if each.get("leftOut") is True else [pod for pod in trace.pods if pod.key == key]
-                yield Decision(kind, found["at"] if at is None else at, key, pods[-1].number if pods else None,
-                               *(outside.text_of(str(each.get(name) or "")) or "" for name in ("reason", "message")))
 
 
 def samples(found: dict[str, Any], name: str) -> dict[str, int]:
