@@ -76,7 +76,11 @@ fn main(rt: HostRuntime) -> Result<()> {
     for word in env::args(&rt)? {
         words.push(word)?;
     }
-    let texts = if words.len() > WORDS { words.pop() } else { None };
+    let texts = if words.len() > WORDS {
+        words.pop()
+    } else {
+        None
+    };
     let workload = Workload::of_words(&words)?;
     let digest = workload.digest(&rt)?;
     println!(rt; "{digest}")?;

@@ -24,8 +24,8 @@ ghost use Rattle.trace.specs.rule.Written.{is_of_other_kind, has_other_kind, hee
 use crate::by_pod::{EntriesByPod, entries_by_pod, entry_for};
 use crate::fault::{FaultKind, refused_if};
 use crate::placing::{
-    EntrySaid, PlacedEntry, PlacedListing, PlacedResult, check_placed, entries_of_pods, is_of_probe,
-    place_each, some_entry_repeats,
+    EntrySaid, PlacedEntry, PlacedListing, PlacedResult, check_placed, entries_of_pods,
+    is_of_probe, place_each, some_entry_repeats,
 };
 use crate::trace_so_far::{TraceSoFar, heeds_unsampled};
 use json_lines::TickRecord;
@@ -249,9 +249,7 @@ fn is_of_other_kind(member: TruthMember) -> bool
 fn has_other_kind(entries: &[TickEntry]) -> bool
     ensures { result ≡ has_other_kind entries.now }
 {
-    entries
-        .iter()
-        .any(|e| is_of_other_kind(e.unsampled) || is_of_other_kind(e.deleting))
+    entries.iter().any(|e| is_of_other_kind(e.unsampled) || is_of_other_kind(e.deleting))
 }
 
 /// Refuses these members where the version heeds them.
