@@ -36,7 +36,7 @@ pub(crate) fn line_of(
 }
 
 /// Places of a tick line for a value: what stands before it, and behind it.
-pub(crate) const PLACES: [(&str, &str); 37] = [
+pub(crate) const PLACES: [(&str, &str); 38] = [
     (r#"{"kind":"#, r#","at":7}"#),
     (r#"{"at":7,"kind":"tick","kind":"#, "}"),
     (r#"{"kind":"tick","at":"#, "}"),
