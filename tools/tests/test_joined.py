@@ -2,10 +2,12 @@
 
 import contextlib
 import glob
+import gzip
 import io
 import json
 import os
 import random
+import re
 import shutil
 import tempfile
 from concurrent.futures import ThreadPoolExecutor
@@ -315,3 +317,44 @@ def test_recorder_that_starts_again():
                 [line[44:].strip() for line in table]), (0, "", True, wanted))
         again.clean()
     first.clean()
+
+
+def met_again(uid, is_told=True, **container):
+    """What is told of a pod of a name that is recorded for 30 s, and again from 40 s on, by when it may be another one;
+    and the texts of the traces, which may be without uids."""
+    def play(begin, uid, **container):
+        made = {"id": uid, "uid": uid, "pod": "shop/web", "name": "app", "attempt": 0, **container}
+        return {"begin": BEGIN + begin, "samples": {"-1": {"memory": 4294967296}}, "containers": [made], "pods": {
+            "shop/web": {"from": -90, "uid": uid, "spec": {"restartPolicy": "Never", "containers": [{"name": "app"}]}}}}
+
+    first = Into(play(0, "one", created=2, started=3, **container))
+    again = Into(play(40, uid, created=-5, started=-4))
+    first.into("--for", "30", "--each", "1h")
+    shutil.rmtree(again.folder)
+    shutil.copytree(first.folder, again.folder)
+    again.into("--for", "20", "--each", "10s")
+    texts = again.texts()
+    for name, text in zip(again.names(), texts):
+        with gzip.open(f"{again.folder}/{name}", "wt", encoding="utf-8") as file:
+            file.write(text if is_told else re.sub('"uid":"[a-z]*",', "", text))
+    told = run([f"{TOOLS}/story", "--traces", again.folder, "shop/web", "--without-why"])
+    lines = records(run([f"{TOOLS}/json", "--traces", again.folder]))
+    for into in (first, again):
+        into.clean()
+    return told, [[line["phase"], line["first_tick"] - BEGIN, line["deaths"]] for line in lines
+                  if line["record"] == "pod"], texts
+
+
+def test_a_pod_of_the_same_name_behind_a_gap():
+    """A pod that came under the name of another one while no recorder ran is told as another one, by its uid."""
+    (status, told, said), pods, texts = met_again("two", exited=20, code=3)
+    expect("another pod behind a gap: the uids", [re.findall('"uid":"([a-z]*)"', text) for text in texts],
+           [["one"], ["two"], ["two"]])
+    expect("another pod behind a gap", (status, said, pods), (0, "", [["Failed", 0, 1], ["Running", 40, 0]]))
+    expect("another pod behind a gap: its first lines", [line for line in told.split("\n") if "first tick" in line], [
+        "first tick 2026-01-01 00:00:00Z, ended 2026-01-01 00:00:20Z as Failed, gone before 2026-01-01 00:00:40Z",
+        "first tick 2026-01-01 00:00:40Z"])
+    expect("another pod behind a gap: its exit", told.count("died with code 3"), 1)
+    expect("another pod that runs too", met_again("two")[1], [["Running", 0, 0], ["Running", 40, 0]])
+    expect("the same pod behind a gap", met_again("one")[1], [["Running", 0, 0]])
+    expect("traces without uids", met_again("two", is_told=False)[1], [["Running", 0, 0]])

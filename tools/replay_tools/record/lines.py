@@ -49,7 +49,12 @@ def line_of(fields: dict[str, Any]) -> str:
 
 
 def pod_line(pod: Pod) -> str:
-    return line_of({"kind": "pod", "pod": pod.manifest})
+    return line_of(pod_fields(pod.known_uid(), pod.manifest))
+
+
+def pod_fields(uid: str | None, manifest: dict[str, Any]) -> dict[str, Any]:
+    """The line of a pod, with its uid, which the formats don't read, where it is known."""
+    return without_nones({"kind": "pod", "uid": uid, "pod": manifest})
 
 
 def gone_line(pod: Pod) -> str:

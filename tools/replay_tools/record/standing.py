@@ -7,7 +7,7 @@ from collections.abc import Iterator
 from typing import Any
 
 from .formats import without_nones
-from .lines import line_of
+from .lines import line_of, pod_fields
 from .runtime import EXITED, LOST_CODE, RUNNING, UNKNOWN
 
 FIELDS = {"startup": "startupProbe", "liveness": "livenessProbe", "readiness": "readinessProbe"}
@@ -206,9 +206,10 @@ class Container:
 class Pod:
     """A pod that is there, as its line has it."""
 
-    def __init__(self, manifest: Any) -> None:
+    def __init__(self, manifest: Any, uid: str | None) -> None:
         metadata, spec = manifest["metadata"], manifest["spec"]
         self.key = f"{metadata['namespace']}/{metadata['name']}"
+        self.uid = uid
         self.fields = manifest
         inits = spec.get("initContainers") or []
         self.containers = {each["name"]: Container(each, each in inits and each.get("restartPolicy") == "Always")
@@ -278,7 +279,7 @@ class Standing:
         if kind == "node":
             self.node = record
         elif kind == "pod":
-            pod = Pod(record["pod"])
+            pod = Pod(record["pod"], record.get("uid"))
             self.pods[pod.key] = pod
         elif kind == "gone":
             self.pods.pop(record["pod"], None)
@@ -311,7 +312,7 @@ class Standing:
         count = max([1, *(len(container.carried()) for container in containers)])
         yield line_of(without_nones({**self.node, "follows": follows}))
         for pod in self.pods.values():
-            yield line_of({"kind": "pod", "pod": pod.manifest()})
+            yield line_of(pod_fields(pod.uid, pod.manifest()))
         for back in reversed(range(count)):
             yield self.tick(second - back, back)
 
