@@ -97,6 +97,8 @@ class Decision:
     """that of the pod; None where it has no line in the trace"""
     reason: str
     message: str
+    uid: str | None = None
+    """that of a pod that has no line in the trace, where it is known"""
 
 
 class Lines:
@@ -418,8 +420,9 @@ def decisions_of(trace: Trace, found: dict[str, Any]) -> Iterator[Decision]:
             if isinstance(each, dict) and isinstance(each.get("pod"), str):
                 at, key = outside.whole(each.get("at"), 0, found["at"]), outside.text_of(each["pod"]) or ""
                 pods = [] if each.get("leftOut") is True else [pod for pod in trace.pods if pod.key == key]
+                reason, message, uid = (outside.text_of(each.get(name)) for name in ("reason", "message", "uid"))
                 yield Decision(kind, found["at"] if at is None else at, key, pods[-1].number if pods else None,
-                               *(outside.text_of(each.get(name)) or "" for name in ("reason", "message")))
+                               reason or "", message or "", uid)
 
 
 def samples(found: dict[str, Any], name: str) -> dict[str, int]:

@@ -10,7 +10,6 @@ from .runtime import CREATED, RUNNING, UNKNOWN
 
 if TYPE_CHECKING:
     from .asides import Asides
-    from .decisions import Decision
     from .pods import Pod
     from .runtime import Listing
 
@@ -88,11 +87,12 @@ def entry_of(pod: Pod, listings: dict[str, Listing], results: dict[tuple[str, st
     return {"pod": pod.key, "containers": containers, **said} if containers or said else None
 
 
-def told(second: int, decisions: list[tuple[str, Decision, bool]]) -> dict[str, list[dict[str, Any]]] | None:
+def told(decisions: list[tuple[Pod, bool, int]]) -> dict[str, list[dict[str, Any]]] | None:
     """What the kubelet did in a tick, which the formats don't read: {"evicted" or "refused": [..]}, or None."""
     found: dict[str, Any] = {}
-    for key, decision, is_left_out in decisions:
-        found.setdefault(decision.kind, []).append(decision.told(key, second, is_left_out))
+    for pod, is_left_out, at in decisions:
+        uid = pod.known_uid() if is_left_out else None
+        found.setdefault(pod.decision.kind, []).append(pod.decision.told(pod.key, at, is_left_out, uid))
     return found or None
 
 

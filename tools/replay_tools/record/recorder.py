@@ -83,6 +83,8 @@ class Recorder:
         self.recorded: dict[str, Recorded] = {}
         self.left_out: set[str] = set()
         self.decided: set[str] = set()
+        # the second up to which a recording before this one says what the kubelet did
+        self.told_until: float | None = None
         self.listed: list[Pod] = []
         # the second behind which the last pod of a name is no more
         self.gone_at: dict[str, int] = {}
@@ -224,8 +226,8 @@ class Recorder:
         return min([seen.moment, *created])
 
     def see_decision(self, pod: Pod, seen: Seen) -> None:
-        """The kubelet evicted or refused a pod, which is written once, unless that was before the recording. What an
-        evicted pod was running exits behind it."""
+        """The kubelet evicted or refused a pod, which is written once, unless that was before the recording and may be
+        told by one before. What an evicted pod was running exits behind it."""
         if pod.uid in self.decided:
             return
         self.decided.add(pod.uid)
@@ -234,6 +236,8 @@ class Recorder:
             self.say(f"{pod.key} was {pod.decision.kind} by the kubelet, seen at {int(seen.moment)}")
         if recorded is not None or not self.is_first:
             second = self.timeline.place_decision(pod, self.decided_at(pod, seen), recorded)
+        elif self.told_until is not None and self.told_until < int(pod.decision.moment or 0):
+            self.timeline.place_past_decision(pod, seen.moment)
         if recorded is not None:
             recorded.changes_from = second + 1
             recorded.evicted_at = second

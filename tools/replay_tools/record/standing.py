@@ -270,6 +270,8 @@ class Standing:
         self.node: dict[str, Any] | None = None
         self.pods: dict[str, Any] = {}
         self.signals: dict[str, Any] = {}
+        # what the last tick says that the kubelet did to pods that are left out
+        self.left_out: list[Any] = []
         # the second of the last tick
         self.at: int | None = None
 
@@ -287,13 +289,15 @@ class Standing:
             self.take_tick(record)
 
     def take_tick(self, tick: dict[str, Any]) -> None:
-        self.at, self.signals = tick["at"], tick.get("signals") or {}
+        self.at, self.signals, self.left_out = tick["at"], tick.get("signals") or {}, []
         entries = {entry["pod"]: entry for entry in tick["pods"]}
         for key, pod in self.pods.items():
             pod.take(entries.get(key, {}), self.at)
         for kind, decisions in (tick.get("kubelet") or {}).items():
             for decision in decisions:
-                if decision["pod"] in self.pods and not decision.get("leftOut"):
+                if decision.get("leftOut"):
+                    self.left_out.append((kind, decision))
+                elif decision["pod"] in self.pods:
                     self.pods[decision["pod"]].decisions.append((kind, decision))
 
     def assume(self, probed: dict[str, dict[str, tuple[None, bool, bool]]]) -> bool:
@@ -313,16 +317,17 @@ class Standing:
         yield line_of(without_nones({**self.node, "follows": follows}))
         for pod in self.pods.values():
             yield line_of(pod_fields(pod.uid, pod.manifest()))
+        # of a pod without a line it is told once
+        did = [each for pod in self.pods.values() for each in pod.decisions] + ([] if follows else self.left_out)
         for back in reversed(range(count)):
-            yield self.tick(second - back, back)
+            yield self.tick(second - back, back, did)
 
-    def tick(self, second: int, back: int) -> str:
+    def tick(self, second: int, back: int, did: list[Any]) -> str:
         """One of the ticks that show what is known; signals, and what the kubelet did, are in that of the border."""
         entries = [pod.entry(second, back) for pod in self.pods.values()]
         told: dict[str, Any] = {}
-        for pod in self.pods.values():
-            for kind, decision in pod.decisions if back == 0 else ():
-                told.setdefault(kind, []).append(decision)
+        for kind, decision in did if back == 0 else ():
+            told.setdefault(kind, []).append(decision)
         return line_of(without_nones({
             "kind": "tick", "at": second, "pods": [entry for entry in entries if entry is not None],
             "signals": self.signals if back == 0 else {}, "kubelet": told or None}))
