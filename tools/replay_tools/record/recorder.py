@@ -39,9 +39,9 @@ LEFT_OUT = {EVICTED: "the kubelet had evicted it before it was seen",
 
 @dataclass
 class Seen:
-    """What one look saw, at a moment in seconds since 1970. None is what was not asked, or gave no answer: `instances`
-    has the instances of each pod's uid, `counters` the counts of probes, `pods` those that are there, `low` the signals
-    near their thresholds."""
+    """What one look saw that began at a moment in seconds since 1970, and `took` so many. None is what was not asked,
+    or gave no answer: `instances` has the instances of each pod's uid, `counters` the counts of probes, `pods` those
+    that are there, `low` the signals near their thresholds."""
     moment: float
     instances: Optional[dict[str, list[Instance]]] = None
     counters: Optional[dict] = None
@@ -49,6 +49,12 @@ class Seen:
     summary: Optional[Summary] = None
     is_summary_silent: bool = False
     low: frozenset = frozenset()
+    took: float = 0
+
+    @property
+    def end(self) -> float:
+        """Up to when what it saw may have happened."""
+        return self.moment + self.took
 
 
 @dataclass
@@ -257,14 +263,14 @@ class Recorder:
         """When the kubelet decided: as the pod's status says, else when that or an exit that it led to was seen."""
         moments = [each.finished for each in (seen.instances or {}).get(pod.uid, [])
                    if each.finished is not None and each.finished > self.planned_at]
-        return min([seen.moment, *moments] if pod.decision.moment is None else [seen.moment, pod.decision.moment])
+        return min([seen.moment, *moments] if pod.decision.moment is None else [seen.end, pod.decision.moment])
 
     def see_deletion(self, recorded: Recorded, pod: Pod | None, seen: Seen) -> None:
         """A pod was told to go, or is no longer listed: nothing of it is restarted from then on, which is said once."""
         if self.format.says_gone and not recorded.is_deleting:
             recorded.is_deleting = True
             told_at = None if pod is None else pod.deleted_at
-            moment = seen.moment if told_at is None else min(told_at, seen.moment)
+            moment = seen.moment if told_at is None else min(told_at, seen.end)
             self.timeline.place_deletion(recorded.pod, max(moment, recorded.arrived))
 
     def see_going(self, recorded: Recorded, is_listed: bool, seen: Seen) -> None:
@@ -456,8 +462,9 @@ class Recorder:
         self.samples = samples
 
     def sampled_moment(self, sample: Sample, seen: Seen) -> float:
-        """When a sample was taken, within what is recorded."""
-        return seen.moment if sample.moment is None else max(self.begun, min(sample.moment, seen.moment))
+        """When a sample was taken, within what is recorded; the first tick has those of the first look."""
+        latest = seen.moment if self.is_first else seen.end
+        return seen.moment if sample.moment is None else max(self.begun, min(sample.moment, latest))
 
     @staticmethod
     def has_running(recorded: Recorded) -> bool:
@@ -467,9 +474,17 @@ class Recorder:
     # --- what is written ---
 
     def due(self, moment: float) -> Iterator[Any]:
-        """The lines whose seconds are settled at a moment, as (lines, whether a tick is among them)."""
+        """The lines whose seconds are settled at a moment, as (lines, whether a tick is among them). None are while the
+        end of an instance is looked for, which may lie in each second that is not written yet."""
         before = min(int(moment) - HELD_SECONDS, int(self.planned_at))
+        before = int(self.timeline.next_second) if self.awaits_end(moment) else before
         return self.timeline.due(before, self.silent_from(moment))
+
+    def awaits_end(self, moment: float) -> bool:
+        """Whether the end of an instance is looked for, which no second waits for longer than for a silent source."""
+        missed = (container.missed_since for recorded in self.followed() for container in recorded.containers.values())
+        return moment - self.timeline.next_second <= PATIENCE and any(
+            since is not None and moment - since <= PATIENCE for since in missed)
 
     def rest(self, moment: float) -> Iterator[Any]:
         """All lines that are left, at the end."""
