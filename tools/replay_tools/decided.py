@@ -25,6 +25,8 @@ class Decision:
     """that of the pod; None where it has no line in the trace"""
     reason: str
     message: str
+    uid: str | None = None
+    """that of a pod that has no line in the trace, where it is known"""
 
 
 def deletions(trace: Trace, present: dict[str, Pod]) -> Iterator[tuple[int, int]]:
@@ -46,5 +48,6 @@ def decisions_of(trace: Trace, found: dict[str, Any]) -> Iterator[Decision]:
             if isinstance(each, dict) and isinstance(each.get("pod"), str):
                 at, key = outside.whole(each.get("at"), 0, found["at"]), outside.text_of(each["pod"]) or ""
                 pods = [] if each.get("leftOut") is True else [pod for pod in trace.pods if pod.key == key]
+                reason, message = (outside.text_of(str(each.get(name) or "")) for name in ("reason", "message"))
                 yield Decision(kind, found["at"] if at is None else at, key, pods[-1].number if pods else None,
-                               *(outside.text_of(str(each.get(name) or "")) or "" for name in ("reason", "message")))
+                               reason or "", message or "", outside.text_of(each.get("uid")))

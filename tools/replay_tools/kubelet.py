@@ -104,6 +104,8 @@ def add_causes(trace: traces.Trace, report: reports.Report, facts: list[Fact]) -
     for fact in others:
         if fact.decision.number is None:
             fact.causes = [["the pod has no line in the trace"]]
+        elif any(since < fact.decision.at < until for since, until in trace.gaps):
+            fact.causes = [["nothing was recorded then"]]
         elif fact.eviction is not None and fact.eviction.at < fact.decision.at:
             fact.causes = [[then(facts, fact.eviction)]]
         else:

@@ -66,6 +66,8 @@ class Pod:
     """the place of its first tick"""
     gone: int | None = None
     """the place of the first tick at which it is not present any more"""
+    uid: str | None = None
+    """as a recording says it; None where it does not"""
 
     def is_present(self, place: int) -> bool:
         return self.first <= place and (self.gone is None or place < self.gone)
@@ -350,6 +352,7 @@ def trace_with(trace: Trace | None, present: dict[str, Pod], lines: Lines, begin
         pod = pod_of(len(trace.pods), found["pod"], len(trace.ticks))
         if pod.key in present:
             raise ValueError("pod")
+        pod.uid = outside.text_of(found.get("uid"))
         present[pod.key] = pod
         trace.pods.append(pod)
     elif kind == "gone":

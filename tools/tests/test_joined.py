@@ -2,17 +2,19 @@
 
 import contextlib
 import glob
+import gzip
 import io
 import json
 import os
 import random
+import re
 import shutil
 import tempfile
 from concurrent.futures import ThreadPoolExecutor
 
 from chance import BEGIN, SECONDS, play_of
 from checks import HERE, REPLAY, TOOLS, TOP, expect, expect_kept, expect_refused, read, replayed, run
-from into_plays import Into, probed_play
+from into_plays import Into, probed_play, unpacked
 from joined_plays import Folder, hourly, records, restarted_play, restarting_play, stamp
 
 from replay_tools import traces as lib_trace
@@ -315,3 +317,91 @@ def test_recorder_that_starts_again():
                 [line[44:].strip() for line in table]), (0, "", True, wanted))
         again.clean()
     first.clean()
+
+
+def met_again(uid, is_told=True, **container):
+    """What is told of a pod of a name that is recorded for 30 s, and again from 40 s on, by when it may be another one;
+    and the texts of the traces, which may be without uids."""
+    def play(begin, uid, **container):
+        made = {"id": uid, "uid": uid, "pod": "shop/web", "name": "app", "attempt": 0, **container}
+        return {"begin": BEGIN + begin, "samples": {"-1": {"memory": 4294967296}}, "containers": [made], "pods": {
+            "shop/web": {"from": -90, "uid": uid, "spec": {"restartPolicy": "Never", "containers": [{"name": "app"}]}}}}
+
+    first = Into(play(0, "one", created=2, started=3, **container))
+    again = Into(play(40, uid, created=-5, started=-4))
+    first.into("--for", "30", "--each", "1h")
+    shutil.rmtree(again.folder)
+    shutil.copytree(first.folder, again.folder)
+    again.into("--for", "20", "--each", "10s")
+    texts = again.texts()
+    for name, text in zip(again.names(), texts):
+        with gzip.open(f"{again.folder}/{name}", "wt", encoding="utf-8") as file:
+            file.write(text if is_told else re.sub('"uid":"[a-z]*",', "", text))
+    told = run([f"{TOOLS}/story", "--traces", again.folder, "shop/web", "--without-why"])
+    lines = records(run([f"{TOOLS}/json", "--traces", again.folder]))
+    for into in (first, again):
+        into.clean()
+    return told, [[line["phase"], line["first_tick"] - BEGIN, line["deaths"]] for line in lines
+                  if line["record"] == "pod"], texts
+
+
+def test_a_pod_of_the_same_name_behind_a_gap():
+    """A pod that came under the name of another one while no recorder ran is told as another one, by its uid."""
+    (status, told, said), pods, texts = met_again("two", exited=20, code=3)
+    expect("another pod behind a gap: the uids", [re.findall('"uid":"([a-z]*)"', text) for text in texts],
+           [["one"], ["two"], ["two"]])
+    expect("another pod behind a gap", (status, said, pods), (0, "", [["Failed", 0, 1], ["Running", 40, 0]]))
+    expect("another pod behind a gap: its first lines", [line for line in told.split("\n") if "first tick" in line], [
+        "first tick 2026-01-01 00:00:00Z, ended 2026-01-01 00:00:20Z as Failed, gone before 2026-01-01 00:00:40Z",
+        "first tick 2026-01-01 00:00:40Z"])
+    expect("another pod behind a gap: its exit", told.count("died with code 3"), 1)
+    expect("another pod that runs too", met_again("two")[1], [["Running", 0, 0], ["Running", 40, 0]])
+    expect("the same pod behind a gap", met_again("one")[1], [["Running", 0, 0]])
+    expect("traces without uids", met_again("two", is_told=False)[1], [["Running", 0, 0]])
+
+
+def evicted_meanwhile(at, has_begun=True, is_left=False, is_probed=True):
+    """What a recorder that goes on in a folder tells of a pod that was evicted before it began, by its status at a
+    moment: in which trace and line, and what is told of all traces together."""
+    first, play = Into(restarted_play(0)), restarted_play(60)
+    play["containers"] = [each if is_probed else {**each, "shown": {}} for each in play["containers"]
+                          if each["pod"] != "shop/c"]
+    play["pods"]["shop/c"] |= {"evicted": -30, "message": "The node was low on resource: memory. ",
+                               **({} if at is None else {"condition": at - 60})}
+    again = Into(play)
+    if has_begun:
+        first.into("--for", "30", "--each", "1h")
+        [name] = first.names()
+        if is_left:
+            cut = unpacked(f"{first.folder}/{name}") + '{"kind":"ti'
+            again.put(name.replace(".gz", ".part"), cut.encode())
+        else:
+            shutil.copy(f"{first.folder}/{name}", again.folder)
+    status, _, said = again.into("--for", "25", "--each", "10s")
+    told = [(place, line["kubelet"]) for place, text in enumerate(again.texts())
+            for line in map(json.loads, text.splitlines()) if "kubelet" in line]
+    lines = records(run([f"{TOOLS}/json", "--traces", again.folder]))
+    story = run([f"{TOOLS}/story", "--traces", again.folder, "shop/c"])
+    for tool in ("page", "timeline"):
+        answer = run([f"{TOOLS}/{tool}", "--traces", again.folder])
+        expect(f"{tool} of what was evicted in a gap", (answer[0], answer[2]), (0, ""))
+    for into in (first, again):
+        into.clean()
+    did = [(line["pod"], line["at"] - BEGIN) for line in lines if line["record"] == "decision"]
+    return (status, said.count("shop/c is left out: the kubelet had evicted it before")), told, did, story
+
+
+def test_evicted_while_no_recorder_ran():
+    """A recorder that goes on in a folder tells in its first tick whom the kubelet has evicted since."""
+    wanted = {"evicted": [{"pod": "shop/c", "uid": "uid-c", "at": BEGIN + 45, "reason": "Evicted", "leftOut": True,
+                           "message": "The node was low on resource: memory."}]}
+    for name, how in (("a trace", {}), ("a part that was left", {"is_left": True}), ("no probes", {"is_probed": False})):
+        answer, told, did, story = evicted_meanwhile(45, **how)
+        expect(f"evicted behind {name}", (answer, told, did), ((0, 1), [(1, wanted)], [("shop/c", 45)]))
+        expect(f"evicted behind {name}: the story", [line for line in story[1].split("\n") if "evict" in line][:3], [
+            "the kubelet evicted it at 2026-01-01 00:00:45Z: low on memory",
+            "the rules, over the recorded samples, differ: they do not evict it; nothing was recorded then",
+            f"{' ' * 13}00:00:45Z  -                -  the kubelet evicted it: low on memory"])
+    for name, at, has_begun in (("before the trace ended", 15, True), ("at no moment", None, True),
+                                ("before the first recording", 45, False)):
+        expect(f"evicted {name}", evicted_meanwhile(at, has_begun)[:3], ((0, 1), [], []))

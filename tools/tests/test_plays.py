@@ -11,6 +11,7 @@ from concurrent.futures import ThreadPoolExecutor
 
 from chance import BEGIN, SECONDS, play_of
 from checks import HERE, LONGEST, REPLAY, TOOLS, expect, read, run
+from into_plays import Into
 
 from replay_tools.report import read_report
 from replay_tools.traces import read_trace
@@ -288,3 +289,79 @@ def test_quiet_hour():
         sizes = list(threads.map(size_of, (10, 60)))
     page = " ".join(read(f"{TOOLS}/README.md").split())
     expect("an hour of a quiet node: its size in tools/README.md", [size for size in sizes if size not in page], [])
+
+
+# --- slow looks ---
+
+
+def slow_play(**more):
+    """A node with one pod."""
+    return {"begin": BEGIN, "pods": {"shop/web": {"from": -90, "spec": {"containers": [{"name": "app"}]}}},
+            "containers": [], "samples": {"-1": {"memory": 4294967296}}, **more}
+
+
+def ticks_of(trace):
+    return [line for line in map(json.loads, trace.splitlines()) if line["kind"] == "tick"]
+
+
+def test_samples_of_slow_looks():
+    """A sample stands at its own moment, also where it was taken behind the begin of the look that saw it."""
+    for words in ([], ["--look", "5"]):
+        play = slow_play(slow={"probes": 3, "summary": 1},
+                         samples={str(at): {"memory": 4294967296 - 4096 * max(at, 0)} for at in range(-1, 61)})
+        status, trace, said = recorded(play, "--for", "60", "--standard", *words)
+        expect("samples of slow looks: its status", (status, said), (0, ""))
+        values = [(tick["at"] - BEGIN, (4294967296 - tick["signals"]["memory.available"]) // 4096)
+                  for tick in ticks_of(trace)[1:]]
+        first = {value: at for at, value in reversed(values)}
+        expect("samples of slow looks: how many", len(first) > 4, True)
+        expect(f"samples of slow looks {words}", {value: at for value, at in first.items() if value != at}, {})
+
+
+def test_what_happens_in_slow_looks():
+    """Also an exit, in a folder of traces too, and an eviction stand at their own moments there."""
+    ended = {"pod": "shop/web", "name": "app", "attempt": 0, "id": "a", "created": 2, "started": 3, "code": 7,
+             "exited": 16.5}
+    play = slow_play(slow={"probes": 3}, containers=[ended])
+    expect("an exit in a slow look", codes_of(recorded(play, "--for", "40")), (0, [], {0: (7, 16)}))
+    into = Into(play)
+    status, _, said = into.into("--for", "40", "--each", "1h")
+    [text] = into.texts()
+    into.clean()
+    expect("an exit in a slow look, in a folder", codes_of((status, text, said)), (0, [], {0: (7, 16)}))
+    play = slow_play(slow={"probes": 1, "pods": 3})
+    play["pods"]["shop/web"] |= {"evicted": 12, "condition": 12, "message": "The node was low on resource: memory. "}
+    status, trace, _ = recorded(play, "--for", "40")
+    at = [each["at"] - BEGIN for tick in ticks_of(trace) for each in tick.get("kubelet", {}).get("evicted", [])]
+    expect("an eviction in a slow look", (status, at), (0, [12]))
+
+
+def codes_of(answer):
+    """The status of a recording, what it says of codes that are lost, and each exit that it has: its attempt, its code
+    and the second at which it stands."""
+    (status, trace, said), found = answer, {}
+    for tick in ticks_of(trace):
+        for entry in tick["pods"]:
+            for each in entry["containers"]:
+                if each["state"] == "CONTAINER_EXITED":
+                    found.setdefault(each["attempt"], (each["exitCode"], tick["at"] - BEGIN))
+    return status, [line for line in said.splitlines() if "137" in line], found
+
+
+def test_codes_that_a_status_has():
+    """The code of an instance that was removed before it was asked for is the status's, also where that has it only
+    some looks later, where the list of pods is silent meanwhile, or where the pod is listed no more by then."""
+    ends = {"pod": "shop/web", "name": "app", "attempt": 0, "id": "a", "created": 2, "started": 3, "code": 7}
+    silent = [{"kind": "pods", "from": 12, "until": 25, "text": "failed"}]
+    for name, look, container, more in (
+        ("a look later", 5, {"told": 18}, {}),
+        ("two looks later", 5, {"told": 23}, {}),
+        ("slow answers", 1, {"told": 26}, {"slow": {"probes": 3, "pods": 3}}),
+        ("a silent list of pods", 1, {"told": 14}, {"fails": silent}),
+        ("gone at the inspection", 5, {"created": 11, "started": 11.5, "lost": 15, "removed": 16, "told": 16}, {}),
+        ("a pod that is gone", 5, {"told": 12.5}, {"slow": {"pods": 3}, "until": 14}),
+    ):
+        play = slow_play(containers=[{**ends, "exited": 12.5, "removed": 13, **container}], **more)
+        play["pods"]["shop/web"]["until"] = play.get("until", 1000)
+        expect(f"a code of the status, {name}", codes_of(recorded(play, "--for", "60", "--look", str(look))),
+               (0, [], {0: (7, 12)}))

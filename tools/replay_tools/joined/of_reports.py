@@ -3,8 +3,8 @@ before is told once."""
 
 from __future__ import annotations
 
-from dataclasses import replace
-from typing import Any, TYPE_CHECKING
+from dataclasses import dataclass, replace
+from typing import TYPE_CHECKING
 
 from replay_tools import report as reports
 from replay_tools.joined import known, pods as joined_pods
@@ -16,12 +16,20 @@ if TYPE_CHECKING:
 STATES = {"threshold": ("active", "cleared"), "pressure": ("True", "False")}
 
 
+@dataclass
+class Present:
+    """A pod that is there at the end of a part, and its uid, where that is known."""
+
+    pod: reports.Pod
+    uid: str | None
+
+
 def join_reports(found: list[parts.Part], borders: list[reports.Border]) -> tuple[reports.Report, list[dict[int, int]]]:
     """The report of all parts, and for each part the numbers that its pods have in it."""
     first = found[0].report
     made = reports.Report(first.node, 0, 0, borders=list(borders))
     numbers: list[dict[int, int]] = []
-    present: dict[str, reports.Pod] = {}
+    present: dict[str, Present] = {}
     for part, border in zip(found, [None, *borders]):
         numbers.append(take_pods(made, part, border, present))
         take_node(made, part, border)
@@ -38,13 +46,13 @@ def join_reports(found: list[parts.Part], borders: list[reports.Border]) -> tupl
 
 
 def take_pods(made: reports.Report, part: parts.Part, border: reports.Border | None,
-              present: dict[Any, Any]) -> dict[int, int]:
+              present: dict[str, Present]) -> dict[int, int]:
     """Takes the pods of a part; those that were there at the end of the one before go on. Gives their numbers."""
     numbers = {}
     for pod in part.report.pods:
-        before = present.get(pod.key)
-        if before is not None and is_there(part, pod, border) and joined_pods.is_same(before, pod, border.is_gap):
-            del present[pod.key]
+        there = present.get(pod.key)
+        if there is not None and is_there(part, pod, border) and is_same(there, part, pod, border):
+            before = present.pop(pod.key).pod
             made.events += joined_pods.go_on(before, pod, border, part)
         else:
             before = joined_pods.begun(pod, len(made.pods))
@@ -56,8 +64,8 @@ def take_pods(made: reports.Report, part: parts.Part, border: reports.Border | N
             made.events += before.events
         before.left = pod.left
         numbers[pod.number] = before.number
-    for pod in present.values():
-        pod.left = border.at
+    for gone in present.values():
+        gone.pod.left = border.at
     return numbers
 
 
@@ -66,13 +74,25 @@ def is_there(part: parts.Part, pod: reports.Pod, border: reports.Border | None) 
     return reports.first_tick(pod) <= max(part.known_until, border.at)
 
 
-def present_at_end(made: reports.Report, part: parts.Part, numbers: dict[int, int]) -> dict[str, reports.Pod]:
+def is_same(there: Present, part: parts.Part, pod: reports.Pod, border: reports.Border) -> bool:
+    """Whether a pod of a part is the one of its key that was there at the end of the one before. Where both say their
+    uids these are the same."""
+    uid = uid_in(part, pod)
+    is_other = None not in (uid, there.uid) and uid != there.uid
+    return not is_other and joined_pods.is_same(there.pod, pod, border.is_gap)
+
+
+def uid_in(part: parts.Part, pod: reports.Pod) -> str | None:
+    return None if part.trace is None else part.trace.pods[pod.number].uid
+
+
+def present_at_end(made: reports.Report, part: parts.Part, numbers: dict[int, int]) -> dict[str, Present]:
     """The pods that a part has at its end, by their keys."""
     found = {}
     for pod in part.report.pods:
         gone = None if part.trace is None else part.trace.pods[pod.number].gone
         if pod.left is None and gone is None:
-            found[pod.key] = made.pods[numbers[pod.number]]
+            found[pod.key] = Present(made.pods[numbers[pod.number]], uid_in(part, pod))
     return found
 
 

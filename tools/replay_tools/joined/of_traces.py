@@ -72,11 +72,19 @@ def take_pods(made: traces.Trace, trace: traces.Trace, of: dict[int, int], begin
 
 
 def take_decisions(made: traces.Trace, trace: traces.Trace, of: dict[int, int]) -> None:
-    """A pod that the kubelet has evicted, and that is still there, is told once more at a border."""
+    """A pod that the kubelet has evicted, and that is still there, is told once more at a border. One that it evicted in
+    a gap has no line behind it, and is the one of its uid before."""
     told = {(one.kind, one.pod, one.at) for one in made.decisions}
     for one in trace.decisions:
         if (one.kind, one.pod, one.at) not in told:
-            made.decisions.append(replace(one, number=None if one.number is None else of[one.number]))
+            number = number_of(made, one) if one.number is None else of[one.number]
+            made.decisions.append(replace(one, number=number))
+
+
+def number_of(made: traces.Trace, decision: traces.Decision) -> int | None:
+    """The number of a pod that has no line in the trace of a decision, but in one before."""
+    return next((pod.number for pod in made.pods if None not in (pod.uid, decision.uid)
+                 and (pod.uid, pod.key) == (decision.uid, decision.pod)), None)
 
 
 def take_reasons(made: traces.Trace, trace: traces.Trace, of: dict[int, int], border: reports.Border | None) -> None:

@@ -33,7 +33,7 @@ def begun(pod: reports.Pod, number: int) -> reports.Pod:
 
 def is_same(pod: reports.Pod, found: reports.Pod, is_behind_gap: bool) -> bool:
     """Whether a pod of the next part can be the one that was there at the end of the one before: by its name and
-    containers, since traces have no uid, and over a gap no attempt is lower."""
+    containers, and over a gap no attempt is lower."""
     names = [[container.name for container in each.containers] for each in (pod, found)]
     if names[0] != names[1]:
         return False

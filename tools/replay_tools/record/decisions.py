@@ -25,10 +25,10 @@ class Decision:
     reason: str
     message: str
 
-    def told(self, key: str, second: int, is_left_out: bool) -> dict[str, Any]:
-        """What a tick says of it; a pod that is left out has no line in the trace."""
-        return without_nones({"pod": key, "at": second, "reason": self.reason, "message": self.message or None,
-                              "leftOut": is_left_out or None})
+    def told(self, key: str, second: int, is_left_out: bool, uid: str | None) -> dict[str, Any]:
+        """What a tick says of it; a pod that is left out has no line in the trace, and may have one in another."""
+        return without_nones({"pod": key, "uid": uid, "at": second, "reason": self.reason,
+                              "message": self.message or None, "leftOut": is_left_out or None})
 
 
 def decision_of(status: dict[str, Any]) -> Decision | None:

@@ -13,7 +13,7 @@ from .answered import Answered
 from .folder import Folder, GivingWay, NotPacked, Refused, why
 from .formats import MOST_BYTES, MOST_PODS
 from .lasting import LastingRecorder, forget_strangers, set_back
-from .left import Left, damages
+from .left import Left, damages, end_of_newest
 from .lines import line_of
 from .program import Ended, Output, Recording, watch
 from .standing import Standing
@@ -382,6 +382,7 @@ class LastingRecording(Recording):
     def run(self) -> None:
         with self.output.undisturbed():
             Left(self.output.folder).end(lambda: self.output.is_stopped)
+            self.recorder.told_until = end_of_newest(self.output.folder)
         if self.output.is_stopped:
             return
         try:

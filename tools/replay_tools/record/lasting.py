@@ -60,7 +60,7 @@ class LastingRecorder(Recorder):
         self.waiting: set[str] = set()
 
     def take(self, seen: Seen) -> None:
-        self.timeline.now = seen.moment
+        self.timeline.now = seen.end
         super().take(seen)
 
     def foreseen(self, moment: float) -> list[tuple[list[str], bool]]:

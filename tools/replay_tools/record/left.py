@@ -14,7 +14,7 @@ from dataclasses import dataclass
 from typing import Any, BinaryIO
 
 from .folder import PACKED, PACKING, PIECE, STAMP, Folder, Trace, why
-from .formats import LONGEST_LINE
+from .formats import LONGEST_LINE, MOST_BYTES
 from .part import PART, fields_of, opened, put
 
 NODE_LINE = b'{"kind":"node"'
@@ -214,6 +214,30 @@ def is_same(packed: str, plain: str) -> bool:
                     return True
     except DAMAGES:
         return False
+
+
+def end_of_newest(folder: Folder) -> float | None:
+    """The second of the last tick of the newest trace of a folder; None where there is none, or it can't be read."""
+    traces = sorted([*folder.traces(), *folder.traces(PART)], key=lambda trace: (trace.begun, trace.number))
+    if not traces:
+        return None
+    try:
+        with opened(os.path.join(folder.path, traces[-1].name)) as file:
+            packed = gzip.GzipFile(fileobj=file) if traces[-1].name.endswith(PACKED) else None
+            found = last_of(end_of(packed or file))
+    except DAMAGES:
+        return None
+    return found if found >= 0 else None
+
+
+def end_of(file: BinaryIO | gzip.GzipFile) -> bytes:
+    """The end of a trace, in which its last line is; nothing of what is longer than one."""
+    size, end = 0, b""
+    while piece := file.read(AT_ONCE):
+        size, end = size + len(piece), (end + piece)[-2 * LONGEST_LINE:]
+        if size > MOST_BYTES:
+            return b""
+    return end
 
 
 def damages(folder: Folder) -> Iterator[None]:

@@ -10,7 +10,6 @@ from .runtime import CREATED, RUNNING, UNKNOWN
 
 if TYPE_CHECKING:
     from .asides import Asides
-    from .decisions import Decision
     from .pods import Pod
     from .runtime import Listing
 
@@ -49,7 +48,12 @@ def line_of(fields: dict[str, Any]) -> str:
 
 
 def pod_line(pod: Pod) -> str:
-    return line_of({"kind": "pod", "pod": pod.manifest})
+    return line_of(pod_fields(pod.known_uid(), pod.manifest))
+
+
+def pod_fields(uid: str | None, manifest: dict[str, Any]) -> dict[str, Any]:
+    """The line of a pod, with its uid, which the formats don't read, where it is known."""
+    return without_nones({"kind": "pod", "uid": uid, "pod": manifest})
 
 
 def gone_line(pod: Pod) -> str:
@@ -83,11 +87,12 @@ def entry_of(pod: Pod, listings: dict[str, Listing], results: dict[tuple[str, st
     return {"pod": pod.key, "containers": containers, **said} if containers or said else None
 
 
-def told(second: int, decisions: list[tuple[str, Decision, bool]]) -> dict[str, list[dict[str, Any]]] | None:
+def told(decisions: list[tuple[Pod, bool, int]]) -> dict[str, list[dict[str, Any]]] | None:
     """What the kubelet did in a tick, which the formats don't read: {"evicted" or "refused": [..]}, or None."""
     found: dict[str, Any] = {}
-    for key, decision, is_left_out in decisions:
-        found.setdefault(decision.kind, []).append(decision.told(key, second, is_left_out))
+    for pod, is_left_out, at in decisions:
+        uid = pod.known_uid() if is_left_out else None
+        found.setdefault(pod.decision.kind, []).append(pod.decision.told(pod.key, at, is_left_out, uid))
     return found or None
 
 

@@ -10,7 +10,7 @@ from .near import Nearness
 from .pods import pods_of
 from .probes import counters_of
 from .reasons import better
-from .recorder import Seen
+from .recorder import PATIENCE, Seen
 from .runtime import CREATED, EXITED, RUNNING, inspected_of, instances_of
 from .sources import Failed
 from .summary import summary_of
@@ -18,7 +18,7 @@ from .summary import summary_of
 if TYPE_CHECKING:
     from .pods import Pod
     from .reasons import Reason
-    from .runtime import Instance
+    from .runtime import End, Instance
     from .sources import Sources
     from .summary import Summary
 
@@ -31,8 +31,10 @@ PRESSED_PODS_SECONDS = {True: 1, False: 5}
 # where nothing has happened for some seconds the runtime is asked again after more than one, as its moments are exact
 STILL_SECONDS = 30
 LIST_SECONDS = 1.5
-# how long the end of an instance that the runtime has removed is looked for in its pod's status, which may come later
+# how long, and in how many more answers, the end of an instance that the runtime has removed is looked for in its pod's
+# status, which may come later
 STATUS_SECONDS = 3
+STATUS_ANSWERS = 2
 # a list is asked for anew so often where a container has gone between it and `crictl inspect`
 MOST_LISTS = 3
 # what is silent for so long is said again, as often
@@ -49,11 +51,13 @@ MEANWHILE = {
 
 class Observer:
     """Asks the sources of a node, the summary every some seconds where it does not count more; `say` takes what is said
-    of those that fail."""
+    of those that fail, and `now` gives the moment, by which a look has lasted."""
 
-    def __init__(self, sources: Sources, summary_seconds: int, say: Callable[..., None]) -> None:
+    def __init__(self, sources: Sources, summary_seconds: int, say: Callable[..., None],
+                 now: Callable[[], float] | None = None) -> None:
         self.sources = sources
         self.say = say
+        self.now = now
         self.seconds = {PODS: PODS_SECONDS, SUMMARY: max(SUMMARY_SECONDS, summary_seconds)}
         self.near = Nearness()
         self.decided: set[str] = set()
@@ -64,9 +68,12 @@ class Observer:
         self.answered: Callable[[bool], None] | None = None
         self.details: dict[str, Any] = {}
         self.states: dict[str, Any] = {}
-        # the instances whose code is not known yet, and since when the runtime has them no more
+        # the instances whose code is not known yet, how pods' statuses say that instances have ended, and since when, and
+        # since which answer of the list of pods, the runtime has those no more
         self.unended: dict[str, Any] = {}
-        self.missed_at: dict[str, float] = {}
+        self.ends: dict[str, End] = {}
+        self.missed_at: dict[str, tuple[float, int]] = {}
+        self.pods_answers = 0
         self.listed_pods: dict[str, Pod] = {}
         self.instances: dict[str, list[Instance]] | None = None
         self.counters: dict | None = None
@@ -116,6 +123,7 @@ class Observer:
         if self.wants_summary(seen.pods, moment):
             seen.summary = self.attempt(SUMMARY, moment, lambda: self.take_summary(moment))
         seen.is_summary_silent, seen.low = SUMMARY in self.silent, self.near.low
+        seen.took = 0 if self.now is None else max(self.now() - moment, 0)
         if self.answered is not None:
             self.answered(RUNTIME not in self.silent and not self.silent.keys() >= KUBELETS)
         return seen
@@ -181,6 +189,11 @@ class Observer:
         pods = pods_of(self.sources.pods(), self.sources.pods_name())
         # a pod that is no longer listed stays known, since its containers may have yet to exit
         self.listed_pods = {pod.uid: pod for pod in pods}
+        self.pods_answers += 1
+        # a pod may be listed no more when the runtime's list shows that its instance has gone
+        self.ends = {identity: end for identity, end in self.ends.items() if identity in self.unended}
+        for pod in pods:
+            self.ends.update(pod.ends or {})
         self.known |= set(self.listed_pods)
         return pods
 
@@ -203,9 +216,13 @@ class Observer:
         """The instances by their pods' uids, with the moments and codes that `crictl inspect` says. One that it does
         not know is asked for by a fresh list, in which it is no more."""
         for _ in range(MOST_LISTS):
-            failures = [failed for failed in map(self.inspect, filter(self.wants_inspection, listed)) if failed]
+            asked = [(each, self.inspect(each)) for each in listed if self.wants_inspection(each)]
+            failures = [failed for _, failed in asked if failed]
             if not failures:
                 break
+            if self.instances is not None:
+                # one that is no more when it is asked for may have its end in its pod's status
+                self.unended.update({each.id: each for each, failed in asked if failed})
             listed = instances_of(self.sources.listed())
         else:
             self.say(f"{int(moment)}: {failures[0]}; it is asked again at each look", ("inspect", str(failures[0])))
@@ -226,23 +243,28 @@ class Observer:
         status of their pod says so, and for some seconds with no code where it may say so yet."""
         there = {each.id for each in listed}
         removed = [each for identity, each in self.unended.items() if identity not in there]
-        self.missed_at = {each.id: self.missed_at.get(each.id, moment) for each in removed}
+        self.missed_at = {each.id: self.missed_at.get(each.id, (moment, self.pods_answers)) for each in removed}
         found = [self.ended(each, moment) for each in removed]
         return sorted([*listed, *filter(None, found)], key=lambda each: (each.created, each.attempt))
 
     def ended(self, instance: Instance, moment: float) -> Instance | None:
         """An instance that the runtime has no more, by its pod's status, else since when it is missed; None where that
         won't say how it ended."""
-        pod = self.listed_pods.get(instance.uid)
-        ends = None if pod is None else pod.ends
-        if ends is not None and instance.id in ends:
-            self.details[instance.id] = ends[instance.id].of(instance)
-        elif ends is None or moment - self.missed_at[instance.id] > STATUS_SECONDS:
+        pod, end = self.listed_pods.get(instance.uid), self.ends.get(instance.id)
+        since, answers = self.missed_at[instance.id]
+        if end is not None:
+            self.details[instance.id] = end.of(instance)
+        elif pod is None or pod.ends is None or self.is_given_up(moment - since, self.pods_answers - answers):
             del self.unended[instance.id]
             return None
         else:
             self.asked_at.pop(PODS, None)
-        return replace(instance, state=EXITED, finished=self.missed_at[instance.id])
+        return replace(instance, state=EXITED, finished=since)
+
+    @staticmethod
+    def is_given_up(seconds: float, answers: int) -> bool:
+        """Whether a status has had the time, and the answers, to say how an instance ended."""
+        return seconds > STATUS_SECONDS and (answers >= STATUS_ANSWERS or seconds > PATIENCE)
 
     def reason(self, instance: Instance) -> Reason | None:
         """Why an instance ended: what the runtime says, or its pod's status where that says more."""

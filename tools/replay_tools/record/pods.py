@@ -3,6 +3,7 @@ read and no others, so neither its status nor what a container is told in its en
 
 from __future__ import annotations
 
+import re
 from collections.abc import Iterator
 from dataclasses import dataclass, field
 from typing import Any, Optional, TYPE_CHECKING
@@ -22,6 +23,7 @@ PROBE_FIELDS = ("initialDelaySeconds", "periodSeconds", "timeoutSeconds", "succe
 RESOURCES = ("cpu", "memory", "ephemeral-storage")
 MOST_CONTAINERS = 16
 MOST_SECONDS = 2 ** 31 - 1
+UID = re.compile(r"[0-9A-Za-z-]{1,64}")
 
 
 @dataclass(frozen=True)
@@ -42,6 +44,10 @@ class Pod:
     ends: Optional[dict] = field(default=None, compare=False)
     waits: dict = field(default_factory=dict, compare=False)
     probed: dict = field(default_factory=dict, compare=False)
+
+    def known_uid(self) -> str | None:
+        """Its uid as a trace has it; None where its source says none, or one that no cluster gives."""
+        return self.uid if UID.fullmatch(self.uid) and self.uid != str(None) else None
 
     def containers(self) -> list[str]:
         """The names of its containers, init containers first."""

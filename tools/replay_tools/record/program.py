@@ -115,7 +115,7 @@ class Recording:
         self.sources = sources
         self.clock = clock
         self.output = output
-        self.observer = Observer(sources, words.every, say)
+        self.observer = Observer(sources, words.every, say, clock.now)
         self.recorder = Recorder(words.format, words.every, say)
         self.begun: float | None = None
 

@@ -39,9 +39,9 @@ LEFT_OUT = {EVICTED: "the kubelet had evicted it before it was seen",
 
 @dataclass
 class Seen:
-    """What one look saw, at a moment in seconds since 1970. None is what was not asked, or gave no answer: `instances`
-    has the instances of each pod's uid, `counters` the counts of probes, `pods` those that are there, `low` the signals
-    near their thresholds."""
+    """What one look saw that began at a moment in seconds since 1970, and `took` so many. None is what was not asked,
+    or gave no answer: `instances` has the instances of each pod's uid, `counters` the counts of probes, `pods` those
+    that are there, `low` the signals near their thresholds."""
     moment: float
     instances: Optional[dict[str, list[Instance]]] = None
     counters: Optional[dict] = None
@@ -49,6 +49,12 @@ class Seen:
     summary: Optional[Summary] = None
     is_summary_silent: bool = False
     low: frozenset = frozenset()
+    took: float = 0
+
+    @property
+    def end(self) -> float:
+        """Up to when what it saw may have happened."""
+        return self.moment + self.took
 
 
 @dataclass
@@ -83,6 +89,8 @@ class Recorder:
         self.recorded: dict[str, Recorded] = {}
         self.left_out: set[str] = set()
         self.decided: set[str] = set()
+        # the second up to which a recording before this one says what the kubelet did
+        self.told_until: float | None = None
         self.listed: list[Pod] = []
         # the second behind which the last pod of a name is no more
         self.gone_at: dict[str, int] = {}
@@ -224,8 +232,8 @@ class Recorder:
         return min([seen.moment, *created])
 
     def see_decision(self, pod: Pod, seen: Seen) -> None:
-        """The kubelet evicted or refused a pod, which is written once, unless that was before the recording. What an
-        evicted pod was running exits behind it."""
+        """The kubelet evicted or refused a pod, which is written once, unless that was before the recording and may be
+        told by one before. What an evicted pod was running exits behind it."""
         if pod.uid in self.decided:
             return
         self.decided.add(pod.uid)
@@ -234,6 +242,8 @@ class Recorder:
             self.say(f"{pod.key} was {pod.decision.kind} by the kubelet, seen at {int(seen.moment)}")
         if recorded is not None or not self.is_first:
             second = self.timeline.place_decision(pod, self.decided_at(pod, seen), recorded)
+        elif self.told_until is not None and self.told_until < int(pod.decision.moment or 0):
+            self.timeline.place_past_decision(pod, seen.moment)
         if recorded is not None:
             recorded.changes_from = second + 1
             recorded.evicted_at = second
@@ -253,14 +263,14 @@ class Recorder:
         """When the kubelet decided: as the pod's status says, else when that or an exit that it led to was seen."""
         moments = [each.finished for each in (seen.instances or {}).get(pod.uid, [])
                    if each.finished is not None and each.finished > self.planned_at]
-        return min([seen.moment, *moments] if pod.decision.moment is None else [seen.moment, pod.decision.moment])
+        return min([seen.moment, *moments] if pod.decision.moment is None else [seen.end, pod.decision.moment])
 
     def see_deletion(self, recorded: Recorded, pod: Pod | None, seen: Seen) -> None:
         """A pod was told to go, or is no longer listed: nothing of it is restarted from then on, which is said once."""
         if self.format.says_gone and not recorded.is_deleting:
             recorded.is_deleting = True
             told_at = None if pod is None else pod.deleted_at
-            moment = seen.moment if told_at is None else min(told_at, seen.moment)
+            moment = seen.moment if told_at is None else min(told_at, seen.end)
             self.timeline.place_deletion(recorded.pod, max(moment, recorded.arrived))
 
     def see_going(self, recorded: Recorded, is_listed: bool, seen: Seen) -> None:
@@ -452,8 +462,9 @@ class Recorder:
         self.samples = samples
 
     def sampled_moment(self, sample: Sample, seen: Seen) -> float:
-        """When a sample was taken, within what is recorded."""
-        return seen.moment if sample.moment is None else max(self.begun, min(sample.moment, seen.moment))
+        """When a sample was taken, within what is recorded; the first tick has those of the first look."""
+        latest = seen.moment if self.is_first else seen.end
+        return seen.moment if sample.moment is None else max(self.begun, min(sample.moment, latest))
 
     @staticmethod
     def has_running(recorded: Recorded) -> bool:
@@ -463,9 +474,17 @@ class Recorder:
     # --- what is written ---
 
     def due(self, moment: float) -> Iterator[Any]:
-        """The lines whose seconds are settled at a moment, as (lines, whether a tick is among them)."""
+        """The lines whose seconds are settled at a moment, as (lines, whether a tick is among them). None are while the
+        end of an instance is looked for, which may lie in each second that is not written yet."""
         before = min(int(moment) - HELD_SECONDS, int(self.planned_at))
+        before = int(self.timeline.next_second) if self.awaits_end(moment) else before
         return self.timeline.due(before, self.silent_from(moment))
+
+    def awaits_end(self, moment: float) -> bool:
+        """Whether the end of an instance is looked for, which no second waits for longer than for a silent source."""
+        missed = (container.missed_since for recorded in self.followed() for container in recorded.containers.values())
+        return moment - self.timeline.next_second <= PATIENCE and any(
+            since is not None and moment - since <= PATIENCE for since in missed)
 
     def rest(self, moment: float) -> Iterator[Any]:
         """All lines that are left, at the end."""

@@ -167,7 +167,8 @@ class Container:
             newer = instances
         else:
             newer = [each for each in instances if (each.created, each.attempt) >= self.order()]
-        made = self.vanished(newer, moment)
+        missed_since, self.missed_since = self.missed_since, None
+        made = self.vanished(newer, moment if missed_since is None else missed_since, moment)
         for instance in newer:
             if instance.state == EXITED and instance.exit_code is None:
                 self.missed_since = instance.finished
@@ -178,7 +179,7 @@ class Container:
     def order(self) -> tuple[int, int]:
         return self.newest.created, self.newest.attempt
 
-    def vanished(self, newer: list[Instance], moment: float) -> list[Change]:
+    def vanished(self, newer: list[Instance], missed_since: float, moment: float) -> list[Change]:
         """The newest instance so far is no longer listed. Where it had not exited its code is lost; the successor's
         listing says so, or that none is there."""
         if not self.is_listed or any(each.id == self.newest.id for each in newer):
@@ -188,8 +189,7 @@ class Container:
         if not has_exited:
             self.say(f"{self.place}: attempt {self.attempt} was removed before its exit code was known, which counts "
                      f"as {LOST_CODE}")
-        moment = moment if has_exited or self.missed_since is None else self.missed_since
-        return [] if newer else [Change(moment, None, has_exited)]
+        return [] if newer else [Change(moment if has_exited else missed_since, None, has_exited)]
 
     def begin(self, instance: Instance) -> None:
         """Another instance is the newest. The formats want a greater attempt for each."""
@@ -203,7 +203,7 @@ class Container:
             self.say(f"{self.place}: {missed} {instances} before attempt {number} came and went unseen")
         self.shift = number - instance.attempt
         self.attempt = number
-        self.newest, self.is_listed, self.missed_since = replace(instance, state=CREATED), True, None
+        self.newest, self.is_listed = replace(instance, state=CREATED), True
         self.has_started = self.is_unknown = False
 
     def of_instance(self, instance: Instance, moment: float) -> list[Change]:

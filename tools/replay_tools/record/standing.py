@@ -7,7 +7,7 @@ from collections.abc import Iterator
 from typing import Any
 
 from .formats import without_nones
-from .lines import line_of
+from .lines import line_of, pod_fields
 from .runtime import EXITED, LOST_CODE, RUNNING, UNKNOWN
 
 FIELDS = {"startup": "startupProbe", "liveness": "livenessProbe", "readiness": "readinessProbe"}
@@ -206,9 +206,10 @@ class Container:
 class Pod:
     """A pod that is there, as its line has it."""
 
-    def __init__(self, manifest: Any) -> None:
+    def __init__(self, manifest: Any, uid: str | None) -> None:
         metadata, spec = manifest["metadata"], manifest["spec"]
         self.key = f"{metadata['namespace']}/{metadata['name']}"
+        self.uid = uid
         self.fields = manifest
         inits = spec.get("initContainers") or []
         self.containers = {each["name"]: Container(each, each in inits and each.get("restartPolicy") == "Always")
@@ -269,6 +270,8 @@ class Standing:
         self.node: dict[str, Any] | None = None
         self.pods: dict[str, Any] = {}
         self.signals: dict[str, Any] = {}
+        # what the last tick says that the kubelet did to pods that are left out
+        self.left_out: list[Any] = []
         # the second of the last tick
         self.at: int | None = None
 
@@ -278,7 +281,7 @@ class Standing:
         if kind == "node":
             self.node = record
         elif kind == "pod":
-            pod = Pod(record["pod"])
+            pod = Pod(record["pod"], record.get("uid"))
             self.pods[pod.key] = pod
         elif kind == "gone":
             self.pods.pop(record["pod"], None)
@@ -286,13 +289,15 @@ class Standing:
             self.take_tick(record)
 
     def take_tick(self, tick: dict[str, Any]) -> None:
-        self.at, self.signals = tick["at"], tick.get("signals") or {}
+        self.at, self.signals, self.left_out = tick["at"], tick.get("signals") or {}, []
         entries = {entry["pod"]: entry for entry in tick["pods"]}
         for key, pod in self.pods.items():
             pod.take(entries.get(key, {}), self.at)
         for kind, decisions in (tick.get("kubelet") or {}).items():
             for decision in decisions:
-                if decision["pod"] in self.pods and not decision.get("leftOut"):
+                if decision.get("leftOut"):
+                    self.left_out.append((kind, decision))
+                elif decision["pod"] in self.pods:
                     self.pods[decision["pod"]].decisions.append((kind, decision))
 
     def assume(self, probed: dict[str, dict[str, tuple[None, bool, bool]]]) -> bool:
@@ -311,17 +316,18 @@ class Standing:
         count = max([1, *(len(container.carried()) for container in containers)])
         yield line_of(without_nones({**self.node, "follows": follows}))
         for pod in self.pods.values():
-            yield line_of({"kind": "pod", "pod": pod.manifest()})
+            yield line_of(pod_fields(pod.uid, pod.manifest()))
+        # of a pod without a line it is told once
+        did = [each for pod in self.pods.values() for each in pod.decisions] + ([] if follows else self.left_out)
         for back in reversed(range(count)):
-            yield self.tick(second - back, back)
+            yield self.tick(second - back, back, did)
 
-    def tick(self, second: int, back: int) -> str:
+    def tick(self, second: int, back: int, did: list[Any]) -> str:
         """One of the ticks that show what is known; signals, and what the kubelet did, are in that of the border."""
         entries = [pod.entry(second, back) for pod in self.pods.values()]
         told: dict[str, Any] = {}
-        for pod in self.pods.values():
-            for kind, decision in pod.decisions if back == 0 else ():
-                told.setdefault(kind, []).append(decision)
+        for kind, decision in did if back == 0 else ():
+            told.setdefault(kind, []).append(decision)
         return line_of(without_nones({
             "kind": "tick", "at": second, "pods": [entry for entry in entries if entry is not None],
             "signals": self.signals if back == 0 else {}, "kubelet": told or None}))

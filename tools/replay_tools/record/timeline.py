@@ -73,6 +73,12 @@ def keeping(start: Change, exit_before: Change) -> Change:
     return replace(start, listing=replace(start.listing, ended=exit_before.listing))
 
 
+def is_eviction(told: tuple[Pod, bool, int], second: int) -> bool:
+    """Whether what a tick tells is that the kubelet evicted a pod at its second."""
+    pod, _, at = told
+    return pod.decision.kind == EVICTED and at == second
+
+
 def is_exit(change: Change) -> bool:
     return change.listing is None or change.listing.state == EXITED
 
@@ -154,8 +160,14 @@ class Timeline:
     def place_decision(self, pod: Pod, moment: float, recorded: Recorded | None) -> int:
         """What the kubelet did to a pod, which is recorded or left out; the second of its tick."""
         second = self.second_of(moment, *([] if recorded is None else [recorded.arrived]))
-        self.tick(second, True).decisions.append((pod.key, pod.decision, recorded is None))
+        self.tick(second, True).decisions.append((pod, recorded is None, second))
         return second
+
+    def place_past_decision(self, pod: Pod, moment: float) -> None:
+        """What the kubelet did before a moment, by its own, to a pod that is left out."""
+        second = self.second_of(moment)
+        at = min(int(pod.decision.moment), second)
+        self.tick(second, True).decisions.append((pod, True, at))
 
     def place_signal(self, moment: float, signal: str, value: Any, is_wanted: bool) -> None:
         """A sample of what the node has left, or None where it has no value from then on."""
@@ -281,7 +293,7 @@ class Timeline:
             changed = set(tick.listings) if is_silent else None
             entries = [self.entry(pod, changed) for pod in self.present]
             entries = [entry for entry in entries if entry is not None]
-            lines.append(tick_line(second, entries, signals, told(second, tick.decisions)))
+            lines.append(tick_line(second, entries, signals, told(tick.decisions)))
             self.results, self.usages, self.unsampled, self.deleted = {}, {}, set(), set()
         if self.format.says_gone:
             lines += [gone_line(pod) for pod in tick.departures]
@@ -292,7 +304,7 @@ class Timeline:
         """The signals of a tick, as last sampled. What was left before the kubelet evicted a pod is not what is left
         behind it, and the kubelet takes a new sample before it evicts the next: until then a signal has no value, or
         that of the new sample where a threshold goes on over the gap."""
-        if self.format.says_gone and any(decision.kind == EVICTED for _, decision, _ in tick.decisions):
+        if self.format.says_gone and any(is_eviction(each, second) for each in tick.decisions):
             self.evicted_at, outdated = second, set(self.signals) - set(tick.signals)
             self.outdated = set(self.signals)
         else:

@@ -40,6 +40,7 @@ class Play:
     probes      {"pod", "container", "probe", "result", "at": [moments that rise]}
     samples     {moment: {signal: value}} of the node, as the kubelet takes them
     fails       {"kind", "from", "until", "text"}: answers that do not come
+    slow        {kind: seconds}: how long an answer takes, for which the clock goes on
     empty       [from, until]: when no probe is counted
     configz     the object `kubeletconfig`
     """
@@ -59,6 +60,10 @@ class Play:
         if kind == "inspect":
             return self.inspected(identity, moment)
         return getattr(self, kind)(moment)
+
+    def seconds(self, words):
+        """How long the answer to a command takes."""
+        return self.script.get("slow", {}).get(kind_of(words)[0], 0)
 
     def true_moment(self, now):
         """The moment at which the clock says so; a look of its own each time that it says something else."""
