@@ -15,7 +15,8 @@ import ssl
 import subprocess
 import tempfile
 import time
-from collections.abc import Callable
+from collections.abc import Callable, Iterator
+from contextlib import contextmanager
 from dataclasses import dataclass, field
 from typing import Any, Optional
 from urllib.parse import urlsplit
@@ -288,6 +289,16 @@ def dies_with_its_parent() -> None:
         pass
 
 
+@contextmanager
+def interrupts_held_back() -> Iterator[None]:
+    """What is started hears no interrupt, and the recorder hears it behind the start."""
+    before = signal.pthread_sigmask(signal.SIG_BLOCK, [signal.SIGINT])
+    try:
+        yield
+    finally:
+        signal.pthread_sigmask(signal.SIG_SETMASK, before)
+
+
 class Proxy:
     """A `kubectl proxy` of the recorder's own, on a socket in a folder that others can't enter. It is started with the
     first question, and again where it has ended."""
@@ -313,10 +324,11 @@ class Proxy:
             raise Failed(f"kubectl proxy has no place in {folder}: {error.strerror}") from None
         words = ["kubectl", "proxy", f"--unix-socket={self.socket()}"]
         try:
-            # a session of its own, so that an interrupt at the terminal is the recorder's alone
-            self.process = subprocess.Popen(words, stdin=subprocess.DEVNULL, stdout=subprocess.DEVNULL,
-                                            stderr=subprocess.PIPE, start_new_session=True,
-                                            preexec_fn=dies_with_its_parent)
+            # a session of its own, so that an interrupt at the terminal is the recorder's alone, also before that
+            with interrupts_held_back():
+                self.process = subprocess.Popen(words, stdin=subprocess.DEVNULL, stdout=subprocess.DEVNULL,
+                                                stderr=subprocess.PIPE, start_new_session=True,
+                                                preexec_fn=dies_with_its_parent)
             self.wait_for_socket()
         except OSError as error:
             self.close()
