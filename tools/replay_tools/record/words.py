@@ -81,8 +81,8 @@ A file system for images of the same size as the node's is taken for the same on
 leaves out, writes otherwise or infers, and each source that gives no answer with what stands in its place.
 
 Status 0: ended as asked, or all that --check asked works; 1: nothing could be recorded, or not written, as where the
-folder of --into can't be or has its recorder, or a source of --check does not work; 2: a bad word; 127: a command is
-missing.
+folder of --into can't be, has its recorder, is another user's than root or the recorder's, or may be written by its
+group or others; or a source of --check does not work; 2: a bad word; 127: a command is missing.
 """
 
 # word: what its value is
