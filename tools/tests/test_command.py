@@ -1,6 +1,7 @@
 """The tests of kubelet-replay, the one command of the program and the tools: its words, its helps, and its completion
 in the shells that are there."""
 
+import gzip
 import os
 import re
 import shutil
@@ -36,6 +37,22 @@ def test_command_runs_the_tools():
                    "--context is no word of it")
     expect_refused("kubelet-replay story of another pod", run([COMMAND, "story", "-f", TRACE, "default/aa"]), 2,
                    "no pod default/aa; the nearest: default/a")
+
+
+def test_packed_reports():
+    """A report that gzip has packed is read as the report, and what wants a trace says that it is one."""
+    folder = tempfile.mkdtemp()
+    path = f"{folder}/x.report.gz"
+    with gzip.open(path, "wt", encoding="utf-8") as file:
+        file.write(read(REPORT))
+    for words in (["story"], ["story", "a"], ["json"], ["page"], ["timeline", "a"]):
+        expect(f"kubelet-replay {' '.join(words)} -f of a packed report", run([COMMAND, *words, "-f", path]),
+               run([COMMAND, *words, "-f", REPORT]))
+    expect_refused("what-if -f of a packed report", run([COMMAND, "what-if", "-f", path, "."]), 2,
+                   f"{path} is a report, and it wants a trace")
+    completed = run([COMMAND, "__complete", "story", "-f", path, "default/"])
+    expect("completion of a packed report", completed[1].split(), ["default/a", "default/b", "default/c", ":4"])
+    shutil.rmtree(folder)
 
 
 def test_command_fails_on():

@@ -17,6 +17,7 @@ from replay_tools.joined import files as traces_of
 # a longer one is no line of a trace
 LONGEST_LINE = 1 << 21
 PIECE = 1 << 16
+REPORT = b"node "
 # files without names, which go when nobody holds them
 KEPT = []
 # how the operator knows what was copied, by the copy's path
@@ -24,14 +25,17 @@ NAMES = {}
 
 
 def is_report(path: str) -> bool:
-    """Whether a file begins as a report. One that can't be read, or not twice, is a fault."""
+    """Whether a file begins as a report, which gzip may have packed. One that can't be read, or not twice, is a
+    fault."""
     if os.path.exists(path) and not (os.path.isfile(path) or os.path.isdir(path)):
         raise entry.Fault(f"{path} is a device or a pipe; a report may come on standard input")
     try:
         with open(path, "rb") as file:
-            return file.read(5) == b"node "
+            return packed.first_bytes(file, len(REPORT)) == REPORT
     except OSError as fault:
         raise entry.Fault(f"{path} can't be read: {fault.strerror}") from None
+    except packed.Damaged:
+        return False
 
 
 def plain(path: str) -> str:
@@ -57,7 +61,7 @@ def open_report(path: str | None) -> IO[bytes]:
             raise entry.Fault("it wants -f FILE, a trace or a report, or a report on standard input")
         return given
     if is_report(path):
-        return open(path, "rb")
+        return open(plain(path), "rb")
     return replayed(path)
 
 
