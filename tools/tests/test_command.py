@@ -39,6 +39,31 @@ def test_command_runs_the_tools():
                    "no pod default/aa; the nearest: default/a")
 
 
+def test_what_cannot_be_read():
+    """A file that can't be read is of status 2, as the help has it; one whose name is not UTF-8 can."""
+    folder = os.fsencode(tempfile.mkdtemp())
+    odd = folder + b"/\xff.trace"
+    shutil.copy(TRACE, odd)
+    for name in (folder + b"/none", folder, folder + b"/\xfe.trace"):
+        for words in (["run"], ["check"], ["run", "--fail-on", "evicted"]):
+            answer = run([COMMAND, *words, name])
+            expect(f"kubelet-replay {' '.join(words)} {name}", (answer[0], answer[1], "Traceback" in answer[2]),
+                   (2, "", False))
+    expect("run of a name that is not UTF-8", run([COMMAND, "run", odd]), (0, read(REPORT), ""))
+    expect("story of a name that is not UTF-8", run([COMMAND, "story", "default/a", "-f", odd]),
+           run([COMMAND, "story", "default/a", "-f", TRACE]))
+    shutil.rmtree(folder)
+
+
+def test_words_of_the_program_are_only_shown():
+    """What the program says of a word is shown, and not followed by a terminal."""
+    for words in (["run", "--a\x1b[31mb"], ["check", "--a\x1b[31mb"], ["run", TRACE, "--fail-on", "evicted", "--\x9b31m"]):
+        status, out, said = run([COMMAND, *words])
+        expect(f"kubelet-replay {words}", (status, out, "[31m" in said or "\\x9b" in said,
+                                           [each for each in said if not each.isprintable() and each != "\n"]),
+               (3, "", True, []))
+
+
 def test_packed_reports():
     """A report that gzip has packed is read as the report, and what wants a trace says that it is one."""
     folder = tempfile.mkdtemp()

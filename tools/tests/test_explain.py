@@ -121,9 +121,39 @@ def test_words_of_explain():
                    "standard input is closed")
     shown = run([f"{TOOLS}/explain", f"{TOP}/examples/first_tick.trace"],
                 KUBELET_REPLAY=f"{HERE}/commands/without_memory")
-    expect("explain of a program without memory", "gave the program no more memory" in shown[1] or shown, True)
+    expect("explain of a program without memory", (shown[0], "gave the program no more memory" in shown[1]), (1, True))
     expect_refused("explain without the program", run([f"{TOOLS}/explain", REPLAY],
                                                       KUBELET_REPLAY="/nonexistent/program"), 127, "is missing")
+
+
+def test_a_program_that_fails():
+    """Where there is no verdict that is the status."""
+    folder = tempfile.mkdtemp()
+    for script, said in (("kill -9 $$", "the program was ended by the signal 9"), ("exit 5", "ended with status 5"),
+                         ("echo odd >&2; exit 1", "odd")):
+        with open(f"{folder}/program", "w", encoding="utf-8") as file:
+            file.write(f"#!/bin/sh\n{script}\n")
+        os.chmod(f"{folder}/program", 0o755)
+        for words in ([], ["--line"]):
+            answer = run([f"{TOOLS}/explain", *words, f"{TOP}/examples/first_tick.trace"],
+                         KUBELET_REPLAY=f"{folder}/program")
+            expect(f"explain {words} of a program that does: {script}", (answer[0], said in answer[1], answer[2]),
+                   (1, True, ""))
+    shutil.rmtree(folder)
+
+
+def test_names_of_other_bytes():
+    """A file whose name is not UTF-8 is read, and where it is not there that is said."""
+    folder = os.fsencode(tempfile.mkdtemp())
+    shutil.copy(f"{TOP}/examples/first_tick.trace", folder + b"/\xff.trace")
+    for words in ([], ["--line"]):
+        answer = run([f"{TOOLS}/explain", *words, folder + b"/\xff.trace"])
+        expect(f"explain {words} of a name that is not UTF-8", (answer[0], "ok pods=" in answer[1], answer[2]),
+               (0, True, ""))
+        answer = run([f"{TOOLS}/explain", *words, folder + b"/\xfe.trace"])
+        expect(f"explain {words} of no file of such a name", (answer[0], "there is no such file" in answer[1],
+                                                               answer[2]), (0, True, ""))
+    shutil.rmtree(folder)
 
 
 def faults_of(line, before):

@@ -39,9 +39,10 @@ def is_report(path: str) -> bool:
 
 
 def plain(path: str) -> str:
-    """The path of a trace as the program takes it: of one that is packed that of a copy which is not."""
+    """The path of a trace as the program takes it: of one that is packed that of a copy which is not, and so of one
+    whose name is not UTF-8."""
     try:
-        if not os.path.isfile(path) or not packed.is_packed_file(path):
+        if not os.path.isfile(path) or not packed.is_packed_file(path) and outside.is_utf8(path):
             return path
         text = packed.read(path, traces.LONGEST_TRACE)
     except OSError:
@@ -190,18 +191,41 @@ def run_beside(program: str, words: list[str], path: str, given: IO[bytes] | Non
     if given is not None:
         os.lseek(given.fileno(), 0, os.SEEK_SET)
     to_pipe = output is None and stat.S_ISFIFO(os.fstat(1).st_mode)
+    said = None if all(map(str.isprintable, words)) else temporary()
     try:
-        process = subprocess.Popen([program, *words], stdin=given, stdout=subprocess.PIPE if to_pipe else output)
+        process = subprocess.Popen([program, *words], stdin=given, stdout=subprocess.PIPE if to_pipe else output,
+                                   stderr=said)
     except OSError as fault:
         raise entry.Fault(f"{program} is missing or can't be started: {fault.strerror}", 127) from None
     if to_pipe:
         hand_on(process.stdout)
     status = process.wait()
+    if said is not None:
+        show_plain(said)
     if status in (1, 2) and path is not None:
         means = beside.meaning(path, "--extended" in words)
         if means:
             print(f"{caller}: {means}", file=sys.stderr)
+    if status in (1, 3) and path is not None and not can_be_read(path):
+        return 2
     return status if status >= 0 else 128 - status
+
+
+def show_plain(said: IO[bytes]) -> None:
+    """Shows what the program says of words that a terminal would follow: it says them as they are."""
+    said.seek(0)
+    for line in said.read().decode("utf-8", "replace").splitlines():
+        print(outside.visible(line), file=sys.stderr)
+
+
+def can_be_read(path: str) -> bool:
+    """Whether a file can be opened and read, as the program does it."""
+    try:
+        with open(path, "rb") as file:
+            file.read(1)
+    except OSError:
+        return False
+    return True
 
 
 def hand_on(source: IO[bytes]) -> None:
