@@ -2,6 +2,7 @@
 
 import glob
 import io
+import json
 import os
 import shutil
 import tempfile
@@ -140,6 +141,34 @@ def test_a_program_that_fails():
             expect(f"explain {words} of a program that does: {script}", (answer[0], said in answer[1], answer[2]),
                    (1, True, ""))
     shutil.rmtree(folder)
+
+
+class CountingDecoder(json.JSONDecoder):
+    """Counts the values that are looked for in a text."""
+
+    count = 0
+
+    def raw_decode(self, *given):
+        self.count += 1
+        return super().raw_decode(*given)
+
+
+def test_a_line_of_many_names():
+    """However many fields are told of a line, it is looked through once."""
+    names, decoder, before_it = 20_000, CountingDecoder(), lines.DECODER
+    lines.DECODER = decoder
+    for text, said in (
+        ('{"kind":"node","name":"n1","evictionHard":{' + ",".join(f'"s{each}":"1"' for each in range(names)) + "}}\n",
+         "line 1: 36 Config"),
+        ('{"kind":"node","name":"n1"}\n{"kind":"tick","at":7,"pods":['
+         + ",".join(f'{{"pod":"shop/p{each}"}}' for each in range(names)) + "]}\n", "line 2: 39 StrangerPod"),
+    ):
+        decoder.count = 0
+        given = found_of(text.encode(), said, False)
+        shown = told.whole_text(given, "TRACE")
+        expect(f"explain {said} of many names", (len(given.found), decoder.count < 2 * names or decoder.count),
+               (10, True))
+    lines.DECODER = before_it
 
 
 def test_names_of_other_bytes():
