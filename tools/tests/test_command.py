@@ -3,8 +3,10 @@ in the shells that are there."""
 
 import gzip
 import os
+import pty
 import re
 import shutil
+import subprocess
 import tempfile
 
 from checks import HERE, REPLAY, TOOLS, TOP, expect, expect_refused, read, run
@@ -120,6 +122,20 @@ def test_no_room():
     expect_refused("what-if, without a folder", run([f"{TOOLS}/what-if", "."], read(TRACE), TMPDIR=f"{folder}/none"), 1,
                    f"no folder can be made in {folder}/none (TMPDIR names another)")
     shutil.rmtree(folder)
+
+
+def test_what_if_on_a_terminal():
+    """It says what it waits for, and takes it."""
+    for words in ([f"{TOOLS}/what-if"], [COMMAND, "what-if"]):
+        master, terminal = pty.openpty()
+        os.write(master, b'{"kind":"node","name":"n1"}\n\x04')
+        done = subprocess.run([*words, "."], stdin=terminal, capture_output=True, text=True, check=False,
+                              start_new_session=True, env={**os.environ, "KUBELET_REPLAY": REPLAY})
+        os.close(terminal)
+        os.close(master)
+        expect(f"{words[0]} on a terminal", (done.returncode, done.stdout, done.stderr.splitlines()), (0, "", [
+            "what-if: it reads a trace from standard input, which is this terminal (it is meant as: what-if EDIT < "
+            "TRACE)", "what-if: the edit changes no line of the trace"]))
 
 
 def test_command_helps():
