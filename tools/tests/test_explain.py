@@ -3,6 +3,7 @@
 import glob
 import io
 import json
+import lzma
 import os
 import shutil
 import tempfile
@@ -19,7 +20,8 @@ def refused_texts():
     """The texts that the program's own tests have it refuse: a name, the text, what is said, whether it is read in the
     extended format."""
     for path in sorted(glob.glob(f"{DATA}/traces/**/*.refusal", recursive=True)):
-        with open(path.removesuffix("refusal") + "trace", "rb") as file:
+        trace = path.removesuffix("refusal") + "trace"
+        with open(trace, "rb") if os.path.exists(trace) else lzma.open(f"{trace}.xz") as file:
             yield path, file.read(), read(path).strip(), "/extended/" in path
     for path in sorted(glob.glob(f"{DATA}/lines/*.table")):
         before = read(path.removesuffix("table") + "before")
