@@ -68,6 +68,15 @@ def visible(text: str) -> str:
     return "".join(each if each.isprintable() else each.encode("unicode_escape").decode("ascii") for each in text)
 
 
+def is_utf8(word: str) -> bool:
+    """Whether a word that was given, as a file's name, is UTF-8; the program takes no other."""
+    try:
+        word.encode()
+    except UnicodeEncodeError:
+        return False
+    return True
+
+
 def is_name(text: str) -> bool:
     """Whether a text is a name of a node or a pod of the formats."""
     return NAME.fullmatch(text) is not None

@@ -57,17 +57,27 @@ def is_sound(file: BinaryIO, most: int) -> bool:
     return True
 
 
+def first_bytes(file: BinaryIO, count: int) -> bytes:
+    """The first so many bytes of an open file, unpacked. Raises OSError and Damaged."""
+    return unpacked_head(file, PIECE)[:count]
+
+
 def first_line(file: BinaryIO, longest: int) -> bytes:
     """The first line of an open file that is not blank, unpacked; of the file so many bytes are read. Raises OSError
     and Damaged."""
+    return unpacked_head(file, longest).lstrip(b" \t\r\n").partition(b"\n")[0]
+
+
+def unpacked_head(file: BinaryIO, longest: int) -> bytes:
+    """What an open file begins with, unpacked, as far as so many bytes of it have it."""
     file.seek(0)
     head = file.read(longest)
-    if is_packed(head):
-        try:
-            head = zlib.decompressobj(wbits=zlib.MAX_WBITS | 16).decompress(head, longest)
-        except zlib.error as fault:
-            raise Damaged(f"it is damaged, and can't be unpacked: {fault}") from None
-    return head.lstrip(b" \t\r\n").partition(b"\n")[0]
+    if not is_packed(head):
+        return head
+    try:
+        return zlib.decompressobj(wbits=zlib.MAX_WBITS | 16).decompress(head, longest)
+    except zlib.error as fault:
+        raise Damaged(f"it is damaged, and can't be unpacked: {fault}") from None
 
 
 def is_packed(data: bytes) -> bool:

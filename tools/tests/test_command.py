@@ -1,9 +1,12 @@
 """The tests of kubelet-replay, the one command of the program and the tools: its words, its helps, and its completion
 in the shells that are there."""
 
+import gzip
 import os
+import pty
 import re
 import shutil
+import subprocess
 import tempfile
 
 from checks import HERE, REPLAY, TOOLS, TOP, expect, expect_refused, read, run
@@ -36,6 +39,47 @@ def test_command_runs_the_tools():
                    "--context is no word of it")
     expect_refused("kubelet-replay story of another pod", run([COMMAND, "story", "-f", TRACE, "default/aa"]), 2,
                    "no pod default/aa; the nearest: default/a")
+
+
+def test_what_cannot_be_read():
+    """A file that can't be read is of status 2, as the help has it; one whose name is not UTF-8 can."""
+    folder = os.fsencode(tempfile.mkdtemp())
+    odd = folder + b"/\xff.trace"
+    shutil.copy(TRACE, odd)
+    for name in (folder + b"/none", folder, folder + b"/\xfe.trace"):
+        for words in (["run"], ["check"], ["run", "--fail-on", "evicted"]):
+            answer = run([COMMAND, *words, name])
+            expect(f"kubelet-replay {' '.join(words)} {name}", (answer[0], answer[1], "Traceback" in answer[2]),
+                   (2, "", False))
+    expect("run of a name that is not UTF-8", run([COMMAND, "run", odd]), (0, read(REPORT), ""))
+    expect("story of a name that is not UTF-8", run([COMMAND, "story", "default/a", "-f", odd]),
+           run([COMMAND, "story", "default/a", "-f", TRACE]))
+    shutil.rmtree(folder)
+
+
+def test_words_of_the_program_are_only_shown():
+    """What the program says of a word is shown, and not followed by a terminal."""
+    for words in (["run", "--a\x1b[31mb"], ["check", "--a\x1b[31mb"], ["run", TRACE, "--fail-on", "evicted", "--\x9b31m"]):
+        status, out, said = run([COMMAND, *words])
+        expect(f"kubelet-replay {words}", (status, out, "[31m" in said or "\\x9b" in said,
+                                           [each for each in said if not each.isprintable() and each != "\n"]),
+               (3, "", True, []))
+
+
+def test_packed_reports():
+    """A report that gzip has packed is read as the report, and what wants a trace says that it is one."""
+    folder = tempfile.mkdtemp()
+    path = f"{folder}/x.report.gz"
+    with gzip.open(path, "wt", encoding="utf-8") as file:
+        file.write(read(REPORT))
+    for words in (["story"], ["story", "a"], ["json"], ["page"], ["timeline", "a"]):
+        expect(f"kubelet-replay {' '.join(words)} -f of a packed report", run([COMMAND, *words, "-f", path]),
+               run([COMMAND, *words, "-f", REPORT]))
+    expect_refused("what-if -f of a packed report", run([COMMAND, "what-if", "-f", path, "."]), 2,
+                   f"{path} is a report, and it wants a trace")
+    completed = run([COMMAND, "__complete", "story", "-f", path, "default/"])
+    expect("completion of a packed report", completed[1].split(), ["default/a", "default/b", "default/c", ":4"])
+    shutil.rmtree(folder)
 
 
 def test_command_fails_on():
@@ -78,6 +122,20 @@ def test_no_room():
     expect_refused("what-if, without a folder", run([f"{TOOLS}/what-if", "."], read(TRACE), TMPDIR=f"{folder}/none"), 1,
                    f"no folder can be made in {folder}/none (TMPDIR names another)")
     shutil.rmtree(folder)
+
+
+def test_what_if_on_a_terminal():
+    """It says what it waits for, and takes it."""
+    for words in ([f"{TOOLS}/what-if"], [COMMAND, "what-if"]):
+        master, terminal = pty.openpty()
+        os.write(master, b'{"kind":"node","name":"n1"}\n\x04')
+        done = subprocess.run([*words, "."], stdin=terminal, capture_output=True, text=True, check=False,
+                              start_new_session=True, env={**os.environ, "KUBELET_REPLAY": REPLAY})
+        os.close(terminal)
+        os.close(master)
+        expect(f"{words[0]} on a terminal", (done.returncode, done.stdout, done.stderr.splitlines()), (0, "", [
+            "what-if: it reads a trace from standard input, which is this terminal (it is meant as: what-if EDIT < "
+            "TRACE)", "what-if: the edit changes no line of the trace"]))
 
 
 def test_command_helps():

@@ -2,6 +2,8 @@
 
 import glob
 import io
+import json
+import lzma
 import os
 import shutil
 import tempfile
@@ -18,7 +20,8 @@ def refused_texts():
     """The texts that the program's own tests have it refuse: a name, the text, what is said, whether it is read in the
     extended format."""
     for path in sorted(glob.glob(f"{DATA}/traces/**/*.refusal", recursive=True)):
-        with open(path.removesuffix("refusal") + "trace", "rb") as file:
+        trace = path.removesuffix("refusal") + "trace"
+        with open(trace, "rb") if os.path.exists(trace) else lzma.open(f"{trace}.xz") as file:
             yield path, file.read(), read(path).strip(), "/extended/" in path
     for path in sorted(glob.glob(f"{DATA}/lines/*.table")):
         before = read(path.removesuffix("table") + "before")
@@ -121,9 +124,67 @@ def test_words_of_explain():
                    "standard input is closed")
     shown = run([f"{TOOLS}/explain", f"{TOP}/examples/first_tick.trace"],
                 KUBELET_REPLAY=f"{HERE}/commands/without_memory")
-    expect("explain of a program without memory", "gave the program no more memory" in shown[1] or shown, True)
+    expect("explain of a program without memory", (shown[0], "gave the program no more memory" in shown[1]), (1, True))
     expect_refused("explain without the program", run([f"{TOOLS}/explain", REPLAY],
                                                       KUBELET_REPLAY="/nonexistent/program"), 127, "is missing")
+
+
+def test_a_program_that_fails():
+    """Where there is no verdict that is the status."""
+    folder = tempfile.mkdtemp()
+    for script, said in (("kill -9 $$", "the program was ended by the signal 9"), ("exit 5", "ended with status 5"),
+                         ("echo odd >&2; exit 1", "odd")):
+        with open(f"{folder}/program", "w", encoding="utf-8") as file:
+            file.write(f"#!/bin/sh\n{script}\n")
+        os.chmod(f"{folder}/program", 0o755)
+        for words in ([], ["--line"]):
+            answer = run([f"{TOOLS}/explain", *words, f"{TOP}/examples/first_tick.trace"],
+                         KUBELET_REPLAY=f"{folder}/program")
+            expect(f"explain {words} of a program that does: {script}", (answer[0], said in answer[1], answer[2]),
+                   (1, True, ""))
+    shutil.rmtree(folder)
+
+
+class CountingDecoder(json.JSONDecoder):
+    """Counts the values that are looked for in a text."""
+
+    count = 0
+
+    def raw_decode(self, *given):
+        self.count += 1
+        return super().raw_decode(*given)
+
+
+def test_a_line_of_many_names():
+    """However many fields are told of a line, it is looked through once."""
+    names, decoder, before_it = 20_000, CountingDecoder(), lines.DECODER
+    lines.DECODER = decoder
+    for text, said in (
+        ('{"kind":"node","name":"n1","evictionHard":{' + ",".join(f'"s{each}":"1"' for each in range(names)) + "}}\n",
+         "line 1: 36 Config"),
+        ('{"kind":"node","name":"n1"}\n{"kind":"tick","at":7,"pods":['
+         + ",".join(f'{{"pod":"shop/p{each}"}}' for each in range(names)) + "]}\n", "line 2: 39 StrangerPod"),
+    ):
+        decoder.count = 0
+        given = found_of(text.encode(), said, False)
+        shown = told.whole_text(given, "TRACE")
+        expect(f"explain {said} of many names", (len(given.found), decoder.count < 2 * names or decoder.count),
+               (10, True))
+    lines.DECODER = before_it
+
+
+def test_names_of_other_bytes():
+    """A file whose name is not UTF-8 is read, and where it is not there that is said."""
+    folder = os.fsencode(tempfile.mkdtemp())
+    shutil.copy(f"{TOP}/examples/first_tick.trace", folder + b"/\xff.trace")
+    for words in ([], ["--line"]):
+        answer = run([f"{TOOLS}/explain", *words, folder + b"/\xff.trace"])
+        expect(f"explain {words} of a name that is not UTF-8", (answer[0], "ok pods=" in answer[1], answer[2]),
+               (0, True, ""))
+        answer = run([f"{TOOLS}/explain", *words, folder + b"/\xfe.trace"])
+        expect(f"explain {words} of no file of such a name", (answer[0], "there is no such file" in answer[1],
+                                                               answer[2]), (0, True, ""))
+    shutil.rmtree(folder)
 
 
 def faults_of(line, before):

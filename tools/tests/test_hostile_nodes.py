@@ -189,3 +189,5 @@ def test_escapes_of_commands():
             shown = answer[1] + answer[2]
             odd = sorted({each for each in shown if not each.isprintable() and each != "\n"})
             expect(f"{name} of escapes", (answer[0], "x1b]0;owned" in shown, odd), (1, True, []))
+            expect(f"{name} of escapes: each is shown in one way", shown.count("]0;owned"),
+                   shown.count("\\x1b]0;owned\\x07"))

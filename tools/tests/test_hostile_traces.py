@@ -179,8 +179,10 @@ def test_pipes_in_a_folder():
         os.mkfifo(f"{made.path}/a_pipe.trace")
         os.mkfifo(f"{made.path}/a_pipe.trace.gz")
         os.symlink("/dev/zero", f"{made.path}/zero.trace.gz")
-        said = "".join(f"story: {name} is left out: it is a device or a pipe\n"
-                       for name in ("a_pipe.trace", "a_pipe.trace.gz", "zero.trace.gz"))
+        os.mkdir(f"{made.path}/a_folder.trace.part")
+        kinds = {"a_folder.trace.part": "a folder",
+                 **dict.fromkeys(("a_pipe.trace", "a_pipe.trace.gz", "zero.trace.gz"), "a device or a pipe")}
+        said = "".join(f"story: {name} is left out: it is {kind}\n" for name, kind in kinds.items())
         wanted = made.run("story", "--traces", f"{made.path}/good.trace")
         expect("story of a folder with pipes", made.run("story", "--traces", made.path), (0, wanted[1], said))
         expect_refused("story of a pattern with pipes", made.run("story", "--traces", f"{made.path}/*.trace"), 2,

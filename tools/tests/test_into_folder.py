@@ -12,7 +12,7 @@ import shutil
 import signal
 
 from chance import BEGIN, SECONDS
-from checks import HERE, LONGEST, TOOLS, expect, expect_refused, read, run, wait_until
+from checks import HERE, LONGEST, TOOLS, TOP, expect, expect_refused, read, run, wait_until
 from into_plays import (Clock, ClockUntil, Into, Killed, follows, laid, parts_of, probed_play, recorded_here,
                         unpacked)
 from test_into import told_in
@@ -106,6 +106,31 @@ def test_folders_of_others():
         os.chown(into.folder, 12345, -1)
         expect_refused("a folder of another", into.into("--for", "10"), 1, "belongs to another user (uid 12345)")
     into.clean()
+
+
+def test_room_for_what_is_not_packed():
+    """Half of a small --most is left for what is written and packed, as the help says."""
+    into = Into(quiet_node(1, 60))
+    names = [f"n1.2025-12-31T0{hour}-00-00Z.trace.gz" for hour in range(8)]
+    for name in names:
+        into.put(name, gzip.compress(random.Random(name).randbytes(1000000)))
+    answer = into.into("--for", "20", "--each", "10s", "--most", "8Mi")
+    kept = sorted(set(names) & set(into.names()))
+    expect("traces of --most 8Mi", (answer[0], kept), (0, names[-len(kept):]))
+    expect("half of --most is kept", sum(os.path.getsize(f"{into.folder}/{name}") for name in kept) // 1000000, 4)
+    expect("the help says what is left", "of which 128Mi, or half where --most is below\n256Mi, are left for what is not "
+           "packed" in run([f"{TOOLS}/record", "--help"])[1], True)
+    into.clean()
+
+
+def test_refused_folders_are_told():
+    """What is refused stands in the help, and what to do where a folder is made for a recorder."""
+    expect("the help says which folder is refused", "user's than root or the recorder's, or may be written by its\n"
+           "group or others" in run([f"{TOOLS}/record", "--help"])[1], True)
+    for path in ("docs/recorder.md", "SECURITY.md", "deploy/daemonset.yaml"):
+        told = read(f"{TOP}/{path}")
+        expect(f"{path} says what to do with a folder of others", ("chown root" in told, "chmod go-w" in told),
+               (True, True))
 
 
 def test_links_in_a_folder():

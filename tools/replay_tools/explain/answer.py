@@ -8,7 +8,7 @@ import os
 from dataclasses import dataclass
 from typing import TYPE_CHECKING
 
-from replay_tools import first_bytes
+from replay_tools import first_bytes, outside
 from replay_tools.traces import LONGEST_TRACE
 
 from . import table
@@ -34,6 +34,8 @@ class Answer:
     """the line at fault"""
     is_text_place: bool = False
     """the path is a place in the text, which is no JSON"""
+    has_no_verdict: bool = False
+    """the program failed before it came to one"""
 
 
 def answer_of(path: str, is_extended: bool) -> Answer:
@@ -47,11 +49,13 @@ def of_verdict(path: str, verdict: Verdict, is_extended: bool) -> Answer:
         return Answer(verdict.said, False, [])
     if verdict.said in ("read failed", "input too long"):
         return of_file(path, verdict.said)
+    if verdict.line is None and not (outside.is_utf8(path) or os.path.exists(path)):
+        return of_file(path, verdict.said)
     if verdict.said == "out of memory":
         return Answer(verdict.said, True, [Found((), "the system gave the program no more memory")],
-                      "run it where more is free, or raise the limit that it has")
+                      "run it where more is free, or raise the limit that it has", has_no_verdict=True)
     if verdict.line is None:
-        return Answer(verdict.said or f"status {verdict.status}", True, [])
+        return Answer(verdict.said or status_words(verdict.status), True, [], has_no_verdict=True)
     says, advice, part = table.row(verdict.number, verdict.manifest)
     other = something_else(path)
     if other:
@@ -60,6 +64,11 @@ def of_verdict(path: str, verdict: Verdict, is_extended: bool) -> Answer:
     first = found[0] if found else Found((), says)
     return Answer(verdict.said, True, found or [first], first.advice or advice, part, verdict.line, text,
                   verdict.number in (31, 32))
+
+
+def status_words(status: int) -> str:
+    """How the program ended, where it said nothing."""
+    return f"the program was ended by the signal {-status}" if status < 0 else f"the program ended with status {status}"
 
 
 def found_in(path: str, verdict: Verdict, is_extended: bool) -> tuple[list[Found], bytes]:

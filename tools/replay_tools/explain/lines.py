@@ -2,6 +2,7 @@
 
 from __future__ import annotations
 
+import functools
 import json
 import re
 from json.decoder import scanstring  # type: ignore[attr-defined]
@@ -33,28 +34,30 @@ def skip(text: str, at: Any) -> Any:
 
 def span_of(text: str, path: tuple[Any, ...]) -> Any:
     """Where the value at a path begins and ends; where it is not there, the value around it."""
-    at, ends = skip(text, 0), []
-    for step in (*path, None):
-        ends.append((at, DECODER.raw_decode(text, at)[1]))
-        at = None if step is None else start_of(text, at, step)
-        if at is None:
+    at = skip(text, 0)
+    for step in path:
+        inner = starts_in(text, at).get(step)
+        if inner is None:
             break
-    return ends[-1]
+        at = inner
+    return at, DECODER.raw_decode(text, at)[1]
 
 
-def start_of(text: str, at: Any, step: Any) -> Any:
-    """Where the value of a key or an index begins, in the object or array that begins here; of two equal keys the last
-    counts. None where there is none."""
+@functools.lru_cache(maxsize=8)
+def starts_in(text: str, at: int) -> dict[Any, int]:
+    """Where the values of the object or array that begins here begin, by key or index; of two equal keys the last
+    counts. Several fields of one line may be asked for, which may have very many."""
+    found: dict[Any, int] = {}
     if text[at] not in "{[":
-        return None
-    found, index, is_object = None, 0, text[at] == "{"
+        return found
+    index, is_object = 0, text[at] == "{"
     at = skip(text, at + 1)
     while text[at] not in "}]":
-        key = index
+        key: Any = index
         if is_object:
             key, at = scanstring(text, at + 1)
             at = skip(text, skip(text, at) + 1)
-        found = at if key == step else found
+        found[key] = at
         at = skip(text, DECODER.raw_decode(text, at)[1])
         at = skip(text, at + 1) if text[at] == "," else at
         index += 1

@@ -130,7 +130,7 @@ def text_of(source: files.Source) -> bytes:
         # it has ended since the folder was read
         source.path = f"{source.path.removesuffix('.part')}.gz"
     if os.path.exists(source.path) and not os.path.isfile(source.path):
-        raise Unusable("it is a device or a pipe")
+        raise Unusable("it is a folder" if os.path.isdir(source.path) else "it is a device or a pipe")
     try:
         with packed.regular(source.path) as file:
             text = packed.unpacked(file.read(traces.LONGEST_TRACE + 1), traces.LONGEST_TRACE)

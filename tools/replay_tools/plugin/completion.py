@@ -24,6 +24,8 @@ def candidates(given: list[str], is_of_kubectl: bool = True) -> tuple[list[str],
     *before, last = given or [""]
     if not before:
         return beginning(words.COMMANDS, last), NO_FILES
+    if before == ["help"]:
+        return beginning(words.COMMANDS, last), NO_FILES
     command = words.COMMANDS.get(before[0])
     if command is None:
         return [], NO_FILES

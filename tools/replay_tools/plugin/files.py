@@ -17,6 +17,7 @@ from replay_tools.joined import files as traces_of
 # a longer one is no line of a trace
 LONGEST_LINE = 1 << 21
 PIECE = 1 << 16
+REPORT = b"node "
 # files without names, which go when nobody holds them
 KEPT = []
 # how the operator knows what was copied, by the copy's path
@@ -24,20 +25,24 @@ NAMES = {}
 
 
 def is_report(path: str) -> bool:
-    """Whether a file begins as a report. One that can't be read, or not twice, is a fault."""
+    """Whether a file begins as a report, which gzip may have packed. One that can't be read, or not twice, is a
+    fault."""
     if os.path.exists(path) and not (os.path.isfile(path) or os.path.isdir(path)):
         raise entry.Fault(f"{path} is a device or a pipe; a report may come on standard input")
     try:
         with open(path, "rb") as file:
-            return file.read(5) == b"node "
+            return packed.first_bytes(file, len(REPORT)) == REPORT
     except OSError as fault:
         raise entry.Fault(f"{path} can't be read: {fault.strerror}") from None
+    except packed.Damaged:
+        return False
 
 
 def plain(path: str) -> str:
-    """The path of a trace as the program takes it: of one that is packed that of a copy which is not."""
+    """The path of a trace as the program takes it: of one that is packed that of a copy which is not, and so of one
+    whose name is not UTF-8."""
     try:
-        if not os.path.isfile(path) or not packed.is_packed_file(path):
+        if not os.path.isfile(path) or not packed.is_packed_file(path) and outside.is_utf8(path):
             return path
         text = packed.read(path, traces.LONGEST_TRACE)
     except OSError:
@@ -57,7 +62,7 @@ def open_report(path: str | None) -> IO[bytes]:
             raise entry.Fault("it wants -f FILE, a trace or a report, or a report on standard input")
         return given
     if is_report(path):
-        return open(path, "rb")
+        return open(plain(path), "rb")
     return replayed(path)
 
 
@@ -186,18 +191,41 @@ def run_beside(program: str, words: list[str], path: str, given: IO[bytes] | Non
     if given is not None:
         os.lseek(given.fileno(), 0, os.SEEK_SET)
     to_pipe = output is None and stat.S_ISFIFO(os.fstat(1).st_mode)
+    said = None if all(map(str.isprintable, words)) else temporary()
     try:
-        process = subprocess.Popen([program, *words], stdin=given, stdout=subprocess.PIPE if to_pipe else output)
+        process = subprocess.Popen([program, *words], stdin=given, stdout=subprocess.PIPE if to_pipe else output,
+                                   stderr=said)
     except OSError as fault:
         raise entry.Fault(f"{program} is missing or can't be started: {fault.strerror}", 127) from None
     if to_pipe:
         hand_on(process.stdout)
     status = process.wait()
+    if said is not None:
+        show_plain(said)
     if status in (1, 2) and path is not None:
         means = beside.meaning(path, "--extended" in words)
         if means:
             print(f"{caller}: {means}", file=sys.stderr)
+    if status in (1, 3) and path is not None and not can_be_read(path):
+        return 2
     return status if status >= 0 else 128 - status
+
+
+def show_plain(said: IO[bytes]) -> None:
+    """Shows what the program says of words that a terminal would follow: it says them as they are."""
+    said.seek(0)
+    for line in said.read().decode("utf-8", "replace").splitlines():
+        print(outside.visible(line), file=sys.stderr)
+
+
+def can_be_read(path: str) -> bool:
+    """Whether a file can be opened and read, as the program does it."""
+    try:
+        with open(path, "rb") as file:
+            file.read(1)
+    except OSError:
+        return False
+    return True
 
 
 def hand_on(source: IO[bytes]) -> None:

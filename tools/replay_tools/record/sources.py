@@ -12,6 +12,8 @@ from collections.abc import Callable
 from dataclasses import dataclass
 from typing import Any, Optional, TYPE_CHECKING
 
+from replay_tools import outside
+
 if TYPE_CHECKING:
     from .alone import RuntimeAlone
     from .answers import Answer
@@ -23,6 +25,7 @@ MOST_BYTES = 32 << 20
 PART_BYTES = 1 << 16
 # what is kept of what a command says on standard error
 MOST_SAID = 1 << 12
+MOST_SHOWN = 300
 
 
 class Failed(Exception):
@@ -42,9 +45,8 @@ def too_long() -> Failed:
 
 
 def shown_line(text: str) -> str:
-    """The first line of what somebody else says, without what a terminal would follow, and not too long."""
-    line = text.split("\n", 1)[0][:300]
-    return "".join(character if character.isprintable() else " " for character in line)
+    """The first line of what somebody else says, as a terminal only shows it, and not too long."""
+    return outside.visible(text.split("\n", 1)[0].rstrip()[:MOST_SHOWN])
 
 
 def run_command(words: list[str], seconds: float) -> bytearray:

@@ -31,8 +31,9 @@ is there where another one is missing, says what works and what is missing, and 
 --into FOLDER writes traces of the extended format one behind the other, as NODE.2026-11-27T05-00-00Z.trace.gz, until it
 is interrupted (docs/recorder.md). Each begins where the one before it ends: after --each (1h, by UTC), or earlier at
 --ticks, 64 MiB or 256 pods. While it is written it is .trace.part; what a crash leaves is ended at the next start. It
-keeps traces for --keep (48h), and at most --most bytes of them (2Gi), and takes the oldest away where the disk is full.
-Where none is left it waits for room. A second recorder of one folder is refused.
+keeps traces for --keep (48h), and at most --most bytes of them (2Gi), of which 128Mi, or half where --most is below
+256Mi, are left for what is not packed yet; and it takes the oldest away where the disk is full. Where none is left it
+waits for room. A second recorder of one folder is refused.
 
 It needs python3, crictl (as root, on the node) and
   kubectl  that may get nodes/proxy and list pods, which it starts once, as a proxy on a socket of its own; or
@@ -81,8 +82,8 @@ A file system for images of the same size as the node's is taken for the same on
 leaves out, writes otherwise or infers, and each source that gives no answer with what stands in its place.
 
 Status 0: ended as asked, or all that --check asked works; 1: nothing could be recorded, or not written, as where the
-folder of --into can't be or has its recorder, or a source of --check does not work; 2: a bad word; 127: a command is
-missing.
+folder of --into can't be, has its recorder, is another user's than root or the recorder's, or may be written by its
+group or others; or a source of --check does not work; 2: a bad word; 127: a command is missing.
 """
 
 # word: what its value is
