@@ -167,7 +167,7 @@ def test_a_line_of_many_names():
     ):
         decoder.count = 0
         given = found_of(text.encode(), said, False)
-        shown = told.whole_text(given, "TRACE")
+        told.whole_text(given, "TRACE")
         expect(f"explain {said} of many names", (len(given.found), decoder.count < 2 * names or decoder.count),
                (10, True))
     lines.DECODER = before_it

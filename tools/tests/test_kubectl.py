@@ -73,7 +73,7 @@ def test_kubectl_words():
 
 def test_kubectl_runs_the_program():
     """What the program says of a trace of each format, of a file and of a pipe, is what it says itself; behind a
-    refusal stands one more line."""
+    refusal stands one more line. A file that can't be read has the status 2."""
     folder = make_folder()
 
     def first_line(answer):
@@ -85,7 +85,9 @@ def test_kubectl_runs_the_program():
     for name, own in (("trace", []), ("extended", ["--extended"]), ("refused", []), ("none", [])):
         path = f"{folder}/{name}"
         for command in ("run", "check"):
-            wanted = run([REPLAY, command, path, *own])
+            status, *wanted = run([REPLAY, command, path, *own])
+            # the command has another status for what can't be read
+            wanted = (2 if name == "none" else status, *wanted)
             expect(f"kubectl replay {command} {name}", first_line(run([f"{TOOLS}/kubectl-replay", command, path])),
                    wanted)
             piped = ["sh", "-c", f"cat '{path}' 2>/dev/null | '{TOOLS}/kubectl-replay' {command} /dev/stdin"]
