@@ -43,7 +43,8 @@ def configuration_of(scenario):
     return json.dumps({
         "apiVersion": "kubelet.config.k8s.io/v1beta1", "kind": "KubeletConfiguration", "address": ADDRESS,
         "port": 10250, "readOnlyPort": 0, "healthzBindAddress": "127.0.0.1", "authentication": anyone,
-        "authorization": {"mode": "Webhook" if scenario.is_deployed else "AlwaysAllow"}, "failSwapOn": False, "cgroupDriver": "cgroupfs",
+        "authorization": {"mode": "Webhook" if scenario.is_deployed else "AlwaysAllow"}, "failSwapOn": False,
+        "cgroupDriver": "cgroupfs",
         "cgroupsPerQOS": True, "enforceNodeAllocatable": ["pods"], "makeIPTablesUtilChains": False,
         "evictionPressureTransitionPeriod": "30s", "evictionMaxPodGracePeriod": 7,
         **scenario.configuration(available())}, indent=1)

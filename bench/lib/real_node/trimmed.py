@@ -6,15 +6,17 @@ import gzip
 import json
 import sys
 
-POD_FIELDS = ("name", "namespace", "uid", "annotations", "deletionTimestamp")
+POD_FIELDS = ("name", "namespace", "uid", "annotations", "deletionTimestamp", "deletionGracePeriodSeconds")
 STATUS_FIELDS = ("phase", "reason", "message")
 STATUSES = ("initContainerStatuses", "containerStatuses")
 END_FIELDS = ("containerID", "startedAt", "finishedAt", "exitCode", "reason")
 WAIT_FIELDS = ("reason", "message")
-SPEC_FIELDS = ("restartPolicy", "priority", "terminationGracePeriodSeconds", "nodeName", "volumes")
-CONTAINER_FIELDS = ("name", "image", "resources", "startupProbe", "livenessProbe", "readinessProbe")
-SAMPLES = ("time", "availableBytes", "capacityBytes", "usedBytes", "workingSetBytes", "inodes", "inodesFree",
-           "inodesUsed", "maxpid", "curproc", "process_count", "name")
+SPEC_FIELDS = ("restartPolicy", "priority", "terminationGracePeriodSeconds", "nodeName", "volumes", "readinessGates",
+               "resources")
+CONTAINER_FIELDS = ("name", "image", "resources", "restartPolicy", "restartPolicyRules", "startupProbe",
+                    "livenessProbe", "readinessProbe")
+SAMPLES = ("time", "startTime", "availableBytes", "capacityBytes", "usageBytes", "usedBytes", "workingSetBytes",
+           "usageNanoCores", "inodes", "inodesFree", "inodesUsed", "maxpid", "curproc", "process_count", "name")
 
 
 def picked(fields, names):
@@ -29,15 +31,17 @@ def list_of(answer):
 
 def pods_of(answer):
     return {"kind": answer["kind"], "items": [
-        {"metadata": picked(pod["metadata"], POD_FIELDS), "status": status_of(pod.get("status", {})),
+        {"metadata": picked(pod["metadata"], POD_FIELDS), "status": status_of(pod),
          "spec": {**picked(pod["spec"], SPEC_FIELDS), **{
              role: [picked(container, CONTAINER_FIELDS) for container in pod["spec"][role]]
              for role in ("initContainers", "containers") if role in pod["spec"]}}} for pod in answer["items"] or []]}
 
 
-def status_of(status):
-    """A pod's status, with how its containers ended and why they wait."""
-    conditions = [each for each in status.get("conditions") or [] if each.get("type") == "DisruptionTarget"]
+def status_of(pod):
+    """A pod's status, with how its containers ended, why they wait, and whether its readiness gates are true."""
+    status = pod.get("status", {})
+    types = {"DisruptionTarget", *(each.get("conditionType") for each in pod["spec"].get("readinessGates") or [])}
+    conditions = [each for each in status.get("conditions") or [] if each.get("type") in types]
     return {**picked(status, STATUS_FIELDS), **({"conditions": conditions} if conditions else {}),
             **{role: list(map(container_status, status[role])) for role in STATUSES if status.get(role)}}
 
@@ -49,7 +53,7 @@ def container_status(status):
         for kind, fields in (("terminated", END_FIELDS), ("waiting", WAIT_FIELDS)):
             if (status.get(state) or {}).get(kind):
                 states[state] = {kind: picked(status[state][kind], fields)}
-    return {**picked(status, ("name",)), **states}
+    return {**picked(status, ("name", "resources")), **states}
 
 
 def sample_of(value):
@@ -59,7 +63,7 @@ def sample_of(value):
     if not isinstance(value, dict):
         return value
     return {name: sample_of(each) if isinstance(each, (dict, list)) else each for name, each in value.items()
-            if (isinstance(each, (dict, list)) and name not in ("cpu", "network", "systemContainers", "swap"))
+            if (isinstance(each, (dict, list)) and name not in ("network", "systemContainers", "swap"))
             or name in SAMPLES or name == "uid"}
 
 

@@ -1,7 +1,7 @@
 -- What is true of a tick that evicts a pod, and of that pod.
 use Rattle.std.proofs.Common.{◌≡◌, inl, inr, ℕ, zero, suc, ◌+◌, ◌<◌, ◌≤◌, List, [], ◌∷◌, ◌++◌, length, map, take}
 use Rattle.std.proofs.Common.{Bool, true, false, drop, Option, Some, None, refl, sym, ap, subst, ◌∙◌, arith}
-use Rattle.std.specs.Prelude.{slice_get, IsSomeAnd, option_map}
+use Rattle.std.specs.Prelude.{slice_get, IsSomeAnd, option_map, option_and_then}
 use Rattle.std.proofs.lemmas.Bool.{cases_order}
 use Rattle.std.proofs.lemmas.List.{length-append, length-take-le, map-append, take-append-drop}
 use Rattle.std.proofs.lemmas.List.Elements.{filter_map-append}
@@ -15,10 +15,13 @@ use Rattle.node_config.specs.declared.node.NodeConfig.{NodeConfig}
 use Rattle.node_signals.specs.declared.key.ThresholdKey.{ThresholdKey}
 use Rattle.node_signals.specs.rule.Thresholds.{Asks, IsServed}
 use Rattle.pod_state.specs.rule.Pods.{PodTick, pod_tick, IsEnd, HasEnded}
-use Rattle.pod_state.proofs.EndLemmas.{ended_is}
+use Rattle.pod_state.proofs.EndLemmas.{ended_is, IsEnd-unique}
 use Rattle.pod_state.proofs.FoundLemmas.{some_end}
 use Rattle.pod_piece.specs.declared.order.EvictOrder.{EvictOrder}
+use Rattle.pod_piece.specs.declared.piece.EvictionRecord.{EvictionRecord}
+use Rattle.pod_piece.specs.declared.status.PodFailure.{PodFailure}
 use Rattle.pod_piece.specs.declared.status.PodStatus.{PodStatus}
+use Rattle.pod_piece.specs.rule.Status.{failure_at, IsFailure}
 use Rattle.pod_piece.specs.rule.Piece.{place_of}
 use Rattle.ranking.specs.rule.Order.{IsVictim}
 use Rattle.eviction.specs.declared.eviction.Eviction.{Eviction}
@@ -105,16 +108,44 @@ served_alone config pods ticks evictions t tick eviction replay at is =
       moment = ap (λ (o : EvictOrder). o.at) reason.order;
     }
 
--- a candidate has not ended
-candidate_lives : (pods : List PodSpec) (before : List TickObs) (tick : TickObs)
+-- a candidate has not ended, unless with the tick, as it says
+candidate_ends : (pods : List PodSpec) (before : List TickObs) (tick : TickObs)
     (evictions : List (Option Eviction)) (n : ℕ) (status : PodStatus)
-    → (c : IsCandidate pods before tick evictions n status)
-    → HasEnded c.pod (place_of (own_eviction n (before ++ tick ∷ []) evictions)) (pod_ticks (before ++ tick ∷ []) n)
-    → ⊥
-candidate_lives pods before tick evictions n status c ended =
-    let evicted = place_of (own_eviction n (before ++ tick ∷ []) evictions) in
-    let h = pod_ticks (before ++ tick ∷ []) n in
-    c.lives ((ended_is c.pod evicted h status.phase c.is_status.lifecycle.phase).1 ended)
+    → (c : IsCandidate pods before tick evictions n status) → (end : ℕ)
+    → IsEnd c.pod (place_of (own_eviction n (before ++ tick ∷ []) evictions)) (pod_ticks (before ++ tick ∷ []) n)
+    (Some end)
+    → (own_eviction n (before ++ tick ∷ []) evictions ≡ None)
+    × (option_map (λ (f : PodFailure). f.at) (failure_at (pod_ticks (before ++ tick ∷ []) n) end) ≡ Some tick.at)
+candidate_ends pods before tick evictions n status c end is =
+    by (own_eviction n (before ++ tick ∷ []) evictions) refl is c.is_status.failure
+  where
+    h : List PodTick
+    h = pod_ticks (before ++ tick ∷ []) n
+
+    evicted : Option ℕ
+    evicted = place_of (own_eviction n (before ++ tick ∷ []) evictions)
+
+    says : option_map (λ (f : PodFailure). f.at) status.failure ≡ Some tick.at
+    says = c.may ((ended_is c.pod evicted h status.phase c.is_status.lifecycle.phase).1 (end, is))
+
+    by : (o : Option EvictionRecord) → own_eviction n (before ++ tick ∷ []) evictions ≡ o
+        → IsEnd c.pod (place_of (own_eviction n (before ++ tick ∷ []) evictions)) h (Some end)
+        → IsFailure c.pod (own_eviction n (before ++ tick ∷ []) evictions) h status.failure
+        → (own_eviction n (before ++ tick ∷ []) evictions ≡ None)
+        × (option_map (λ (f : PodFailure). f.at) (failure_at h end) ≡ Some tick.at)
+    by None own ends failure =
+        let fails : IsFailure c.pod None h status.failure =
+        subst (λ (o : Option EvictionRecord). IsFailure c.pod o h status.failure) own failure in
+        let here : IsEnd c.pod None h (Some end) =
+        subst (λ (o : Option EvictionRecord). IsEnd c.pod (place_of o) h (Some end)) own ends in
+        let same : status.failure ≡ failure_at h end = fails.2
+        ∙ ap (option_and_then (failure_at h)) (IsEnd-unique c.pod None h fails.0 (Some end) fails.1 here) in
+        (own, ap (option_map (λ (f : PodFailure). f.at)) (sym same) ∙ says)
+    by (Some r) own ends failure =
+        let none : status.failure ≡ None =
+        subst (λ (o : Option EvictionRecord). IsFailure c.pod o h status.failure) own failure in
+        absurd (let w : None ≡ Some tick.at =
+        sym (ap (option_map (λ (f : PodFailure). f.at)) none) ∙ says in cc)
 
 pub evicted_pod_lived : EvictedPodLived
 evicted_pod_lived config pods ticks evictions t tick eviction replay at is =
@@ -124,7 +155,7 @@ evicted_pod_lived config pods ticks evictions t tick eviction replay at is =
       pod = c.pod;
       is_pod = c.at;
       present = c.present;
-      lived = candidate_lives pods (take t ticks) tick (take t evictions) eviction.pod reason.status c;
+      lived = candidate_ends pods (take t ticks) tick (take t evictions) eviction.pod reason.status c;
     }
 
 -- a pod that is evicted in one of its ticks has ended
@@ -134,7 +165,8 @@ has_ended pod place h lt = by (some_end pod (Some place) h)
     by : (o : Option ℕ) × IsEnd pod (Some place) h o → HasEnded pod (Some place) h
     by (Some t, end) = (t, end)
     by (None, none) =
-        absurd (none place (record { within = lt; so = inr (length-take-le (suc place) h (omega arith)) }))
+        let cut = length-take-le (suc place) h (omega arith) in
+        absurd (none place (record { within = lt; so = inr (place, cut, inl refl) }))
 
 -- no more ticks are its own among the first ones than among all
 few_ticks : (ticks : List TickObs) (n k : ℕ) → length (pod_ticks (take k ticks) n) ≤ length (pod_ticks ticks n)
@@ -169,8 +201,9 @@ never_before pods before tick evictions n status many c = by (evicted_at n evict
         own_eviction-longer n before tick evictions many
         ∙ ap (option_map (of_pod before n)) e in
         let Ended : Option ℕ → Type 0 = λ o. HasEnded c.pod o h in
-        absurd (candidate_lives pods before tick evictions n status c
-        (subst Ended (sym (ap place_of is)) (has_ended c.pod place h (omega arith))))
+        let over = subst Ended (sym (ap place_of is)) (has_ended c.pod place h (omega arith)) in
+        let none = (candidate_ends pods before tick evictions n status c over.0 over.1).0 in
+        absurd (let w : None ≡ Some (of_pod before n found) = sym none ∙ is in cc)
 
 pub taken : {A : Type 0} (xs : List A) (t u : ℕ) (x : A) → t < u → slice_get xs t ≡ Some x
     → slice_get (take u xs) t ≡ Some x

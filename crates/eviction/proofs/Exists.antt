@@ -16,14 +16,12 @@ use Rattle.node_signals.specs.declared.key.ThresholdKey.{ThresholdKey}
 use Rattle.node_signals.specs.rule.Keys.{serving_order}
 use Rattle.node_signals.specs.rule.Thresholds.{Asks, AsksAt, IsServed}
 use Rattle.node_signals.proofs.Decide.{due_or_not, reclaimed_or_not}
-use Rattle.phase.specs.rule.RawPhase.{IsTerminal}
-use Rattle.phase.proofs.DecideLemmas.{terminal_cases}
 use Rattle.pod_state.specs.rule.Pods.{PodTick}
-use Rattle.pod_state.proofs.EndLemmas.{IsPhase-unique}
 use Rattle.pod_piece.specs.declared.piece.EvictionRecord.{EvictionRecord}
 use Rattle.pod_piece.specs.declared.status.PodStatus.{PodStatus}
 use Rattle.pod_piece.specs.rule.Piece.{place_of}
 use Rattle.pod_piece.specs.rule.Status.{IsStatusAfter}
+use Rattle.pod_piece.proofs.Failures.{may_or_not, may_by}
 use Rattle.pod_piece.proofs.UsageLemmas.{one_usage}
 use Rattle.ranking.specs.rule.Order.{IsVictim}
 use Rattle.ranking.proofs.LawLemmas.{RankAlike}
@@ -102,14 +100,12 @@ candidate_or_not pods before tick evictions n = by (slice_get pods n) refl
     with_status : (pod : PodSpec) → slice_get pods n ≡ Some pod → IsSome (shown_of tick n)
         → (p : PodStatus) × IsStatusAfter n pod eviction h p
         → Known Candidate
-    with_status pod at present (p, is) = elim (terminal_cases p.phase) [
-      | inl ended ↦ inr (λ q c.
+    with_status pod at present (p, is) = elim (may_or_not tick.at p) [
+      | inr out ↦ inr (λ q c.
           let Of : PodSpec → Type 0 = λ k. IsStatusAfter n k eviction h q in
           let other = subst Of (one_pod (slice_get pods n) c.pod pod c.at at) c.is_status in
-          let evicted = place_of eviction in
-          let same = IsPhase-unique pod evicted h p.phase q.phase is.lifecycle.phase other.lifecycle.phase in
-          c.lives (subst IsTerminal same ended))
-      | inr lives ↦ inl (p, record { pod = pod; at = at; present = present; is_status = is; lives = lives })
+          out (may_by n pod eviction h q p tick.at other is c.may))
+      | inl may ↦ inl (p, record { pod = pod; at = at; present = present; is_status = is; may = may })
     ]
 
     of_pod : (pod : PodSpec) → slice_get pods n ≡ Some pod

@@ -20,6 +20,7 @@ use Rattle.pod_piece.specs.rule.Piece.{place_of}
 use Rattle.pod_piece.specs.rule.Status.{requests_of}
 use Rattle.pod_piece.specs.rule.Usage.{IsUsageOf}
 use Rattle.pod_piece.specs.state.Usage.{nothing}
+use Rattle.pod_piece.proofs.Failures.{some_failure}
 use Rattle.pod_piece.proofs.UsageLemmas.{no_usage, usage_more}
 use Rattle.eviction.specs.state.Laws.{SomeStatus}
 
@@ -63,6 +64,7 @@ some_status number pod eviction h few =
     let vector = some_vector statuses.0 (omega arith) in
     let class = some_class pod.containers in
     let usage = some_usage pod evicted h in
+    let failure = some_failure pod eviction h in
     let Shown : List ContainerStatus → Type 0 = AreStatusesOf pod evicted h in (
       record {
         number = number;
@@ -74,6 +76,7 @@ some_status number pod eviction h few =
         usage = usage.0;
         priority = pod.priority;
         order = option_map (λ (e : EvictionRecord). e.order) eviction;
+        failure = failure.0;
       },
       record {
         number_is = refl;
@@ -84,5 +87,6 @@ some_status number pod eviction h few =
         usage = usage.1;
         priority = refl;
         order = refl;
+        failure = failure.1;
       },
     )

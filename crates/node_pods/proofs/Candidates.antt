@@ -1,16 +1,16 @@
 -- The candidates that are held, and their victim.
 use Rattle.std.proofs.Common.{◌≡◌, ◌∙◌, inl, inr, ℕ, ◌+◌, ◌<◌, Bool, List, length, get_or, Option}
 use Rattle.std.proofs.Common.{Some, None, refl, ap, sym, subst, arith}
-use Rattle.std.specs.Prelude.{IsSome, slice_get}
+use Rattle.std.specs.Prelude.{IsSome, option_map, slice_get}
 use Rattle.std.proofs.lemmas.Bool.{cases_eq, cases_lt}
 use Rattle.std.proofs.lemmas.Option.{slice_get_read, slice_get_within}
 use Rattle.histories.specs.rule.Histories.{last_moment}
 use Rattle.histories.proofs.Lists.{some_given}
 use Rattle.signals.specs.declared.signal.Signal.{Signal}
-use Rattle.phase.specs.rule.RawPhase.{IsTerminal}
-use Rattle.phase.proofs.DecideLemmas.{terminal_cases}
+use Rattle.pod_piece.specs.declared.status.PodFailure.{PodFailure}
 use Rattle.pod_piece.specs.declared.status.PodStatus.{PodStatus}
-use Rattle.pod_piece.specs.rule.Piece.{Piece}
+use Rattle.pod_piece.proofs.Failures.{may_or_not, may_by}
+use Rattle.pod_piece.specs.rule.Piece.{Piece, ticks}
 use Rattle.pod_piece.specs.state.Piece.{with_eviction}
 use Rattle.pod_piece.specs.state.Status.{IsStatusOf}
 use Rattle.ranking.specs.rule.Order.{IsVictim}
@@ -75,27 +75,27 @@ held_same pieces moment held after n kept is = record {
   complete = λ p c. subst (λ (o : Option PodStatus). IsSome o) (sym kept) (is.complete p c);
 }
 
--- the place of a pod that is held by its present status, or has ended
+-- the place of a pod that is held by its present status, or may not be evicted
 pub held_here : (pieces : List Piece) (moment n : ℕ) (piece : Piece) (status : PodStatus)
     (held after : ℕ → Option PodStatus) → slice_get pieces n ≡ Some piece → last_moment piece.handed ≡ Some moment
-    → IsStatusOf piece status → status.number ≡ n → AreHeldAfter held status after → IsHeldAt pieces moment after n
-held_here pieces moment n piece status held after at present is number are = elim (terminal_cases status.phase) [
-  | inl ended ↦
-      let gone : after n ≡ None = subst (λ (k : ℕ). after k ≡ None) number (are.ended ended) in
+    → IsStatusOf piece status → status.number ≡ n → AreHeldAfter moment held status after
+    → IsHeldAt pieces moment after n
+held_here pieces moment n piece status held after at present is number are = elim (may_or_not moment status) [
+  | inr out ↦
+      let gone : after n ≡ None = subst (λ (k : ℕ). after k ≡ None) number (are.out out) in
       record {
         sound = λ p e. absurd (let w : None ≡ Some p = sym gone ∙ e in cc);
-        complete = λ p c.
-            let same = alike piece status p is (status_at pieces moment n piece p at c) in
-            absurd (c.lives (subst IsTerminal same.phase ended));
+        complete = λ p c. absurd (out (may_by piece.number piece.pod piece.eviction (ticks piece) p status moment
+            (status_at pieces moment n piece p at c) is c.may));
       }
-  | inr lives ↦
-      let here : after n ≡ Some status = subst (λ (k : ℕ). after k ≡ Some status) number (are.lives lives) in
+  | inl may ↦
+      let here : after n ≡ Some status = subst (λ (k : ℕ). after k ≡ Some status) number (are.in_place may) in
       record {
         sound = λ p e.
             let both : Some status ≡ Some p = sym here ∙ e in
             let same : status ≡ p = cc in
             subst (λ (q : PodStatus). IsCandidate pieces moment n q) same
-            (record { piece = piece; at = at; present = present; is_status = is; lives = lives });
+            (record { piece = piece; at = at; present = present; is_status = is; may = may });
         complete = λ p c. subst (λ (o : Option PodStatus). IsSome o) (sym here) refl;
       }
 ]
@@ -106,7 +106,7 @@ none_held pieces moment = record { below = λ n lt. absurd (omega arith); rest =
 -- one pod more that is present has its place
 below_more : (pieces : List Piece) (moment i : ℕ) (piece : Piece) (status : PodStatus)
     (held after : ℕ → Option PodStatus) → slice_get pieces i ≡ Some piece → last_moment piece.handed ≡ Some moment
-    → IsStatusOf piece status → status.number ≡ i → AreHeldAfter held status after
+    → IsStatusOf piece status → status.number ≡ i → AreHeldAfter moment held status after
     → AreHeldBelow pieces moment i held → AreHeldBelow pieces moment (i + 1) after
 below_more pieces moment i piece status held after at present is number are so_far = record {
   below = λ n lt. elim (cases_eq n i) [
@@ -177,5 +177,7 @@ pub evicted_is_no_candidate : EvictedIsNoCandidate
 evicted_is_no_candidate old new n order free may are moment p c =
     let was = may.1 in
     let here = are.here was.piece was.at in
-    c.lives (evicted_ended was.piece order order.at p (free n was.piece was.at) was.present
-    (status_at new moment n (with_eviction was.piece order) p here c))
+    let is = status_at new moment n (with_eviction was.piece order) p here c in
+    let says = c.may (evicted_ended was.piece order order.at p (free n was.piece was.at) was.present is) in
+    absurd (let w : None ≡ Some moment =
+    sym (ap (option_map (λ (f : PodFailure). f.at)) is.failure) ∙ says in cc)

@@ -1,6 +1,6 @@
 -- The statuses of a piece, and of one that was evicted.
-use Rattle.std.proofs.Common.{◌≡◌, ◌∙◌, inr, ℕ, suc, ◌-◌, ◌<◌, List, [], length, Option}
-use Rattle.std.proofs.Common.{Some, None, sym, subst, arith}
+use Rattle.std.proofs.Common.{◌≡◌, ◌∙◌, inl, inr, ℕ, suc, ◌-◌, ◌<◌, List, [], length, Option}
+use Rattle.std.proofs.Common.{Some, None, refl, sym, subst, arith}
 use Rattle.std.proofs.lemmas.List.{take_all}
 use Rattle.histories.specs.rule.Histories.{last_moment, up_to, HoldsAt}
 use Rattle.histories.proofs.Places.{moment_at-below}
@@ -12,7 +12,7 @@ use Rattle.pod_state.proofs.EndLemmas.{IsPhase-unique, end_terminal, ended_is}
 use Rattle.pod_piece.specs.declared.order.EvictOrder.{EvictOrder}
 use Rattle.pod_piece.specs.declared.status.PodStatus.{PodStatus}
 use Rattle.pod_piece.specs.rule.Piece.{Piece, ticks}
-use Rattle.pod_piece.specs.state.Piece.{evicted_at, Lives, new_piece, with_eviction}
+use Rattle.pod_piece.specs.state.Piece.{evicted_at, new_piece, with_eviction}
 use Rattle.pod_piece.specs.state.Status.{IsStatusOf}
 use Rattle.pod_piece.proofs.Waiting.{ticks_free}
 use Rattle.pod_piece.proofs.UsageLemmas.{one_usage}
@@ -39,11 +39,6 @@ rank_alike piece p q a b =
     let are = alike piece p q a b in
     record { usage = are.usage; requests = are.requests; priority = are.priority; number = are.number }
 
--- a pod that has no terminal phase has not ended
-pub lives_by : (piece : Piece) (p : PodStatus) → IsStatusOf piece p → (IsTerminal p.phase → ⊥) → Lives piece
-lives_by piece p is lives ended =
-    lives ((ended_is piece.pod (evicted_at piece) (ticks piece) p.phase is.lifecycle.phase).1 ended)
-
 -- a pod that nothing was handed to has not ended
 pub new_lives : (n : ℕ) (pod : PodSpec) (max_restart_delay : ℕ) (p : PodStatus)
     → IsStatusOf (new_piece n pod max_restart_delay) p
@@ -61,7 +56,7 @@ ends_last pod h some =
     let whole : up_to h n ≡ h = take_all (suc n) h (omega (arith, some)) in
     let P : List PodTick → Type 0 = λ k. EndsPod pod (Some n) k in
     let long : length h ≡ suc n = omega (arith, some) in
-    record { within = omega (arith, some); so = subst P (sym whole) (inr long) }
+    record { within = omega (arith, some); so = subst P (sym whole) (inr (n, long, inl refl)) }
 
 phase_of_ended : (pod : PodSpec) (evicted : Option ℕ) (h : List PodTick) (p : PodStatus) (t : ℕ)
     → HoldsAt (EndsPod pod evicted) h t → IsPhase pod evicted h p.phase → IsTerminal p.phase

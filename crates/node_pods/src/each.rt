@@ -212,7 +212,7 @@ fn rank_one(index: &mut RankIndex, piece: &PodPiece, moment: u64) -> Result<(), 
         → (after : ℕ → Option PodStatus) × IsIndexOf after index.new × IsRanked moment piece.now held after) }
 {
     if is_present(piece, moment) {
-        index.update(piece.status())?;
+        index.update(piece.status(), moment)?;
     }
     Ok(())
 }

@@ -15,7 +15,9 @@ use Rattle.node_signals.specs.rule.Conditions.{conditions}
 use Rattle.node_signals.proofs.Exists.{some_condition}
 use Rattle.pod_state.proofs.FoundLemmas.{some_status}
 use Rattle.eviction.specs.declared.eviction.Eviction.{Eviction}
-use Rattle.eviction.specs.rule.Replay.{pod_ticks}
+use Rattle.pod_piece.specs.rule.Status.{reason_in, disrupted_at}
+use Rattle.pod_piece.proofs.Failures.{some_failure}
+use Rattle.eviction.specs.rule.Replay.{pod_ticks, own_eviction}
 use Rattle.eviction.proofs.Exists.{some_replay}
 use Rattle.event_list.specs.rule.Totals.{totals_of}
 use Rattle.event_list.proofs.Exists.{some_list_of_events}
@@ -33,9 +35,20 @@ some_pod_lines ticks evictions n pod =
     let order = evicting_order n ticks evictions in
     let (l, l') = some_status.of_pod pod evicted (pod_ticks ticks n) in
     let (c, c') = some_status.of_containers pod evicted (pod_ticks ticks n) in
-    let (q, q') = some_class pod.containers in (
-      pod_text n pod q l.phase l.conditions order c,
-      record { lifecycle = l; is_lifecycle = l'; containers = c; are_statuses = c'; qos = q; is_qos = q'; text = refl },
+    let (q, q') = some_class pod.containers in
+    let (f, f') = some_failure pod (own_eviction n ticks evictions) (pod_ticks ticks n) in (
+      pod_text n pod q l.phase l.conditions (reason_in order f) (disrupted_at order f) c,
+      record {
+        lifecycle = l;
+        is_lifecycle = l';
+        containers = c;
+        are_statuses = c';
+        qos = q;
+        is_qos = q';
+        failure = f;
+        is_failure = f';
+        text = refl;
+      },
     )
 
 -- of the pod with the number among these

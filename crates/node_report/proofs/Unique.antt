@@ -19,7 +19,10 @@ use Rattle.containers.specs.declared.status.ContainerStatus.{ContainerStatus}
 use Rattle.pod_state.specs.declared.lifecycle.Lifecycle.{Lifecycle}
 use Rattle.pod_state.proofs.UniqueLemmas.{status_one, container_one}
 use Rattle.eviction.specs.declared.eviction.Eviction.{Eviction}
-use Rattle.eviction.specs.rule.Replay.{pod_ticks}
+use Rattle.pod_piece.specs.declared.status.PodFailure.{PodFailure}
+use Rattle.pod_piece.specs.rule.Status.{reason_in, disrupted_at}
+use Rattle.pod_piece.proofs.Failures.{one_failure}
+use Rattle.eviction.specs.rule.Replay.{pod_ticks, own_eviction}
 use Rattle.eviction.proofs.Unique.{one_replay}
 use Rattle.event_list.specs.declared.event.Event.{Event}
 use Rattle.event_list.specs.rule.Events.{AreEvents}
@@ -45,10 +48,14 @@ lines_one ticks evictions n pod a b x y =
     (x.are_statuses.each c d (omega (arith, x.are_statuses.as_many)))
     (y.are_statuses.each c d (omega (arith, x.are_statuses.as_many)))) in
     let classes : x.qos ≡ y.qos = one_class pod.containers x.qos y.qos x.is_qos y.is_qos in
-    x.text ∙ ap (λ (q : Qos). pod_text n pod q x.lifecycle.phase x.lifecycle.conditions order x.containers) classes
-    ∙ ap (λ (s : Lifecycle). pod_text n pod y.qos s.phase s.conditions order x.containers) lifecycles
-    ∙ ap (λ (cs : List ContainerStatus). pod_text n pod y.qos y.lifecycle.phase y.lifecycle.conditions order cs)
-    containers ∙ sym y.text
+    let failures : x.failure ≡ y.failure = one_failure pod (own_eviction n ticks evictions) h x.failure y.failure
+    x.is_failure y.is_failure in
+    let Text : Qos → Lifecycle → Option PodFailure → List ContainerStatus → List ℕ =
+    λ q s f cs. pod_text n pod q s.phase s.conditions (reason_in order f) (disrupted_at order f) cs in
+    x.text ∙ ap (λ (q : Qos). Text q x.lifecycle x.failure x.containers) classes
+    ∙ ap (λ (s : Lifecycle). Text y.qos s x.failure x.containers) lifecycles
+    ∙ ap (λ (f : Option PodFailure). Text y.qos y.lifecycle f x.containers) failures
+    ∙ ap (λ (cs : List ContainerStatus). Text y.qos y.lifecycle y.failure cs) containers ∙ sym y.text
 
 all_lines_one : (ticks : List TickObs) (evictions : List (Option Eviction)) (pods : List PodSpec) (a b : List ℕ)
     → AreLines ticks evictions pods a → AreLines ticks evictions pods b → a ≡ b

@@ -1,8 +1,9 @@
 //! The lines of a pod, as text.
 
-ghost use Rattle.std.specs.Prelude.{◌≡◌, [], ◌++◌, codes, length, OnOk, string_bytes};
+ghost use Rattle.std.specs.Prelude.{◌≡◌, [], ◌++◌, codes, length, option_map, unwrap_or, OnOk, string_bytes};
 ghost use Rattle.event_list.specs.rule.Text.{phase_word};
-ghost use Rattle.node_report.specs.rule.Lines.{state_word, reason_word, qos_word, bool_text, code_text};
+ghost use Rattle.pod_piece.specs.rule.Status.{reason_in, disrupted_at};
+ghost use Rattle.node_report.specs.rule.Lines.{state_word, qos_word, bool_text, code_text};
 ghost use Rattle.node_report.specs.rule.Lines.{pod_words, pod_line, condition_line, container_words};
 ghost use Rattle.node_report.specs.rule.Lines.{flag_words, container_line, conditions_text, disruption_text};
 ghost use Rattle.node_report.specs.rule.Lines.{containers_text, pod_text};
@@ -10,7 +11,7 @@ ghost use Rattle.node_report.specs.rule.Lines.{containers_text, pod_text};
 use event_list::{add_with_number, phase_word, truth_word};
 use manifest::{ContainerSpec, PodSpec};
 use phase::{Condition, Conditions, ContainerState, Phase};
-use pod_piece::{EvictOrder, PodStatus};
+use pod_piece::PodStatus;
 use pod_state::ContainerStatus;
 use qos::Qos;
 use std::alloc::AllocError;
@@ -50,13 +51,14 @@ fn add_code(text: &mut String, code: Option<i32>) -> Result<(), AllocError>
     }
 }
 
-/// The reason of an evicted pod.
-fn reason_word(order: Option<EvictOrder>) -> &'static str
-    ensures { result.now ≡ reason_word order }
+/// Adds why the pod has failed, if it is known.
+fn add_reason(text: &mut String, reason: Option<&str>) -> Result<(), AllocError>
+    ensures { OnOk result (string_bytes text.new
+        ≡ string_bytes text.old ++ unwrap_or (option_map (λ r. r.now) reason.entry) (codes "-")) }
 {
-    match order {
-        None => "-",
-        Some(_) => "Evicted",
+    match reason {
+        None => add(text, "-"),
+        Some(reason) => add(text, reason),
     }
 }
 
@@ -85,13 +87,14 @@ fn add_pod_line(
     pod: &PodSpec,
     qos: Qos,
     phase: Phase,
-    order: Option<EvictOrder>,
+    reason: Option<&str>,
 ) -> Result<(), AllocError>
-    ensures { OnOk result (string_bytes text.new ≡ string_bytes text.old ++ pod_line number pod.now qos phase order) }
+    ensures { OnOk result (string_bytes text.new
+        ≡ string_bytes text.old ++ pod_line number pod.now qos phase (option_map (λ r. r.now) reason.entry)) }
 {
     add_pod_words(text, number, pod, phase)?;
     add(text, " reason=")?;
-    add(text, reason_word(order))?;
+    add_reason(text, reason)?;
     add(text, " qos=")?;
     add(text, qos_word(qos))?;
     add(text, "\n")
@@ -145,19 +148,15 @@ fn add_conditions(
     Ok(())
 }
 
-/// Adds the line of the condition that an evicted pod has beside the four.
-fn add_disruption(
-    text: &mut String,
-    number: usize,
-    order: Option<EvictOrder>,
-) -> Result<(), AllocError>
-    ensures { OnOk result (string_bytes text.new ≡ string_bytes text.old ++ disruption_text number order) }
+/// Adds the line of the condition that a pod has beside the four that the node disrupts.
+fn add_disruption(text: &mut String, number: usize, since: Option<u64>) -> Result<(), AllocError>
+    ensures { OnOk result (string_bytes text.new ≡ string_bytes text.old ++ disruption_text number since) }
 {
-    let Some(order) = order else {
+    let Some(since) = since else {
         return Ok(());
     };
     add_with_number(text, "condition ", number)?;
-    add_with_number(text, " DisruptionTarget True ", order.at)?;
+    add_with_number(text, " DisruptionTarget True ", since)?;
     add(text, " TerminationByKubelet\n")
 }
 
@@ -230,12 +229,20 @@ pub(crate) fn add_pod_text(
 ) -> Result<(), AllocError>
     requires { length status.now.containers.items ≡ length pod.now.containers }
     ensures { OnOk result (string_bytes text.new ≡ string_bytes text.old
-        ++ pod_text number pod.now status.now.class status.now.phase status.now.conditions status.now.order
+        ++ pod_text number pod.now status.now.class status.now.phase status.now.conditions
+        (reason_in status.now.order status.now.failure) (disrupted_at status.now.order status.now.failure)
         status.now.containers.items) }
 {
-    add_pod_line(text, number, pod, status.class, status.phase, status.order)?;
+    add_pod_line(
+        text,
+        number,
+        pod,
+        status.class,
+        status.phase,
+        status.reason(),
+    )?;
     add_conditions(text, number, status.conditions)?;
-    add_disruption(text, number, status.order)?;
+    add_disruption(text, number, status.disruption_target())?;
     add_containers(text, number, pod.containers.as_slice(), &status.containers)?;
     Ok(())
 }

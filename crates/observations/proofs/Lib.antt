@@ -1,2 +1,3 @@
 pub mod KeptAs
 pub mod OwnTicks
+mod Reasons

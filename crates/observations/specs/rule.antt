@@ -1,3 +1,4 @@
 pub mod Observations
 pub mod Pods
 pub mod Limits
+pub mod Reasons

@@ -1,6 +1,6 @@
 //! What a tick shows of a pod's containers and of its use of the node, as it is kept.
 
-ghost use Rattle.std.specs.Prelude.{◌≡◌, length, map, IfOk, IfSome, slice_get};
+ghost use Rattle.std.specs.Prelude.{◌≡◌, length, map, IfOk, IfSome, slice_get, option_map};
 ghost use Rattle.observations.specs.state.PackedContainer.{shown_as};
 ghost use Rattle.observations.specs.state.Pods.{kept_in, sampling_in, words_in, no_words};
 ghost use Rattle.observations.specs.state.Whole.{memory_as, usage_as};
@@ -9,9 +9,10 @@ ghost use Rattle.observations.specs.declared.usage.Sampling.TheVariants.{Unsaid,
 use crate::container::ContainerObs;
 use crate::containers::{Containers, kept};
 use crate::packed_container::PackedContainer;
+use crate::reason::EndReason;
 use crate::usage::{Sampling, Usage};
 use crate::whole::{WholeUsage, usage_of_memory};
-use crate::words::{NO_WORDS, PodWords};
+use crate::words::PodWords;
 use std::alloc::{AllocError, Global};
 
 /// What a tick shows of a pod whose sample is in whole units.
@@ -157,7 +158,7 @@ impl PackedContainers {
         ensures sampling { IfOk result (λ s. sampling_in s ≡ sampling) }
         ensures words { IfOk result (λ s. words_in s ≡ words) }
     {
-        if !words.deleting {
+        if !words.deleting && words.failed.is_none() {
             return PackedContainers::new(alloc, containers, sampling);
         }
         let containers = Containers::new(alloc, containers)?;
@@ -223,13 +224,23 @@ impl PackedContainers {
         }
     }
 
-    /// The tick's words on the pod.
-    pub(crate) fn words(&self) -> PodWords
-        ensures { result ≡ words_in self.now }
+    /// Whether the tick says that the pod is being deleted.
+    pub(crate) fn deleting(&self) -> bool
+        ensures { result ≡ (words_in self.now).deleting }
     {
         match self {
-            PackedContainers::Told(told) => told.words,
-            _ => NO_WORDS,
+            PackedContainers::Told(told) => told.words.deleting,
+            _ => false,
+        }
+    }
+
+    /// Why the tick says that the node has ended the pod, if it does.
+    pub(crate) fn failed(&self) -> Option<&EndReason>
+        ensures { option_map (λ r. r.now) result ≡ (words_in self.now).failed }
+    {
+        match self {
+            PackedContainers::Told(told) => told.words.failed.as_ref(),
+            _ => None,
         }
     }
 }

@@ -1,10 +1,11 @@
 //! What a tick shows of one pod.
 
-ghost use Rattle.std.specs.Prelude.{◌≡◌, length, IfOk, slice_get};
+ghost use Rattle.std.specs.Prelude.{◌≡◌, length, IfOk, slice_get, option_map};
 ghost use Rattle.observations.specs.state.Pods.{pod_obs, told_obs, sample_in};
 
 use crate::container::ContainerObs;
 use crate::packed_containers::PackedContainers;
+use crate::reason::EndReason;
 use crate::usage::{Sampling, Usage};
 use crate::words::PodWords;
 use std::alloc::{AllocError, Global};
@@ -87,11 +88,19 @@ impl PodObs {
         self.shown.sampling()
     }
 
-    /// The tick's words on the pod.
-    pub fn words(&self) -> PodWords
-        ensures { result ≡ self.now.words }
+    /// Whether the tick says that the pod is being deleted. (Kubernetes, "Pod Lifecycle", "Termination of Pods".)
+    pub fn deleting(&self) -> bool
+        ensures { result ≡ self.now.words.deleting }
     {
-        self.shown.words()
+        self.shown.deleting()
+    }
+
+    /// Why the tick says that with it the node has ended the pod, if it does. (Kubernetes, "Pod Lifecycle", "Pod
+    /// phase".)
+    pub fn failed(&self) -> Option<&EndReason>
+        ensures { option_map (λ r. r.now) result ≡ self.now.words.failed }
+    {
+        self.shown.failed()
     }
 
     /// What the pod used, where the tick has a sample of it.

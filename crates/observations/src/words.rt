@@ -1,11 +1,18 @@
 //! What a tick says of a pod beside its listings and samples.
 
+use crate::reason::EndReason;
+
 /// The words of a tick on a pod. (This project's extended format.)
-#[derive(Clone, Copy, Debug, PartialEq, Eq)]
+#[derive(Drop)]
 pub struct PodWords {
     /// From this tick on the pod is being deleted. (Kubernetes, "Pod Lifecycle", "Termination of Pods".)
     pub deleting: bool,
+    /// With this tick the node has ended the pod, for this reason. (Kubernetes, "Pod Lifecycle", "Pod phase".)
+    pub failed: Option<EndReason>,
 }
 
 /// No word.
-pub const NO_WORDS: PodWords = PodWords { deleting: false };
+pub const NO_WORDS: PodWords = PodWords {
+    deleting: false,
+    failed: None,
+};

@@ -30,16 +30,17 @@ split_last h x is =
     let here : get_or h n x ≡ x = cc in
     sym (take_all (suc n) h (omega (arith, lt))) ∙ take-suc h n x lt ∙ ap (λ y. take n h ++ y ∷ []) here
 
+-- the moment of the tick at a place
+pub moment_here : (h : List PodTick) (i : ℕ) → moment_at h i ≡ option_map (λ (x : PodTick). x.moment) (slice_get h i)
+moment_here [] i = refl
+moment_here (x ∷ xs) zero = refl
+moment_here (x ∷ xs) (suc i) = moment_here xs i
+
 -- the last tick, by its moment
 pub tick_at : (h : List PodTick) (m : ℕ) → last_moment h ≡ Some m → (entry : PodEntry)
     × (last_of h ≡ Some (recorded m entry))
 tick_at h m is = there (slice_get h (length h - 1)) refl (sym (moment_here h (length h - 1)) ∙ is)
   where
-    moment_here : (h : List PodTick) (i : ℕ) → moment_at h i ≡ option_map (λ (x : PodTick). x.moment) (slice_get h i)
-    moment_here [] i = refl
-    moment_here (x ∷ xs) zero = refl
-    moment_here (x ∷ xs) (suc i) = moment_here xs i
-
     there : (o : Option PodTick) → slice_get h (length h - 1) ≡ o → option_map (λ (x : PodTick). x.moment) o ≡ Some m
         → (entry : PodEntry) × (last_of h ≡ Some (recorded m entry))
     there None e at = absurd (let w : None ≡ Some m = at in cc)

@@ -6,3 +6,4 @@ pub mod Rounds
 pub mod PieceLemmas
 pub mod EvictedPieces
 pub mod LastTicks
+pub mod Failures

@@ -15,7 +15,7 @@ use Rattle.state_diff.specs.declared.differ.Differ.{Differ}
 use Rattle.phase.specs.rule.RawPhase.{IsTerminal}
 use Rattle.pod_state.specs.declared.events.PodEvent.{PodEvent}
 use Rattle.pod_state.specs.declared.state.PodState.{PodState}
-use Rattle.pod_state.specs.rule.Pods.{PodEntry, PodTick, pod_tick, IsEnd, HasEnded, EndsEvicted}
+use Rattle.pod_state.specs.rule.Pods.{PodTick, pod_tick, IsEnd, HasEnded}
 use Rattle.pod_state.specs.rule.Events.{AreEventsOf}
 use Rattle.pod_state.specs.rule.Lifecycles.{IsLifecycleOf}
 use Rattle.pod_state.specs.state.Lifecycles.{IsProgressOf}
@@ -29,7 +29,7 @@ use Rattle.pod_piece.specs.declared.status.PodStatus.{PodStatus}
 use Rattle.pod_state.specs.state.Listings.{AreListed}
 use Rattle.pod_piece.specs.state.Listings.{IsNextTick, AreListedOnceEnded}
 use Rattle.pod_piece.specs.rule.Piece.{Piece, place_of, ticks, updated}
-use Rattle.pod_piece.specs.state.Piece.{piece, before_last, last_of, evicted_at, Lives}
+use Rattle.pod_piece.specs.state.Piece.{piece, before_last, last_of, evicted_at}
 use Rattle.pod_piece.specs.state.Piece.{with_number, at_rest, begun_with}
 use Rattle.pod_piece.specs.state.Piece.{evicted_before, new_piece, with_tick, with_eviction}
 use Rattle.pod_piece.specs.rule.Status.{IsStatusAfter}
@@ -232,21 +232,11 @@ kept_numbered p n differs state status earlier events kept = record {
     usage = kept.shown.usage;
     priority = kept.shown.priority;
     order = kept.shown.order;
+    failure = kept.shown.failure;
   };
   made_earlier = kept.made_earlier;
   made = kept.made;
 }
-
--- whether it ended by its eviction
-pub by_eviction : (o end : Option ℕ) (b : Bool) → (IsTrue b ↔ IsSome o) → IfSome o (λ place. end ≡ Some place)
-    → (IsTrue b ↔ EndsEvicted o end)
-by_eviction None end b says ends = ((λ t. let w : false ≡ true = says.0 t in absurd (cc)), (λ w. absurd (never end w)))
-  where
-    never : (end : Option ℕ) → EndsEvicted None end → ⊥
-    never None w = w
-    never (Some t) w = let e : None ≡ Some t = w in absurd (cc)
-by_eviction (Some place) end b says ends =
-    ((λ t. subst (λ (o : Option ℕ). EndsEvicted (Some place) o) (sym ends) refl), (λ w. says.1 refl))
 
 -- it has as many containers as its specification
 pub has_containers : (pod : PodSpec) (max_restart_delay : ℕ) (e : Option ℕ) (h : List PodTick) (state : PodState)
@@ -353,27 +343,11 @@ pub end_is : (pod : PodSpec) (h : List PodTick) (o end : Option ℕ) → IfSome 
 end_is pod h None end ends is = tt
 end_is pod h (Some place) end ends is = IsEnd-unique pod (Some place) h end (Some place) is ends.is_end
 
--- a pod that has not ended was not evicted
-pub not_evicted : (pod : PodSpec) (h : List PodTick) (o : Option ℕ) → IfSome o (EndsAt pod h) → (HasEnded pod o h → ⊥)
-    → o ≡ None
-not_evicted pod h None ends lives = refl
-not_evicted pod h (Some place) ends lives = absurd (lives (place, ends.is_end))
-
-pub no_eviction : (o : Option EvictionRecord) → place_of o ≡ None → o ≡ None
-no_eviction None e = refl
-no_eviction (Some eviction) e = absurd (let w : Some eviction.place ≡ None = e in cc)
-
-pub still_lives : (pod : PodSpec) (e : Option ℕ) (h : List PodTick) (end : Option ℕ) → (HasEnded pod e h → ⊥)
-    → IsEnd pod e h end → IsEnd pod e h None
-still_lives pod e h None lives is = is
-still_lives pod e h (Some t) lives is = absurd (lives (t, is))
-
--- nor has its phase come to an end
-pub goes_on : (pod : PodSpec) (max_restart_delay : ℕ) (e : Option ℕ) (h : List PodTick) (state : PodState)
-    → IsStateOf pod max_restart_delay e h state → (HasEnded pod e h → ⊥)
-    → IsTerminal state.lifecycle.phase → ⊥
-goes_on pod max_restart_delay e h state is lives ended =
-    lives ((ended_is pod e h state.lifecycle.phase is.progress.so_far.phase).0 ended)
+-- a pod that was evicted has ended
+pub evicted_over : (pod : PodSpec) (h : List PodTick) (o : Option ℕ) → IfSome o (EndsAt pod h)
+    → IfSome o (λ place. HasEnded pod (Some place) h)
+evicted_over pod h None ends = tt
+evicted_over pod h (Some place) ends = (place, ends.is_end)
 
 -- the counters of a piece with none that waits
 pub state_free : (p : Piece) (differs : List Differ) (state : PodState) (status : PodStatus) (earlier : List MadeTick)
@@ -382,15 +356,6 @@ pub state_free : (p : Piece) (differs : List Differ) (state : PodState) (status 
 state_free p differs state status earlier events free kept =
     subst (λ (k : List PodTick). IsStateAfter p.pod p.max_restart_delay (evicted_at p) k state)
     (ticks_free p free) kept.after
-
-pub lives_free : (p : Piece) → p.waiting ≡ 0 → Lives p → HasEnded p.pod (evicted_at p) p.handed → ⊥
-lives_free p free lives ended =
-    lives (subst (λ (k : List PodTick). HasEnded p.pod (evicted_at p) k) (sym (ticks_free p free)) ended)
-
--- whether there is an eviction
-pub flag_says : (o : Option EvictionRecord) (b : Bool) → b ≡ is_some o → (IsTrue b ↔ IsSome (place_of o))
-flag_says None b e = ((λ t. sym e ∙ t), (λ w. e ∙ w))
-flag_says (Some eviction) b e = ((λ t. refl), (λ w. e))
 
 -- a piece that one more observation is handed to
 pub piece_handed : (number : ℕ) (pod : PodSpec) (max_restart_delay : ℕ) (items : List PodObs) (waiting begun now : ℕ)

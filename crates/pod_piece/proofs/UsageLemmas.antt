@@ -180,16 +180,14 @@ usage_more pod evicted end h x usage false is says now = usage_lives pod evicted
 
 -- where the last tick evicts the pod
 pub usage_evicted : (pod : PodSpec) (h : List PodTick) (x : PodTick) (usage : NewestUsage)
-    → IsUsageOf pod None (h ++ x ∷ []) usage → IsEnd pod None (h ++ x ∷ []) None
+    → IsUsageOf pod None (h ++ x ∷ []) usage → IsEnd pod None h None
     → IsEnd pod (Some (length h)) (h ++ x ∷ []) (Some (length h)) → IsUsageOf pod (Some (length h)) (h ++ x ∷ []) usage
-usage_evicted pod h x usage is none now =
-    let same : is.end ≡ None = IsEnd-unique pod None (h ++ x ∷ []) is.end None is.is_end none in
-    record {
-      end = Some (length h);
-      is_end = now;
-      newest = subst (λ (k : List PodTick). AreNewestSamples k usage)
-          (ap (counted (h ++ x ∷ [])) same ∙ sym (up_to-new h x)) is.newest;
-    }
+usage_evicted pod h x usage is none now = record {
+  end = Some (length h);
+  is_end = now;
+  newest = subst (λ (k : List PodTick). AreNewestSamples k usage)
+      (counted_all pod None h x none is.end is.is_end ∙ sym (up_to-new h x)) is.newest;
+}
 
 -- The newest samples are one
 

@@ -8,7 +8,7 @@ use Rattle.std.proofs.lemmas.Option.{slice_get-get_or, slice_get-map, slice_get_
 use Rattle.quantity.specs.rule.Duration.{end_of_time}
 use Rattle.histories.specs.rule.Histories.{last_moment, moment_at}
 use Rattle.histories.specs.state.Histories.{EndsBefore}
-use Rattle.histories.proofs.Moments.{last_moment-more}
+use Rattle.histories.proofs.Moments.{last_moment-more, IsRising-more}
 use Rattle.histories.proofs.Places.{length-more}
 use Rattle.histories.proofs.Lists.{take_more, take_old, place_split, slice_get-kept}
 use Rattle.observations.specs.rule.Pods.{PodObs}
@@ -96,7 +96,11 @@ few_by (y ∷ ys) most few less = there (last_moment (y ∷ ys)) refl few less
 
 -- the ticks stay apart, and few
 pub none_spread : AreSpread []
-none_spread = record { few = tt; bounded = tt }
+none_spread = record {
+  rising = λ t u m n lt e f. let w : None ≡ Some m = e in absurd (cc);
+  few = tt;
+  bounded = tt;
+}
 
 pub spread_more : (h : List PodTick) (x : PodTick) → AreSpread h → EndsBefore h x.moment → x.moment < end_of_time
     → AreSpread (h ++ x ∷ [])
@@ -104,6 +108,7 @@ spread_more h x spread later bounded =
     let last : last_moment (h ++ x ∷ []) ≡ Some x.moment = last_moment-more h x in
     let most = few_by h x.moment spread.few later in
     record {
+      rising = IsRising-more h x spread.rising later;
       few = subst (λ (o : Option ℕ). IfSome o (λ m. length (h ++ x ∷ []) ≤ suc m)) (sym last)
           (omega (arith, length-more h x, most));
       bounded = subst (λ (o : Option ℕ). IfSome o (λ m. m < end_of_time)) (sym last) bounded;

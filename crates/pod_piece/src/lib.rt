@@ -32,4 +32,4 @@ pub use made::MadeTick;
 pub use order::EvictOrder;
 pub use piece::{PodPiece, Refused, piece_at};
 pub use pod_state::{ContainerStatus, PodEvent, PodEventKind};
-pub use status::{EffectiveRequests, NewestUsage, PodStatus, Reason};
+pub use status::{EffectiveRequests, NewestUsage, PodFailure, PodStatus};

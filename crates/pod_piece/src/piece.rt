@@ -1,6 +1,7 @@
 //! A pod with its history.
 
-ghost use Rattle.std.specs.Prelude.{◌≡◌, ◌↔◌, ◌<◌, ◌≤◌, ℕ, [], length, map, take, slice_get, Option, Some, None};
+ghost use Rattle.std.specs.Prelude.{◌≡◌, ◌↔◌, ◌||◌, ◌<◌, ◌≤◌, ℕ, [], is_some, length, map, take, slice_get, Option};
+ghost use Rattle.std.specs.Prelude.{Some, None, if◌then◌else◌};
 ghost use Rattle.std.specs.Prelude.{IsTrue, IfOk, IfErr, OnOk, OnErr};
 ghost use Rattle.quantity.specs.rule.Duration.{end_of_time};
 ghost use Rattle.histories.specs.rule.Histories.{last_moment};
@@ -8,15 +9,16 @@ ghost use Rattle.pod_state.specs.rule.Pods.{pod_tick};
 ghost use Rattle.pod_state.specs.state.States.{IsStateOf};
 ghost use Rattle.pod_piece.specs.state.Listings.{MayComeNext, IsNextTick};
 ghost use Rattle.pod_piece.specs.rule.Piece.{Piece, ticks, updated};
-ghost use Rattle.pod_piece.specs.state.Piece.{Lives, new_piece, with_tick, with_eviction};
+ghost use Rattle.pod_piece.specs.state.Piece.{new_piece, with_tick, with_eviction};
 ghost use Rattle.pod_piece.specs.state.Piece.{with_number, at_rest};
 ghost use Rattle.pod_piece.specs.state.Made.{round_length, AreEarlierEvents};
-ghost use Rattle.pod_piece.specs.state.Status.{IsStatusOf, AreLastEvents};
+ghost use Rattle.pod_piece.specs.rule.Status.{failure_in};
+ghost use Rattle.pod_piece.specs.state.Status.{IsStatusOf, IsEvictableAt, AreLastEvents};
 
 use crate::listings::{first_differs, follow_on, may_come};
 use crate::made::{MadeTick, begin_round, make_room, move_on};
 use crate::order::EvictOrder;
-use crate::status::{EffectiveRequests, PodStatus};
+use crate::status::{EffectiveRequests, PodFailure, PodStatus};
 use crate::usage::{newer_while, nothing};
 use containers::ContainerStatus;
 use lists::ChunkedList;
@@ -115,7 +117,31 @@ fn first_status(
         usage: nothing(),
         priority: pod.priority,
         order: None,
+        failure: None,
     })
+}
+
+/// Notes how the node has ended a pod with the tick, as the tick says, if that counts.
+fn note_failure(failure: &mut Option<PodFailure>, counts: bool, observed: &PodObs)
+    ensures { failure.new ≡ (if counts then failure_in (pod_tick observed.now) else failure.old) }
+{
+    if !counts {
+        return;
+    }
+    *failure = match observed.failed() {
+        Some(reason) => Some(PodFailure {
+            at: observed.at(),
+            reason: reason.again(),
+        }),
+        None => None,
+    };
+}
+
+/// Whether the node has ended a pod, by this eviction or as a tick says.
+fn is_ended_by_node(eviction: Option<EvictionRecord>, failure: &Option<PodFailure>) -> bool
+    ensures { result ≡ (is_some eviction || is_some failure.now) }
+{
+    eviction.is_some() || failure.is_some()
 }
 
 /// The moment of the observation before the place, if there is one.
@@ -250,8 +276,9 @@ impl PodPiece {
         let events = parts.state.take(parts.alloc, parts.pod.policy, observed)?;
         follow_on(&mut parts.differs, &parts.state, had_ended, observed);
         parts.status.usage = newer_while(!had_ended, parts.status.usage, observed.sampling());
-        let is_evicted = parts.eviction.is_some();
-        parts.state.show(is_evicted, &mut parts.status.containers);
+        note_failure(&mut parts.status.failure, !had_ended, observed);
+        let is_ended = is_ended_by_node(parts.eviction, &parts.status.failure);
+        parts.state.show(is_ended, &mut parts.status.containers);
         let lifecycle = parts.state.lifecycle();
         parts.status.phase = lifecycle.phase;
         parts.status.conditions = lifecycle.conditions;
@@ -270,10 +297,11 @@ impl PodPiece {
         parts.earlier.clear();
     }
 
-    /// Evicts the pod, which had not ended, by the tick that came last. It makes no event, and takes no memory.
+    /// Evicts the pod by the tick that came last: one that has not ended, or that the node has ended with that tick, as
+    /// the tick says. It makes no event, and takes no memory.
     pub fn evict(&mut self, order: EvictOrder)
         requires free { self.old.waiting ≡ 0 }
-        requires lives { Lives self.old }
+        requires evictable { IsEvictableAt order.at self.old }
         requires last { last_moment self.old.handed ≡ Some order.at }
         ensures { self.new ≡ with_eviction self.old order }
     {
@@ -285,6 +313,7 @@ impl PodPiece {
         parts.status.phase = lifecycle.phase;
         parts.status.conditions = lifecycle.conditions;
         parts.status.order = Some(order);
+        parts.status.failure = None;
         let place = parts.history.len() - 1;
         parts.eviction = Some(EvictionRecord { place, order });
     }

@@ -3,21 +3,30 @@
 ghost use Rattle.std.specs.Prelude.{◌≡◌, ◌↔◌, Option, IsTrue, option_map};
 ghost use Rattle.manifest.specs.declared.pod.PodSpec.{PodSpec};
 ghost use Rattle.phase.specs.rule.RawPhase.{IsTerminal};
-ghost use Rattle.pod_piece.specs.declared.status.Reason.TheVariants.{Evicted};
-ghost use Rattle.pod_piece.specs.rule.Status.{requests_of};
+ghost use Rattle.pod_piece.specs.rule.Status.{requests_of, reason_in, disrupts, disrupted_at, MayBeEvicted};
 
 use crate::order::EvictOrder;
 use containers::ContainerStatus;
 use manifest::{PodSpec, Resource};
-use observations::Usage;
+use observations::{EndReason, Usage};
 use phase::{Conditions, Phase};
 use qos::{Qos, effective_request};
 
-/// Why a pod has the phase that it has.
-#[derive(Clone, Copy, Debug, PartialEq, Eq)]
-pub enum Reason {
-    /// It was evicted. (Kubernetes, "Node-pressure Eviction".)
-    Evicted,
+/// How the node has ended a pod, but for an eviction, as a tick says. (Kubernetes, "Pod Lifecycle"; that a trace can
+/// say it is this project's extended format.)
+#[derive(Drop)]
+pub struct PodFailure {
+    /// The moment of that tick, in seconds.
+    pub at: u64,
+    /// Why.
+    pub reason: EndReason,
+}
+
+/// Whether the node ends a pod for such a reason to make room, or as it shuts down.
+fn disrupts(reason: &str) -> bool
+    ensures { result ≡ disrupts reason.now }
+{
+    reason == "Evicted" || reason == "Preempting" || reason == "Terminated"
 }
 
 /// The effective requests of a pod, in thousandths. (Kubernetes, "Init Containers" and "Sidecar
@@ -76,28 +85,54 @@ pub struct PodStatus {
     pub priority: i32,
     /// The order that evicted it, if it was evicted.
     pub order: Option<EvictOrder>,
+    /// How the node has ended it, if it has, but for an eviction.
+    pub failure: Option<PodFailure>,
 }
 
 impl PodStatus {
-    /// Why the pod failed, if it was evicted.
-    pub fn reason(&self) -> Option<Reason>
-        ensures { result ≡ option_map (λ order. Evicted) self.now.order }
+    /// Why the pod has failed, if it was evicted or the node has ended it otherwise: the `reason` of its status.
+    pub fn reason(&self) -> Option<&str>
+        ensures { option_map (λ r. r.now) result ≡ reason_in self.now.order self.now.failure }
     {
-        let _order = self.order?;
-        Some(Reason::Evicted)
+        if self.order.is_some() {
+            return Some("Evicted");
+        }
+        match &self.failure {
+            Some(failure) => Some(failure.reason.as_str()),
+            None => None,
+        }
     }
 
-    /// Since when the condition DisruptionTarget is true, in seconds, with the reason
-    /// TerminationByKubelet; a pod that was not evicted doesn't have it. (Kubernetes, "Disruptions",
-    /// "Pod disruption conditions".)
+    /// Since when the condition DisruptionTarget is true, in seconds, with the reason TerminationByKubelet: since its
+    /// eviction, or since the node has ended it as `Evicted`, `Preempting` or `Terminated`. Another pod doesn't have
+    /// it. (Kubernetes, "Disruptions", "Pod disruption conditions".)
     pub fn disruption_target(&self) -> Option<u64>
-        ensures { result ≡ option_map (λ order. order.at) self.now.order }
+        ensures { result ≡ disrupted_at self.now.order self.now.failure }
     {
-        let order = self.order?;
-        Some(order.at)
+        if let Some(order) = self.order {
+            return Some(order.at);
+        }
+        match &self.failure {
+            Some(failure) if disrupts(failure.reason.as_str()) => Some(failure.at),
+            _ => None,
+        }
     }
 
-    /// Whether the pod has ended: it has succeeded, failed or been evicted.
+    /// Whether a tick at the moment, in seconds, may evict the pod: it has not ended, or the node has ended it with
+    /// that very tick, as the tick says.
+    pub fn may_be_evicted(&self, at: u64) -> bool
+        ensures { IsTrue result ↔ MayBeEvicted at self.now }
+    {
+        if !self.is_terminal() {
+            return true;
+        }
+        match &self.failure {
+            Some(failure) => failure.at == at,
+            None => false,
+        }
+    }
+
+    /// Whether the pod has ended: it has succeeded or failed, or the node has ended it.
     pub fn is_terminal(&self) -> bool
         ensures { IsTrue result ↔ IsTerminal self.now.phase }
     {

@@ -26,7 +26,7 @@ use Rattle.containers.specs.declared.status.ContainerStatus.{ContainerStatus}
 use Rattle.pod_state.specs.rule.Events.{IsMadeOf}
 use Rattle.pod_state.specs.rule.Pods.{PodEntry, PodTick, pod_tick, ticks_of, unseen, Serves, IsReadyInPod}
 use Rattle.pod_state.specs.state.Pods.{IsViewOf}
-use Rattle.pod_state.specs.rule.Pods.{IsEnd, counted, EndsEvicted}
+use Rattle.pod_state.specs.rule.Pods.{IsEnd, counted, EndsByNode}
 use Rattle.pod_state.specs.rule.Containers.{IsShownOf, AreStatusesOf}
 use Rattle.pod_state.specs.state.Containers.{AreShown, IsContainerOf, AreContainersOf, AreKept}
 use Rattle.pod_state.proofs.EndLemmas.{IsEnd-unique}
@@ -110,14 +110,14 @@ serving_ready pod max_restart_delay n h container ready says is = there (slice_g
 
 -- as a status shows it
 pub shown_is : (pod : PodSpec) (max_restart_delay n : ℕ) (h : List PodTick) (container : Container)
-    (is_evicted : Type 0)
+    (is_ended : Type 0)
     (status : ContainerStatus)
     → ((spec : ContainerSpec) (k : List ContainerTick) → IsStateOf spec max_restart_delay k container
-    → shown.IsShown spec is_evicted k status)
-    → IsContainerOf pod max_restart_delay h n container → IsShownOf pod is_evicted h n status
-shown_is pod max_restart_delay n h container is_evicted status shows is =
+    → shown.IsShown spec is_ended k status)
+    → IsContainerOf pod max_restart_delay h n container → IsShownOf pod is_ended h n status
+shown_is pod max_restart_delay n h container is_ended status shows is =
     implies pod n (λ spec. IsStateOf spec max_restart_delay (ticks_of h n) container)
-    (λ spec. shown.IsShown spec is_evicted (ticks_of h n) status) (λ spec st. shows spec (ticks_of h n) st) is
+    (λ spec. shown.IsShown spec is_ended (ticks_of h n) status) (λ spec st. shows spec (ticks_of h n) st) is
 
 -- two ways to say that the pod was evicted
 evicted_same : (E F : Type 0) (spec : ContainerSpec) (k : List ContainerTick) (status : ContainerStatus) → (E ↔ F)
@@ -135,12 +135,12 @@ evicted_same E F spec k status same is = record {
 
 -- the statuses of a pod, of its containers as they are kept
 pub statuses_are : (pod : PodSpec) (max_restart_delay : ℕ) (evicted end : Option ℕ) (h : List PodTick)
-    (containers : List Container) (is_evicted : Type 0) (statuses : List ContainerStatus)
-    → IsEnd pod evicted h end → (is_evicted ↔ EndsEvicted evicted end)
+    (containers : List Container) (is_ended : Type 0) (statuses : List ContainerStatus)
+    → IsEnd pod evicted h end → (is_ended ↔ EndsByNode evicted h end)
     → AreKept pod max_restart_delay evicted h containers
-    → ((k : List PodTick) → AreContainersOf pod max_restart_delay k containers → AreShown pod is_evicted k statuses)
+    → ((k : List PodTick) → AreContainersOf pod max_restart_delay k containers → AreShown pod is_ended k statuses)
     → AreStatusesOf pod evicted h statuses
-statuses_are pod max_restart_delay evicted end h containers is_evicted statuses is same kept shows =
+statuses_are pod max_restart_delay evicted end h containers is_ended statuses is same kept shows =
     let P : Option ℕ → Type 0 = λ o. AreContainersOf pod max_restart_delay (counted h o) containers in
     let are = shows (counted h end) (subst P (IsEnd-unique pod evicted h kept.end end kept.is_end is) kept.kept) in
     record {
@@ -148,7 +148,7 @@ statuses_are pod max_restart_delay evicted end h containers is_evicted statuses 
       each = λ n d lt. record {
         end = end;
         is_end = is;
-        shown = implies pod n _ _ (λ spec s. evicted_same is_evicted (EndsEvicted evicted end) spec _ _ same s)
+        shown = implies pod n _ _ (λ spec s. evicted_same is_ended (EndsByNode evicted h end) spec _ _ same s)
             (are.each n d lt);
       };
     }

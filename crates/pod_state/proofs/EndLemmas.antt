@@ -1,7 +1,7 @@
 -- The end of a pod and its phase, after one more tick.
 use Rattle.std.proofs.Common.{◌≡◌, inl, inr, ℕ, suc, ◌<◌, List, [], ◌∷◌, ◌++◌, length, Option, Some, None, refl}
 use Rattle.std.proofs.Common.{ap, subst, sym, ◌∙◌, arith}
-use Rattle.std.specs.Prelude.{◌↔◌, IsSomeAnd}
+use Rattle.std.specs.Prelude.{◌↔◌}
 use Rattle.std.proofs.lemmas.List.{length-take-le}
 use Rattle.histories.specs.rule.Histories.{up_to, HoldsAt}
 use Rattle.histories.proofs.Places.{length-more, up_to-old, up_to-new}
@@ -12,7 +12,10 @@ use Rattle.phase.specs.declared.phase.Phase.TheVariants.{Pending, Succeeded, Fai
 use Rattle.manifest.specs.declared.pod.PodSpec.{PodSpec}
 use Rattle.phase.specs.rule.RawPhase.{IsTerminal, AreInitialized}
 use Rattle.pod_state.specs.rule.Pods.{PodTick, facts, numbers, AllReady, IsRawPhaseAfter, EndsPod, IsEnd, counted}
-use Rattle.pod_state.specs.rule.Pods.{IsPhaseBy, IsPhase, IsInitialized, AreContainersReady, HasEnded, EndsEvicted}
+use Rattle.pod_state.specs.rule.Pods.{IsPhaseBy, IsPhase, IsInitialized, AreContainersReady, HasEnded, EndsByNode}
+use Rattle.pod_state.specs.rule.Pods.{IsEndedByNode}
+use Rattle.pod_state.specs.state.Lifecycles.{EndsWith}
+use Rattle.pod_state.proofs.NodeEnds.{ended_up_to, ended_old, ended_now}
 use Rattle.containers.specs.declared.container.Container.{Container}
 use Rattle.pod_state.specs.state.Containers.{AreContainersOf, AreKept}
 use Rattle.phase.proofs.PhaseLemmas.{where_same, IsRawPhase-unique}
@@ -42,13 +45,6 @@ not_pending : (p : Phase) → p ≡ Pending → IsTerminal p → ⊥
 not_pending p is (inl e) = let x : Pending ≡ Succeeded = sym is ∙ e in cc
 not_pending p is (inr e) = let x : Pending ≡ Failed = sym is ∙ e in cc
 
-evicted_at : (evicted : Option ℕ) (n m : ℕ) → n ≡ suc m → IsSomeAnd evicted (λ t. n ≡ suc t) → evicted ≡ Some m
-evicted_at None n m e q = absurd q
-evicted_at (Some t) n m e q = let x : t ≡ m = omega arith in ap (λ k. Some k) x
-
-evicted_now : (evicted : Option ℕ) (n m : ℕ) → n ≡ suc m → evicted ≡ Some m → IsSomeAnd evicted (λ t. n ≡ suc t)
-evicted_now evicted n m e is = rw is e
-
 -- a pod of a terminal phase has ended
 pub terminal_end : (pod : PodSpec) (evicted : Option ℕ) (h : List PodTick) (p : Phase) → IsPhase pod evicted h p
     → IsTerminal p
@@ -68,9 +64,11 @@ ended_by pod evicted h p t end (inl w) =
 ended_by pod evicted h p t end (inr (some, inl w)) = inr w.1
 ended_by pod evicted h p t end (inr (some, inr w)) = elim (end.holds.so) [
   | inl q ↦ subst IsTerminal (raw_unique pod (up_to h t) q.0 p q.2 w.1) q.1
-  | inr e ↦ absurd (w.0
-      (evicted_at evicted (length (up_to h t)) t
-      (length-take-le (suc t) h (let lt : t < length h = end.holds.within in omega arith)) e))
+  | inr e ↦
+      let lt : t < length h = end.holds.within in
+      let long : length (up_to h t) ≡ suc t = length-take-le (suc t) h (omega arith) in
+      let here : e.0 ≡ t = omega (arith, e.1, long) in
+      absurd (w.0 ((ended_up_to evicted h t lt).0 (subst (IsEndedByNode evicted (up_to h t)) here e.2)))
 ]
 
 at_end : (pod : PodSpec) (evicted : Option ℕ) (h : List PodTick) (p : Phase) (t : ℕ) → IsPhase pod evicted h p
@@ -118,47 +116,71 @@ phase_ended pod evicted h x p is term =
         | inr some ↦ inr (
           some_more h x,
           elim (some.1) [
-            | inl e ↦ inl e
-            | inr raw ↦ inr (raw.0, subst P (sym (up_to-old h x w.0 lt)) raw.1)
+            | inl e ↦ inl ((ended_old evicted h x w.0 lt).0 e.0, e.1)
+            | inr raw ↦ inr (
+              (λ here. raw.0 ((ended_old evicted h x w.0 lt).1 here)),
+              subst P (sym (up_to-old h x w.0 lt)) raw.1,
+            )
           ],
         )
       ],
     )
 
--- an eviction ends it
-pub end_evicted : (pod : PodSpec) (evicted : Option ℕ) (h : List PodTick) (x : PodTick) (p : Phase)
+-- the node ends it
+pub end_by_node : (pod : PodSpec) (evicted : Option ℕ) (h : List PodTick) (x : PodTick) (p : Phase)
     → IsPhase pod evicted h p → (IsTerminal p → ⊥)
-    → evicted ≡ Some (length h) → IsEnd pod evicted (h ++ x ∷ []) (Some (length h))
-end_evicted pod evicted h x p is not e =
+    → EndsWith evicted h x → IsEnd pod evicted (h ++ x ∷ []) (Some (length h))
+end_by_node pod evicted h x p is not ends =
     IsFirst-new (length h) _ _ _ (grows pod evicted h x) (lives pod evicted h p is not)
-    (inr (evicted_now evicted _ (length h) (length-more h x) e))
+    (inr (length h, length-more h x, (ended_now evicted h x).0 ends))
 
-pub phase_evicted : (pod : PodSpec) (evicted : Option ℕ) (h : List PodTick) (x : PodTick) (p : Phase)
+pub phase_by_node : (pod : PodSpec) (evicted : Option ℕ) (h : List PodTick) (x : PodTick) (p : Phase)
     → IsPhase pod evicted h p → (IsTerminal p → ⊥)
-    → evicted ≡ Some (length h) → IsPhase pod evicted (h ++ x ∷ []) Failed
-phase_evicted pod evicted h x p is not e = (
+    → EndsWith evicted h x → IsPhase pod evicted (h ++ x ∷ []) Failed
+phase_by_node pod evicted h x p is not ends = (
   Some (length h),
-  end_evicted pod evicted h x p is not e,
-  inr (some_more h x, inl (e, refl)),
+  end_by_node pod evicted h x p is not ends,
+  inr (some_more h x, inl ((ended_now evicted h x).0 ends, refl)),
 )
+
+-- a tick that ends a pod that had not ended is the last
+pub end_new : (pod : PodSpec) (evicted : Option ℕ) (h : List PodTick) (x : PodTick) (t : ℕ)
+    → IsEnd pod evicted h None → IsEnd pod evicted (h ++ x ∷ []) (Some t) → t ≡ length h
+end_new pod evicted h x t none now = elim (IsFirst-split (length h) _ _ _ (grows pod evicted h x) t now) [
+  | inl old ↦ absurd (none t old.holds)
+  | inr w ↦ w.0
+]
+
+-- where the pod goes on the node doesn't end it with the last tick
+pub end_last : (pod : PodSpec) (evicted : Option ℕ) (h : List PodTick) (x : PodTick)
+    → IsEnd pod evicted (h ++ x ∷ []) None → EndsWith evicted h x → ⊥
+end_last pod evicted h x none ends =
+    let last = so_last (EndsPod pod evicted) (h ++ x ∷ []) (some_more h x)
+    (inr (length h, length-more h x, (ended_now evicted h x).0 ends)) in
+    none last.0 last.1
 
 -- else the phase is that of its containers
 pub phase_lives : (pod : PodSpec) (evicted : Option ℕ) (h : List PodTick) (x : PodTick) (p q : Phase)
     → IsPhase pod evicted h p → (IsTerminal p → ⊥)
-    → (evicted ≡ Some (length h) → ⊥) → IsRawPhaseAfter pod (h ++ x ∷ []) q → IsPhase pod evicted (h ++ x ∷ []) q
+    → (EndsWith evicted h x → ⊥) → IsRawPhaseAfter pod (h ++ x ∷ []) q → IsPhase pod evicted (h ++ x ∷ []) q
 phase_lives pod evicted h x p q is not stays raw =
     let P : List PodTick → Type 0 = λ k. IsRawPhaseAfter pod k q in
     elim (terminal_cases q) as (λ _. IsPhase pod evicted (h ++ x ∷ []) q) [
       | inl term ↦ (
         Some (length h),
         IsFirst-new (length h) _ _ _ (grows pod evicted h x) (lives pod evicted h p is not) (inl (q, term, raw)),
-        inr (some_more h x, inr (stays, subst P (sym (up_to-new h x)) raw)),
+        inr (
+          some_more h x,
+          inr ((λ here. stays ((ended_now evicted h x).1 here)), subst P (sym (up_to-new h x)) raw),
+        ),
       )
       | inr goes_on ↦ (
         None,
         none_more (length h) _ _ _ (grows pod evicted h x) (lives pod evicted h p is not) (λ ends. elim ends [
           | inl w ↦ goes_on (subst IsTerminal (raw_unique pod (h ++ x ∷ []) w.0 q w.2 raw) w.1)
-          | inr e ↦ stays (evicted_at evicted _ (length h) (length-more h x) e)
+          | inr e ↦
+              let here : e.0 ≡ length h = omega (arith, e.1, length-more h x) in
+              stays ((ended_now evicted h x).1 (subst (IsEndedByNode evicted (h ++ x ∷ [])) here e.2))
         ]),
         inr (some_more h x, inr ((λ e. e), raw)),
       )
@@ -189,10 +211,10 @@ counted_all pod evicted h x none (Some t) end =
       | inr w ↦ let P : ℕ → Type 0 = λ k. up_to (h ++ x ∷ []) k ≡ h ++ x ∷ [] in subst P (sym w.0) (up_to-new h x)
     ]
 
--- the phase of a pod that hadn't ended and is not evicted is that of its containers
+-- the phase of a pod that hadn't ended, and that the node doesn't end, is that of its containers
 pub phase_raw : (pod : PodSpec) (evicted : Option ℕ) (h : List PodTick) (x : PodTick) (p q : Phase)
     → IsPhase pod evicted h p → (IsTerminal p → ⊥)
-    → (evicted ≡ Some (length h) → ⊥) → IsPhase pod evicted (h ++ x ∷ []) q → IsRawPhaseAfter pod (h ++ x ∷ []) q
+    → (EndsWith evicted h x → ⊥) → IsPhase pod evicted (h ++ x ∷ []) q → IsRawPhaseAfter pod (h ++ x ∷ []) q
 phase_raw pod evicted h x p q is not stays (end, is_end, by) = elim by [
   | inl w ↦ absurd (some_more h x w.0)
   | inr v ↦ elim v.1 [
@@ -202,12 +224,13 @@ phase_raw pod evicted h x p q is not stays (end, is_end, by) = elim by [
   ]
 ]
   where
-    ends_elsewhere : (end : Option ℕ) → IsEnd pod evicted (h ++ x ∷ []) end → EndsEvicted evicted end → ⊥
-    ends_elsewhere None is_end evicted_there = evicted_there
-    ends_elsewhere (Some t) is_end evicted_there =
+    ends_elsewhere : (end : Option ℕ) → IsEnd pod evicted (h ++ x ∷ []) end
+        → EndsByNode evicted (h ++ x ∷ []) end → ⊥
+    ends_elsewhere None is_end there = there
+    ends_elsewhere (Some t) is_end there =
         elim (IsFirst-split (length h) _ _ _ (grows pod evicted h x) t is_end) [
           | inl old ↦ lives pod evicted h p is not t old.holds
-          | inr w ↦ stays (evicted_there ∙ ap Some w.0)
+          | inr w ↦ stays ((ended_now evicted h x).1 (subst (IsEndedByNode evicted (h ++ x ∷ [])) w.0 there))
         ]
 
 pub initialized_lives : (pod : PodSpec) (evicted : Option ℕ) (h : List PodTick) (x : PodTick) (p q : Phase)
@@ -265,6 +288,15 @@ kept_lives pod max_restart_delay evicted h x p q containers is not next are =
     let none = lives pod evicted h p is not in
     let Q : List PodTick → Type 0 = λ k. AreContainersOf pod max_restart_delay k containers in
     record { end = next.0; is_end = next.1; kept = subst Q (sym (counted_all pod evicted h x none next.0 next.1)) are }
+
+-- and those after the last tick, of a pod that hadn't ended before it
+pub kept_last : (pod : PodSpec) (max_restart_delay : ℕ) (evicted : Option ℕ) (h : List PodTick) (x : PodTick)
+    (p : Phase) (containers : List Container) → IsPhase pod evicted h p → (IsTerminal p → ⊥)
+    → AreKept pod max_restart_delay evicted (h ++ x ∷ []) containers
+    → AreContainersOf pod max_restart_delay (h ++ x ∷ []) containers
+kept_last pod max_restart_delay evicted h x p containers is not are =
+    let Q : List PodTick → Type 0 = λ k. AreContainersOf pod max_restart_delay k containers in
+    subst Q (counted_all pod evicted h x (lives pod evicted h p is not) are.end are.is_end) are.kept
 
 -- before any tick
 pub kept_none : (pod : PodSpec) (max_restart_delay : ℕ) (evicted : Option ℕ) (containers : List Container)

@@ -22,12 +22,14 @@ use Rattle.containers.specs.rule.Ticks.{ContainerTick}
 use Rattle.containers.specs.rule.Events.{AreEvents}
 use Rattle.containers.proofs.EventFoundLemmas.{some_list_of_events as some_of_container}
 use Rattle.pod_state.specs.declared.events.PodEvent.{PodEvent}
-use Rattle.pod_state.specs.rule.Pods.{PodEntry, PodTick, ticks_of, unseen, HasEnded, IsEnd, IsPhase, is_being_deleted}
+use Rattle.pod_state.specs.rule.Pods.{PodEntry, PodTick, ticks_of, unseen, HasEnded, IsEnd, IsPhase}
 use Rattle.pod_state.specs.rule.Events.{IsMadeOf, ChangesPhase, AreEventsOfLivePod, events_from, events_at}
+use Rattle.pod_state.specs.rule.Events.{is_leaving}
 use Rattle.pod_state.specs.state.Laws.{SomeListOfEvents}
 use Rattle.pod_state.proofs.TickLemmas.{of_spec, ticks_more}
-use Rattle.pod_state.proofs.EndLemmas.{raw_unique, IsPhase-unique}
-use Rattle.pod_state.proofs.FoundLemmas.{some_raw_phase, some_end, some_phase}
+use Rattle.pod_state.proofs.EndLemmas.{IsPhase-unique}
+use Rattle.pod_state.proofs.FoundLemmas.{some_end, some_phase}
+use Rattle.pod_state.proofs.Left.{left_unique, some_left}
 
 -- what the tick makes of a container
 made_of : (pod : PodSpec) (max_restart_delay : ℕ) (before : List PodTick) (tick : PodTick) (number : ℕ)
@@ -83,8 +85,8 @@ was_phase_or_not pod evicted h p =
 
 change_one : (pod : PodSpec) (evicted : Option ℕ) (before : List PodTick) (tick : PodTick) (v w : PodEventKind)
     → ChangesPhase pod evicted before tick v → ChangesPhase pod evicted before tick w → v ≡ w
-change_one pod evicted before tick v w (p, e, raw, not) (q, f, raw', not') =
-    e ∙ ap (λ r. kinds.Phase r) (raw_unique pod (before ++ tick ∷ []) p q raw raw') ∙ sym f
+change_one pod evicted before tick v w (p, e, left, not) (q, f, left', not') =
+    e ∙ ap (λ r. kinds.Phase r) (left_unique pod before tick p q left left') ∙ sym f
 
 change_event : (pod : PodSpec) (evicted : Option ℕ) (before : List PodTick) (tick : PodTick)
     → (event : Option PodEventKind) × IsTheOne (ChangesPhase pod evicted before tick) event
@@ -93,11 +95,11 @@ change_event pod evicted before tick =
   where
     some : OrNot ((kind : PodEventKind) × ChangesPhase pod evicted before tick kind)
     some =
-        let raw = some_raw_phase pod (before ++ tick ∷ []) in
-        elim (was_phase_or_not pod evicted before raw.0) [
-          | inr not ↦ inl (kinds.Phase raw.0, (raw.0, refl, raw.1, not))
+        let left = some_left pod before tick in
+        elim (was_phase_or_not pod evicted before left.0) [
+          | inr not ↦ inl (kinds.Phase left.0, (left.0, refl, left.1, not))
           | inl was ↦ inr (λ (kind, (p, e, is, not)).
-              let same = raw_unique pod (before ++ tick ∷ []) raw.0 p raw.1 is in
+              let same = left_unique pod before tick left.0 p left.1 is in
               not (subst (λ (r : Phase). IsPhase pod evicted before r) same was))
         ]
 
@@ -110,14 +112,14 @@ some_events_of_live_pod pod max_restart_delay evicted before tick range =
     let made =
     list_of (IsMadeOf pod max_restart_delay before tick) (length pod.containers)
     (made_at pod max_restart_delay before tick range) in
-    let raw = some_raw_phase pod (before ++ tick ∷ []) in
+    let left = some_left pod before tick in
     let change = change_event pod evicted before tick in (
-      events_from raw.0 (is_being_deleted (before ++ tick ∷ [])) 0 made.0 ++ events_at None (change.0 ∷ []),
+      events_from left.0 (is_leaving before tick) 0 made.0 ++ events_at None (change.0 ∷ []),
       record {
         made = made.0;
         are_made = record { as_many = made.1; each = made.2 };
-        phase = raw.0;
-        is_phase = raw.1;
+        phase = left.0;
+        is_phase = left.1;
         change = change.0;
         changes = change.1;
         in_order = refl;

@@ -1,8 +1,8 @@
 -- Of every history of a pod there are the views of its containers, its end, its phase and conditions,
 -- and the statuses of its containers.
-use Rattle.std.proofs.Common.{◌≡◌, inl, inr, ℕ, suc, ◌<◌, List, [], ◌∷◌, length, Option, Some, None, refl}
-use Rattle.std.proofs.Common.{subst}
-use Rattle.std.specs.Prelude.{slice_get}
+use Rattle.std.proofs.Common.{◌≡◌, inl, inr, ℕ, zero, suc, ◌<◌, Bool, true, false, List, [], ◌∷◌, length, Option, Some}
+use Rattle.std.proofs.Common.{None, refl, subst, arith}
+use Rattle.std.specs.Prelude.{IsTrue, slice_get}
 use Rattle.std.proofs.lemmas.Bool.{cases_eq}
 use Rattle.std.proofs.lemmas.Option.{same_Some}
 use Rattle.histories.specs.rule.Histories.{HoldsAt}
@@ -25,8 +25,8 @@ use Rattle.containers.proofs.FoundLemmas.{view_of, status_of, ready_or_not}
 use Rattle.pod_state.specs.declared.lifecycle.Lifecycle.{Lifecycle}
 use Rattle.pod_state.specs.rule.Pods.{PodTick, ticks_of, Serves, IsReadyInPod, facts, numbers}
 use Rattle.pod_state.specs.state.Pods.{IsViewOf, AreViewsOf}
-use Rattle.pod_state.specs.rule.Pods.{IsRawPhaseAfter, EndsPod, IsEnd, counted, EndsEvicted, IsPhaseBy, IsPhase}
-use Rattle.pod_state.specs.rule.Pods.{IsInitialized, AllReady, AreContainersReady}
+use Rattle.pod_state.specs.rule.Pods.{IsRawPhaseAfter, EndsPod, IsEnd, counted, EndsByNode, IsPhaseBy, IsPhase}
+use Rattle.pod_state.specs.rule.Pods.{IsInitialized, AllReady, AreContainersReady, says_failed, IsEndedByNode}
 use Rattle.pod_state.specs.rule.Lifecycles.{IsConditionAfter, IsLifecycleOf}
 use Rattle.pod_state.specs.rule.Containers.{IsContainerStatus, AreStatusesOf}
 use Rattle.pod_state.specs.state.Laws.{SomeStatus}
@@ -62,9 +62,29 @@ raw_end_or_not pod h =
       | inr not ↦ inr (λ (phase, term, is). not (subst IsTerminal (raw_unique pod h phase raw.0 is raw.1) term))
     ]
 
+pub place_or_not : (o : Option ℕ) (t : ℕ) → OrNot (o ≡ Some t)
+place_or_not None t = inr (λ e. cc)
+place_or_not (Some u) t = elim (cases_eq u t) [ inl e ↦ inl (rw e refl) | inr not ↦ inr (λ e. not (same_Some u t e)) ]
+
+true_or_not : (b : Bool) → OrNot (IsTrue b)
+true_or_not true = inl refl
+true_or_not false = inr (λ e. let w : false ≡ true = e in absurd (cc))
+
+node_ends_or_not : (evicted : Option ℕ) (h : List PodTick) (t : ℕ) → OrNot (IsEndedByNode evicted h t)
+node_ends_or_not evicted h t =
+    either (place_or_not evicted t)
+    (given_or_not (λ tick. IsTrue (says_failed tick)) (λ tick. true_or_not (says_failed tick)) (slice_get h t))
+
+node_ends_last_or_not : (evicted : Option ℕ) (h : List PodTick) (n : ℕ) → length h ≡ n
+    → OrNot ((t : ℕ) × (length h ≡ suc t) × IsEndedByNode evicted h t)
+node_ends_last_or_not evicted h zero long = inr (λ w. absurd (omega (arith, long, w.1)))
+node_ends_last_or_not evicted h (suc t) long = elim (node_ends_or_not evicted h t) [
+  | inl ends ↦ inl (t, long, ends)
+  | inr not ↦ inr (λ w. let same : w.0 ≡ t = omega (arith, long, w.1) in not (subst (IsEndedByNode evicted h) same w.2))
+]
+
 ends_or_not : (pod : PodSpec) (evicted : Option ℕ) (h : List PodTick) → OrNot (EndsPod pod evicted h)
-ends_or_not pod evicted h =
-    either (raw_end_or_not pod h) (given_or_not (λ t. length h ≡ suc t) (λ t. cases_eq (length h) (suc t)) evicted)
+ends_or_not pod evicted h = either (raw_end_or_not pod h) (node_ends_last_or_not evicted h (length h) refl)
 
 pub some_end : (pod : PodSpec) (evicted : Option ℕ) (h : List PodTick) → (end : Option ℕ) × IsEnd pod evicted h end
 some_end pod evicted h = first_so (EndsPod pod evicted) (ends_or_not pod evicted) h
@@ -74,18 +94,14 @@ empty_or_not : (h : List PodTick) → OrNot (h ≡ [])
 empty_or_not [] = inl refl
 empty_or_not (x ∷ h) = inr (λ e. cc)
 
-place_or_not : (o : Option ℕ) (t : ℕ) → OrNot (o ≡ Some t)
-place_or_not None t = inr (λ e. cc)
-place_or_not (Some u) t = elim (cases_eq u t) [ inl e ↦ inl (rw e refl) | inr not ↦ inr (λ e. not (same_Some u t e)) ]
-
-pub evicted_or_not : (evicted end : Option ℕ) → OrNot (EndsEvicted evicted end)
-evicted_or_not evicted end = given_or_not (λ t. evicted ≡ Some t) (place_or_not evicted) end
+pub by_node_or_not : (evicted : Option ℕ) (h : List PodTick) (end : Option ℕ) → OrNot (EndsByNode evicted h end)
+by_node_or_not evicted h end = given_or_not (IsEndedByNode evicted h) (node_ends_or_not evicted h) end
 
 phase_by : (pod : PodSpec) (evicted : Option ℕ) (h : List PodTick) (end : Option ℕ)
     → (phase : Phase) × IsPhaseBy pod evicted h end phase
 phase_by pod evicted h end = elim (empty_or_not h) [
   | inl none ↦ (Pending, inl (none, refl))
-  | inr some ↦ elim (evicted_or_not evicted end) [
+  | inr some ↦ elim (by_node_or_not evicted h end) [
     | inl by ↦ (Failed, inr (some, inl (by, refl)))
     | inr not ↦ let raw = some_raw_phase pod (counted h end) in (raw.0, inr (some, inr (not, raw.1)))
   ]
@@ -168,9 +184,9 @@ status_at : (pod : PodSpec) (evicted : Option ℕ) (h : List PodTick) (k : ℕ) 
 status_at pod evicted h k lt =
     let end = some_end pod evicted h in
     let spec = given_at pod.containers k lt in
-    let ended : Type 0 = EndsEvicted evicted end.0 in
+    let ended : Type 0 = EndsByNode evicted h end.0 in
     let ticks = ticks_of (counted h end.0) k in
-    let status = status_of spec.0 ended ticks (evicted_or_not evicted end.0) in
+    let status = status_of spec.0 ended ticks (by_node_or_not evicted h end.0) in
     let is_shown = of_spec pod k (λ spec. shown.IsShown spec ended ticks status.0) spec.0 spec.1 status.1 in
     (status.0, record { end = end.0; is_end = end.1; shown = is_shown })
 

@@ -10,3 +10,5 @@ pub mod LawLemmas
 pub mod FoundLemmas
 pub mod EventFoundLemmas
 pub mod FewLemmas
+pub mod Left
+pub mod NodeEnds

@@ -25,7 +25,7 @@ use Rattle.pod_state.specs.rule.Lifecycles.{IsConditionAfter, IsLifecycleOf}
 use Rattle.pod_state.specs.state.Lifecycles.{AreValuesOf, IsProgressOf}
 use Rattle.phase.proofs.ConditionLemmas.{IsTrueAt, last_or-more}
 use Rattle.phase.proofs.DecideLemmas.{terminal_cases}
-use Rattle.pod_state.proofs.EndLemmas.{IsPhase-unique, phase_ended, phase_evicted, terminal_end}
+use Rattle.pod_state.proofs.EndLemmas.{IsPhase-unique, phase_ended, phase_by_node, terminal_end}
 use Rattle.pod_state.proofs.EndLemmas.{initialized_ended, initialized_lives, ready_is}
 use Rattle.pod_state.proofs.ViewLemmas.{initialized_after}
 
@@ -221,20 +221,17 @@ ready_more pod evicted h x ready phase next b are now then is =
 
 -- of a pod that had not ended before, and that this tick evicts
 pub progress_evicted : (pod : PodSpec) (h : List PodTick) (x : PodTick) (before updated : Lifecycle)
-    (conditions : Conditions) → (IsTerminal updated.phase → ⊥)
+    (conditions : Conditions) → (IsTerminal before.phase → ⊥)
     → IsLifecycleOf pod None h before → IsLifecycleOf pod None (h ++ x ∷ []) updated
     → IsProgressOf pod (Some (length h)) h before
     → ((has_init : Bool) (vs : List (Recorded Values)) → IsStateOf has_init vs before.conditions
     → IsStateOf has_init (vs ++ recorded x.moment
     (record { initialized = updated.conditions.initialized.value; containers_ready = false }) ∷ []) conditions)
     → IsProgressOf pod (Some (length h)) (h ++ x ∷ []) (record { phase = Failed; conditions = conditions })
-progress_evicted pod h x before updated conditions goes_on was after progress advanced =
+progress_evicted pod h x before updated conditions lives was after progress advanced =
     let at : Option ℕ = Some (length h) in
-    let lives : IsTerminal before.phase → ⊥ = λ ended.
-    goes_on (subst IsTerminal (IsPhase-unique pod None (h ++ x ∷ []) before.phase updated.phase
-    (phase_ended pod None h x before.phase was.phase ended) after.phase) ended) in
-    let failed : IsPhase pod at (h ++ x ∷ []) Failed = phase_evicted pod at h x before.phase progress.so_far.phase
-    lives refl in
+    let failed : IsPhase pod at (h ++ x ∷ []) Failed = phase_by_node pod at h x before.phase progress.so_far.phase
+    lives (inl refl) in
     let one = initialized_lives pod None h x before.phase updated.phase was.phase lives after.phase in
     let other = initialized_lives pod at h x before.phase Failed progress.so_far.phase lives failed in
     let ready = ready_is pod at h x Failed failed in

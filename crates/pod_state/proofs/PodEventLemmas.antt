@@ -16,12 +16,11 @@ use Rattle.containers.proofs.LawLemmas.{one_list_of_events}
 use Rattle.manifest.specs.declared.pod.ContainerSpec.{ContainerSpec}
 use Rattle.manifest.specs.declared.pod.PodSpec.{PodSpec}
 use Rattle.pod_state.specs.rule.Pods.{PodTick, ticks_of}
-use Rattle.pod_state.specs.rule.Pods.{is_being_deleted}
 use Rattle.pod_state.specs.rule.Events.{IsMadeOf, ChangesPhase, AreEventsOfLivePod, coming_in, places, events_at}
-use Rattle.pod_state.specs.rule.Events.{events_from}
+use Rattle.pod_state.specs.rule.Events.{events_from, is_leaving}
 use Rattle.pod_state.specs.state.Laws.{NoEventsAfterTheEnd, OneListOfEvents}
 use Rattle.pod_state.proofs.TickLemmas.{whatever, together}
-use Rattle.pod_state.proofs.EndLemmas.{raw_unique}
+use Rattle.pod_state.proofs.Left.{left_unique}
 
 -- the items up to a place, and the item there
 taken_more : {A : Type 0} (xs : List A) (i : ℕ) (d : A) → i < length xs → take (i + 1) xs ≡ take i xs
@@ -38,30 +37,33 @@ place_more container places place old new after so_far here =
     ∙ ap (λ es. old ++ es)
     (sym (filter_map-append (option_map (λ kind. record { container = container; kind = kind })) places (place ∷ [])))
 
-from_more : (phase : Phase) (deleting : Bool) (n : ℕ) (made : List ContainerEvents) (next : ContainerEvents)
-    → events_from phase deleting n (made ++ next ∷ []) ≡ events_from phase deleting n made ++ events_at (Some (n + length made))
-    (places (coming_in phase deleting next))
-from_more phase deleting n [] next = append-nil _ ∙ ap (λ k. events_at (Some k) (places (coming_in phase deleting next))) {x = n} {y = n + 0}
-    (omega arith)
-from_more phase deleting n (x ∷ xs) next =
-    ap (λ es. events_at (Some n) (places (coming_in phase deleting x)) ++ es) (from_more phase deleting (n + 1) xs next)
-    ∙ sym (append_assoc (events_at (Some n) (places (coming_in phase deleting x))) (events_from phase deleting (n + 1) xs)
-    (events_at (Some (n + 1 + length xs)) (places (coming_in phase deleting next))))
-    ∙ ap (λ k. (events_at (Some n) (places (coming_in phase deleting x)) ++ events_from phase deleting (n + 1) xs) ++ events_at (Some k)
-    (places (coming_in phase deleting next))) {x = n + 1 + length xs} {y = n + suc (length xs)} (omega arith)
+from_more : (phase : Phase) (leaving : Bool) (n : ℕ) (made : List ContainerEvents) (next : ContainerEvents)
+    → events_from phase leaving n (made ++ next ∷ [])
+    ≡ events_from phase leaving n made ++ events_at (Some (n + length made)) (places (coming_in phase leaving next))
+from_more phase leaving n [] next =
+    append-nil _
+    ∙ ap (λ k. events_at (Some k) (places (coming_in phase leaving next))) {x = n} {y = n + 0} (omega arith)
+from_more phase leaving n (x ∷ xs) next =
+    let first = events_at (Some n) (places (coming_in phase leaving x)) in
+    let last = λ (k : ℕ). events_at (Some k) (places (coming_in phase leaving next)) in
+    ap (λ es. first ++ es) (from_more phase leaving (n + 1) xs next)
+    ∙ sym (append_assoc first (events_from phase leaving (n + 1) xs) (last (n + 1 + length xs)))
+    ∙ ap (λ k. (first ++ events_from phase leaving (n + 1) xs) ++ last k) {x = n + 1 + length xs}
+    {y = n + suc (length xs)} (omega arith)
 
-pub containers_more : (phase : Phase) (deleting : Bool) (made : List ContainerEvents) (i : ℕ) (d : ContainerEvents)
+pub containers_more : (phase : Phase) (leaving : Bool) (made : List ContainerEvents) (i : ℕ) (d : ContainerEvents)
     (old new : List PodEvent) → i < length made
-    → old ≡ events_from phase deleting 0 (take i made)
-    → new ≡ old ++ events_at (Some i) (places (coming_in phase deleting (get_or made i d)))
-    → new ≡ events_from phase deleting 0 (take (i + 1) made)
-containers_more phase deleting made i d old new lt so_far here =
+    → old ≡ events_from phase leaving 0 (take i made)
+    → new ≡ old ++ events_at (Some i) (places (coming_in phase leaving (get_or made i d)))
+    → new ≡ events_from phase leaving 0 (take (i + 1) made)
+containers_more phase leaving made i d old new lt so_far here =
     let next = get_or made i d in
-    here ∙ ap (λ es. es ++ events_at (Some i) (places (coming_in phase deleting next))) so_far
-    ∙ ap (λ k. events_from phase deleting 0 (take i made) ++ events_at (Some k) (places (coming_in phase deleting next))) {x = i}
-    {y = 0 + length (take i made)} (omega (arith, length-take-le i made (omega (arith, lt))))
-    ∙ sym (from_more phase deleting 0 (take i made) next)
-    ∙ ap (λ xs. events_from phase deleting 0 xs) (sym (taken_more made i d lt))
+    let last = λ (k : ℕ). events_at (Some k) (places (coming_in phase leaving next)) in
+    here ∙ ap (λ es. es ++ last i) so_far
+    ∙ ap (λ k. events_from phase leaving 0 (take i made) ++ last k) {x = i} {y = 0 + length (take i made)}
+    (omega (arith, length-take-le i made (omega (arith, lt))))
+    ∙ sym (from_more phase leaving 0 (take i made) next)
+    ∙ ap (λ xs. events_from phase leaving 0 xs) (sym (taken_more made i d lt))
 
 -- a pod that has ended makes none
 pub no_events_after_the_end : NoEventsAfterTheEnd
@@ -92,14 +94,13 @@ one_list_of_live_pod pod max_restart_delay evicted before tick events others one
     (λ n d lt. made_one pod max_restart_delay before tick n _ _
     (one.are_made.each n d (omega (arith, one.are_made.as_many)))
     (two.are_made.each n d (omega (arith, one.are_made.as_many)))) in
-    let phase : one.phase ≡ two.phase = raw_unique pod (before ++ tick ∷ []) one.phase two.phase one.is_phase
-    two.is_phase in
+    let phase : one.phase ≡ two.phase = left_unique pod before tick one.phase two.phase one.is_phase two.is_phase in
     let change : one.change ≡ two.change = IsTheOne-unique (ChangesPhase pod evicted before tick) one.change two.change
     one.changes two.changes in
-    let deleting = is_being_deleted (before ++ tick ∷ []) in
-    one.in_order ∙ ap (λ (p : Phase). events_from p deleting 0 one.made ++ events_at None (one.change ∷ [])) phase
-    ∙ ap (λ (ms : List ContainerEvents). events_from two.phase deleting 0 ms ++ events_at None (one.change ∷ [])) made
-    ∙ ap (λ (c : Option PodEventKind). events_from two.phase deleting 0 two.made ++ events_at None (c ∷ [])) change
+    let leaving = is_leaving before tick in
+    one.in_order ∙ ap (λ (p : Phase). events_from p leaving 0 one.made ++ events_at None (one.change ∷ [])) phase
+    ∙ ap (λ (ms : List ContainerEvents). events_from two.phase leaving 0 ms ++ events_at None (one.change ∷ [])) made
+    ∙ ap (λ (c : Option PodEventKind). events_from two.phase leaving 0 two.made ++ events_at None (c ∷ [])) change
     ∙ sym two.in_order
 
 pub one_list_of_pod_events : OneListOfEvents

@@ -16,7 +16,7 @@ use Rattle.manifest.specs.declared.pod.PodSpec.{PodSpec}
 use Rattle.phase.specs.rule.RawPhase.{IsTerminal}
 use Rattle.containers.specs.declared.container.Container.{Container}
 use Rattle.pod_state.specs.declared.state.PodState.{PodState}
-use Rattle.pod_state.specs.rule.Pods.{PodTick, ticks_of, unseen, IsPhase, IsEnd, is_being_deleted}
+use Rattle.pod_state.specs.rule.Pods.{PodTick, ticks_of, unseen, IsPhase, IsEnd, is_being_deleted, says_failed}
 use Rattle.pod_state.specs.rule.Lifecycles.{IsLifecycleOf}
 use Rattle.pod_state.specs.state.Lifecycles.{IsProgressOf}
 use Rattle.pod_state.specs.state.Containers.{AreContainersOf, AreKept}
@@ -27,13 +27,9 @@ use Rattle.pod_state.specs.declared.lifecycle.Lifecycle.{Lifecycle}
 use Rattle.containers.specs.declared.pod_event_kind.PodEventKind.{PodEventKind}
 use Rattle.containers.specs.declared.pod_event_kind.PodEventKind.TheVariants as kinds
 use Rattle.containers.specs.declared.events.ContainerEvents.{ContainerEvents}
-use Rattle.pod_state.proofs.EndLemmas.{IsPhase-unique, raw_unique, ended_is, phase_ended, phase_raw, end_evicted}
-use Rattle.pod_state.proofs.EndLemmas.{kept_all, kept_ended, kept_lives}
-
--- the flag of a tick that doesn't evict
-pub not_evicted : (evicted : Option ℕ) (h : List PodTick) → (evicted ≡ Some (length h) → ⊥)
-    → (IsTrue false ↔ (evicted ≡ Some (length h)))
-not_evicted evicted h stays = ((λ e. absurd (let t : IsTrue false = e in cc)), (λ e. absurd (stays e)))
+use Rattle.pod_state.proofs.EndLemmas.{IsPhase-unique, ended_is, end_by_node}
+use Rattle.pod_state.proofs.EndLemmas.{kept_all, kept_ended, kept_lives, kept_last}
+use Rattle.pod_state.proofs.Left.{left_unique, phase_left}
 
 or_none : (b : Bool) → (b || false) ≡ b
 or_none true = refl
@@ -133,7 +129,7 @@ events_ended pod max_restart_delay evicted h x state events is ended none =
     inl ((ended_is pod evicted h state.lifecycle.phase is.progress.so_far.phase).0 ended, none)
 
 pub events_lives : (pod : PodSpec) (max_restart_delay : ℕ) (evicted : Option ℕ) (h : List PodTick) (x : PodTick)
-    (state : PodState) (next : Lifecycle) (made : List ContainerEvents) (deleting : Bool)
+    (state : PodState) (next : Lifecycle) (made : List ContainerEvents) (leaving : Bool)
     (change : Option PodEventKind) (events : List PodEvent)
     → IsStateOf pod max_restart_delay evicted h state → (IsTerminal state.lifecycle.phase → ⊥)
     → (evicted ≡ Some (length h) → ⊥)
@@ -141,66 +137,55 @@ pub events_lives : (pod : PodSpec) (max_restart_delay : ℕ) (evicted : Option �
     → (AreContainersOf pod max_restart_delay h state.containers.items → IsPhase pod evicted (h ++ x ∷ []) next.phase)
     → ((kind : PodEventKind) → ((change ≡ Some kind)
     ↔ ((kind ≡ kinds.Phase next.phase) × (state.lifecycle.phase ≢ next.phase))))
-    → deleting ≡ (state.deleting || x.entry.words.deleting)
-    → events ≡ events_from next.phase deleting 0 made ++ events_at None (change ∷ [])
+    → leaving ≡ ((state.deleting || x.entry.words.deleting) || says_failed x)
+    → events ≡ events_from next.phase leaving 0 made ++ events_at None (change ∷ [])
     → AreEventsOf pod max_restart_delay evicted h x events
-events_lives pod max_restart_delay evicted h x state next made deleting change events is lives stays made_by phase_by
+events_lives pod max_restart_delay evicted h x state next made leaving change events is lives stays made_by phase_by
     changes said in_order =
     let phase = is.progress.so_far.phase in
     let old = state.lifecycle.phase in
     let containers = kept_all pod max_restart_delay evicted h old state.containers.items phase lives is.containers in
-    let raw = phase_raw pod evicted h x old next.phase phase lives stays (phase_by containers) in
+    let left = phase_left pod evicted h x old next.phase phase lives stays (phase_by containers) in
+    let deleting = deleting_more h x state.deleting _ is.deleting refl in
     inr (
       (λ ended. lives ((ended_is pod evicted h old phase).1 ended)),
       record {
         made = made;
         are_made = made_by containers;
         phase = next.phase;
-        is_phase = raw;
+        is_phase = left;
         change = change;
         changes = λ kind. (
           (λ e. let w = (changes kind).0 e in
-              (next.phase, w.0, raw, (λ same. w.1 (IsPhase-unique pod evicted h old next.phase phase same)))),
+              (next.phase, w.0, left, (λ same. w.1 (IsPhase-unique pod evicted h old next.phase phase same)))),
           (λ w. (changes kind).1 (
-            w.1 ∙ ap kinds.Phase (raw_unique pod (h ++ x ∷ []) w.0 next.phase w.2 raw),
-            (λ same. w.3 (subst (IsPhase pod evicted h) (same ∙ raw_unique pod (h ++ x ∷ []) next.phase w.0 raw w.2)
-                phase)),
+            w.1 ∙ ap kinds.Phase (left_unique pod h x w.0 next.phase w.2 left),
+            (λ same. w.3 (subst (IsPhase pod evicted h) (same ∙ left_unique pod h x next.phase w.0 left w.2) phase)),
           )),
         );
         in_order = in_order
             ∙ ap (λ (b : Bool). events_from next.phase b 0 made ++ events_at None (change ∷ []))
-            (deleting_more h x state.deleting deleting is.deleting said);
+            (said ∙ ap (λ (b : Bool). b || says_failed x) deleting);
       },
     )
 
--- a pod that has not ended had not before the last tick
-lived : (pod : PodSpec) (max_restart_delay : ℕ) (h : List PodTick) (x : PodTick) (old : PodState)
-    → (IsTerminal old.lifecycle.phase → ⊥) → IsLifecycleOf pod None h old.before
-    → IsStateOf pod max_restart_delay None (h ++ x ∷ []) old → IsTerminal old.before.phase → ⊥
-lived pod max_restart_delay h x old goes_on was is ended =
-    goes_on (subst IsTerminal (IsPhase-unique pod None (h ++ x ∷ []) old.before.phase old.lifecycle.phase
-    (phase_ended pod None h x old.before.phase was.phase ended) is.progress.so_far.phase) ended)
-
--- so an eviction ends it
-pub ends_evicted : (pod : PodSpec) (max_restart_delay : ℕ) (h : List PodTick) (x : PodTick) (old : PodState)
-    → (IsTerminal old.lifecycle.phase → ⊥) → IsLifecycleOf pod None h old.before
-    → IsProgressOf pod (Some (length h)) h old.before → IsStateOf pod max_restart_delay None (h ++ x ∷ []) old
+-- an eviction by the last tick ends a pod that had not ended before it
+pub ends_evicted : (pod : PodSpec) (h : List PodTick) (x : PodTick) (old : PodState)
+    → (IsTerminal old.before.phase → ⊥) → IsProgressOf pod (Some (length h)) h old.before
     → IsEnd pod (Some (length h)) (h ++ x ∷ []) (Some (length h))
-ends_evicted pod max_restart_delay h x old goes_on was before is =
-    end_evicted pod (Some (length h)) h x old.before.phase
-    before.so_far.phase (lived pod max_restart_delay h x old goes_on was is) refl
+ends_evicted pod h x old lives before =
+    end_by_node pod (Some (length h)) h x old.before.phase before.so_far.phase lives (inl refl)
 
 -- where the last tick evicts the pod
 pub when_evicted : (pod : PodSpec) (max_restart_delay : ℕ) (h : List PodTick) (x : PodTick) (old new : PodState)
-    → (IsTerminal old.lifecycle.phase → ⊥) → new.containers ≡ old.containers → new.deleting ≡ old.deleting
+    → (IsTerminal old.before.phase → ⊥) → new.containers ≡ old.containers → new.deleting ≡ old.deleting
     → IsLifecycleOf pod None h old.before → IsStateOf pod max_restart_delay None (h ++ x ∷ []) old
     → IsProgressOf pod (Some (length h)) h old.before
     → IsProgressOf pod (Some (length h)) (h ++ x ∷ []) new.lifecycle → IsStateOf pod max_restart_delay (Some (length h))
     (h ++ x ∷ []) new
-when_evicted pod max_restart_delay h x old new goes_on same deleting was is before progress =
-    let lives = lived pod max_restart_delay h x old goes_on was is in
-    let containers = kept_all pod max_restart_delay None (h ++ x ∷ []) old.lifecycle.phase old.containers.items
-    is.progress.so_far.phase goes_on is.containers in
+when_evicted pod max_restart_delay h x old new lives same deleting was is before progress =
+    let containers = kept_last pod max_restart_delay None h x old.before.phase old.containers.items was.phase lives
+    is.containers in
     let kept =
     kept_lives pod max_restart_delay (Some (length h)) h x old.before.phase new.lifecycle.phase old.containers.items
     before.so_far.phase lives progress.so_far.phase containers in

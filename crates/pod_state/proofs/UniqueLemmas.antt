@@ -17,7 +17,7 @@ use Rattle.pod_state.specs.declared.lifecycle.Lifecycle.{Lifecycle}
 use Rattle.containers.specs.rule.Ticks.{ContainerTick}
 use Rattle.containers.specs.rule.Shown.{state_behind, IsContainerState, IsRestarts, IsShown}
 use Rattle.manifest.specs.declared.pod.ContainerSpec.{ContainerSpec}
-use Rattle.pod_state.specs.rule.Pods.{PodTick, ticks_of, OfSpec, counted, EndsEvicted}
+use Rattle.pod_state.specs.rule.Pods.{PodTick, ticks_of, OfSpec, counted, EndsByNode}
 use Rattle.pod_state.specs.rule.Lifecycles.{IsConditionAfter, IsLifecycleOf}
 use Rattle.pod_state.specs.rule.Containers.{IsContainerStatus}
 use Rattle.pod_state.proofs.TickLemmas.{together, whatever}
@@ -115,9 +115,9 @@ shown_same s t e f g i j =
     ∙ ap (λ x. status_with t.state t.code t.restarts x s.started) i
     ∙ ap (λ x. status_with t.state t.code t.restarts t.ready x) j
 
-shown_one : (spec : ContainerSpec) (is_evicted : Type 0) (h : List ContainerTick) (s t : ContainerStatus)
-    → IsShown spec is_evicted h s → IsShown spec is_evicted h t → s ≡ t
-shown_one spec is_evicted h s t is is' =
+shown_one : (spec : ContainerSpec) (is_ended : Type 0) (h : List ContainerTick) (s t : ContainerStatus)
+    → IsShown spec is_ended h s → IsShown spec is_ended h t → s ≡ t
+shown_one spec is_ended h s t is is' =
     shown_same s t (state_one _ s.state t.state is.state is'.state) (code_one _ s.code t.code is.code is'.code)
     (restarts_one _ s.restarts t.restarts is.restarts is'.restarts)
     (same_test s.ready t.ready is.ready is'.ready) (same_test s.started t.started is.started is'.started)
@@ -126,9 +126,9 @@ pub container_one : (pod : PodSpec) (evicted : Option ℕ) (h : List PodTick) (c
     → IsContainerStatus pod evicted h container s → IsContainerStatus pod evicted h container t → s ≡ t
 container_one pod evicted h container s t is is' =
     let ticks = ticks_of (counted h is'.end) container in
-    let ended : Type 0 = EndsEvicted evicted is'.end in
+    let ended : Type 0 = EndsByNode evicted h is'.end in
     let P : Option ℕ → Type 0 =
-    λ o. OfSpec pod container (λ spec. IsShown spec (EndsEvicted evicted o) (ticks_of (counted h o) container) s) in
+    λ o. OfSpec pod container (λ spec. IsShown spec (EndsByNode evicted h o) (ticks_of (counted h o) container) s) in
     let first : OfSpec pod container (λ spec. IsShown spec ended ticks s) =
     subst P (IsEnd-unique pod evicted h is.end is'.end is.is_end is'.is_end) is.shown in
     let both : OfSpec pod container (λ spec. s ≡ t) =

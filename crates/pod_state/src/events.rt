@@ -3,7 +3,7 @@
 ghost use Rattle.std.specs.Prelude.{◌≡◌, ◌≢◌, ◌↔◌, ◌++◌, ◌∷◌, [], Some, None, OnOk, IfOk};
 ghost use Rattle.containers.specs.declared.pod_event_kind.PodEventKind.{PodEventKind};
 ghost use Rattle.containers.specs.declared.pod_event_kind.PodEventKind.TheVariants as kinds;
-ghost use Rattle.pod_state.specs.rule.Events.{restart_in, unless_deleting, coming_in, places, events_at, events_from};
+ghost use Rattle.pod_state.specs.rule.Events.{restart_in, unless_leaving, coming_in, places, events_at, events_from};
 
 use containers::{ContainerEvents, PodEventKind};
 use phase::Phase;
@@ -28,21 +28,22 @@ fn restart_in(phase: Phase, restart: Option<PodEventKind>) -> Option<PodEventKin
     }
 }
 
-/// The event, unless the pod is being deleted. (Kubernetes, "Pod Lifecycle", "Termination of Pods".)
-fn unless_deleting(deleting: bool, event: Option<PodEventKind>) -> Option<PodEventKind>
-    ensures { result ≡ unless_deleting deleting event }
+/// The event, unless the pod is leaving: it is being deleted, or the node has ended it. (Kubernetes, "Pod Lifecycle",
+/// "Termination of Pods".)
+fn unless_leaving(leaving: bool, event: Option<PodEventKind>) -> Option<PodEventKind>
+    ensures { result ≡ unless_leaving leaving event }
 {
-    if deleting { None } else { event }
+    if leaving { None } else { event }
 }
 
-/// What comes of a container's events in a pod that the tick leaves in this phase, and that is being deleted or not.
-fn coming_in(phase: Phase, deleting: bool, made: &ContainerEvents) -> ContainerEvents
-    ensures { result ≡ coming_in phase deleting made.now }
+/// What comes of a container's events in a pod that the tick leaves in this phase, and that is leaving or not.
+fn coming_in(phase: Phase, leaving: bool, made: &ContainerEvents) -> ContainerEvents
+    ensures { result ≡ coming_in phase leaving made.now }
 {
     ContainerEvents {
-        kill: unless_deleting(deleting, made.kill),
-        backoff: unless_deleting(deleting, made.backoff),
-        restart: unless_deleting(deleting, restart_in(phase, made.restart)),
+        kill: unless_leaving(leaving, made.kill),
+        backoff: unless_leaving(leaving, made.backoff),
+        restart: unless_leaving(leaving, restart_in(phase, made.restart)),
         ..*made
     }
 }
@@ -93,19 +94,19 @@ pub(crate) fn phase_event(old: Phase, new: Phase) -> Option<PodEventKind>
 }
 
 /// The events of a tick that makes this of the containers, leaves the pod in the phase, and has this event of the pod
-/// itself, which is being deleted or not.
+/// itself, which is leaving or not.
 pub(crate) fn events_of(
     alloc: Global,
     made: &[ContainerEvents],
     phase: Phase,
-    deleting: bool,
+    leaving: bool,
     change: Option<PodEventKind>,
 ) -> Result<Vec<PodEvent>, AllocError>
-    ensures { IfOk result (λ v. v.items ≡ events_from phase deleting 0 made.now ++ events_at None (change ∷ [])) }
+    ensures { IfOk result (λ v. v.items ≡ events_from phase leaving 0 made.now ++ events_at None (change ∷ [])) }
 {
     let mut events = Vec::new(alloc);
     for (number, container) in made.iter().enumerate() {
-        add_events(&mut events, number, &coming_in(phase, deleting, container))?;
+        add_events(&mut events, number, &coming_in(phase, leaving, container))?;
     }
     add_event(&mut events, None, change)?;
     Ok(events)

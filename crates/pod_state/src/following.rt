@@ -128,15 +128,15 @@ pub(crate) fn views_of(
     Ok(views)
 }
 
-/// Shows each container in its place; `is_evicted` says whether the pod was evicted.
-pub(crate) fn show(containers: &[Container], is_evicted: bool, statuses: &mut Vec<ContainerStatus>)
+/// Shows each container in its place; `is_ended` says whether the node has ended the pod.
+pub(crate) fn show(containers: &[Container], is_ended: bool, statuses: &mut Vec<ContainerStatus>)
     requires { length statuses.old.items ≡ length containers.now }
     ensures { (pod : PodSpec) (max_restart_delay : ℕ) (h : List PodTick)
         → AreContainersOf pod max_restart_delay h containers.now
-        → AreShown pod (IsTrue is_evicted) h statuses.new.items }
+        → AreShown pod (IsTrue is_ended) h statuses.new.items }
 {
     for (number, container) in containers.iter().enumerate() {
-        statuses[number] = container.status(is_evicted);
+        statuses[number] = container.status(is_ended);
     }
 }
 

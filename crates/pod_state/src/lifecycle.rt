@@ -13,8 +13,8 @@ ghost use Rattle.pod_state.specs.state.Lifecycles.{IsProgressOf, IsNextPhase, Is
 use manifest::Policy;
 use phase::{Conditions, ContainerView, Phase, Values, are_initialized, raw_phase};
 
-/// A pod's phase and conditions, from tick to tick. A pod that has succeeded, failed or been
-/// evicted has ended: from then on it keeps its phase, whatever its containers do. (Kubernetes,
+/// A pod's phase and conditions, from tick to tick. A pod that has succeeded or failed, or that the node
+/// has ended, keeps its phase from then on, whatever its containers do. (Kubernetes,
 /// "Pod Lifecycle", "Pod phase" and "Pod conditions".)
 #[derive(Clone, Copy, Debug, PartialEq, Eq)]
 pub struct Lifecycle {
@@ -46,12 +46,12 @@ impl Lifecycle {
     }
 
     /// The phase after a tick.
-    fn next_phase(&self, policy: Policy, containers: &[ContainerView], is_evicted: bool) -> Phase
-        ensures { IsNextPhase policy containers.now is_evicted self.now.phase result }
+    fn next_phase(&self, policy: Policy, containers: &[ContainerView], ends: bool) -> Phase
+        ensures { IsNextPhase policy containers.now ends self.now.phase result }
     {
         if self.phase.is_terminal() {
             self.phase
-        } else if is_evicted {
+        } else if ends {
             Phase::Failed
         } else {
             raw_phase(policy, containers)
@@ -72,20 +72,20 @@ impl Lifecycle {
     }
 
     /// A tick comes, at the moment, in seconds, after which the containers are as these views show
-    /// them; `ready` says whether all app containers and sidecars are ready after it, and
-    /// `is_evicted` whether it evicts the pod. Once the pod has ended, the containers are not
-    /// looked at.
+    /// them; `ready` says whether all app containers and sidecars are ready after it, and `ends` whether
+    /// the node ends the pod with it: it evicts the pod, or says that it has failed. Once the pod has
+    /// ended, neither these nor the containers are looked at.
     pub fn advance(
         &mut self,
         policy: Policy,
         at: u64,
         containers: &[ContainerView],
         ready: bool,
-        is_evicted: bool,
+        ends: bool,
     )
-        ensures { IsNext policy at containers.now ready is_evicted self.old self.new }
+        ensures { IsNext policy at containers.now ready ends self.old self.new }
     {
-        let phase = self.next_phase(policy, containers, is_evicted);
+        let phase = self.next_phase(policy, containers, ends);
         let values = Values {
             initialized: self.next_initialized(containers),
             containers_ready: are_ready(phase, ready),
@@ -97,10 +97,11 @@ impl Lifecycle {
 
 impl Lifecycle {
     /// The lifecycle after the last tick, at the moment, if that evicts the pod. `self` is the one before
-    /// that tick, and `updated` the one after it without an eviction. A condition that only this tick made
-    /// true, and its eviction false again, was never true: so its last transition is that of `self`.
+    /// that tick, in which the pod had not ended, and `updated` the one after it without an eviction. A
+    /// condition that only this tick made true, and its eviction false again, was never true: so its last
+    /// transition is that of `self`.
     pub(crate) fn evicted(&self, at: u64, updated: &Lifecycle) -> Lifecycle
-        requires { IsTerminal updated.now.phase → ⊥ }
+        requires { IsTerminal self.now.phase → ⊥ }
         ensures { (pod : PodSpec) (h : List PodTick) (entry : PodEntry)
             → IsLifecycleOf pod None h self.now
             → IsLifecycleOf pod None (h ++ recorded at entry ∷ []) updated.now

@@ -6,7 +6,7 @@ ghost use Rattle.quantity.specs.rule.Duration.{end_of_time};
 ghost use Rattle.histories.specs.rule.Histories.{recorded};
 ghost use Rattle.manifest.specs.declared.pod.PodSpec.{PodSpec};
 ghost use Rattle.phase.specs.rule.RawPhase.{IsTerminal};
-ghost use Rattle.pod_state.specs.rule.Pods.{PodEntry, PodTick, pod_tick, IsEnd, counted, EndsEvicted};
+ghost use Rattle.pod_state.specs.rule.Pods.{PodEntry, PodTick, pod_tick, IsEnd, counted, EndsByNode, says_failed};
 ghost use Rattle.pod_state.specs.state.Pods.{AreViewsOf};
 ghost use Rattle.pod_state.specs.rule.Containers.{AreStatusesOf};
 ghost use Rattle.pod_state.specs.state.Containers.{AreContainersOf};
@@ -23,7 +23,7 @@ use crate::following::{
 use crate::lifecycle::Lifecycle;
 use containers::{Container, ContainerEvents, ContainerStatus};
 use manifest::{MaxRestartDelay, PodSpec, Policy};
-use observations::{PodObs, PodWords};
+use observations::PodObs;
 use phase::ContainerView;
 use state_diff::Differ;
 use std::alloc::{AllocError, Global};
@@ -40,11 +40,25 @@ pub struct PodState {
     deleting: bool,
 }
 
-/// Whether a pod is being deleted after a tick with these words, that was before it or was not.
-fn deleting_with(before: bool, words: PodWords) -> bool
-    ensures { result ≡ (before || words.deleting) }
+/// Whether a pod is being deleted after a tick, that was before it or was not.
+fn deleting_with(before: bool, observed: &PodObs) -> bool
+    ensures { result ≡ (before || observed.now.words.deleting) }
 {
-    before || words.deleting
+    before || observed.deleting()
+}
+
+/// Whether the tick says that with it the node has ended the pod.
+fn says_failed(observed: &PodObs) -> bool
+    ensures { result ≡ says_failed (pod_tick observed.now) }
+{
+    observed.failed().is_some()
+}
+
+/// Whether a pod is leaving: it is being deleted, or the tick says that the node has ended it.
+fn is_leaving(deleting: bool, failed: bool) -> bool
+    ensures { result ≡ (deleting || failed) }
+{
+    deleting || failed
 }
 
 impl PodState {
@@ -78,9 +92,9 @@ impl PodState {
         self.lifecycle
     }
 
-    /// Takes a tick that doesn't evict the pod and shows this of it, at a moment before `END_OF_TIME`,
-    /// and gives the events of the tick. Once the pod has ended, only the tick's moment is looked at.
-    /// An `Err` changes nothing.
+    /// Takes a tick that doesn't evict the pod and shows this of it, at a moment before `END_OF_TIME`, and gives the
+    /// events of the tick. Where the tick says that the node has ended the pod, the pod ends. Once it has, only the
+    /// tick's moment is looked at. An `Err` changes nothing.
     pub fn take(
         &mut self,
         alloc: Global,
@@ -99,7 +113,7 @@ impl PodState {
             lifecycle.advance(policy, observed.at(), &[], false, false);
             self.before = self.lifecycle;
             self.lifecycle = lifecycle;
-            self.deleting = deleting_with(self.deleting, observed.words());
+            self.deleting = deleting_with(self.deleting, observed);
             return Ok(Vec::new(alloc));
         }
         // Most pods have one or two containers: these take their steps on the stack, and only events take memory.
@@ -152,10 +166,12 @@ impl PodState {
     {
         let ready = all_ready(next);
         let mut lifecycle = self.lifecycle;
-        lifecycle.advance(policy, observed.at(), views, ready, false);
+        let failed = says_failed(observed);
+        lifecycle.advance(policy, observed.at(), views, ready, failed);
         let change = phase_event(self.lifecycle.phase, lifecycle.phase);
-        let deleting = deleting_with(self.deleting, observed.words());
-        let events = events_of(alloc, made, lifecycle.phase, deleting, change)?;
+        let deleting = deleting_with(self.deleting, observed);
+        let leaving = is_leaving(deleting, failed);
+        let events = events_of(alloc, made, lifecycle.phase, leaving, change)?;
         self.before = self.lifecycle;
         self.containers.copy_from_slice(next);
         self.lifecycle = lifecycle;
@@ -163,10 +179,10 @@ impl PodState {
         Ok(events)
     }
 
-    /// The pod, which had not ended, is evicted by the tick that came last, at the moment, and ends with it. It makes
-    /// no event.
+    /// The pod, which had not ended before the tick that came last, is evicted by that tick, at the moment, and ends
+    /// with it. It makes no event.
     pub fn evict(&mut self, at: u64)
-        requires { IsTerminal self.old.lifecycle.phase → ⊥ }
+        requires { IsTerminal (before_of self.old).phase → ⊥ }
         ensures state { (pod : PodSpec) (max_restart_delay : ℕ) (h : List PodTick) (entry : PodEntry)
             → IsLifecycleOf pod None h (before_of self.old)
             → IsProgressOf pod (Some (length h)) h (before_of self.old)
@@ -181,17 +197,17 @@ impl PodState {
         self.lifecycle = self.before.evicted(at, &self.lifecycle);
     }
 
-    /// Writes the status of each container, by number, in its place; `is_evicted` says whether the
-    /// pod has ended by its eviction.
-    pub fn show(&self, is_evicted: bool, statuses: &mut Vec<ContainerStatus>)
+    /// Writes the status of each container, by number, in its place; `is_ended` says whether the node has
+    /// ended the pod.
+    pub fn show(&self, is_ended: bool, statuses: &mut Vec<ContainerStatus>)
         requires { HasContainers (length statuses.old.items) self.now }
         ensures { (pod : PodSpec) (max_restart_delay : ℕ) (evicted end : Option ℕ) (h : List PodTick)
             → IsEnd pod evicted h end
-            → (IsTrue is_evicted ↔ EndsEvicted evicted end)
+            → (IsTrue is_ended ↔ EndsByNode evicted h end)
             → IsStateOf pod max_restart_delay evicted h self.now
             → AreStatusesOf pod evicted h statuses.new.items }
     {
-        show(&self.containers, is_evicted, statuses);
+        show(&self.containers, is_ended, statuses);
     }
 
     /// Writes the differ of each container, by number, in its place: what the listings that count say of it.

@@ -9,8 +9,8 @@ use Rattle.std.specs.declared.cmp.Ordering.TheVariants.{Less, Equal, Greater}
 use Rattle.std.proofs.lemmas.Bool.{cases_eq}
 use Rattle.std.proofs.lemmas.Bool.Decides.{eqb_tells}
 use Rattle.signals.specs.declared.signal.Signal.{Signal}
-use Rattle.phase.specs.rule.RawPhase.{IsTerminal}
 use Rattle.pod_piece.specs.declared.status.PodStatus.{PodStatus}
+use Rattle.pod_piece.specs.rule.Status.{MayBeEvicted}
 use Rattle.ranking.specs.declared.key.RankKey.{RankKey}
 use Rattle.ranking.specs.state.Keys.{key_of, rank_cmp}
 use Rattle.ranking.specs.rule.Order.{IsBefore, IsVictim}
@@ -68,19 +68,20 @@ removed held after old new number signal dedicated keys is are =
     (λ n apart. with_other numbers_exact (key_at old.keys) number None (key_at new.keys) keys n (λ e. apart (sym e)))
     is
 
-pub ended_without : (held after : ℕ → Option PodStatus) (status : PodStatus) → IsTerminal status.phase
-    → AreHeldAfter held status after → AreHeldWithout held status.number after
-ended_without held after status ended are = record { gone = are.ended ended; others = are.others }
+pub out_without : (moment : ℕ) (held after : ℕ → Option PodStatus) (status : PodStatus)
+    → (MayBeEvicted moment status → ⊥) → AreHeldAfter moment held status after
+    → AreHeldWithout held status.number after
+out_without moment held after status out are = record { gone = are.out out; others = are.others }
 
-pub updated : (held after : ℕ → Option PodStatus) (old new : Ranks) (status : PodStatus) (key : RankKey)
-    → (IsTerminal status.phase → ⊥)
+pub updated : (moment : ℕ) (held after : ℕ → Option PodStatus) (old new : Ranks) (status : PodStatus) (key : RankKey)
+    → MayBeEvicted moment status
     → new.signal ≡ old.signal → new.has_dedicated_imagefs ≡ old.has_dedicated_imagefs
     → key ≡ key_of old.signal old.has_dedicated_imagefs status
     → ((n : ℕ) → key_at new.keys n ≡ (if key.number == n then Some key else key_at old.keys n))
-    → IsIndexOf held old → AreHeldAfter held status after → IsIndexOf after new
-updated held after old new status key lives signal dedicated its keys is are =
+    → IsIndexOf held old → AreHeldAfter moment held status after → IsIndexOf after new
+updated moment held after old new status key may signal dedicated its keys is are =
     changed held after old new status.number (Some status) signal dedicated number
-    (are.lives lives) are.others here others is
+    (are.in_place may) are.others here others is
   where
     number : (p : PodStatus) → Some status ≡ Some p → p.number ≡ status.number
     number p e = let same : status ≡ p = cc in sym (ap (λ (s : PodStatus). s.number) same)

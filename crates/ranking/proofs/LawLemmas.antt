@@ -6,7 +6,7 @@ use Rattle.std.specs.declared.cmp.Ordering.TheVariants.{Less, Equal, Greater}
 use Rattle.std.proofs.lemmas.Bool.{cases_eq}
 use Rattle.std.proofs.lemmas.Bool.Decides.{eqb_tells}
 use Rattle.signals.specs.declared.signal.Signal.{Signal}
-use Rattle.phase.proofs.DecideLemmas.{terminal_cases}
+use Rattle.pod_piece.proofs.Failures.{may_or_not}
 use Rattle.pod_piece.specs.declared.status.PodStatus.{PodStatus}
 use Rattle.ranking.specs.declared.key.RankKey.{RankKey}
 use Rattle.ranking.specs.rule.Amounts.{used, has_requests, requested}
@@ -120,25 +120,25 @@ at_number held number now = (after, here, others)
       | inr w ↦ ap (λ t. cond t now (held n)) w.0
     ]
 
-some_held_after : (held : ℕ → Option PodStatus) (status : PodStatus)
-    → (after : ℕ → Option PodStatus) × AreHeldAfter held status after
-some_held_after held status = elim (terminal_cases status.phase) [
-  | inl ended ↦
-      let made = at_number held status.number None in
-      (made.0, record { ended = λ t. made.1; lives = λ n. absurd (n ended); others = made.2 })
-  | inr lives ↦
+some_held_after : (moment : ℕ) (held : ℕ → Option PodStatus) (status : PodStatus)
+    → (after : ℕ → Option PodStatus) × AreHeldAfter moment held status after
+some_held_after moment held status = elim (may_or_not moment status) [
+  | inl may ↦
       let made = at_number held status.number (Some status) in
-      (made.0, record { ended = λ t. absurd (lives t); lives = λ n. made.1; others = made.2 })
+      (made.0, record { out = λ not. absurd (not may); in_place = λ m. made.1; others = made.2 })
+  | inr out ↦
+      let made = at_number held status.number None in
+      (made.0, record { out = λ not. made.1; in_place = λ m. absurd (out m); others = made.2 })
 ]
 
-held_after_unique : (held : ℕ → Option PodStatus) (status : PodStatus) (one other : ℕ → Option PodStatus)
-    → AreHeldAfter held status one → AreHeldAfter held status other → (n : ℕ) → one n ≡ other n
-held_after_unique held status one other a b n = elim (cases_eq n status.number) [
+held_after_unique : (moment : ℕ) (held : ℕ → Option PodStatus) (status : PodStatus) (one other : ℕ → Option PodStatus)
+    → AreHeldAfter moment held status one → AreHeldAfter moment held status other → (n : ℕ) → one n ≡ other n
+held_after_unique moment held status one other a b n = elim (cases_eq n status.number) [
   | inl same ↦
       let P : ℕ → Type 0 = λ i. one i ≡ other i in
-      subst P (sym same) (elim (terminal_cases status.phase) [
-        | inl ended ↦ a.ended ended ∙ sym (b.ended ended)
-        | inr lives ↦ a.lives lives ∙ sym (b.lives lives)
+      subst P (sym same) (elim (may_or_not moment status) [
+        | inl may ↦ a.in_place may ∙ sym (b.in_place may)
+        | inr out ↦ a.out out ∙ sym (b.out out)
       ])
   | inr apart ↦ a.others n apart ∙ sym (b.others n apart)
 ]

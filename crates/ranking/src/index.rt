@@ -1,8 +1,8 @@
-//! The pods that have not ended, by their places in the order of eviction.
+//! The pods that may be evicted, by their places in the order of eviction.
 
 ghost use Rattle.std.specs.Prelude.{◌≡◌, ◌==◌, ℕ, [], Option, Some, None, OnOk, OnErr, IsOk, if◌then◌else◌};
-ghost use Rattle.phase.specs.rule.RawPhase.{IsTerminal};
 ghost use Rattle.pod_piece.specs.declared.status.PodStatus.{PodStatus};
+ghost use Rattle.pod_piece.specs.rule.Status.{MayBeEvicted};
 ghost use Rattle.ranking.specs.state.Index.{IsIndexOf, AreHeldAfter, AreHeldWithout, ranks, key_at};
 ghost use Rattle.ranking.specs.rule.Order.{IsVictim};
 
@@ -13,7 +13,7 @@ use std::alloc::{AllocError, Global};
 use std::collections::{BTreeMap, BTreeSet};
 use std::marker::Model;
 
-/// The pods of a node that have not ended, by their places in the order of eviction by one signal.
+/// The pods of a node that may be evicted, by their places in the order of eviction by one signal.
 /// (Kubernetes, "Node-pressure Eviction", "Pod selection for kubelet eviction".)
 #[derive(Drop)]
 pub struct RankIndex {
@@ -51,17 +51,17 @@ impl RankIndex {
         }
     }
 
-    /// Gives the pod its present place, or takes it out where it has ended, which always succeeds. An
-    /// `Err` says that a growth of memory was refused, and changes nothing.
-    pub fn update(&mut self, status: &PodStatus) -> Result<(), AllocError>
+    /// Gives the pod its present place, or takes it out where a tick of the moment, in seconds, may not evict it, which
+    /// always succeeds. An `Err` says that a growth of memory was refused, and changes nothing.
+    pub fn update(&mut self, status: &PodStatus, moment: u64) -> Result<(), AllocError>
         ensures signal { self.new.signal ≡ self.old.signal }
         ensures dedicated { self.new.has_dedicated_imagefs ≡ self.old.has_dedicated_imagefs }
         ensures updated { OnOk result ((held after : ℕ → Option PodStatus)
-            → IsIndexOf held self.old → AreHeldAfter held status.now after → IsIndexOf after self.new) }
-        ensures ended { IsTerminal status.now.phase → IsOk result }
+            → IsIndexOf held self.old → AreHeldAfter moment held status.now after → IsIndexOf after self.new) }
+        ensures out { (MayBeEvicted moment status.now → ⊥) → IsOk result }
         ensures err { OnErr result (self.new ≡ self.old) }
     {
-        if status.is_terminal() {
+        if !status.may_be_evicted(moment) {
             self.remove(status.number);
             return Ok(());
         }

@@ -6,7 +6,9 @@ use observations::Usage;
 use quantity::Quantity;
 use signals::BySignal;
 use std::alloc::{AllocError, Global};
-use tick_lines::{ListedInstance, Listing, ProbeResult, TickEntry, TickLine, TruthMember};
+use tick_lines::{
+    ListedInstance, Listing, ProbeResult, ReasonMember, TickEntry, TickLine, TruthMember,
+};
 
 pub(crate) fn add_moment(text: &mut String, at: Option<u64>) -> Result<(), AllocError> {
     write!(text, "tick {at:?}")
@@ -50,6 +52,15 @@ fn add_truth(text: &mut String, name: &str, member: TruthMember) -> Result<(), A
     write!(text, "\n  {name} {member:?}")
 }
 
+/// Adds why an entry says that the node has ended its pod, where it says something.
+fn add_reason(text: &mut String, member: &ReasonMember) -> Result<(), AllocError> {
+    match member {
+        ReasonMember::Missing => Ok(()),
+        ReasonMember::Reason(reason) => write!(text, "\n  failed {}", reason.as_str()),
+        ReasonMember::OfOtherKind => write!(text, "\n  failed of another kind"),
+    }
+}
+
 pub(crate) fn add_samples(
     text: &mut String,
     signals: BySignal<Option<Quantity>>,
@@ -85,6 +96,7 @@ fn add_entries(text: &mut String, entries: &[TickEntry]) -> Result<(), AllocErro
         add_usage(text, entry.usage)?;
         add_truth(text, "unsampled", entry.unsampled)?;
         add_truth(text, "deleting", entry.deleting)?;
+        add_reason(text, &entry.failed)?;
     }
     Ok(())
 }

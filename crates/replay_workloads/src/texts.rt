@@ -17,8 +17,8 @@ fn named(part: &str) -> Result<(&str, Format, &str)> {
     }
 }
 
-/// Prints what the job answers to each text of a file, behind its name. Each name stands behind a line's end and a mark,
-/// with which no line of JSON begins.
+/// Prints what the job answers to each text of a file, behind its name. Each name stands behind a line's end and a
+/// mark, with which no line of JSON begins.
 pub(crate) fn run_all(
     rt: &(impl Runtime + AllocGlobal + Threads + Wait + Sync),
     job: Job,

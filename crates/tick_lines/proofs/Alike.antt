@@ -13,8 +13,8 @@ line_alike d e (pods, (signals, (after, none))) = rw (pods, signals, after) refl
 
 entry_alike : ReadsOnly entry_fields entry_of
 unfolding entry_of
-entry_alike d e (pod, (containers, (probes, (usage, (unsampled, (deleting, none)))))) =
-    rw (pod, containers, probes, usage, unsampled, deleting) refl
+entry_alike d e (pod, (containers, (probes, (usage, (unsampled, (deleting, (failed, none))))))) =
+    rw (pod, containers, probes, usage, unsampled, deleting, failed) refl
 
 listing_alike : ReadsOnly listing_fields listing_of
 unfolding listing_of instance_of

@@ -9,3 +9,4 @@ pub mod Strangers
 pub mod Alike
 pub mod Nulls
 mod Members
+pub mod Reasons

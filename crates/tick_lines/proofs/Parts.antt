@@ -14,6 +14,7 @@ use Rattle.json_fields.specs.declared.scope.Scope.TheVariants.{Node, FileSystems
 use Rattle.tick_lines.specs.rule.Fields.{only_object, quantity_at}
 use Rattle.tick_lines.specs.rule.Listings.{listings_of}
 use Rattle.tick_lines.specs.rule.Results.{results_of}
+use Rattle.tick_lines.specs.rule.Reasons.{reason_member_of}
 use Rattle.tick_lines.specs.rule.Truths.{truth_of}
 use Rattle.tick_lines.specs.rule.Usages.{usage_in, usage_of}
 use Rattle.tick_lines.specs.rule.Entries.{entry_of, entries_of}
@@ -45,6 +46,7 @@ pub record IsEntry (d : Data) (entry : TickEntry) : Type 0 where
   pub usage : usage_of (field_at (codes "usage") d) ≡ Ok entry.usage
   pub unsampled : truth_of (field_at (codes "unsampled") d) ≡ entry.unsampled
   pub deleting : truth_of (field_at (codes "deleting") d) ≡ entry.deleting
+  pub failed : reason_member_of (field_at (codes "failed") d) ≡ entry.failed
 
 pub entry_parts : (d : Data) (entry : TickEntry) → entry_of d ≡ Ok entry → IsEntry d entry
 unfolding entry_of
@@ -61,6 +63,7 @@ entry_parts d entry e =
       usage = usage.1 ∙ ap (λ (x : TickEntry). Ok x.usage) same;
       unsampled = ap (λ (x : TickEntry). x.unsampled) same;
       deleting = ap (λ (x : TickEntry). x.deleting) same;
+      failed = ap (λ (x : TickEntry). x.failed) same;
     }
 
 pub record HasUsage (d : Data) (usage : Usage) : Type 0 where

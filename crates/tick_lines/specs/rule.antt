@@ -6,3 +6,4 @@ pub mod Entries
 pub mod Samples
 pub mod Line
 pub mod Truths
+pub mod Reasons

@@ -10,6 +10,7 @@ use crate::fields::{text_of, written_text};
 use crate::items::{ReadItem, check_items, read_items};
 use crate::listing::Listing;
 use crate::probing::ProbeResult;
+use crate::reason::{ReasonMember, reason_member_of};
 use crate::truth::{TruthMember, truth_of};
 use crate::usage::usage_of;
 use crate::value::TickValue;
@@ -34,6 +35,8 @@ pub struct TickEntry {
     pub unsampled: TruthMember,
     /// Whether it says that the pod is being deleted. (This project's extended format.)
     pub deleting: TruthMember,
+    /// Whether it says that the node has ended the pod, and why. (This project's extended format.)
+    pub failed: ReasonMember,
 }
 
 #[tactic(auto, unfolding(crate::specs::rule::Entries::entry_of))]
@@ -47,6 +50,7 @@ fn entry_of<V: TickValue>(alloc: Global, value: &V) -> Result<TickEntry, TickLin
         usage: usage_of(field(value, "usage"))?,
         unsampled: truth_of(field(value, "unsampled")),
         deleting: truth_of(field(value, "deleting")),
+        failed: reason_member_of(field(value, "failed")),
     })
 }
 

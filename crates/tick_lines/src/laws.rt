@@ -36,6 +36,12 @@ pub fn deleting_said()
     ensures { laws.DeletingSaid }
 {}
 
+/// An entry says why the node has ended its pod exactly where its member `failed` is a reason, and nothing of it
+/// exactly where the member is missing or null.
+pub fn failed_said()
+    ensures { laws.FailedSaid }
+{}
+
 /// A line is refused where it names a signal that it may not name.
 pub fn only_signals()
     ensures { laws.OnlySignals }

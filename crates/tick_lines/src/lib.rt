@@ -9,6 +9,7 @@ pub mod laws;
 mod line;
 mod listing;
 mod probing;
+mod reason;
 mod samples;
 mod tape;
 mod truth;
@@ -20,6 +21,7 @@ pub use fault::TickLineFault;
 pub use line::{TickLine, entries_of, tick_line_of};
 pub use listing::{ListedInstance, Listing};
 pub use probing::ProbeResult;
+pub use reason::ReasonMember;
 pub use tape::{
     EntryText, LineSamples, ListingText, ResultText, entries_text, entry_text, listing_text,
     result_text, samples_text,

@@ -13,7 +13,8 @@ ghost use Rattle.tick_lines.specs.rule.Listings.{attempt_of, state_of, listing_o
 ghost use Rattle.tick_lines.specs.rule.Results.{result_of};
 ghost use Rattle.tick_lines.specs.rule.Samples.{samples_of};
 ghost use Rattle.tick_lines.specs.state.Tape.{text_in, code_in, probe_in, outcome_in, left_in, listing_as, result_as};
-ghost use Rattle.tick_lines.specs.state.Tape.{truth_in};
+ghost use Rattle.tick_lines.specs.state.Tape.{truth_in, reason_in};
+ghost use Rattle.tick_lines.specs.declared.reason.ReasonMember.TheVariants.{Missing};
 ghost use Rattle.tick_lines.specs.declared.truth.TruthMember.TheVariants.{No};
 ghost use Rattle.tick_lines.specs.state.Tape.{ListingRead, ResultRead, UsageRead, EntryRead, IsEntry, HasSamples};
 ghost use Rattle.tick_lines.specs.rule.Usages.{usage_in, usage_of};
@@ -351,6 +352,13 @@ fn is_silent(value: &TapeValue<'_, '_>) -> bool
     matches!(truth_of(found.as_ref()), TruthMember::No)
 }
 
+/// Whether a member that may be a reason says nothing: it is null.
+fn is_missing(value: &TapeValue<'_, '_>) -> bool
+    ensures { IsTrue result → reason_in (present (Some (data_at value.now))) ≡ Ok Missing }
+{
+    value.is_null()
+}
+
 /// What was read of an entry, and of one member more: none where it has a word, which is rare.
 fn entry_with<'t, 'a>(
     entry: EntryMembers<'t, 'a>,
@@ -378,12 +386,13 @@ fn entry_with<'t, 'a>(
             ..entry
         }),
         "unsampled" | "deleting" => if is_silent(value) { Some(entry) } else { None },
+        "failed" => if is_missing(value) { Some(entry) } else { None },
         _ => Some(entry),
     }
 }
 
 /// What an item of a tick line says of a pod, all but its listings and results; none where it says that the pod has no
-/// sample, or is being deleted.
+/// sample, that it is being deleted, or that the node has ended it.
 pub fn entry_text<'t, 'a>(value: &TapeValue<'t, 'a>) -> Option<EntryText<'t, 'a>>
     ensures { IfSome result (IsEntry (data_at value.now)) }
 {

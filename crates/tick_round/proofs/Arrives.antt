@@ -73,7 +73,7 @@ same_round config pods pod before tick es eviction fewer r =
         at = get_left pods pod n c.pod c.at;
         present = c.present;
         is_status = c.is_status;
-        lives = c.lives;
+        may = c.may;
       }),
       (λ c.
           let lt : n < length tick.pods = present_below tick.pods n c.present in
@@ -83,7 +83,7 @@ same_round config pods pod before tick es eviction fewer r =
               at = old;
               present = c.present;
               is_status = c.is_status;
-              lives = c.lives;
+              may = c.may;
             }
             | inr w ↦ let here : n ≡ length pods = w.0 in absurd (omega arith)
           ]),

@@ -24,7 +24,7 @@ use Rattle.eviction.specs.rule.Replay.{IsCandidate as IsCandidateIn, IsOfVictim,
 use Rattle.eviction.specs.rule.Replay.{unless_paused, IsEvictionOfTick}
 use Rattle.node_pods.specs.state.Pods.{IsCandidate, MayBeHanded, AreAfter}
 use Rattle.node_pods.proofs.Kept.{present_shown, shown_present}
-use Rattle.tick_round.specs.state.Evict.{IsEvictionAt, MayBeEvicted}
+use Rattle.tick_round.specs.state.Evict.{IsEvictionAt, MayBeCarriedOut}
 use Rattle.tick_round.specs.state.Node.{piece_after, ArePieces}
 use Rattle.tick_round.proofs.Pieces.{pod_at}
 
@@ -57,7 +57,7 @@ candidates config pods before tick es pieces present are n p = (
         at = here.1;
         present = (present n c.piece c.at).0 c.present;
         is_status = subst (λ (piece : Piece). IsStatusOf piece p) here.2 c.is_status;
-        lives = c.lives;
+        may = c.may;
       }),
   (λ r.
       let piece = piece_after config (before ++ tick ∷ []) es n r.pod in
@@ -66,7 +66,7 @@ candidates config pods before tick es pieces present are n p = (
         at = are.each n r.pod r.at;
         present = (present n piece (are.each n r.pod r.at)).1 r.present;
         is_status = r.is_status;
-        lives = r.lives;
+        may = r.may;
       }),
 )
 
@@ -105,12 +105,12 @@ round_of config pods before tick es pieces served eviction present are is by =
     )
 
 -- the eviction may be carried out
-pub may_be_evicted : (config : NodeConfig) (pieces : List Piece) (at : ℕ) (served : Option ThresholdKey)
-    (eviction : Option Eviction) → IsEvictionAt config pieces at served eviction → MayBeEvicted pieces eviction
-may_be_evicted config pieces at served None by = tt
-may_be_evicted config pieces at None (Some e) by = absurd (cc)
-may_be_evicted config pieces at (Some key) (Some e) (None, is, of) = absurd (cc)
-may_be_evicted config pieces at (Some key) (Some e) (Some n, (status, candidate, first), of) =
+pub may_be_carried_out : (config : NodeConfig) (pieces : List Piece) (at : ℕ) (served : Option ThresholdKey)
+    (eviction : Option Eviction) → IsEvictionAt config pieces at served eviction → MayBeCarriedOut pieces eviction
+may_be_carried_out config pieces at served None by = tt
+may_be_carried_out config pieces at None (Some e) by = absurd (cc)
+may_be_carried_out config pieces at (Some key) (Some e) (None, is, of) = absurd (cc)
+may_be_carried_out config pieces at (Some key) (Some e) (Some n, (status, candidate, first), of) =
     let here : n ≡ e.pod = sym of.number in
     let moment : at ≡ e.order.at = sym (ap (λ (o : EvictOrder). o.at) of.order) in (
       status,

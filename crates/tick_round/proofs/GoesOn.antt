@@ -37,7 +37,7 @@ use Rattle.tick_round.specs.state.Node.{State, state, ArePieces, HasTaken, last_
 use Rattle.tick_round.specs.state.Round.{AreFew, AreFewEvents, IsKept}
 use Rattle.tick_round.specs.state.Stretch.{IsSampled}
 use Rattle.tick_round.proofs.Pieces.{pieces_updated, pieces_evicted, pieces_spared}
-use Rattle.tick_round.proofs.Candidates.{ArePresent, are_present, round_of, may_be_evicted, evicts_now, pods_are}
+use Rattle.tick_round.proofs.Candidates.{ArePresent, are_present, round_of, may_be_carried_out, evicts_now, pods_are}
 
 pub last_more : (ticks : List TickObs) (x : TickObs) → last_of (ticks ++ x ∷ []) ≡ Some x.at
 last_more [] x = refl
@@ -112,7 +112,7 @@ without config pods ticks es x served None old new len present are by same =
     subst (λ (pieces : List Piece). ArePieces config pods (ticks ++ x ∷ []) (es ++ None ∷ []) pieces) (sym same)
     (pieces_spared config pods (ticks ++ x ∷ []) es old are)
 without config pods ticks es x served (Some e) old new len present are by evicted =
-    let may = may_be_evicted config old x.at served (Some e) by in
+    let may = may_be_carried_out config old x.at served (Some e) by in
     let candidate = subst (λ (m : ℕ). IsCandidate old m e.pod may.0) (evicts_now config old x.at served e by) may.1 in
     let shown = some_given (shown_of x e.pod) ((present e.pod candidate.piece candidate.at).0 candidate.present) in
     pieces_evicted config pods ticks es x e old new may.0 shown.0 len shown.1 are candidate evicted

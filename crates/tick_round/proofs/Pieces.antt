@@ -20,7 +20,9 @@ use Rattle.phase.proofs.DecideLemmas.{terminal_cases}
 use Rattle.pod_state.specs.rule.Pods.{PodTick, pod_tick, EndsPod, IsPhase}
 use Rattle.pod_state.proofs.EndLemmas.{lives}
 use Rattle.pod_piece.specs.declared.piece.EvictionRecord.{EvictionRecord}
+use Rattle.pod_piece.specs.declared.status.PodFailure.{PodFailure}
 use Rattle.pod_piece.specs.declared.status.PodStatus.{PodStatus}
+use Rattle.pod_piece.specs.rule.Status.{IsFailure}
 use Rattle.pod_piece.specs.rule.Piece.{Piece}
 use Rattle.pod_piece.specs.state.Status.{IsStatusOf}
 use Rattle.eviction.specs.declared.eviction.Eviction.{Eviction}
@@ -94,7 +96,7 @@ evicted_ends pod place h p is lt = elim (terminal_cases p) [
   | inr still ↦
       let none = lives pod (Some place) h p is still in
       let cut : length (up_to h place) ≡ suc place = length-take-le (suc place) h (omega arith) in
-      let so : HoldsAt (EndsPod pod (Some place)) h place = record { within = lt; so = inr cut } in
+      let so : HoldsAt (EndsPod pod (Some place)) h place = record { within = lt; so = inr (place, cut, inl refl) } in
       absurd (none place so)
 ]
 
@@ -120,7 +122,7 @@ candidate_not_evicted config pods ticks es x pieces n status shown len present a
     let is : IsStatusOf (piece_after config (ticks ++ x ∷ []) es n here.0) status =
     subst (λ (p : Piece). IsStatusOf p status) here.2 candidate.is_status in
     none here.0 shown present (own_eviction n ticks es) (λ e found. before e found)
-    (own_eviction-longer n ticks x es len) is.lifecycle.phase
+    (own_eviction-longer n ticks x es len) is.lifecycle.phase is.failure
   where
     before : (e : EvictionRecord) → own_eviction n ticks es ≡ Some e → e.place ≤ length (pod_ticks ticks n)
     before e found = by (evicted_at n es) found
@@ -142,17 +144,22 @@ candidate_not_evicted config pods ticks es x pieces n status shown len present a
         → own_eviction n (ticks ++ x ∷ []) es ≡ e
         → IsPhase pod (option_map (λ (v : EvictionRecord). v.place) (own_eviction n (ticks ++ x ∷ []) es))
         (pod_ticks (ticks ++ x ∷ []) n) status.phase
+        → IsFailure pod (own_eviction n (ticks ++ x ∷ []) es) (pod_ticks (ticks ++ x ∷ []) n) status.failure
         → own_eviction n (ticks ++ x ∷ []) es ≡ None
-    none pod o at None below is phase = is
-    none pod o at (Some v) below is phase =
+    none pod o at None below is phase failure = is
+    none pod o at (Some v) below is phase failure =
         let le : v.place ≤ length (pod_ticks ticks n) = below v refl in
         let grown : length (pod_ticks (ticks ++ x ∷ []) n) ≡ suc (length (pod_ticks ticks n)) =
         ap length (pod_ticks-more ticks x n o at) ∙ length-more (pod_ticks ticks n) (pod_tick o) in
         let now : IsPhase pod (Some v.place) (pod_ticks (ticks ++ x ∷ []) n) status.phase =
         subst (λ (e : Option EvictionRecord). IsPhase pod (option_map (λ (v : EvictionRecord). v.place) e)
         (pod_ticks (ticks ++ x ∷ []) n) status.phase) is phase in
-        absurd (candidate.lives
-        (evicted_ends pod v.place (pod_ticks (ticks ++ x ∷ []) n) status.phase now (omega arith)))
+        let says =
+        candidate.may (evicted_ends pod v.place (pod_ticks (ticks ++ x ∷ []) n) status.phase now (omega arith)) in
+        let silent : status.failure ≡ None = subst (λ (e : Option EvictionRecord).
+        IsFailure pod e (pod_ticks (ticks ++ x ∷ []) n) status.failure) is failure in
+        absurd (let w : None ≡ Some x.at =
+        sym (ap (option_map (λ (f : PodFailure). f.at)) silent) ∙ says in cc)
 
 -- after the eviction
 pub pieces_evicted : (config : NodeConfig) (pods : List PodSpec) (ticks : List TickObs) (es : List (Option Eviction))

@@ -3,7 +3,7 @@
 ghost use Rattle.std.specs.Prelude.{◌≡◌, Some, IfOk};
 ghost use Rattle.node_pods.specs.state.Pods.{IsCandidate};
 ghost use Rattle.ranking.specs.rule.Order.{IsVictim};
-ghost use Rattle.tick_round.specs.state.Evict.{IsEvictionAt, MayBeEvicted, AreWithout};
+ghost use Rattle.tick_round.specs.state.Evict.{IsEvictionAt, MayBeCarriedOut, AreWithout};
 
 use eviction::{Eviction, order_for};
 use node_config::NodeConfig;
@@ -51,7 +51,7 @@ pub fn eviction_for(
 
 /// Carries the eviction out, if there is one.
 pub fn carry_out(pods: &mut NodePods, eviction: Option<Eviction>)
-    requires { MayBeEvicted pods.old.pieces eviction }
+    requires { MayBeCarriedOut pods.old.pieces eviction }
     ensures pieces { AreWithout pods.old.pieces eviction pods.new.pieces }
     ensures max_restart_delay { pods.new.max_restart_delay ≡ pods.old.max_restart_delay }
     ensures dedicated { pods.new.has_dedicated_imagefs ≡ pods.old.has_dedicated_imagefs }

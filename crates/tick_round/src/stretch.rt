@@ -110,8 +110,8 @@ impl Stretch {
         self.begun.heeded.is_none() && self.waiting < MOST_WAITING
     }
 
-    /// Takes more ticks, up to the next in which a threshold is heeded, or until so many updates wait. An `Err` says that
-    /// memory was refused to a tick for which there was room.
+    /// Takes more ticks, up to the next in which a threshold is heeded, or until so many updates wait. An `Err` says
+    /// that memory was refused to a tick for which there was room.
     pub(crate) fn go_on(&mut self, more: &mut IntoIter<TickObs>) -> Result<(), AllocError>
         requires { MayGoOn self.old more.old.rest.items }
         ensures goes { (s : State) (calm : List ATick) (tick : ATick) → IsOpen s calm tick self.old

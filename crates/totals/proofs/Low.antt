@@ -10,8 +10,9 @@ use Rattle.phase.specs.declared.phase.Phase.{Phase}
 use Rattle.containers.specs.declared.pod_event_kind.PodEventKind.{PodEventKind}
 use Rattle.containers.specs.declared.events.ContainerEvents.{ContainerEvents}
 use Rattle.pod_state.specs.declared.events.PodEvent.{PodEvent}
-use Rattle.pod_state.specs.rule.Pods.{PodTick, is_being_deleted}
+use Rattle.pod_state.specs.rule.Pods.{PodTick}
 use Rattle.pod_state.specs.rule.Events.{places, coming_in, events_at, events_from, AreEventsOfLivePod, AreEventsOf}
+use Rattle.pod_state.specs.rule.Events.{is_leaving}
 use Rattle.pod_state.proofs.PodEventLemmas.{one_list_of_pod_events}
 use Rattle.pod_piece.specs.rule.Piece.{Piece, ticks}
 use Rattle.pod_piece.specs.state.Piece.{before_last, last_of, evicted_at, evicted_before}
@@ -27,14 +28,14 @@ few_at container [] = omega arith
 few_at container (None ∷ places) = let rest = few_at container places in omega arith
 few_at container (Some kind ∷ places) = let rest = few_at container places in omega arith
 
-few_from : (phase : Phase) (deleting : Bool) (n : ℕ) (made : List ContainerEvents)
-    → length (events_from phase deleting n made) ≤ 8 * length made
-few_from phase deleting n [] = omega arith
-few_from phase deleting n (made ∷ rest) =
-    let here = events_at (Some n) (places (coming_in phase deleting made)) in
-    let first = few_at (Some n) (places (coming_in phase deleting made)) in
-    let others = few_from phase deleting (n + 1) rest in
-    let both = length-append here (events_from phase deleting (n + 1) rest) in
+few_from : (phase : Phase) (leaving : Bool) (n : ℕ) (made : List ContainerEvents)
+    → length (events_from phase leaving n made) ≤ 8 * length made
+few_from phase leaving n [] = omega arith
+few_from phase leaving n (made ∷ rest) =
+    let here = events_at (Some n) (places (coming_in phase leaving made)) in
+    let first = few_at (Some n) (places (coming_in phase leaving made)) in
+    let others = few_from phase leaving (n + 1) rest in
+    let both = length-append here (events_from phase leaving (n + 1) rest) in
     omega arith
 
 few_of_live_pod : (pod : PodSpec) (max_restart_delay : ℕ) (evicted : Option ℕ) (before : List PodTick) (tick : PodTick)
@@ -42,10 +43,10 @@ few_of_live_pod : (pod : PodSpec) (max_restart_delay : ℕ) (evicted : Option �
     → AreEventsOfLivePod pod max_restart_delay evicted before tick events
     → length events ≤ most_events
 few_of_live_pod pod max_restart_delay evicted before tick events few live =
-    let deleting = is_being_deleted (before ++ tick ∷ []) in
+    let leaving = is_leaving before tick in
     let all = ap length live.in_order in
-    let both = length-append (events_from live.phase deleting 0 live.made) (events_at None (live.change ∷ [])) in
-    let of_containers = few_from live.phase deleting 0 live.made in
+    let both = length-append (events_from live.phase leaving 0 live.made) (events_at None (live.change ∷ [])) in
+    let of_containers = few_from live.phase leaving 0 live.made in
     let of_pod = few_at None (live.change ∷ []) in
     let as_many = live.are_made.as_many in
     omega arith

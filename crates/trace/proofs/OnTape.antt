@@ -29,6 +29,7 @@ use Rattle.tick_lines.specs.declared.listing.Listing.{Listing}
 use Rattle.tick_lines.specs.declared.probing.ProbeResult.{ProbeResult}
 use Rattle.tick_lines.specs.declared.tape.EntryText.{EntryText}
 use Rattle.tick_lines.specs.declared.tape.LineSamples.{LineSamples}
+use Rattle.tick_lines.specs.declared.reason.ReasonMember.TheVariants.{Missing}
 use Rattle.tick_lines.specs.declared.truth.TruthMember.TheVariants.{No}
 use Rattle.tick_lines.specs.rule.Entries.{entry_of, entries_of}
 use Rattle.tick_lines.specs.rule.Line.{tick_line_of}
@@ -45,7 +46,7 @@ use Rattle.trace.specs.declared.placing.PlacedResult.{PlacedResult}
 use Rattle.trace.specs.rule.Observed.{containers_from, pod_observed, pods_from, lacks_code}
 use Rattle.trace.specs.rule.Placing.{number_in, pod_numbered, placed_listing, placed_result, entry_of_pod}
 use Rattle.trace.specs.rule.Placing.{placed_entry, placed_of, repeats, sampled_or, said_in}
-use Rattle.trace.specs.state.Placing.{is_word}
+use Rattle.trace.specs.state.Placing.{is_word, is_reason_said}
 use Rattle.trace.specs.state.Noted.{ListingsNoted, ResultsNoted}
 use Rattle.trace.specs.state.Slots.{slots_from, has_entry}
 use Rattle.trace.specs.state.Tape.{of_item, listing_read, result_read, entry_read, item_speaks, EntriesNoted}
@@ -90,13 +91,25 @@ entry_by_parts : (roll : Roll) (entry : TickEntry) (n : ℕ) (pod : PodSpec) (ls
 unfolding placed_entry entry_of_pod
 entry_by_parts roll entry n pod ls rs number there listings results = rw (number, there, listings, results) refl
 
+-- an entry without a word
+abbrev silent_entry : List ℕ → List Listing → List ProbeResult → Option Usage → TickEntry
+silent_entry key listings results usage = record {
+  key = key;
+  listings = listings;
+  results = results;
+  usage = usage;
+  unsampled = No;
+  deleting = No;
+  failed = Missing;
+}
+
 entry_spoken : (d : Data) (key : List ℕ) (ws : List Listing) (ps : List ProbeResult) (text : EntryText)
     → text_at (codes "pod") d ≡ Some key → listings_of (field_at (codes "containers") d) ≡ Ok ws
     → results_of (field_at (codes "probes") d) ≡ Ok ps → IsEntry d text
-    → entry_of d ≡ Ok (record { key = key; listings = ws; results = ps; usage = text.usage; unsampled = No; deleting = No })
+    → entry_of d ≡ Ok (silent_entry key ws ps text.usage)
 unfolding entry_of
 entry_spoken d key ws ps text named listings results is =
-    rw (named, listings, results, is.usage, is.unsampled, is.deleting) refl
+    rw (named, listings, results, is.usage, is.unsampled, is.deleting, is.failed) refl
 
 -- an entry that was read in parts and placed is what its item says, placed
 entry_placed : (roll : Roll) (d : Data) (text : EntryText) (n : ℕ) (pod : PodSpec) (ls : List PlacedListing)
@@ -106,14 +119,7 @@ entry_placed : (roll : Roll) (d : Data) (text : EntryText) (n : ℕ) (pod : PodS
 entry_placed roll d text n pod ls rs is number there read_listings read_results =
     let listings = read_then_placed listing_of (placed_listing pod) (left_in text.listings) ls read_listings in
     let results = read_then_placed result_of (placed_result pod) (left_in text.results) rs read_results in
-    let written : TickEntry = record {
-      key = text.key.now;
-      listings = listings.0;
-      results = results.0;
-      usage = text.usage;
-      unsampled = No;
-      deleting = No;
-    } in
+    let written = silent_entry text.key.now listings.0 results.0 text.usage in
     let listed : listings_of (field_at (codes "containers") d) ≡ Ok listings.0 = rw is.listings listings.1 in
     let probed : results_of (field_at (codes "probes") d) ≡ Ok results.0 = rw is.results results.1 in
     rw (entry_spoken d text.key.now listings.0 results.0 text is.key listed probed is)
@@ -194,7 +200,8 @@ one_more_noted roll at ds d old new text n pod listed all ls rs before is number
       apart = none_more repeats before.entries entry before.apart (rw (ls.once, rs.once) refl);
       coded = none_more (λ (e : PlacedEntry). list_any (λ l. lacks_code l.instance) e.listings) before.entries entry
           before.coded ls.coded;
-      silent = none_more item_speaks ds d before.silent (or_from _ _ (ap is_word is.unsampled) (ap is_word is.deleting));
+      silent = none_more item_speaks ds d before.silent
+          (or_from _ _ (or_from _ _ (ap is_word is.unsampled) (ap is_word is.deleting)) (ap is_reason_said is.failed));
       present = All-push (λ (e : PlacedEntry). is_present roll.departures e.pod ≡ true) before.entries entry
           before.present (found_present roll text.key.now n number).0;
       noted = noted;

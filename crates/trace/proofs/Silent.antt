@@ -15,18 +15,21 @@ use Rattle.serde_json.specs.Data.{Data}
 use Rattle.tick_lines.specs.declared.entry.TickEntry.{TickEntry}
 use Rattle.tick_lines.specs.declared.fault.TickLineFault.{TickLineFault}
 use Rattle.tick_lines.specs.declared.line.TickLine.{TickLine}
+use Rattle.tick_lines.specs.declared.reason.ReasonMember.{ReasonMember}
+use Rattle.tick_lines.specs.declared.reason.ReasonMember.TheVariants as reasons
 use Rattle.tick_lines.specs.declared.truth.TruthMember.{TruthMember}
 use Rattle.tick_lines.specs.declared.truth.TruthMember.TheVariants.{No, Yes, OfOtherKind}
 use Rattle.tick_lines.specs.rule.Entries.{entry_of}
+use Rattle.tick_lines.specs.rule.Reasons.{reason_member_of}
 use Rattle.tick_lines.specs.rule.Truths.{truth_of}
 use Rattle.tick_lines.proofs.Parts.{entry_parts}
 use Rattle.trace.specs.declared.fault.FaultKind.{FaultKind}
 use Rattle.trace.specs.declared.placing.EntrySaid.{EntrySaid}
 use Rattle.trace.specs.declared.placing.PlacedEntry.{PlacedEntry}
 use Rattle.trace.specs.rule.Placing.{number_in, sampling_of, words_of, said_in, entry_of_pod, placed_entry, placed_of}
-use Rattle.trace.specs.state.Placing.{is_word, speaks, some_speaks}
+use Rattle.trace.specs.state.Placing.{is_word, is_reason_said, speaks, some_speaks}
 use Rattle.trace.specs.state.Tape.{item_speaks}
-use Rattle.trace.specs.rule.Written.{is_of_other_kind, has_other_kind, heeded}
+use Rattle.trace.specs.rule.Written.{is_of_other_kind, is_no_reason, has_other_kind, heeded}
 use Rattle.trace.proofs.Placed.{with_number}
 
 sampling_alike : (heeds : Bool) (usage : Option Usage) (unsampled : TruthMember) → is_word unsampled ≡ false
@@ -36,20 +39,30 @@ sampling_alike false usage No silent = refl
 sampling_alike heeds usage Yes silent = absurd (cc)
 sampling_alike heeds usage OfOtherKind silent = absurd (cc)
 
-words_alike : (heeds : Bool) (deleting : TruthMember) → is_word deleting ≡ false
-    → words_of heeds deleting ≡ words_of false deleting
-words_alike true No silent = refl
-words_alike false No silent = refl
-words_alike heeds Yes silent = absurd (cc)
-words_alike heeds OfOtherKind silent = absurd (cc)
+words_alike : (heeds : Bool) (deleting : TruthMember) (failed : ReasonMember) → is_word deleting ≡ false
+    → is_reason_said failed ≡ false → words_of heeds deleting failed ≡ words_of false deleting failed
+words_alike true No reasons.Missing silent missing = refl
+words_alike false No reasons.Missing silent missing = refl
+words_alike heeds No (reasons.Reason reason) silent missing = absurd (cc)
+words_alike heeds No reasons.OfOtherKind silent missing = absurd (cc)
+words_alike heeds Yes failed silent missing = absurd (cc)
+words_alike heeds OfOtherKind failed silent missing = absurd (cc)
+
+-- none of the three members says something
+silent_parts : (entry : TickEntry) → speaks entry ≡ false
+    → (is_word entry.unsampled ≡ false) × (is_word entry.deleting ≡ false) × (is_reason_said entry.failed ≡ false)
+silent_parts entry silent =
+    let all = or_parts (is_word entry.unsampled || is_word entry.deleting) (is_reason_said entry.failed) silent in
+    let both = or_parts (is_word entry.unsampled) (is_word entry.deleting) all.0 in
+    (both.0, both.1, all.1)
 
 said_alike : (heeds : Bool) (entry : TickEntry) → speaks entry ≡ false → said_in heeds entry ≡ said_in false entry
 said_alike heeds entry silent =
-    let both = or_parts (is_word entry.unsampled) (is_word entry.deleting) silent in
-    ap (λ (s : Sampling). with_said s (words_of heeds entry.deleting))
-    (sampling_alike heeds entry.usage entry.unsampled both.0)
+    let parts = silent_parts entry silent in
+    ap (λ (s : Sampling). with_said s (words_of heeds entry.deleting entry.failed))
+    (sampling_alike heeds entry.usage entry.unsampled parts.0)
     ∙ ap (λ (w : PodWords). with_said (sampling_of false entry.usage entry.unsampled) w)
-    (words_alike heeds entry.deleting both.1)
+    (words_alike heeds entry.deleting entry.failed parts.1 parts.2)
   where
     with_said : Sampling → PodWords → EntrySaid
     with_said sampling words = record { sampling = sampling; words = words }
@@ -86,19 +99,28 @@ known_member No silent = refl
 known_member Yes silent = absurd (cc)
 known_member OfOtherKind silent = absurd (cc)
 
-known_kind : (entry : TickEntry) → speaks entry ≡ false
-    → (is_of_other_kind entry.unsampled || is_of_other_kind entry.deleting) ≡ false
+known_reason : (member : ReasonMember) → is_reason_said member ≡ false → is_no_reason member ≡ false
+known_reason reasons.Missing silent = refl
+known_reason (reasons.Reason reason) silent = absurd (cc)
+known_reason reasons.OfOtherKind silent = absurd (cc)
+
+-- one of the members of an entry is of another kind
+abbrev is_unknown : TickEntry → Bool
+is_unknown e = (is_of_other_kind e.unsampled || is_of_other_kind e.deleting) || is_no_reason e.failed
+
+known_kind : (entry : TickEntry) → speaks entry ≡ false → is_unknown entry ≡ false
 known_kind entry silent =
-    let both = or_parts (is_word entry.unsampled) (is_word entry.deleting) silent in
-    or_from (is_of_other_kind entry.unsampled) (is_of_other_kind entry.deleting)
-    (known_member entry.unsampled both.0) (known_member entry.deleting both.1)
+    let parts = silent_parts entry silent in
+    or_from (is_of_other_kind entry.unsampled || is_of_other_kind entry.deleting) (is_no_reason entry.failed)
+    (or_from (is_of_other_kind entry.unsampled) (is_of_other_kind entry.deleting)
+    (known_member entry.unsampled parts.0) (known_member entry.deleting parts.1))
+    (known_reason entry.failed parts.2)
 
 known_kinds : (es : List TickEntry) → some_speaks es ≡ false → has_other_kind es ≡ false
 known_kinds [] silent = refl
 known_kinds (x ∷ xs) silent =
     let both = or_parts (speaks x) (some_speaks xs) silent in
-    or_from (is_of_other_kind x.unsampled || is_of_other_kind x.deleting) (has_other_kind xs)
-    (known_kind x both.0) (known_kinds xs both.1)
+    or_from (is_unknown x) (has_other_kind xs) (known_kind x both.0) (known_kinds xs both.1)
 
 -- none of its members is refused
 pub not_refused : (heeds : Bool) (written : TickLine) → some_speaks written.entries ≡ false
@@ -116,9 +138,12 @@ members_alike (d ∷ ds) es e =
     let rest = bind_ok (each entry_of ds) (λ ys. Ok (one.0 ∷ ys)) es one.2 in
     let parts = entry_parts d one.0 one.1 in
     let deleting = truth_of (field_at (codes "deleting") d) in
-    ap (λ (first : TruthMember). (is_word first || is_word deleting) || list_any item_speaks ds) parts.unsampled
-    ∙ ap (λ (second : TruthMember). (is_word one.0.unsampled || is_word second) || list_any item_speaks ds)
-    parts.deleting
+    let failed = reason_member_of (field_at (codes "failed") d) in
+    let Any : TruthMember → TruthMember → ReasonMember → Bool =
+    λ first second third. ((is_word first || is_word second) || is_reason_said third) || list_any item_speaks ds in
+    ap (λ (first : TruthMember). Any first deleting failed) parts.unsampled
+    ∙ ap (λ (second : TruthMember). Any one.0.unsampled second failed) parts.deleting
+    ∙ ap (λ (third : ReasonMember). Any one.0.unsampled one.0.deleting third) parts.failed
     ∙ ap (λ (others : Bool). speaks one.0 || others) (members_alike ds rest.0 rest.1)
     ∙ ap some_speaks (same_value {E = TickLineFault} (one.0 ∷ rest.0) es rest.2)
 

@@ -67,6 +67,12 @@ pub fn deleting_shown()
     ensures { laws.DeletingShown }
 {}
 
+/// A tick shows that the node has ended a pod, and why, exactly where the text is of version 3 and the pod's entry says
+/// so.
+pub fn failed_shown()
+    ensures { laws.FailedShown }
+{}
+
 /// What a tick shows of the node's signals is what its line has of them.
 pub fn signals_shown()
     ensures { laws.SignalsShown }

@@ -1,23 +1,23 @@
 //! The entries of a tick line, with numbers in the place of names.
 
-ghost use Rattle.std.specs.Prelude.{◌≡◌, ◌==◌, length};
+ghost use Rattle.std.specs.Prelude.{◌≡◌, ◌==◌, length, None, if◌then◌else◌};
 ghost use Rattle.json_fields.specs.rule.Reading.{each};
 ghost use Rattle.json_fields.specs.state.Reading.{GivesExactly, GivesUnless, checked};
 ghost use Rattle.trace.specs.state.Memory.{is_memory};
 ghost use Rattle.trace.specs.rule.Placing.{number_in, container_number, placed_listing, placed_result, pod_numbered};
 ghost use Rattle.trace.specs.rule.Placing.{entry_of_pod, has_twice, are_of_one_container, is_of_probe};
-ghost use Rattle.trace.specs.state.Placing.{entries_of_pods, is_word, speaks, some_speaks};
+ghost use Rattle.trace.specs.state.Placing.{entries_of_pods, is_word, is_reason_said, speaks, some_speaks};
 ghost use Rattle.trace.specs.rule.Placing.{are_of_one_probe, repeats, sampled_or, without_sample};
-ghost use Rattle.trace.specs.rule.Placing.{sampling_of, words_of, said_in, placed_entry, placed_of};
+ghost use Rattle.trace.specs.rule.Placing.{sampling_of, reason_given, words_of, said_in, placed_entry, placed_of};
 ghost use Rattle.std.specs.List.{list_any};
 
 use crate::fault::FaultKind;
 use lists::Sequence;
 use manifest::{Outcome, PodSpec, ProbeKind};
-use observations::{PodWords, Sampling, Usage};
+use observations::{EndReason, PodWords, Sampling, Usage};
 use roster::Roster;
 use std::alloc::Global;
-use tick_lines::{ListedInstance, Listing, ProbeResult, TickEntry, TruthMember};
+use tick_lines::{ListedInstance, Listing, ProbeResult, ReasonMember, TickEntry, TruthMember};
 
 /// A listing of the container with the number.
 #[derive(Clone, Copy)]
@@ -35,7 +35,7 @@ pub(crate) struct PlacedResult {
 }
 
 /// What an entry says of its pod beside its listings and results.
-#[derive(Clone, Copy)]
+#[derive(Drop)]
 pub(crate) struct EntrySaid {
     pub(crate) sampling: Sampling,
     pub(crate) words: PodWords,
@@ -141,11 +141,18 @@ fn is_word(member: TruthMember) -> bool
     !matches!(member, TruthMember::No)
 }
 
-/// Whether the entry has a member `unsampled` or `deleting` other than null and false.
+/// Whether the member is other than null, where there is one.
+fn is_reason_said(member: &ReasonMember) -> bool
+    ensures { result ≡ is_reason_said member.now }
+{
+    !matches!(member, ReasonMember::Missing)
+}
+
+/// Whether the entry has such a member `unsampled`, `deleting` or `failed`.
 fn speaks(entry: &TickEntry) -> bool
     ensures { result ≡ speaks entry.now }
 {
-    is_word(entry.unsampled) || is_word(entry.deleting)
+    is_word(entry.unsampled) || is_word(entry.deleting) || is_reason_said(&entry.failed)
 }
 
 /// Whether one of the entries has such a member.
@@ -175,12 +182,23 @@ fn without_sample(heeds: bool, unsampled: TruthMember) -> Sampling
     }
 }
 
+/// Why an entry says that the node has ended its pod, where the version heeds it.
+fn reason_given(heeds: bool, failed: &ReasonMember) -> Option<EndReason>
+    ensures { result ≡ (if heeds then reason_given failed.now else None) }
+{
+    match failed {
+        ReasonMember::Reason(reason) if heeds => Some(reason.again()),
+        _ => None,
+    }
+}
+
 /// The words of an entry, where the version heeds them.
-fn words_of(heeds: bool, deleting: TruthMember) -> PodWords
-    ensures { result ≡ words_of heeds deleting }
+fn words_of(heeds: bool, deleting: TruthMember, failed: &ReasonMember) -> PodWords
+    ensures { result ≡ words_of heeds deleting failed.now }
 {
     PodWords {
         deleting: heeds && matches!(deleting, TruthMember::Yes),
+        failed: reason_given(heeds, failed),
     }
 }
 
@@ -190,7 +208,7 @@ fn said_in(heeds: bool, entry: &TickEntry) -> EntrySaid
 {
     EntrySaid {
         sampling: sampling_of(heeds, entry.usage, entry.unsampled),
-        words: words_of(heeds, entry.deleting),
+        words: words_of(heeds, entry.deleting, &entry.failed),
     }
 }
 

@@ -19,7 +19,7 @@ ghost use Rattle.trace.specs.state.Pod.{container_counts};
 ghost use Rattle.trace.specs.state.Taken.{placed_at, tick_of, tick_after};
 ghost use Rattle.trace.specs.rule.Tick.{moment_from, room_for_tick, observed_in};
 ghost use Rattle.trace.specs.state.Tick.{MayStandBehind};
-ghost use Rattle.trace.specs.rule.Written.{is_of_other_kind, has_other_kind, heeded, written_in};
+ghost use Rattle.trace.specs.rule.Written.{is_of_other_kind, is_no_reason, has_other_kind, heeded, written_in};
 
 use crate::by_pod::{EntriesByPod, entries_by_pod, entry_for};
 use crate::fault::{FaultKind, refused_if};
@@ -31,12 +31,12 @@ use crate::trace_so_far::{TraceSoFar, heeds_unsampled};
 use json_lines::TickRecord;
 use lists::Sequence;
 use manifest::{ContainerSpec, Outcome, PodSpec, ProbeKind};
-use observations::{ContainerObs, MOST_TICKS, NO_WORDS, PodObs, Sampling, TickObs};
+use observations::{ContainerObs, MOST_TICKS, NO_WORDS, PodObs, PodWords, Sampling, TickObs};
 use quantity::END_OF_TIME;
 use roster::Roster;
 use state_diff::{CriState, Seen};
 use std::alloc::{AllocError, Global};
-use tick_lines::{ListedInstance, TickEntry, TickLine, TickLineFault, TruthMember};
+use tick_lines::{ListedInstance, ReasonMember, TickEntry, TickLine, TickLineFault, TruthMember};
 
 fn moment_from(ticks: &[TickObs], written: Option<u64>) -> Result<u64, FaultKind>
     ensures { GivesExactly (λ n. n) result (moment_from ticks.now written) }
@@ -135,6 +135,20 @@ fn results_of(entry: Option<&PlacedEntry>) -> &[PlacedResult]
     }
 }
 
+/// The words once more. It takes no memory.
+fn words_again(words: &PodWords) -> PodWords
+    ensures { result ≡ words.now }
+{
+    let failed = match &words.failed {
+        Some(reason) => Some(reason.again()),
+        None => None,
+    };
+    PodWords {
+        deleting: words.deleting,
+        failed,
+    }
+}
+
 fn said_from(entry: Option<&PlacedEntry>) -> EntrySaid
     ensures { result ≡ said_from (option_map (λ e. e.now) entry.entry) }
 {
@@ -143,7 +157,10 @@ fn said_from(entry: Option<&PlacedEntry>) -> EntrySaid
             sampling: Sampling::Unsaid,
             words: NO_WORDS,
         },
-        Some(entry) => entry.said,
+        Some(entry) => EntrySaid {
+            sampling: entry.said.sampling,
+            words: words_again(&entry.said.words),
+        },
     }
 }
 
@@ -245,11 +262,28 @@ fn is_of_other_kind(member: TruthMember) -> bool
     matches!(member, TruthMember::OfOtherKind)
 }
 
-/// Whether a member `unsampled` or `deleting` is of another kind than a truth value.
+fn is_no_reason(member: &ReasonMember) -> bool
+    ensures { result ≡ is_no_reason member.now }
+{
+    matches!(member, ReasonMember::OfOtherKind)
+}
+
+/// Whether a member `unsampled` or `deleting` of the entry is of another kind than a truth value, or its member
+/// `failed` is neither null nor a reason.
+fn is_of_no_kind(entry: &TickEntry) -> bool
+    ensures { result ≡ ((is_of_other_kind entry.now.unsampled || is_of_other_kind entry.now.deleting)
+        || is_no_reason entry.now.failed) }
+{
+    is_of_other_kind(entry.unsampled)
+        || is_of_other_kind(entry.deleting)
+        || is_no_reason(&entry.failed)
+}
+
+/// Whether one of the entries has such a member.
 fn has_other_kind(entries: &[TickEntry]) -> bool
     ensures { result ≡ has_other_kind entries.now }
 {
-    entries.iter().any(|e| is_of_other_kind(e.unsampled) || is_of_other_kind(e.deleting))
+    entries.iter().any(|e| is_of_no_kind(e))
 }
 
 /// Refuses these members where the version heeds them.

@@ -19,12 +19,11 @@ use Rattle.node_config.specs.declared.node.Version.{Version}
 use Rattle.node_config.specs.declared.node.Version.TheVariants.{One, Two, Three}
 use Rattle.node_signals.specs.declared.key.ThresholdKey.{ThresholdKey}
 use Rattle.node_signals.specs.rule.Thresholds.{IsServed}
-use Rattle.phase.specs.rule.RawPhase.{IsTerminal}
 use Rattle.pod_state.specs.rule.Pods.{PodTick, pod_tick}
 use Rattle.pod_piece.specs.declared.order.EvictOrder.{EvictOrder}
 use Rattle.pod_piece.specs.declared.piece.EvictionRecord.{EvictionRecord}
 use Rattle.pod_piece.specs.declared.status.PodStatus.{PodStatus}
-use Rattle.pod_piece.specs.rule.Status.{IsStatusAfter}
+use Rattle.pod_piece.specs.rule.Status.{IsStatusAfter, MayBeEvicted}
 use Rattle.ranking.specs.rule.Order.{IsVictim}
 use Rattle.eviction.specs.declared.eviction.Eviction.{Eviction}
 
@@ -60,14 +59,15 @@ own_eviction n ticks evictions =
 abbrev pub IsStatusIn : List TickObs → List (Option Eviction) → ℕ → PodSpec → PodStatus → Type 0
 IsStatusIn ticks evictions n pod = IsStatusAfter n pod (own_eviction n ticks evictions) (pod_ticks ticks n)
 
--- a pod that may be evicted, and its status after the tick's update: it is present, and has not ended
+-- a pod that may be evicted, and its status after the tick's update: it is present, and has not ended, unless with this
+-- tick, which says that the node has ended it
 pub record IsCandidate (pods : List PodSpec) (before : List TickObs) (tick : TickObs)
     (evictions : List (Option Eviction)) (n : ℕ) (status : PodStatus) : Type 0 where
   pub pod : PodSpec
   pub at : slice_get pods n ≡ Some pod
   pub present : IsSome (shown_of tick n)
   pub is_status : IsStatusIn (before ++ tick ∷ []) evictions n pod status
-  pub lives : IsTerminal status.phase → ⊥
+  pub may : MayBeEvicted tick.at status
 
 -- the grace period of an eviction, in seconds: none of a hard one, of a soft one the pod's own, but no
 -- longer than the node allows

@@ -1,17 +1,18 @@
 -- The statements of the laws.
 use Rattle.std.specs.Prelude.{◌≡◌, ◌⊎◌, ◌^◌, ◌<◌, ◌≤◌, ◌-◌, ℕ, true, List, length, [], ◌∷◌, ◌++◌, take, slice_get}
-use Rattle.std.specs.Prelude.{Option, Some, IsSome}
+use Rattle.std.specs.Prelude.{Option, Some, None, IsSome, option_map}
 use Rattle.manifest.specs.declared.pod.PodSpec.{PodSpec}
 use Rattle.observations.specs.declared.tick.TickObs.{TickObs}
 use Rattle.observations.specs.rule.Observations.{shown_of}
 use Rattle.node_config.specs.declared.node.NodeConfig.{NodeConfig}
 use Rattle.node_signals.specs.declared.key.ThresholdKey.{ThresholdKey}
 use Rattle.node_signals.specs.rule.Thresholds.{Asks, IsServed}
-use Rattle.pod_state.specs.rule.Pods.{PodTick, HasEnded}
+use Rattle.pod_state.specs.rule.Pods.{PodTick, IsEnd}
 use Rattle.pod_piece.specs.declared.piece.EvictionRecord.{EvictionRecord}
+use Rattle.pod_piece.specs.declared.status.PodFailure.{PodFailure}
 use Rattle.pod_piece.specs.declared.status.PodStatus.{PodStatus}
 use Rattle.pod_piece.specs.rule.Piece.{place_of}
-use Rattle.pod_piece.specs.rule.Status.{IsStatusAfter}
+use Rattle.pod_piece.specs.rule.Status.{IsStatusAfter, failure_at}
 use Rattle.eviction.specs.declared.eviction.Eviction.{Eviction}
 use Rattle.eviction.specs.rule.Replay.{pod_ticks, own_eviction, pause_in, is_over_in, IsReplay}
 
@@ -54,18 +55,20 @@ OfEachEviction P =
     → slice_get ticks t ≡ Some tick → slice_get evictions t ≡ Some (Some eviction)
     → P config pods (take t ticks) tick (take t evictions) eviction
 
--- a tick that comes after these, with these evictions, shows the pod of this number, and the pod had
--- not ended after the tick's update
+-- a tick that comes after these, with these evictions, shows the pod of this number; and if the pod has ended after
+-- the tick's update, the node has ended it, not by an eviction, as a tick of this moment says
 pub record Lived (pods : List PodSpec) (before : List TickObs) (tick : TickObs)
     (evictions : List (Option Eviction)) (n : ℕ) : Type 0 where
   pub pod : PodSpec
   pub is_pod : slice_get pods n ≡ Some pod
   pub present : IsSome (shown_of tick n)
-  pub lived : HasEnded pod (place_of (own_eviction n (before ++ tick ∷ []) evictions))
-      (pod_ticks (before ++ tick ∷ []) n)
-      → ⊥
+  pub lived : (end : ℕ) → IsEnd pod (place_of (own_eviction n (before ++ tick ∷ []) evictions))
+      (pod_ticks (before ++ tick ∷ []) n) (Some end)
+      → (own_eviction n (before ++ tick ∷ []) evictions ≡ None)
+      × (option_map (λ (f : PodFailure). f.at) (failure_at (pod_ticks (before ++ tick ∷ []) n) end) ≡ Some tick.at)
 
--- the pod that a tick evicts had not ended when it had taken the tick into its status
+-- the pod that a tick evicts had not ended when it had taken the tick into its status, unless with that tick, as it
+-- says
 abbrev pub EvictedPodLived : Type 0
 EvictedPodLived =
     OfEachEviction (λ config pods before tick evictions eviction. Lived pods before tick evictions eviction.pod)

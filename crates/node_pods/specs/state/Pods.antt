@@ -9,11 +9,11 @@ use Rattle.manifest.specs.declared.pod.PodSpec.{PodSpec}
 use Rattle.observations.specs.rule.Pods.{PodObs}
 use Rattle.observations.specs.declared.tick.TickObs.{TickObs}
 use Rattle.observations.specs.rule.Observations.{shown_of}
-use Rattle.phase.specs.rule.RawPhase.{IsTerminal}
 use Rattle.pod_state.specs.rule.Pods.{PodTick, pod_tick}
 use Rattle.pod_piece.specs.declared.order.EvictOrder.{EvictOrder}
 use Rattle.pod_piece.specs.declared.status.PodStatus.{PodStatus}
 use Rattle.pod_piece.specs.state.Listings.{IsNextTick}
+use Rattle.pod_piece.specs.rule.Status.{MayBeEvicted}
 use Rattle.pod_piece.specs.rule.Piece.{Piece, updated}
 use Rattle.pod_piece.specs.state.Piece.{new_piece, with_tick, all_updated, at_rest, with_eviction}
 use Rattle.pod_piece.specs.state.Piece.{with_number}
@@ -61,13 +61,13 @@ ArePlaced pods = (n : ℕ) (piece : Piece) → slice_get pods.pieces n ≡ Some 
     → IsPlaced pods.max_restart_delay n piece
 
 -- a pod that may be evicted at a moment, and its status: it is present, since the tick of the moment shows it, and it
--- has not ended
+-- has not ended, unless with that tick, which says that the node has ended it
 pub record IsCandidate (pieces : List Piece) (moment n : ℕ) (status : PodStatus) : Type 0 where
   pub piece : Piece
   pub at : slice_get pieces n ≡ Some piece
   pub present : last_moment piece.handed ≡ Some moment
   pub is_status : IsStatusOf piece status
-  pub lives : IsTerminal status.phase → ⊥
+  pub may : MayBeEvicted moment status
 
 -- what is shown of the pods that are present, of each at its number, may be handed to them
 pub record AreNext (pieces : List Piece) (shown : List (Option PodObs)) : Type 0 where

@@ -25,5 +25,5 @@ pub record AreHeldBelow (pieces : List Piece) (moment i : ℕ) (held : ℕ → O
 abbrev pub IsRanked : ℕ → Piece → (ℕ → Option PodStatus) → (ℕ → Option PodStatus) → Type 0
 IsRanked moment piece held after =
     ((last_moment piece.handed ≡ Some moment)
-    × (status : PodStatus) × IsStatusOf piece status × AreHeldAfter held status after)
+    × (status : PodStatus) × IsStatusOf piece status × AreHeldAfter moment held status after)
     ⊎ ((last_moment piece.handed ≡ Some moment → ⊥) × ((n : ℕ) → after n ≡ held n))

@@ -14,7 +14,6 @@ use Rattle.phase.specs.declared.container.ContainerState.{ContainerState}
 use Rattle.phase.specs.declared.container.ContainerState.TheVariants as states
 use Rattle.phase.specs.declared.phase.Phase.{Phase}
 use Rattle.containers.specs.declared.status.ContainerStatus.{ContainerStatus}
-use Rattle.pod_piece.specs.declared.order.EvictOrder.{EvictOrder}
 use Rattle.eviction.specs.declared.eviction.Eviction.{Eviction}
 use Rattle.totals.specs.declared.totals.Totals.{Totals}
 use Rattle.event_list.specs.declared.event.Event.{Event}
@@ -42,11 +41,6 @@ qos_word Guaranteed = codes "Guaranteed"
 qos_word Burstable = codes "Burstable"
 qos_word BestEffort = codes "BestEffort"
 
--- the reason of an evicted pod, and a dash without one
-abbrev pub reason_word : Option EvictOrder → List ℕ
-reason_word None = codes "-"
-reason_word (Some order) = codes "Evicted"
-
 -- the beginning of a pod's line: its number, its key and its phase
 abbrev pub pod_words : ℕ → List ℕ → List ℕ → List ℕ → List ℕ
 pod_words n namespace name phase =
@@ -56,10 +50,10 @@ pod_words n namespace name phase =
 abbrev pub class_words : List ℕ → List ℕ → List ℕ → List ℕ
 class_words words reason qos = joined (words ∷ codes " reason=" ∷ reason ∷ codes " qos=" ∷ qos ∷ codes "\n" ∷ [])
 
--- the line of a pod
-unfoldable pub pod_line : ℕ → PodSpec → Qos → Phase → Option EvictOrder → List ℕ
-pod_line n pod qos phase order =
-    class_words (pod_words n pod.namespace pod.name (phase_word phase)) (reason_word order) (qos_word qos)
+-- the line of a pod; a dash where there is no reason
+unfoldable pub pod_line : ℕ → PodSpec → Qos → Phase → Option (List ℕ) → List ℕ
+pod_line n pod qos phase reason =
+    class_words (pod_words n pod.namespace pod.name (phase_word phase)) (unwrap_or reason (codes "-")) (qos_word qos)
 
 -- the line of a condition of a pod; without ticks its moment is 0
 unfoldable pub condition_line : ℕ → List ℕ → Condition → List ℕ
@@ -91,11 +85,11 @@ conditions_text n c =
     ++ (condition_line n (codes "ContainersReady") c.containers_ready
     ++ condition_line n (codes "Ready") c.containers_ready))
 
--- the line of the condition that only an evicted pod has
-abbrev pub disruption_text : ℕ → Option EvictOrder → List ℕ
+-- the line of the condition that only a pod has that the node disrupts, with the moment since when
+abbrev pub disruption_text : ℕ → Option ℕ → List ℕ
 disruption_text n None = []
-disruption_text n (Some order) =
-    joined (codes "condition " ∷ decimal n ∷ codes " DisruptionTarget True " ∷ decimal order.at
+disruption_text n (Some since) =
+    joined (codes "condition " ∷ decimal n ∷ codes " DisruptionTarget True " ∷ decimal since
     ∷ codes " TerminationByKubelet\n" ∷ [])
 
 -- a line for each container
@@ -105,10 +99,11 @@ containers_text n (c ∷ cs) [] = []
 containers_text n (c ∷ cs) (s ∷ ss) = container_line n c.name s ++ containers_text n cs ss
 
 -- the lines of the pod with the number
-abbrev pub pod_text : ℕ → PodSpec → Qos → Phase → Conditions → Option EvictOrder → List ContainerStatus → List ℕ
-pod_text n pod qos phase conditions order statuses =
-    pod_line n pod qos phase order
-    ++ (conditions_text n conditions ++ (disruption_text n order ++ containers_text n pod.containers statuses))
+abbrev pub pod_text : ℕ → PodSpec → Qos → Phase → Conditions → Option (List ℕ) → Option ℕ → List ContainerStatus
+    → List ℕ
+pod_text n pod qos phase conditions reason disrupted statuses =
+    pod_line n pod qos phase reason
+    ++ (conditions_text n conditions ++ (disruption_text n disrupted ++ containers_text n pod.containers statuses))
 
 -- the first line: the node's name, and how many pods and ticks there are
 unfoldable pub header_line : List ℕ → ℕ → ℕ → List ℕ

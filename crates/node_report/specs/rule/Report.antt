@@ -12,7 +12,9 @@ use Rattle.pod_state.specs.rule.Containers.{AreStatusesOf}
 use Rattle.pod_state.specs.rule.Lifecycles.{IsLifecycleOf}
 use Rattle.pod_piece.specs.declared.order.EvictOrder.{EvictOrder}
 use Rattle.pod_piece.specs.declared.piece.EvictionRecord.{EvictionRecord}
+use Rattle.pod_piece.specs.declared.status.PodFailure.{PodFailure}
 use Rattle.pod_piece.specs.rule.Piece.{place_of}
+use Rattle.pod_piece.specs.rule.Status.{IsFailure, reason_in, disrupted_at}
 use Rattle.eviction.specs.declared.eviction.Eviction.{Eviction}
 use Rattle.eviction.specs.rule.Replay.{pod_ticks, own_eviction, IsReplay}
 use Rattle.event_list.specs.declared.event.Event.{Event}
@@ -39,8 +41,11 @@ pub record ArePodLines (ticks : List TickObs) (evictions : List (Option Eviction
   pub are_statuses : AreStatusesOf pod (evicting_tick n ticks evictions) (pod_ticks ticks n) containers
   pub qos : Qos
   pub is_qos : IsOfClass pod.containers qos
+  pub failure : Option PodFailure
+  pub is_failure : IsFailure pod (own_eviction n ticks evictions) (pod_ticks ticks n) failure
   pub text : bytes ≡ pod_text n pod qos lifecycle.phase lifecycle.conditions
-      (evicting_order n ticks evictions) containers
+      (reason_in (evicting_order n ticks evictions) failure)
+      (disrupted_at (evicting_order n ticks evictions) failure) containers
 
 -- the lines of each pod, one pod after the other
 pub record AreLines (ticks : List TickObs) (evictions : List (Option Eviction)) (pods : List PodSpec)

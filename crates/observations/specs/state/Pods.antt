@@ -14,7 +14,7 @@ use Rattle.observations.specs.state.Whole.{memory_as, usage_as}
 use Rattle.observations.specs.rule.Pods.{PodObs}
 
 abbrev pub no_words : PodWords
-no_words = record { deleting = false }
+no_words = record { deleting = false; failed = None }
 
 abbrev pub told_obs : ℕ → List ContainerObs → Sampling → PodWords → PodObs
 told_obs at containers sampling words = record {

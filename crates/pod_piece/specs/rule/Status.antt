@@ -1,15 +1,20 @@
 -- What a pod's status shows. (Kubernetes, "Pod Lifecycle"; "Pod Quality of Service Classes"; "Node-pressure
 -- Eviction".)
-use Rattle.std.specs.Prelude.{◌≡◌, ℕ, List, Option, option_map}
+use Rattle.std.specs.Prelude.{◌≡◌, ℕ, ◌||◌, Bool, List, Option, Some, None, option_map, option_and_then, slice_get}
+use Rattle.std.specs.Prelude.{if◌then◌else◌, codes}
+use Rattle.std.specs.Str.{bytes_eq}
 use Rattle.manifest.specs.declared.pod.PodSpec.{PodSpec}
 use Rattle.manifest.specs.declared.resources.Resource.TheVariants.{Cpu, Memory, EphemeralStorage}
 use Rattle.qos.specs.rule.Class.{IsOfClass}
 use Rattle.qos.specs.rule.Requests.{effective_request_of}
-use Rattle.pod_state.specs.rule.Pods.{PodTick}
+use Rattle.phase.specs.rule.RawPhase.{IsTerminal}
+use Rattle.pod_state.specs.rule.Pods.{PodTick, IsEnd}
 use Rattle.pod_state.specs.rule.Containers.{AreStatusesOf}
 use Rattle.pod_state.specs.rule.Lifecycles.{IsLifecycleOf}
 use Rattle.pod_piece.specs.declared.piece.EvictionRecord.{EvictionRecord}
 use Rattle.pod_piece.specs.declared.status.EffectiveRequests.{EffectiveRequests}
+use Rattle.pod_piece.specs.declared.order.EvictOrder.{EvictOrder}
+use Rattle.pod_piece.specs.declared.status.PodFailure.{PodFailure}
 use Rattle.pod_piece.specs.declared.status.PodStatus.{PodStatus}
 use Rattle.pod_piece.specs.rule.Piece.{place_of}
 use Rattle.pod_piece.specs.rule.Usage.{IsUsageOf}
@@ -21,6 +26,42 @@ requests_of pod = record {
   memory = effective_request_of Memory pod.containers;
   ephemeral_storage = effective_request_of EphemeralStorage pod.containers;
 }
+
+-- how the node has ended the pod with this tick, as the tick says
+abbrev pub failure_in : PodTick → Option PodFailure
+failure_in tick = option_map (λ reason. record { at = tick.moment; reason = reason }) tick.entry.words.failed
+
+-- the same of the tick at the place
+abbrev pub failure_at : List PodTick → ℕ → Option PodFailure
+failure_at h t = option_and_then failure_in (slice_get h t)
+
+-- how the node has ended the pod, but for an eviction: as the tick says that ended it, if it does
+abbrev pub IsFailure : PodSpec → Option EvictionRecord → List PodTick → Option PodFailure → Type 0
+IsFailure pod (Some eviction) h failure = failure ≡ None
+IsFailure pod None h failure =
+    (end : Option ℕ) × IsEnd pod None h end × (failure ≡ option_and_then (failure_at h) end)
+
+-- why the pod has failed: it was evicted, or the node has ended it for this reason
+abbrev pub reason_in : Option EvictOrder → Option PodFailure → Option (List ℕ)
+reason_in (Some order) failure = Some (codes "Evicted")
+reason_in None failure = option_map (λ (f : PodFailure). f.reason) failure
+
+-- the node ends a pod for such a reason to make room, or as it shuts down
+abbrev pub disrupts : List ℕ → Bool
+disrupts reason =
+    bytes_eq reason (codes "Evicted")
+    || (bytes_eq reason (codes "Preempting") || bytes_eq reason (codes "Terminated"))
+
+-- the moment from which on the pod is disrupted by the node: that of its eviction, or of an end for such a reason
+abbrev pub disrupted_at : Option EvictOrder → Option PodFailure → Option ℕ
+disrupted_at (Some order) failure = Some order.at
+disrupted_at None None = None
+disrupted_at None (Some failure) = if disrupts failure.reason then Some failure.at else None
+
+-- a pod of this status may be evicted by a tick of the moment: it has not ended, or the node has ended it with that
+-- tick, as the tick says
+abbrev pub MayBeEvicted : ℕ → PodStatus → Type 0
+MayBeEvicted at status = IsTerminal status.phase → option_map (λ (f : PodFailure). f.at) status.failure ≡ Some at
 
 -- what a status shows of a pod with a number, after these ticks of it
 pub record IsStatusAfter (number : ℕ) (pod : PodSpec) (eviction : Option EvictionRecord) (h : List PodTick)
@@ -34,3 +75,4 @@ pub record IsStatusAfter (number : ℕ) (pod : PodSpec) (eviction : Option Evict
   pub usage : IsUsageOf pod (place_of eviction) h status.usage
   pub priority : status.priority ≡ pod.priority
   pub order : status.order ≡ option_map (λ (e : EvictionRecord). e.order) eviction
+  pub failure : IsFailure pod eviction h status.failure

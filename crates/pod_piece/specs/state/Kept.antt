@@ -2,6 +2,7 @@
 use Rattle.std.specs.Prelude.{◌≡◌, ℕ, suc, ◌+◌, ◌≤◌, ◌<◌, List, length, take, slice_get, Option, Some, None, IfSome}
 use Rattle.quantity.specs.rule.Duration.{end_of_time}
 use Rattle.histories.specs.rule.Histories.{last_moment}
+use Rattle.histories.specs.state.Histories.{IsRising}
 use Rattle.state_diff.specs.declared.differ.Differ.{Differ}
 use Rattle.pod_state.specs.declared.events.PodEvent.{PodEvent}
 use Rattle.pod_state.specs.declared.state.PodState.{PodState}
@@ -38,8 +39,9 @@ pub record IsStateAfter (pod : PodSpec) (max_restart_delay : ℕ) (evicted : Opt
   pub before : evicted ≡ None → (e : Option ℕ) → MayBe None (length (before_last h)) e
       → IsProgressOf pod e (before_last h) (before_of state)
 
--- the ticks are apart from each other, and so few
+-- the ticks are apart from each other, each later than those before it, and so few
 pub record AreSpread (h : List PodTick) : Type 0 where
+  pub rising : IsRising h
   pub few : IfSome (last_moment h) (λ last. length h ≤ suc last)
   pub bounded : IfSome (last_moment h) (λ last. last < end_of_time)
 

@@ -2,7 +2,7 @@
 use Rattle.std.specs.Prelude.{ℕ, zero, suc, ◌-◌, List, [], ◌∷◌, ◌++◌, length, map, take, slice_get, nat_lt}
 use Rattle.std.specs.Prelude.{Option, Some, None, if◌then◌else◌}
 use Rattle.manifest.specs.declared.pod.PodSpec.{PodSpec}
-use Rattle.pod_state.specs.rule.Pods.{PodTick, pod_tick, HasEnded}
+use Rattle.pod_state.specs.rule.Pods.{PodTick, pod_tick}
 use Rattle.observations.specs.rule.Pods.{PodObs}
 use Rattle.pod_piece.specs.declared.order.EvictOrder.{EvictOrder}
 use Rattle.pod_piece.specs.declared.piece.EvictionRecord.{EvictionRecord}
@@ -40,10 +40,6 @@ evicted_at p = place_of p.eviction
 abbrev pub evicted_before : Option ℕ → ℕ → Option ℕ
 evicted_before None t = None
 evicted_before (Some place) t = if nat_lt place t then Some place else None
-
--- the pod has not ended
-abbrev pub Lives : Piece → Type 0
-Lives p = HasEnded p.pod (evicted_at p) (ticks p) → ⊥
 
 -- a pod that nothing was handed to
 abbrev pub new_piece : ℕ → PodSpec → ℕ → Piece

@@ -7,11 +7,15 @@ use Rattle.pod_state.specs.rule.Events.{AreEventsOf}
 use Rattle.pod_piece.specs.declared.status.PodStatus.{PodStatus}
 use Rattle.pod_piece.specs.rule.Piece.{Piece, ticks}
 use Rattle.pod_piece.specs.state.Piece.{before_last, last_of, evicted_at, evicted_before}
-use Rattle.pod_piece.specs.rule.Status.{IsStatusAfter}
+use Rattle.pod_piece.specs.rule.Status.{IsStatusAfter, MayBeEvicted}
 
 -- the status of a piece, after the ticks that have come into it
 abbrev pub IsStatusOf : Piece → PodStatus → Type 0
 IsStatusOf p status = IsStatusAfter p.number p.pod p.eviction (ticks p) status
+
+-- the piece may be evicted by a tick of the moment
+abbrev pub IsEvictableAt : ℕ → Piece → Type 0
+IsEvictableAt at p = (status : PodStatus) × IsStatusOf p status × MayBeEvicted at status
 
 -- the events of the last of these ticks, as that tick made them: an eviction in it adds none and
 -- takes none away

@@ -3,19 +3,19 @@ use Rattle.std.specs.Prelude.{◌≡◌, ℕ, ◌<◌, List, length, Option, sli
 use Rattle.manifest.specs.declared.pod.PodSpec.{PodSpec}
 use Rattle.containers.specs.declared.status.ContainerStatus.{ContainerStatus}
 use Rattle.containers.specs.rule.Shown.{IsShown}
-use Rattle.pod_state.specs.rule.Pods.{PodTick, ticks_of, OfSpec, IsEnd, counted, EndsEvicted}
+use Rattle.pod_state.specs.rule.Pods.{PodTick, ticks_of, OfSpec, IsEnd, counted, EndsByNode}
 
 -- what is shown of the container with the number
 abbrev pub IsShownOf : PodSpec → Type 0 → List PodTick → ℕ → ContainerStatus → Type 0
-IsShownOf pod is_evicted h number status =
-    OfSpec pod number (λ spec. IsShown spec is_evicted (ticks_of h number) status)
+IsShownOf pod is_ended h number status =
+    OfSpec pod number (λ spec. IsShown spec is_ended (ticks_of h number) status)
 
 -- the status of a container of the pod after these ticks: by those that count
 pub record IsContainerStatus (pod : PodSpec) (evicted : Option ℕ) (h : List PodTick) (container : ℕ)
     (status : ContainerStatus) : Type 0 where
   pub end : Option ℕ
   pub is_end : IsEnd pod evicted h end
-  pub shown : IsShownOf pod (EndsEvicted evicted end) (counted h end) container status
+  pub shown : IsShownOf pod (EndsByNode evicted h end) (counted h end) container status
 
 -- the statuses of all its containers
 pub record AreStatusesOf (pod : PodSpec) (evicted : Option ℕ) (h : List PodTick)

@@ -2,6 +2,7 @@
 -- recorded after the end of a pod changes nothing is this profile's rule). A tick is named by its
 -- place in the list, a container by its number.
 use Rattle.std.specs.Prelude.{◌≡◌, ◌≢◌, ◌⊎◌, ℕ, suc, Bool, List, [], ◌∷◌, length, Option, Some, None, IsSomeAnd}
+use Rattle.std.specs.Prelude.{IsTrue, is_some}
 use Rattle.std.specs.Prelude.{unwrap_or, slice_get}
 use Rattle.std.specs.List.{range_with_len, list_any}
 use Rattle.histories.specs.rule.Histories.{Recorded, recorded, project, up_to, HoldsAt, IsFirstPlace}
@@ -46,6 +47,11 @@ pod_tick observed = recorded observed.at (record {
 abbrev pub is_being_deleted : List PodTick → Bool
 is_being_deleted h = list_any (λ (tick : PodTick). tick.entry.words.deleting) h
 
+-- the tick says that with it the node has ended the pod (Kubernetes, "Pod Lifecycle", "Pod phase"; the word is this
+-- project's)
+abbrev pub says_failed : PodTick → Bool
+says_failed tick = is_some tick.entry.words.failed
+
 -- what a tick shows of a container of which it has no entry: nothing listed, and no results
 abbrev pub unseen : ContainerObs
 unseen = record { seen = None; results = None ∷ None ∷ None ∷ [] }
@@ -87,11 +93,15 @@ numbers pod = range_with_len 0 (length pod.containers)
 abbrev pub IsRawPhaseAfter : PodSpec → List PodTick → Phase → Type 0
 IsRawPhaseAfter pod h phase = IsRawPhase (facts pod h) pod.policy (numbers pod) phase
 
--- the last tick ends the pod: it leaves it succeeded or failed, or evicts it
+-- the node ends the pod with the tick at this place: that tick evicts it, or says that it has failed
+abbrev pub IsEndedByNode : Option ℕ → List PodTick → ℕ → Type 0
+IsEndedByNode evicted h t = (evicted ≡ Some t) ⊎ IsSomeAnd (slice_get h t) (λ tick. IsTrue (says_failed tick))
+
+-- the last tick ends the pod: it leaves it succeeded or failed, or the node ends it with that tick
 abbrev pub EndsPod : PodSpec → Option ℕ → List PodTick → Type 0
 EndsPod pod evicted h =
     ((phase : Phase) × IsTerminal phase × IsRawPhaseAfter pod h phase)
-    ⊎ IsSomeAnd evicted (λ t. length h ≡ suc t)
+    ⊎ ((t : ℕ) × (length h ≡ suc t) × IsEndedByNode evicted h t)
 
 -- the end of the pod: the first tick that ends it, if one does
 abbrev pub IsEnd : PodSpec → Option ℕ → List PodTick → Option ℕ → Type 0
@@ -106,15 +116,15 @@ abbrev pub counted : List PodTick → Option ℕ → List PodTick
 counted h None = h
 counted h (Some t) = up_to h t
 
--- the pod ends by its eviction
-abbrev pub EndsEvicted : Option ℕ → Option ℕ → Type 0
-EndsEvicted evicted end = IsSomeAnd end (λ t. evicted ≡ Some t)
+-- the pod, which has this end, ends by the node
+abbrev pub EndsByNode : Option ℕ → List PodTick → Option ℕ → Type 0
+EndsByNode evicted h end = IsSomeAnd end (IsEndedByNode evicted h)
 
 -- the phase, of a pod with this end
 abbrev pub IsPhaseBy : PodSpec → Option ℕ → List PodTick → Option ℕ → Phase → Type 0
 IsPhaseBy pod evicted h end phase =
     Where (h ≡ []) (phase ≡ Pending)
-    (Where (EndsEvicted evicted end) (phase ≡ Failed)
+    (Where (EndsByNode evicted h end) (phase ≡ Failed)
     (IsRawPhaseAfter pod (counted h end) phase))
 
 -- the phase after these ticks

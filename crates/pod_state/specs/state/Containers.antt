@@ -8,11 +8,11 @@ use Rattle.pod_state.specs.rule.Pods.{PodTick, ticks_of, OfSpec, IsEnd, counted}
 use Rattle.pod_state.specs.rule.Containers.{IsShownOf}
 
 -- what is shown of each container
-pub record AreShown (pod : PodSpec) (is_evicted : Type 0) (h : List PodTick)
+pub record AreShown (pod : PodSpec) (is_ended : Type 0) (h : List PodTick)
     (statuses : List ContainerStatus) : Type 0 where
   pub as_many : length statuses ≡ length pod.containers
   pub each : (number : ℕ) (d : ContainerStatus) → number < length pod.containers
-      → IsShownOf pod is_evicted h number (slice_index_or statuses number d)
+      → IsShownOf pod is_ended h number (slice_index_or statuses number d)
 
 -- the container with the number, as these ticks of its pod leave it, on a node with a maximum restart
 -- delay

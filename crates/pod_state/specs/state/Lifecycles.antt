@@ -1,5 +1,5 @@
 -- A pod's lifecycle, as it is carried from tick to tick.
-use Rattle.std.specs.Prelude.{◌≡◌, ◌↔◌, ℕ, ◌<◌, List, [], ◌∷◌, ◌++◌, length, Option, Some, Bool, true, IsSomeAnd}
+use Rattle.std.specs.Prelude.{◌≡◌, ◌↔◌, ◌⊎◌, ℕ, ◌<◌, List, [], ◌∷◌, ◌++◌, length, Option, Some, Bool, true, IsSomeAnd}
 use Rattle.std.specs.Prelude.{IsTrue}
 use Rattle.histories.specs.rule.Histories.{Recorded, recorded, project, entry_at, moment_at, HoldsAt}
 use Rattle.phase.specs.declared.conditions.Values.{Values}
@@ -11,6 +11,7 @@ use Rattle.phase.specs.declared.view.ContainerView.{ContainerView}
 use Rattle.phase.specs.rule.RawPhase.{IsTerminal}
 use Rattle.phase.specs.state.Conditions.{IsStateOf}
 use Rattle.pod_state.specs.rule.Pods.{PodEntry, PodTick, AllReady, IsPhase, IsInitialized, AreContainersReady}
+use Rattle.pod_state.specs.rule.Pods.{says_failed}
 use Rattle.pod_state.specs.state.Pods.{AreViewsOf}
 use Rattle.pod_state.specs.rule.Lifecycles.{IsLifecycleOf}
 
@@ -30,26 +31,30 @@ pub record IsProgressOf (pod : PodSpec) (evicted : Option ℕ) (h : List PodTick
   pub initialized : AreValuesOf (IsInitialized pod evicted) h (project (λ v. v.initialized) values)
   pub containers_ready : AreValuesOf (AreContainersReady pod evicted) h (project (λ v. v.containers_ready) values)
 
--- A pod of this policy in phase p, whatever its history, is in phase q after one more tick. The views show its
--- containers after that tick, unless the pod had ended before; the flag says whether the tick evicts the pod.
+-- the node ends the pod with this tick, which comes after these: it evicts the pod, or says that it has failed
+abbrev pub EndsWith : Option ℕ → List PodTick → PodTick → Type 0
+EndsWith evicted h tick = (evicted ≡ Some (length h)) ⊎ IsTrue (says_failed tick)
+
+-- A pod of this policy in phase p, whatever its history, is in phase q after one more tick. Unless the pod had ended
+-- before, the views show its containers after that tick, and the flag says whether the node ends it with that tick.
 abbrev pub IsNextPhase : Policy → List ContainerView → Bool → Phase → Phase → Type 0
-IsNextPhase policy views is_evicted p q =
+IsNextPhase policy views ends p q =
     (pod : PodSpec) (evicted : Option ℕ) (h : List PodTick) (at : ℕ) (entry : PodEntry)
     → pod.policy ≡ policy
     → ((IsTerminal p → ⊥) → AreViewsOf pod (h ++ recorded at entry ∷ []) views)
-    → (IsTrue is_evicted ↔ (evicted ≡ Some (length h)))
+    → ((IsTerminal p → ⊥) → (IsTrue ends ↔ EndsWith evicted h (recorded at entry)))
     → IsPhase pod evicted h p
     → IsPhase pod evicted (h ++ recorded at entry ∷ []) q
 
 -- A pod of this policy and lifecycle, whatever its history, has the new lifecycle after one more tick, at this moment.
--- The views show its containers after that tick, and the first flag says whether all its app containers and sidecars
--- are ready then, unless the pod had ended before; the second flag says whether the tick evicts the pod.
+-- Unless the pod had ended before, the views show its containers after that tick, the first flag says whether all its
+-- app containers and sidecars are ready then, and the second whether the node ends it with that tick.
 abbrev pub IsNext : Policy → ℕ → List ContainerView → Bool → Bool → Lifecycle → Lifecycle → Type 0
-IsNext policy at views ready is_evicted old new =
+IsNext policy at views ready ends old new =
     (pod : PodSpec) (evicted : Option ℕ) (h : List PodTick) (entry : PodEntry)
     → pod.policy ≡ policy
     → ((IsTerminal old.phase → ⊥) → AreViewsOf pod (h ++ recorded at entry ∷ []) views)
     → ((IsTerminal old.phase → ⊥) → (IsTrue ready ↔ AllReady pod (h ++ recorded at entry ∷ [])))
-    → (IsTrue is_evicted ↔ (evicted ≡ Some (length h)))
+    → ((IsTerminal old.phase → ⊥) → (IsTrue ends ↔ EndsWith evicted h (recorded at entry)))
     → IsProgressOf pod evicted h old
     → IsProgressOf pod evicted (h ++ recorded at entry ∷ []) new

@@ -4,8 +4,8 @@ use Rattle.std.specs.Map.{lookup}
 use Rattle.std.specs.Ordering.{nat_cmp}
 use Rattle.std.specs.BTreeMap.{is_at}
 use Rattle.signals.specs.declared.signal.Signal.{Signal}
-use Rattle.phase.specs.rule.RawPhase.{IsTerminal}
 use Rattle.pod_piece.specs.declared.status.PodStatus.{PodStatus}
+use Rattle.pod_piece.specs.rule.Status.{MayBeEvicted}
 use Rattle.ranking.specs.declared.key.RankKey.{RankKey}
 use Rattle.ranking.specs.state.Keys.{key_of}
 
@@ -40,9 +40,10 @@ pub record AreHeldWithout (held : ℕ → Option PodStatus) (number : ℕ) (afte
   pub gone : after number ≡ None
   pub others : (n : ℕ) → n ≢ number → after n ≡ held n
 
--- after this the same pods are held, and the pod of this status with it; if that has ended, it isn't held
-pub record AreHeldAfter (held : ℕ → Option PodStatus) (status : PodStatus)
+-- after this the same pods are held, and the pod of this status with it; if a tick of the moment may not evict it, it
+-- isn't held
+pub record AreHeldAfter (moment : ℕ) (held : ℕ → Option PodStatus) (status : PodStatus)
     (after : ℕ → Option PodStatus) : Type 0 where
-  pub ended : IsTerminal status.phase → after status.number ≡ None
-  pub lives : (IsTerminal status.phase → ⊥) → after status.number ≡ Some status
+  pub out : (MayBeEvicted moment status → ⊥) → after status.number ≡ None
+  pub in_place : MayBeEvicted moment status → after status.number ≡ Some status
   pub others : (n : ℕ) → n ≢ status.number → after n ≡ held n

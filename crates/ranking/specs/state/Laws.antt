@@ -38,10 +38,11 @@ OneVictim = (signal : Signal) (has_dedicated_imagefs : Bool) (held : ℕ → Opt
 
 -- what is held after an update exists, and is determined
 pub record OneIsHeldAfter : Type 0 where
-  pub exists : (held : ℕ → Option PodStatus) (status : PodStatus)
-      → (after : ℕ → Option PodStatus) × AreHeldAfter held status after
-  pub unique : (held : ℕ → Option PodStatus) (status : PodStatus) (one other : ℕ → Option PodStatus)
-      → AreHeldAfter held status one → AreHeldAfter held status other → (n : ℕ) → one n ≡ other n
+  pub exists : (moment : ℕ) (held : ℕ → Option PodStatus) (status : PodStatus)
+      → (after : ℕ → Option PodStatus) × AreHeldAfter moment held status after
+  pub unique : (moment : ℕ) (held : ℕ → Option PodStatus) (status : PodStatus)
+      (one other : ℕ → Option PodStatus) → AreHeldAfter moment held status one
+      → AreHeldAfter moment held status other → (n : ℕ) → one n ≡ other n
 
 -- what is held after a removal exists, and is determined
 pub record OneIsHeldWithout : Type 0 where

@@ -9,6 +9,7 @@ use Rattle.tick_lines.specs.declared.fault.TickLineFault.TheVariants.{Usage}
 use Rattle.tick_lines.specs.rule.Fields.{each_item}
 use Rattle.tick_lines.specs.rule.Listings.{listings_of}
 use Rattle.tick_lines.specs.rule.Results.{results_of}
+use Rattle.tick_lines.specs.rule.Reasons.{reason_member_of}
 use Rattle.tick_lines.specs.rule.Truths.{truth_of}
 use Rattle.tick_lines.specs.rule.Usages.{usage_of}
 
@@ -25,6 +26,7 @@ entry_of d = do
     usage = usage;
     unsampled = truth_of (field_at (codes "unsampled") d);
     deleting = truth_of (field_at (codes "deleting") d);
+    failed = reason_member_of (field_at (codes "failed") d);
   })
 
 -- the entries of a tick line, in order

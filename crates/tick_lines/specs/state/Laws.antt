@@ -1,11 +1,12 @@
 -- What the definition of a tick line implies, in the words of the format.
 use Rattle.std.specs.Prelude.{◌≡◌, ◌⊎◌, ◌↔◌, ℕ, true, false, List, [], ◌∷◌, Option, Some, None, option_and_then}
-use Rattle.std.specs.Prelude.{Result, Ok, Err, codes}
+use Rattle.std.specs.Prelude.{Result, Ok, Err, IsTrue, codes}
 use Rattle.std.specs.List.{AllByRecursion, AllZip}
-use Rattle.serde_json.specs.Data.{Data, null, boolean, object, Items, Members, put}
+use Rattle.serde_json.specs.Data.{Data, null, boolean, string, object, Items, Members, put}
 use Rattle.serde_json.specs.Find.{as_array, get_member}
 use Rattle.json_fields.specs.rule.Fields.{field_at, text_at, items_list}
 use Rattle.observations.specs.declared.usage.Usage.{Usage}
+use Rattle.observations.specs.rule.Reasons.{is_reason}
 use Rattle.json_fields.specs.rule.Quantities.{quantity_in}
 use Rattle.signals.specs.rule.BySignal.{of}
 use Rattle.signals.specs.rule.Signals.{name_of, named, is_of_file_system}
@@ -16,6 +17,8 @@ use Rattle.tick_lines.specs.declared.fault.TickLineFault.TheVariants as faults
 use Rattle.tick_lines.specs.declared.line.TickLine.{TickLine}
 use Rattle.tick_lines.specs.declared.listing.Listing.{Listing}
 use Rattle.tick_lines.specs.declared.probing.ProbeResult.{ProbeResult}
+use Rattle.tick_lines.specs.declared.reason.ReasonMember.{ReasonMember}
+use Rattle.tick_lines.specs.declared.reason.ReasonMember.TheVariants as members
 use Rattle.tick_lines.specs.declared.truth.TruthMember.{TruthMember}
 use Rattle.tick_lines.specs.declared.truth.TruthMember.TheVariants.{No, Yes}
 use Rattle.json_fields.specs.declared.scope.Scope.{Scope}
@@ -97,6 +100,18 @@ abbrev pub DeletingSaid : Type 0
 DeletingSaid = (d : Data) (entry : TickEntry) → entry_of d ≡ Ok entry
     → SaysTruth (field_at (codes "deleting") d) entry.deleting
 
+-- the member says this reason exactly where it is its text and that is one, and nothing by null and by no value
+pub record SaysReason (found : Option Data) (said : ReasonMember) : Type 0 where
+  pub reason : (reason : List ℕ) → (said ≡ members.Reason reason
+      ↔ ((found ≡ Some (string reason)) × IsTrue (is_reason reason)))
+  pub missing : said ≡ members.Missing ↔ found ≡ None
+
+-- an entry says why the node has ended its pod exactly where its member is a reason; each value but a reason is left to
+-- be refused
+abbrev pub FailedSaid : Type 0
+FailedSaid = (d : Data) (entry : TickEntry) → entry_of d ≡ Ok entry
+    → SaysReason (field_at (codes "failed") d) entry.failed
+
 -- it is the name of no signal of the file systems
 abbrev pub NamesNoFileSystem : List ℕ → Type 0
 NamesNoFileSystem name = (signal : Signal) → named name ≡ Some signal → is_of_file_system signal ≡ false
@@ -126,7 +141,8 @@ line_fields = codes "pods" ∷ codes "signals" ∷ codes "afterReclaim" ∷ []
 
 abbrev pub entry_fields : List (List ℕ)
 entry_fields =
-    codes "pod" ∷ codes "containers" ∷ codes "probes" ∷ codes "usage" ∷ codes "unsampled" ∷ codes "deleting" ∷ []
+    codes "pod" ∷ codes "containers" ∷ codes "probes" ∷ codes "usage" ∷ codes "unsampled" ∷ codes "deleting"
+    ∷ codes "failed" ∷ []
 
 abbrev pub listing_fields : List (List ℕ)
 listing_fields = codes "name" ∷ codes "attempt" ∷ codes "state" ∷ codes "exitCode" ∷ []

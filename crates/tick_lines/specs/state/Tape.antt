@@ -28,6 +28,9 @@ use Rattle.tick_lines.specs.rule.Fields.{items_of, quantity_at}
 use Rattle.tick_lines.specs.rule.Listings.{attempt_of, state_of, code_of}
 use Rattle.tick_lines.specs.rule.Results.{probe_named, outcome_named}
 use Rattle.tick_lines.specs.rule.Samples.{samples_of}
+use Rattle.tick_lines.specs.declared.reason.ReasonMember.{ReasonMember}
+use Rattle.tick_lines.specs.declared.reason.ReasonMember.TheVariants.{Missing}
+use Rattle.tick_lines.specs.rule.Reasons.{reason_member_of}
 use Rattle.tick_lines.specs.rule.Truths.{truth_of}
 use Rattle.tick_lines.specs.rule.Usages.{usage_of}
 
@@ -43,7 +46,7 @@ abbrev pub result_as : ResultText → ProbeResult
 result_as r = record { container = r.container.now; probe = r.probe; outcome = r.outcome }
 
 -- what is read of an entry before its listings and results; it says neither that its pod has no sample nor that
--- it is being deleted
+-- it is being deleted, nor that the node has ended it
 pub record IsEntry (d : Data) (e : EntryText) : Type 0 where
   pub key : text_at (codes "pod") d ≡ Some e.key.now
   pub listings : items_of (field_at (codes "containers") d) ≡ Ok (left_in e.listings)
@@ -51,6 +54,7 @@ pub record IsEntry (d : Data) (e : EntryText) : Type 0 where
   pub usage : usage_of (field_at (codes "usage") d) ≡ Ok e.usage
   pub unsampled : truth_of (field_at (codes "unsampled") d) ≡ No
   pub deleting : truth_of (field_at (codes "deleting") d) ≡ No
+  pub failed : reason_member_of (field_at (codes "failed") d) ≡ Missing
 
 -- what is read of a line behind its entries
 pub record HasSamples (d : Data) (l : LineSamples) : Type 0 where
@@ -68,6 +72,10 @@ code_in found = Ok (code_of found)
 -- whether it is true; no value is a fault here
 abbrev pub truth_in : Option Data → Result TruthMember TickLineFault
 truth_in found = Ok (truth_of found)
+
+-- why the node has ended the pod; no value is a fault here
+abbrev pub reason_in : Option Data → Result ReasonMember TickLineFault
+reason_in found = Ok (reason_member_of found)
 
 abbrev pub probe_in : Option Data → Result ProbeKind TickLineFault
 probe_in found = probe_named (option_and_then as_str found)
@@ -110,3 +118,4 @@ pub record EntryRead (d : Data) (left : List Token) (e : EntryMembers) : Type 0 
   pub usage : IsRead usage_of (codes "usage") d left e.usage
   pub unsampled : IsRead truth_in (codes "unsampled") d left No
   pub deleting : IsRead truth_in (codes "deleting") d left No
+  pub failed : IsRead reason_in (codes "failed") d left Missing

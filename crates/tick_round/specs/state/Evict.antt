@@ -17,9 +17,9 @@ IsEvictionAt config pieces at (Some key) eviction =
     × IsOfVictim config (pods_in pieces) at key victim eviction
 
 -- the eviction may be carried out
-abbrev pub MayBeEvicted : List Piece → Option Eviction → Type 0
-MayBeEvicted pieces None = Unit {0}
-MayBeEvicted pieces (Some eviction) = IsEvictable pieces eviction.pod eviction.order.at
+abbrev pub MayBeCarriedOut : List Piece → Option Eviction → Type 0
+MayBeCarriedOut pieces None = Unit {0}
+MayBeCarriedOut pieces (Some eviction) = IsEvictable pieces eviction.pod eviction.order.at
 
 -- the pods once it was
 abbrev pub AreWithout : List Piece → Option Eviction → List Piece → Type 0

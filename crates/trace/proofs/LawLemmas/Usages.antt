@@ -10,6 +10,9 @@ use Rattle.manifest.specs.declared.pod.PodSpec.{PodSpec}
 use Rattle.node_config.specs.declared.node.Version.{Version}
 use Rattle.node_config.specs.declared.node.Version.TheVariants.{One, Two, Three}
 use Rattle.observations.specs.rule.Pods.{PodObs}
+use Rattle.observations.specs.rule.Observations.{shown_of}
+use Rattle.observations.specs.declared.words.PodWords.{PodWords}
+use Rattle.observations.specs.state.Pods.{no_words}
 use Rattle.roster.specs.rule.Roll.{Roll, number_of, is_present}
 use Rattle.observations.specs.declared.usage.Sampling.{Sampling}
 use Rattle.observations.specs.declared.usage.Sampling.TheVariants.{Unsaid, Unsampled, Sampled}
@@ -17,6 +20,8 @@ use Rattle.observations.specs.declared.usage.Usage.{Usage}
 use Rattle.tick_lines.specs.declared.entry.TickEntry.{TickEntry}
 use Rattle.tick_lines.specs.declared.fault.TickLineFault.{TickLineFault}
 use Rattle.tick_lines.specs.declared.line.TickLine.{TickLine}
+use Rattle.tick_lines.specs.declared.reason.ReasonMember.{ReasonMember}
+use Rattle.tick_lines.specs.declared.reason.ReasonMember.TheVariants as reasons
 use Rattle.tick_lines.specs.declared.truth.TruthMember.{TruthMember}
 use Rattle.tick_lines.specs.declared.truth.TruthMember.TheVariants.{No, Yes, OfOtherKind}
 use Rattle.tick_lines.specs.rule.Line.{tick_line_of}
@@ -32,7 +37,7 @@ use Rattle.trace.specs.rule.Placing.{placed_of, said_in, words_of}
 use Rattle.trace.specs.rule.TraceSoFar.{heeds_unsampled}
 use Rattle.trace.specs.rule.Written.{has_other_kind, written_in}
 use Rattle.trace.specs.state.Laws.{Tells, sampling_shown_of, UsageShown, SaysUnsampled, UnsampledShown, SignalsShown}
-use Rattle.trace.specs.state.Laws.{deleting_shown_of, SaysDeleting, DeletingShown}
+use Rattle.trace.specs.state.Laws.{DeletingShown, FailedShown}
 use Rattle.trace.proofs.Placed.{entry_says}
 use Rattle.trace.proofs.LawLemmas.Listings.{entry_found, entry_given, pod_shown}
 
@@ -184,74 +189,120 @@ unsampled_shown version at written es roll n pod places once here present =
       λ is. shown.1 (tells_it version roll written.entries es n all is.0 is.1),
     )
 
--- ---- that a pod is being deleted
+-- ---- the words on a pod
 
--- whether an entry says so, where there is one
-abbrev deletes : Option PlacedEntry → Bool
-deletes entry = (said_from entry).words.deleting
+-- an entry of the pod with the number says this in the word
+abbrev Words : {X : Type 0} → (PodWords → X) → List PlacedEntry → ℕ → X → Type 0
+Words word es n x = (k : ℕ) × (entry : PlacedEntry) × (slice_get es k ≡ Some entry) × (entry.pod ≡ n)
+    × (word entry.said.words ≡ x)
 
-deleting_is : (at : ℕ) (written : TickLine) (es : List PlacedEntry) (roll : Roll) (n : ℕ) (pod : PodSpec)
-    → slice_get roll.pods n ≡ Some pod → is_present roll.departures n ≡ true
-    → deleting_shown_of (observed at written es roll) n ≡ Some (deletes (entry_for es n))
-deleting_is at written es roll n pod here present =
-    ap (λ (o : Option PodObs). option_map (λ (p : PodObs). p.words.deleting) o)
-    (pod_shown at written es roll n pod here present)
+-- an entry of a line, of the pod with this number, says it
+abbrev Written : {X : Type 0} → (PodWords → X) → Bool → Roll → List TickEntry → ℕ → X → Type 0
+Written word heeds roll entries n x = (k : ℕ) × (entry : TickEntry) × (slice_get entries k ≡ Some entry)
+    × (number_of roll entry.key ≡ Some n) × (word (words_of heeds entry.deleting entry.failed) ≡ x)
 
--- an entry of the pod with the number says so
-abbrev Deletes : List PlacedEntry → ℕ → Type 0
-Deletes es pod = (k : ℕ) × (entry : PlacedEntry) × (slice_get es k ≡ Some entry) × (entry.pod ≡ pod)
-    × (entry.said.words.deleting ≡ true)
-
-deleted_by : (es : List PlacedEntry) (n : ℕ) (entry : Option PlacedEntry) → entry_for es n ≡ entry
-    → deletes entry ≡ true → Deletes es n
-deleted_by es n None is e = absurd (cc)
-deleted_by es n (Some entry) is e =
+word_found : {X : Type 0} (word : PodWords → X) (x : X) (es : List PlacedEntry) (n : ℕ) (entry : Option PlacedEntry)
+    → (word no_words ≡ x → ⊥) → entry_for es n ≡ entry → word (said_from entry).words ≡ x → Words word es n x
+word_found word x es n None some is e = absurd (some e)
+word_found word x es n (Some entry) some is e =
     let found = entry_found es n entry is in
     (found.0, entry, found.1, found.2, e)
 
-word_said : (heeds : Bool) (deleting : TruthMember) → (words_of heeds deleting).deleting ≡ true
-    → (heeds ≡ true) × (deleting ≡ Yes)
-word_said true No e = absurd (cc)
-word_said true Yes e = (refl, refl)
-word_said true OfOtherKind e = absurd (cc)
-word_said false deleting e = absurd (cc)
-
-deleting_by : (version : Option Version) (roll : Roll) (entries : List TickEntry) (es : List PlacedEntry) (n : ℕ)
-    → each (placed_entry (heeds_unsampled version) roll) entries ≡ Ok es → Deletes es n
-    → (version ≡ Some Three) × SaysDeleting roll entries n
-deleting_by version roll entries es n all (k, entry, there, is, given) =
-    let heeds = heeds_unsampled version in
+word_written : {X : Type 0} (word : PodWords → X) (x : X) (heeds : Bool) (roll : Roll) (entries : List TickEntry)
+    (es : List PlacedEntry) (n : ℕ) → each (placed_entry heeds roll) entries ≡ Ok es → Words word es n x
+    → Written word heeds roll entries n x
+word_written word x heeds roll entries es n all (k, entry, there, is, given) =
     let w = item_of (placed_entry heeds roll) entries es k entry all there in
     let says = placed_says heeds roll w.0 entry w.2 in
-    let word = word_said heeds w.0.deleting (ap (λ (s : EntrySaid). s.words.deleting) says.1 ∙ given) in (
-      in_three version word.0,
-      record { k = k; entry = w.0; here = w.1; known = says.0 ∙ ap Some is; says = word.1 },
-    )
+    (k, w.0, w.1, says.0 ∙ ap Some is, ap (λ (s : EntrySaid). word s.words) says.1 ∙ given)
 
-deletes_it : (version : Option Version) (roll : Roll) (entries : List TickEntry) (es : List PlacedEntry) (n : ℕ)
-    → each (placed_entry (heeds_unsampled version) roll) entries ≡ Ok es → version ≡ Some Three
-    → SaysDeleting roll entries n → Deletes es n
-deletes_it version roll entries es n all three w =
-    let heeds = heeds_unsampled version in
-    let placed = read_of (placed_entry heeds roll) entries es w.k w.entry all w.here in
-    let says = placed_says heeds roll w.entry placed.0 placed.2 in (
-      w.k,
+word_placed : {X : Type 0} (word : PodWords → X) (x : X) (heeds : Bool) (roll : Roll) (entries : List TickEntry)
+    (es : List PlacedEntry) (n : ℕ) → each (placed_entry heeds roll) entries ≡ Ok es
+    → Written word heeds roll entries n x → Words word es n x
+word_placed word x heeds roll entries es n all (k, entry, here, known, given) =
+    let placed = read_of (placed_entry heeds roll) entries es k entry all here in
+    let says = placed_says heeds roll entry placed.0 placed.2 in (
+      k,
       placed.0,
       placed.1,
-      same_Some placed.0.pod n (sym says.0 ∙ w.known),
-      ap (λ (s : EntrySaid). s.words.deleting) (sym says.1)
-          ∙ ap (λ (v : Option Version). (words_of (heeds_unsampled v) w.entry.deleting).deleting) three
-          ∙ ap (λ (member : TruthMember). (words_of true member).deleting) w.says,
+      same_Some placed.0.pod n (sym says.0 ∙ known),
+      ap (λ (s : EntrySaid). word s.words) (sym says.1) ∙ given,
     )
+
+-- what is shown of a word, where something is, is what an entry of the pod says in it
+word_shown : {X : Type 0} (word : PodWords → X) (x : X) (heeds : Bool) (at : ℕ) (written : TickLine)
+    (es : List PlacedEntry) (roll : Roll) (n : ℕ) (pod : PodSpec) → (word no_words ≡ x → ⊥)
+    → placed_of heeds roll written.entries ≡ Ok es → has_twice are_of_one_pod es ≡ false
+    → slice_get roll.pods n ≡ Some pod → is_present roll.departures n ≡ true
+    → (option_map (λ (p : PodObs). word p.words) (shown_of (observed at written es roll) n) ≡ Some x
+    ↔ Written word heeds roll written.entries n x)
+word_shown {X} word x heeds at written es roll n pod some places once here present =
+    let all = all_read heeds roll written.entries es places in
+    let is : option_map (λ (p : PodObs). word p.words) (shown_of (observed at written es roll) n)
+    ≡ Some (word (said_from (entry_for es n)).words) =
+    ap (λ (o : Option PodObs). option_map (λ (p : PodObs). word p.words) o)
+    (pod_shown at written es roll n pod here present) in (
+      λ e. word_written word x heeds roll written.entries es n all
+          (word_found word x es n (entry_for es n) some refl
+          (same_Some (word (said_from (entry_for es n)).words) x (sym is ∙ e))),
+      λ says. let w = word_placed word x heeds roll written.entries es n all says in
+          is ∙ ap (λ (o : Option PlacedEntry). Some (word (said_from o).words))
+          (entry_given es n w.1 once w.0 w.2 w.3) ∙ ap Some w.4,
+    )
+
+-- that a pod is being deleted
+deleting_said : (heeds : Bool) (deleting : TruthMember) (failed : ReasonMember)
+    → (words_of heeds deleting failed).deleting ≡ true → (heeds ≡ true) × (deleting ≡ Yes)
+deleting_said true No failed e = absurd (cc)
+deleting_said true Yes failed e = (refl, refl)
+deleting_said true OfOtherKind failed e = absurd (cc)
+deleting_said false deleting failed e = absurd (cc)
 
 pub deleting_shown : DeletingShown
 deleting_shown version at written es roll n pod places once here present =
-    let all = all_read (heeds_unsampled version) roll written.entries es places in
-    let is = deleting_is at written es roll n pod here present in (
-      λ e. deleting_by version roll written.entries es n all
-          (deleted_by es n (entry_for es n) refl (same_Some (deletes (entry_for es n)) true (sym is ∙ e))),
-      λ says. let w = deletes_it version roll written.entries es n all says.0 says.1 in
-          is ∙ ap Some (ap deletes (entry_given es n w.1 once w.0 w.2 w.3) ∙ w.4),
+    let heeds = heeds_unsampled version in
+    let shown = word_shown (λ (w : PodWords). w.deleting) true heeds at written es roll n pod (λ e. absurd (cc)) places
+    once here present in (
+      (λ e.
+          let w = shown.0 e in
+          let said = deleting_said heeds (w.1).deleting (w.1).failed w.4 in
+          (in_three version said.0, record { k = w.0; entry = w.1; here = w.2; known = w.3; says = said.1 })),
+      (λ (three, w). shown.1 (
+        w.k,
+        w.entry,
+        w.here,
+        w.known,
+        ap (λ (v : Option Version). (words_of (heeds_unsampled v) w.entry.deleting w.entry.failed).deleting) three
+            ∙ ap (λ (member : TruthMember). (words_of true member w.entry.failed).deleting) w.says,
+      )),
+    )
+
+-- that the node has ended it
+failed_said : (heeds : Bool) (deleting : TruthMember) (failed : ReasonMember) (reason : List ℕ)
+    → (words_of heeds deleting failed).failed ≡ Some reason → (heeds ≡ true) × (failed ≡ reasons.Reason reason)
+failed_said true deleting reasons.Missing reason e = absurd (cc)
+failed_said true deleting (reasons.Reason other) reason e =
+    (refl, ap (λ (r : List ℕ). reasons.Reason r) (same_Some other reason e))
+failed_said true deleting reasons.OfOtherKind reason e = absurd (cc)
+failed_said false deleting failed reason e = absurd (cc)
+
+pub failed_shown : FailedShown
+failed_shown version at written es roll n pod reason places once here present =
+    let heeds = heeds_unsampled version in
+    let shown = word_shown (λ (w : PodWords). w.failed) (Some reason) heeds at written es roll n pod
+    (λ e. absurd (cc)) places once here present in (
+      (λ e.
+          let w = shown.0 e in
+          let said = failed_said heeds (w.1).deleting (w.1).failed reason w.4 in
+          (in_three version said.0, record { k = w.0; entry = w.1; here = w.2; known = w.3; says = said.1 })),
+      (λ (three, w). shown.1 (
+        w.k,
+        w.entry,
+        w.here,
+        w.known,
+        ap (λ (v : Option Version). (words_of (heeds_unsampled v) w.entry.deleting w.entry.failed).failed) three
+            ∙ ap (λ (member : ReasonMember). (words_of true w.entry.deleting member).failed) w.says,
+      )),
     )
 
 -- a tick line that is taken is as it is read

@@ -76,7 +76,7 @@ results_of None = []
 results_of (Some e) = e.results
 
 abbrev pub said_from : Option PlacedEntry → EntrySaid
-said_from None = record { sampling = Unsaid; words = record { deleting = false } }
+said_from None = record { sampling = Unsaid; words = record { deleting = false; failed = None } }
 said_from (Some e) = e.said
 
 -- what its entry says of a pod

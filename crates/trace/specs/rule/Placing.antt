@@ -15,6 +15,8 @@ use Rattle.trace.specs.declared.fault.FaultKind.TheVariants.{StrangerPod, Strang
 use Rattle.tick_lines.specs.declared.listing.Listing.{Listing}
 use Rattle.tick_lines.specs.declared.entry.TickEntry.{TickEntry}
 use Rattle.tick_lines.specs.declared.probing.ProbeResult.{ProbeResult}
+use Rattle.tick_lines.specs.declared.reason.ReasonMember.{ReasonMember}
+use Rattle.tick_lines.specs.declared.reason.ReasonMember.TheVariants as reasons
 use Rattle.tick_lines.specs.declared.truth.TruthMember.{TruthMember}
 use Rattle.tick_lines.specs.declared.truth.TruthMember.TheVariants.{No, Yes, OfOtherKind}
 use Rattle.manifest.specs.declared.outcome.ProbeKind.{ProbeKind}
@@ -64,15 +66,22 @@ without_sample heeds unsampled = if heeds && says_so unsampled then Unsampled el
 abbrev pub sampling_of : Bool → Option Usage → TruthMember → Sampling
 sampling_of heeds usage unsampled = sampled_or (without_sample heeds unsampled) usage
 
+-- why an entry says that the node has ended its pod
+abbrev pub reason_given : ReasonMember → Option (List ℕ)
+reason_given reasons.Missing = None
+reason_given (reasons.Reason reason) = Some reason
+reason_given reasons.OfOtherKind = None
+
 -- its words, where the version heeds them
-abbrev pub words_of : Bool → TruthMember → PodWords
-words_of heeds deleting = record { deleting = heeds && says_so deleting }
+abbrev pub words_of : Bool → TruthMember → ReasonMember → PodWords
+words_of heeds deleting failed =
+    record { deleting = heeds && says_so deleting; failed = if heeds then reason_given failed else None }
 
 -- what it says of the pod beside its listings and results
 abbrev pub said_in : Bool → TickEntry → EntrySaid
 said_in heeds entry = record {
   sampling = sampling_of heeds entry.usage entry.unsampled;
-  words = words_of heeds entry.deleting;
+  words = words_of heeds entry.deleting entry.failed;
 }
 
 -- an entry of the pod with this number

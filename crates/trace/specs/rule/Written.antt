@@ -1,5 +1,6 @@
 -- What a node line and a tick line say by themselves, with the fault as the kind of a line's.
-use Rattle.std.specs.Prelude.{ℕ, ◌==◌, ◌&&◌, ◌||◌, option_and_then, Bool, true, false, List, Option, Some, None, Result, Ok}
+use Rattle.std.specs.Prelude.{ℕ, ◌==◌, ◌&&◌, ◌||◌, option_and_then, Bool, true, false, List, Option, Some, None, Result}
+use Rattle.std.specs.Prelude.{Ok}
 use Rattle.std.specs.Prelude.{Err, codes}
 use Rattle.std.specs.List.{list_any}
 use Rattle.serde_json.specs.Data.{Data}
@@ -13,6 +14,8 @@ use Rattle.node_lines.specs.rule.Node.{whole_number, node_of}
 use Rattle.tick_lines.specs.declared.entry.TickEntry.{TickEntry}
 use Rattle.tick_lines.specs.declared.fault.TickLineFault.{TickLineFault}
 use Rattle.tick_lines.specs.declared.line.TickLine.{TickLine}
+use Rattle.tick_lines.specs.declared.reason.ReasonMember.{ReasonMember}
+use Rattle.tick_lines.specs.declared.reason.ReasonMember.TheVariants as reasons
 use Rattle.tick_lines.specs.declared.truth.TruthMember.{TruthMember}
 use Rattle.tick_lines.specs.declared.truth.TruthMember.TheVariants.{No, Yes, OfOtherKind}
 use Rattle.tick_lines.specs.rule.Line.{tick_line_of}
@@ -46,9 +49,16 @@ is_of_other_kind No = false
 is_of_other_kind Yes = false
 is_of_other_kind OfOtherKind = true
 
--- an entry has a member `unsampled` or `deleting` of another kind than a truth value
+abbrev pub is_no_reason : ReasonMember → Bool
+is_no_reason reasons.Missing = false
+is_no_reason (reasons.Reason reason) = false
+is_no_reason reasons.OfOtherKind = true
+
+-- an entry has a member `unsampled` or `deleting` of another kind than a truth value, or a member `failed` that is
+-- neither null nor a reason
 abbrev pub has_other_kind : List TickEntry → Bool
-has_other_kind entries = list_any (λ e. is_of_other_kind e.unsampled || is_of_other_kind e.deleting) entries
+has_other_kind entries =
+    list_any (λ e. (is_of_other_kind e.unsampled || is_of_other_kind e.deleting) || is_no_reason e.failed) entries
 
 -- where the version heeds these members, one of another kind is refused, once the whole line is read
 abbrev pub heeded : Bool → TickLine → Result TickLine FaultKind

@@ -21,8 +21,8 @@ use Rattle.trace.specs.state.Placing.{some_speaks}
 use Rattle.trace.specs.rule.Tick.{moment_from, room_for_tick}
 use Rattle.trace.specs.rule.Trace.{turn_of}
 
--- The line shows this of these pods, and nothing in it is at fault by itself. None of its entries has a word on its pod,
--- so it is the same in each version.
+-- The line shows this of these pods, and nothing in it is at fault by itself. None of its entries has a word on its
+-- pod, so it is the same in each version.
 pub record IsShown (roll : Roll) (said : LineData) (tick : TickObs) : Type 0 where
   pub written : TickLine
   pub placed : List PlacedEntry

@@ -16,6 +16,7 @@ use Rattle.trace.specs.declared.trace_so_far.LineKind.TheVariants as kinds
 use Rattle.tick_lines.specs.declared.listing.Listing.{Listing}
 use Rattle.tick_lines.specs.declared.entry.TickEntry.{TickEntry}
 use Rattle.tick_lines.specs.declared.probing.ProbeResult.{ProbeResult}
+use Rattle.tick_lines.specs.declared.reason.ReasonMember.TheVariants as reasons
 use Rattle.tick_lines.specs.declared.truth.TruthMember.TheVariants.{Yes}
 use Rattle.lists.specs.rule.Names.{place_of}
 use Rattle.roster.specs.rule.Roll.{Roll, key_of_pod, number_of, is_present}
@@ -390,6 +391,28 @@ DeletingShown = (version : Option Version) (at : ℕ) (written : TickLine) (es :
     → slice_get roll.pods n ≡ Some pod → is_present roll.departures n ≡ true
     → (deleting_shown_of (observed at written es roll) n ≡ Some true
     ↔ ((version ≡ Some Three) × SaysDeleting roll written.entries n))
+
+-- why the tick shows that the node has ended the pod with the number, if it does
+abbrev pub failed_shown_of : TickObs → ℕ → Option (Option (List ℕ))
+failed_shown_of tick n = option_map (λ (p : PodObs). p.words.failed) (shown_of tick n)
+
+-- one of the entries is of the pod with this number and says that the node has ended it, for this reason
+pub record SaysFailed (roll : Roll) (es : List TickEntry) (n : ℕ) (reason : List ℕ) : Type 0 where
+  pub k : ℕ
+  pub entry : TickEntry
+  pub here : slice_get es k ≡ Some entry
+  pub known : number_of roll entry.key ≡ Some n
+  pub says : entry.failed ≡ reasons.Reason reason
+
+-- where no pod is listed twice, a tick shows that the node has ended a pod for a reason exactly where the text is of
+-- version 3 and the pod's entry says so
+abbrev pub FailedShown : Type 0
+FailedShown = (version : Option Version) (at : ℕ) (written : TickLine) (es : List PlacedEntry) (roll : Roll) (n : ℕ)
+    (pod : PodSpec) (reason : List ℕ) → placed_of (heeds_unsampled version) roll written.entries ≡ Ok es
+    → has_twice are_of_one_pod es ≡ false
+    → slice_get roll.pods n ≡ Some pod → is_present roll.departures n ≡ true
+    → (failed_shown_of (observed at written es roll) n ≡ Some (Some reason)
+    ↔ ((version ≡ Some Three) × SaysFailed roll written.entries n reason))
 
 -- what a tick shows of a signal is exactly the quantity that its line has under the signal's name
 pub record SignalsShown : Type 0 where

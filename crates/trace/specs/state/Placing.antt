@@ -6,6 +6,8 @@ use Rattle.json_fields.specs.rule.Reading.{◌>>=◌}
 use Rattle.manifest.specs.declared.pod.PodSpec.{PodSpec}
 use Rattle.trace.specs.declared.fault.FaultKind.{FaultKind}
 use Rattle.tick_lines.specs.declared.entry.TickEntry.{TickEntry}
+use Rattle.tick_lines.specs.declared.reason.ReasonMember.{ReasonMember}
+use Rattle.tick_lines.specs.declared.reason.ReasonMember.TheVariants as reasons
 use Rattle.tick_lines.specs.declared.truth.TruthMember.{TruthMember}
 use Rattle.tick_lines.specs.declared.truth.TruthMember.TheVariants.{No, Yes, OfOtherKind}
 use Rattle.trace.specs.declared.placing.PlacedEntry.{PlacedEntry}
@@ -17,9 +19,15 @@ is_word No = false
 is_word Yes = true
 is_word OfOtherKind = true
 
+-- the member is other than null, where there is one
+abbrev pub is_reason_said : ReasonMember → Bool
+is_reason_said reasons.Missing = false
+is_reason_said (reasons.Reason reason) = true
+is_reason_said reasons.OfOtherKind = true
+
 -- the entry has such a member
 abbrev pub speaks : TickEntry → Bool
-speaks entry = is_word entry.unsampled || is_word entry.deleting
+speaks entry = (is_word entry.unsampled || is_word entry.deleting) || is_reason_said entry.failed
 
 abbrev pub some_speaks : List TickEntry → Bool
 some_speaks entries = list_any speaks entries

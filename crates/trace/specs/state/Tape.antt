@@ -11,6 +11,7 @@ use Rattle.tick_lines.specs.declared.fault.TickLineFault.{TickLineFault}
 use Rattle.tick_lines.specs.rule.Entries.{entry_of}
 use Rattle.tick_lines.specs.rule.Listings.{listing_of}
 use Rattle.tick_lines.specs.rule.Results.{result_of}
+use Rattle.tick_lines.specs.rule.Reasons.{reason_member_of}
 use Rattle.tick_lines.specs.rule.Truths.{truth_of}
 use Rattle.trace.specs.declared.fault.FaultKind.{FaultKind}
 use Rattle.trace.specs.declared.fault.FaultKind.TheVariants.{Usage}
@@ -19,7 +20,7 @@ use Rattle.trace.specs.declared.placing.PlacedListing.{PlacedListing}
 use Rattle.trace.specs.declared.placing.PlacedResult.{PlacedResult}
 use Rattle.trace.specs.rule.Observed.{some_code_missing}
 use Rattle.trace.specs.rule.Placing.{placed_entry, placed_listing, placed_result, has_twice, are_of_one_pod, repeats}
-use Rattle.trace.specs.state.Placing.{is_word}
+use Rattle.trace.specs.state.Placing.{is_word, is_reason_said}
 use Rattle.trace.specs.state.Slots.{slots_from}
 
 abbrev pub of_item : {A : Type 0} → Result A TickLineFault → Result A FaultKind
@@ -35,10 +36,11 @@ result_read pod d = of_item (result_of d) >>= placed_result pod
 abbrev pub entry_read : Roll → Data → Result PlacedEntry FaultKind
 entry_read roll d = of_item (entry_of d) >>= placed_entry false roll
 
--- an item has a member `unsampled` or `deleting` that says something, or is of another kind
+-- an item has a member `unsampled`, `deleting` or `failed` that says something, or is of another kind
 abbrev pub item_speaks : Data → Bool
 item_speaks d =
-    is_word (truth_of (field_at (codes "unsampled") d)) || is_word (truth_of (field_at (codes "deleting") d))
+    (is_word (truth_of (field_at (codes "unsampled") d)) || is_word (truth_of (field_at (codes "deleting") d)))
+    || is_reason_said (reason_member_of (field_at (codes "failed") d))
 
 -- These items were read as entries, each of another pod that is present and none at fault, and this is shown of the
 -- pods. None has a word on its pod, so it is the same in each version.

@@ -3,7 +3,6 @@ use Rattle.std.specs.Prelude.{slice_get}
 use Rattle.histories.specs.rule.Histories.{last_moment}
 use Rattle.pod_piece.specs.rule.Piece.{Piece}
 use Rattle.node_pods.proofs.Candidates.{read_at, status_at, same_piece}
-use Rattle.node_pods.proofs.Statuses.{lives_by}
 use Rattle.node_pods.proofs.Steps.{set_evicted}
 use Rattle.node_pods.proofs.each.evict_at.Goals as goal
 
@@ -16,12 +15,11 @@ there c =
 pub evict-requires-clause-free : goal.evict-requires-clause-free
 evict-requires-clause-free c = c.requires.free c.args.number c.index_mut.result.now (there c)
 
-pub evict-requires-clause-lives : goal.evict-requires-clause-lives
-evict-requires-clause-lives c =
+pub evict-requires-clause-evictable : goal.evict-requires-clause-evictable
+evict-requires-clause-evictable c =
     let was = c.requires.evictable in
     let piece = c.index_mut.result.now in
-    lives_by piece was.0 (status_at c.args.pieces.now.items c.args.order.at c.args.number piece was.0 (there c) was.1)
-    was.1.lives
+    (was.0, status_at c.args.pieces.now.items c.args.order.at c.args.number piece was.0 (there c) was.1, was.1.may)
 
 pub evict-requires-clause-last : goal.evict-requires-clause-last
 evict-requires-clause-last c =

@@ -5,7 +5,7 @@ use Rattle.node_pods.proofs.each.rank_one.Goals as goal
 pub returns-in_ok-update-clause-held : goal.returns-in_ok-update-clause-held
 returns-in_ok-update-clause-held c = λ held is.
     let status = c.status.result.now in
-    let after = one_is_held_after.exists held status in (
+    let after = one_is_held_after.exists c.args.moment held status in (
       after.0,
       c.in_ok-update.ensures.updated held after.0 is after.1,
       inl (c.is_present.ensures.0 c.if-is_present.true, status, c.status.ensures, after.1),

@@ -4,7 +4,8 @@ use Rattle.pod_state.specs.declared.lifecycle.Lifecycle.{Lifecycle}
 use Rattle.pod_state.specs.rule.Lifecycles.{IsLifecycleOf}
 use Rattle.pod_piece.specs.declared.status.NewestUsage.{NewestUsage}
 use Rattle.pod_piece.specs.rule.Usage.{IsUsageOf}
-use Rattle.pod_piece.proofs.PieceLemmas.{by_eviction, has_containers}
+use Rattle.pod_piece.proofs.Failures.{by_node, no_failure}
+use Rattle.pod_piece.proofs.PieceLemmas.{has_containers}
 use Rattle.pod_piece.proofs.UsageLemmas.{no_usage}
 use Rattle.pod_piece.proofs.piece.first_status.Goals as goal
 
@@ -23,11 +24,11 @@ returns c =
       lifecycle = subst (λ (l : Lifecycle). IsLifecycleOf pod None [] l) (sym c.lifecycle-lifecycle.ensures)
           is.progress.so_far;
       containers = c.show.ensures pod c.args.max_restart_delay None phase.0 [] phase.1
-          (by_eviction None phase.0 false
-          ((λ t. let w : false ≡ true = t in absurd (cc)), (λ w. let v : false ≡ true = w in absurd (cc))) tt) is;
+          (by_node pod None [] phase.0 None false refl tt phase.1 (no_failure pod)) is;
       class = c.qos_class.ensures;
       requests = c.of.ensures;
       usage = subst (λ (u : NewestUsage). IsUsageOf pod None [] u) (sym c.nothing.ensures) (no_usage pod None);
       priority = let fits : SFits w32 c.args.pod.now.priority = search rules in omega (arith, ints);
       order = refl;
+      failure = no_failure pod;
     }

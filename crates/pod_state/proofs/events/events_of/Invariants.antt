@@ -3,4 +3,4 @@ use Rattle.pod_state.specs.rule.Events.{events_from}
 use Rattle.pod_state.proofs.events.events_of.Given as goal
 
 abbrev pub invariant-loop-number : goal.invariant-loop-number
-invariant-loop-number l = l.events.items ≡ events_from l.phase l.deleting 0 (take l.number l.made)
+invariant-loop-number l = l.events.items ≡ events_from l.phase l.leaving 0 (take l.number l.made)

@@ -19,9 +19,9 @@ loop-number-preserved c =
     let P : ℕ → ContainerStatus
     → Type 0 = λ k s. (e : Container) (pod : PodSpec) (max_restart_delay : ℕ) (h : List PodTick)
     → IsContainerOf pod max_restart_delay h k (slice_index_or c.args.containers.now k e)
-    → IsShownOf pod (IsTrue c.args.is_evicted) h k s in
+    → IsShownOf pod (IsTrue c.args.is_ended) h k s in
     let here : P n c.status.result = λ e pod max_restart_delay h is.
-    shown_is pod max_restart_delay n h c.index-containers-number.result (IsTrue c.args.is_evicted) c.status.result
+    shown_is pod max_restart_delay n h c.index-containers-number.result (IsTrue c.args.is_ended) c.status.result
     (λ spec k st. c.status.ensures spec max_restart_delay k st)
     (item_at_any c.args.containers.now n c.index-containers-number.result c.loop-number-test.true
     c.index-containers-number.is (λ x. IsContainerOf pod max_restart_delay h n x) e is) in

@@ -14,6 +14,6 @@ invariant-loop-number l = record {
   each : (n : ℕ) (d : ContainerStatus) (e : Container) → n < l.number
       → (pod : PodSpec) (max_restart_delay : ℕ) (h : List PodTick)
       → IsContainerOf pod max_restart_delay h n (slice_index_or l.containers n e)
-      → IsShownOf pod (IsTrue l.is_evicted) h n
+      → IsShownOf pod (IsTrue l.is_ended) h n
       (slice_index_or l.statuses.items n d);
 }

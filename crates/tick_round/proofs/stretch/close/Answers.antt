@@ -4,7 +4,7 @@ use Rattle.pod_piece.specs.state.Piece.{pods_in}
 use Rattle.event_list.specs.declared.tick.TickEvents.{TickEvents}
 use Rattle.event_list.specs.state.Tick.{AreOfTicks, MomentsRise}
 use Rattle.tick_round.specs.state.Node.{state}
-use Rattle.tick_round.proofs.Candidates.{may_be_evicted}
+use Rattle.tick_round.proofs.Candidates.{may_be_carried_out}
 use Rattle.tick_round.proofs.Opens.{moments_rise, are_of_ticks, free_back, closes_as, closed_kept}
 use Rattle.tick_round.proofs.stretch.close.Goals as goal
 
@@ -28,8 +28,8 @@ close-pods-requires g c =
 
 pub carry_out-requires : goal.carry_out-requires
 carry_out-requires g c =
-    may_be_evicted c.args.begun.config c.close-pods.result.pieces c.args.begun.at c.args.begun.heeded c.in-Ok.eviction
-    c.in-Ok.ensures
+    may_be_carried_out c.args.begun.config c.close-pods.result.pieces c.args.begun.at c.args.begun.heeded
+    c.in-Ok.eviction c.in-Ok.ensures
 
 pub invariant_of-result : goal.invariant_of-result
 invariant_of-result g c =

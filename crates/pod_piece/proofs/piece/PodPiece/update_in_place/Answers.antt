@@ -1,4 +1,4 @@
-use Rattle.std.proofs.Common.{◌∙◌, ◌-◌, ◌<◌, ◌++◌, ◌∷◌, [], List, length, refl, ap, sym, subst, arith}
+use Rattle.std.proofs.Common.{◌∙◌, ◌-◌, ◌<◌, ◌++◌, ◌∷◌, [], List, Option, length, refl, ap, sym, subst, arith}
 use Rattle.std.specs.Prelude.{not, if◌then◌else◌}
 use Rattle.std.proofs.lemmas.List.{length-map}
 use Rattle.observations.specs.declared.usage.Sampling.{Sampling}
@@ -10,6 +10,8 @@ use Rattle.pod_state.specs.rule.Lifecycles.{IsLifecycleOf}
 use Rattle.pod_state.specs.state.Lifecycles.{IsProgressOf}
 use Rattle.pod_piece.specs.declared.made.MadeTick.{MadeTick}
 use Rattle.pod_piece.specs.declared.status.NewestUsage.{NewestUsage}
+use Rattle.pod_piece.specs.declared.status.PodFailure.{PodFailure}
+use Rattle.pod_piece.specs.rule.Status.{failure_in, IsFailure}
 use Rattle.pod_piece.specs.rule.Usage.{IsUsageOf}
 use Rattle.pod_piece.specs.state.Usage.{newer}
 use Rattle.pod_piece.specs.state.Kept.{AreKept, piece_of}
@@ -17,8 +19,9 @@ use Rattle.pod_piece.specs.state.Made.{made_of, made_at}
 use Rattle.pod_piece.specs.rule.Piece.{place_of, ticks}
 use Rattle.pod_piece.specs.state.Piece.{piece}
 use Rattle.pod_piece.proofs.NextTicks.{may_take, all_follow, is_over}
-use Rattle.pod_piece.proofs.PieceLemmas.{may_self, has_containers, kept_updated, by_eviction, end_is, moved_on}
-use Rattle.pod_piece.proofs.PieceLemmas.{flag_says, at_next}
+use Rattle.pod_piece.proofs.Failures.{failure_more, by_node}
+use Rattle.pod_piece.proofs.PieceLemmas.{may_self, has_containers, kept_updated, end_is, evicted_over, moved_on}
+use Rattle.pod_piece.proofs.PieceLemmas.{at_next}
 use Rattle.pod_piece.proofs.UsageLemmas.{usage_more}
 use Rattle.pod_piece.proofs.piece.PodPiece.update_in_place.Goals as goal
 
@@ -123,14 +126,18 @@ invariant_of-self-2 c =
     (λ shown before after.
     let st = after.now e (may_self e (length k)) in
     let phase = st.progress.so_far.phase in
+    let failure : IsFailure i.pod i.eviction k c.note_failure.new.failure =
+    subst (λ (f : Option PodFailure). IsFailure i.pod i.eviction k f) (sym c.note_failure.ensures)
+    (failure_more i.pod i.eviction phase.0 h (pod_tick observed) i.status.failure c.has_ended-had_ended.result
+    (evicted_over i.pod h e before.ended) shown.failure (c.has_ended-had_ended.ensures.ended i.pod e h was) phase.1) in
     record {
       number_is = shown.number_is;
       lifecycle = subst (λ (l : Lifecycle). IsLifecycleOf i.pod e k l) (sym c.lifecycle-lifecycle.ensures)
           st.progress.so_far;
       containers = c.show.ensures i.pod i.max_restart_delay e phase.0 k phase.1
-          (by_eviction e phase.0 c.is_some-is_evicted.result
-          (flag_says i.eviction c.is_some-is_evicted.result c.is_some-is_evicted.ensures)
-          (end_is i.pod k e phase.0 after.ended phase.1)) st;
+          (by_node i.pod i.eviction k phase.0 c.note_failure.new.failure c.is_ended_by_node-is_ended.result
+          c.is_ended_by_node-is_ended.ensures (end_is i.pod k e phase.0 after.ended phase.1) phase.1
+          failure) st;
       class = shown.class;
       requests = shown.requests;
       usage = subst (λ (u : NewestUsage). IsUsageOf i.pod e k u) (sym c.newer_while-parts.ensures)
@@ -141,5 +148,6 @@ invariant_of-self-2 c =
           (c.has_ended-had_ended.ensures.ended i.pod e h was) phase.1));
       priority = shown.priority;
       order = shown.order;
+      failure = failure;
     })
     earlier

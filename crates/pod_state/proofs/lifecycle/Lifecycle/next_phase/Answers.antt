@@ -9,15 +9,16 @@ returns-then-is_terminal c = λ pod end h at entry policy are now is.
     ends.phase_ended pod end h (recorded at entry) c.args.self.now.phase is
     (c.is_terminal.ensures.0 c.if-is_terminal.true)
 
-pub returns-then-is_evicted : goal.returns-then-is_evicted
-returns-then-is_evicted c = λ pod end h at entry policy are now is.
-    ends.phase_evicted pod end h (recorded at entry) c.args.self.now.phase is
-    (iff_false c.is_terminal.ensures c.if-is_terminal.false) (now.0 c.if-is_evicted.true)
+pub returns-then-ends : goal.returns-then-ends
+returns-then-ends c = λ pod end h at entry policy are now is.
+    ends.phase_by_node pod end h (recorded at entry) c.args.self.now.phase is
+    (iff_false c.is_terminal.ensures c.if-is_terminal.false)
+    ((now (iff_false c.is_terminal.ensures c.if-is_terminal.false)).0 c.if-ends.true)
 
-pub returns-else-is_evicted : goal.returns-else-is_evicted
-returns-else-is_evicted c = λ pod end h at entry policy are now is.
+pub returns-else-ends : goal.returns-else-ends
+returns-else-ends c = λ pod end h at entry policy are now is.
     ends.phase_lives pod end h (recorded at entry) c.args.self.now.phase c.raw_phase.result is
     (iff_false c.is_terminal.ensures c.if-is_terminal.false)
-    (iff_false now c.if-is_evicted.false)
+    (iff_false (now (iff_false c.is_terminal.ensures c.if-is_terminal.false)) c.if-ends.false)
     (raw_after pod c.args.policy _ c.args.containers.now c.raw_phase.result policy
     (are (iff_false c.is_terminal.ensures c.if-is_terminal.false)) c.raw_phase.ensures)

@@ -9,6 +9,5 @@ returns-clause-state c = λ pod max_restart_delay h entry was before is.
     (c.evicted-self.ensures pod h entry was is.progress.so_far before)
 
 pub returns-clause-ends : goal.returns-clause-ends
-returns-clause-ends c = λ pod max_restart_delay h entry was before is. ends_evicted pod max_restart_delay h
-    (recorded c.args.at entry)
-    c.args.self.now c.requires was before is
+returns-clause-ends c = λ pod max_restart_delay h entry was before is.
+    ends_evicted pod h (recorded c.args.at entry) c.args.self.now c.requires before

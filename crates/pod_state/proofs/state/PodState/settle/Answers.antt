@@ -1,12 +1,12 @@
-use Rattle.std.proofs.Common.{◌≡◌, ◌∙◌, ◌++◌, ◌∷◌, [], ℕ, List, length, Option, Some, false, ap, subst}
+use Rattle.std.proofs.Common.{◌≡◌, ◌∙◌, ◌++◌, ◌∷◌, [], ℕ, Bool, List, length, Option, Some, ap, subst}
 use Rattle.std.specs.Prelude.{◌||◌}
-use Rattle.observations.specs.declared.words.PodWords.{PodWords}
 use Rattle.manifest.specs.declared.pod.PodSpec.{PodSpec}
-use Rattle.pod_state.specs.rule.Pods.{PodTick, pod_tick}
+use Rattle.pod_state.specs.rule.Pods.{PodTick, pod_tick, says_failed}
 use Rattle.pod_state.specs.state.Lifecycles.{IsNext, IsProgressOf}
 use Rattle.pod_state.specs.state.Containers.{AreContainersOf}
 use Rattle.pod_state.specs.state.States.{IsStateOf}
-use Rattle.pod_state.proofs.StateLemmas.{not_evicted, before_end, events_lives}
+use Rattle.pod_state.proofs.NodeEnds.{ends_said}
+use Rattle.pod_state.proofs.StateLemmas.{before_end, events_lives}
 use Rattle.pod_state.proofs.state.PodState.settle.Goals as goal
 
 -- the lifecycle after the tick
@@ -17,29 +17,34 @@ progress : (c : goal.After-self-4-1) (pod : PodSpec) (max_restart_delay : ℕ) (
     → IsProgressOf pod evicted (h ++ pod_tick c.args.observed.now ∷ []) c.advance.new.self
 progress c pod max_restart_delay evicted h policy stays st after =
     let x = pod_tick c.args.observed.now in
-    subst (λ (m : ℕ). IsNext c.args.policy m c.args.views.now c.all_ready-ready.result false
+    subst (λ (m : ℕ). IsNext c.args.policy m c.args.views.now c.all_ready-ready.result c.says_failed-failed.result
     c.args.self.now.lifecycle c.advance.new.self) c.at.ensures c.advance.ensures pod evicted h x.entry policy
     (λ lives. c.requires.views pod max_restart_delay (h ++ x ∷ []) after)
     (λ lives. c.all_ready-ready.ensures pod max_restart_delay (h ++ x ∷ []) after)
-    (not_evicted evicted h stays) st.progress
+    (λ lives. ends_said evicted h x c.says_failed-failed.result stays c.says_failed-failed.ensures) st.progress
 
--- whether it is being deleted after it
-said : (c : goal.After-self-4-1) → c.deleting_with-deleting.result
-    ≡ (c.args.self.now.deleting || (pod_tick c.args.observed.now).entry.words.deleting)
-said c =
-    c.deleting_with-deleting.ensures
-    ∙ ap (λ (words : PodWords). c.args.self.now.deleting || words.deleting) c.words.ensures
+-- whether it is leaving with it
+leaves : (c : goal.After-self-4-1) → c.is_leaving-leaving.result
+    ≡ ((c.args.self.now.deleting || (pod_tick c.args.observed.now).entry.words.deleting)
+    || says_failed (pod_tick c.args.observed.now))
+leaves c =
+    c.is_leaving-leaving.ensures
+    ∙ ap (λ (b : Bool). b || c.says_failed-failed.result) c.deleting_with-deleting.ensures
+    ∙ ap (λ (b : Bool). (c.args.self.now.deleting || c.args.observed.now.words.deleting) || b)
+    c.says_failed-failed.ensures
 
 pub returns-clause-ok : goal.returns-clause-ok
 returns-clause-ok c = λ pod max_restart_delay evicted h policy stays st.
     before_end pod max_restart_delay evicted h (pod_tick c.args.observed.now) c.args.self.now _ c.args.next.now st
-    c.requires.lives c.copy_from_slice.ensures.items (said c) (c.requires.containers pod max_restart_delay h)
+    c.requires.lives c.copy_from_slice.ensures.items c.deleting_with-deleting.ensures
+    (c.requires.containers pod max_restart_delay h)
     (progress c pod max_restart_delay evicted h policy stays st)
 
 pub returns-clause-events : goal.returns-clause-events
 returns-clause-events c = λ pod max_restart_delay evicted h policy stays st.
     events_lives pod max_restart_delay evicted h (pod_tick c.args.observed.now) c.args.self.now c.advance.new.self
-    c.args.made.now c.deleting_with-deleting.result _ _ st c.requires.lives stays (c.requires.made pod max_restart_delay h policy)
+    c.args.made.now c.is_leaving-leaving.result _ _ st c.requires.lives stays
+    (c.requires.made pod max_restart_delay h policy)
     (λ before. (progress c pod max_restart_delay evicted h policy stays st
     (c.requires.containers pod max_restart_delay h before)).so_far.phase)
-    c.phase_event-change.ensures (said c) c.in_ok-events.ensures
+    c.phase_event-change.ensures (leaves c) c.in_ok-events.ensures

@@ -7,7 +7,7 @@ use Rattle.pod_state.proofs.state.PodState.show.Goals as goal
 pub returns : goal.returns
 returns c = λ pod max_restart_delay evicted end h is same st.
     statuses_are pod max_restart_delay evicted end h c.args.self.now.containers.items
-    (IsTrue c.args.is_evicted) _ is same
+    (IsTrue c.args.is_ended) _ is same
     st.containers
     (λ k are. c.show.ensures pod max_restart_delay k
     (subst (λ (cs : List Container). AreContainersOf pod max_restart_delay k cs)

@@ -1,6 +1,4 @@
-use Rattle.std.proofs.Common.{◌≡◌, ◌∙◌, ◌++◌, ◌∷◌, [], ℕ, List, length, false, refl, sym, ap, subst, arith}
-use Rattle.std.specs.Prelude.{◌||◌}
-use Rattle.observations.specs.declared.words.PodWords.{PodWords}
+use Rattle.std.proofs.Common.{◌≡◌, ◌∙◌, ◌++◌, ◌∷◌, [], ℕ, List, length, false, refl, sym, subst, arith}
 use Rattle.std.proofs.lemmas.Bool.{iff_false}
 use Rattle.phase.specs.declared.view.ContainerView.{ContainerView}
 use Rattle.containers.specs.declared.container.Container.{Container}
@@ -13,7 +11,7 @@ use Rattle.pod_state.specs.state.Containers.{AreContainersOf}
 use Rattle.pod_state.specs.state.States.{AllAccept}
 use Rattle.pod_state.proofs.ContainerLemmas.{view_is}
 use Rattle.pod_state.proofs.FewLemmas.{one_next, one_made, one_view, two_next, two_made, two_views}
-use Rattle.pod_state.proofs.StateLemmas.{not_evicted, after_end, events_ended}
+use Rattle.pod_state.proofs.StateLemmas.{after_end, events_ended}
 use Rattle.pod_state.proofs.state.PodState.take.Goals as goal
 
 pub returns-then-has_ended-clause-ok : goal.returns-then-has_ended-clause-ok
@@ -21,10 +19,10 @@ returns-then-has_ended-clause-ok c = λ pod max_restart_delay evicted h policy s
     let ended = c.has_ended.ensures.terminal.0 c.if-has_ended.true in
     let x = pod_tick c.args.observed.now in
     after_end pod max_restart_delay evicted h x c.args.self.now _ st ended refl
-    (c.deleting_with-self.ensures ∙ ap (λ (words : PodWords). c.args.self.now.deleting || words.deleting) c.words.ensures)
+    c.deleting_with-self.ensures
     (subst (λ (m : ℕ). IsNext c.args.policy m [] false false c.args.self.now.lifecycle c.advance.new.self)
     c.at.ensures c.advance.ensures pod evicted h x.entry policy (λ lives. absurd (lives ended))
-    (λ lives. absurd (lives ended)) (not_evicted evicted h stays) st.progress)
+    (λ lives. absurd (lives ended)) (λ lives. absurd (lives ended)) st.progress)
 
 pub returns-then-has_ended-clause-events : goal.returns-then-has_ended-clause-events
 returns-then-has_ended-clause-events c = λ pod max_restart_delay evicted h policy stays st.
