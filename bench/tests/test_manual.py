@@ -108,7 +108,7 @@ class ToolManual(Case):
             subprocess.run([sys.executable, "-B", f"{TOP}/bench/lib/tool_manual.py", TOP, room, "1.2.3", "2026-01-31"],
                            check=True)
             pages = sorted(glob.glob("*.1", root_dir=room))
-            self.assertEqual(len(pages), 13)
+            self.assertEqual(len(pages), 14)
             self.assertIn("kubelet-replay-story.1", pages)
             if shutil.which("groff"):
                 done = subprocess.run(["groff", "-man", "-Tutf8", "-ww", "-z", *pages], cwd=room, capture_output=True,

@@ -86,10 +86,11 @@ class Processes(Case):
         self.assertGreater(ran.peak, 64 << 20)
 
     def test_a_whole_command_is_interrupted(self):
-        for words, grace, ended in (("echo; exec cat", 60, -signal.SIGTERM),
-                                    ("trap 'exit 3' TERM; echo; cat", 60, 3), ("trap '' TERM; echo; cat", 1, -9)):
+        for words, grace, ended in (("exec cat", 60, -signal.SIGTERM),
+                                    ("trap 'exit 3' TERM; cat", 60, 3), ("trap '' TERM; cat", 1, -9)):
             # it ends by itself once nobody can write to it
             read_end, write_end = os.pipe()
+            os.write(write_end, b"\n")
             started, real, said = [], subprocess.Popen, self.enterContext(tempfile.TemporaryFile())
 
             def popen(*given, **more):
@@ -97,7 +98,7 @@ class Processes(Case):
                 return started[-1]
 
             def wait4(*_):
-                # behind its trap
+                # cat itself has written: a shell that has just forked can lose a signal
                 wait_until(lambda: os.fstat(said.fileno()).st_size)
                 raise KeyboardInterrupt
 

@@ -65,7 +65,8 @@ class Words(Case):
             2, "", "bench/release: there is no key /nowhere, or it can't be read\n"))
         self.assertEqual(run("try_release"), (
             2, "", "bench/try_release: usage: bench/try_release FOLDER [ROOT]\n"))
-        self.assertEqual(gate("--all"), (2, "", "test: the words --all are none of --install and --without-tools\n"))
+        self.assertEqual(gate("--all"), (
+            2, "", "test: the words --all are none of --install, --without-tools and --proofs NAME..\n"))
 
     def test_a_release_that_is_not_there(self):
         with tempfile.TemporaryDirectory() as room:
