@@ -1,0 +1,43 @@
+"""Events of a cluster, of `kubectl get events -o json`: what the kubelet said of pods."""
+
+from __future__ import annotations
+
+from collections.abc import Iterator
+from typing import Any
+
+from replay_tools import outside
+from replay_tools.record.runtime import moment_of
+
+from . import facts, manifests
+from .keyed import MADE
+from .references import key_of
+
+
+def read_all(paths: list[str]) -> Iterator[facts.Fact]:
+    """The events of files, by their moments."""
+    found = [event for path in paths for value in manifests.read(path, "--events") for event in of_value(value)]
+    for event in sorted(found, key=lambda each: each.at):
+        yield event
+        made = MADE.match(event.message)
+        if made is not None and event.reason == "Started" and event.count == 1:
+            yield facts.Created(event.at, event.pod, made[1])
+
+
+def of_value(value: Any) -> Iterator[facts.Happened]:
+    """The events of pods in a list, a watch's line or a single one."""
+    if isinstance(value, list):
+        for each in value:
+            yield from of_value(each)
+    elif isinstance(value, dict) and isinstance(value.get("items"), list):
+        yield from of_value(value["items"])
+    elif isinstance(value, dict) and isinstance(value.get("object"), dict):
+        yield from of_value(value["object"])
+    elif isinstance(value, dict) and isinstance(value.get("involvedObject"), dict):
+        pod, of = value["involvedObject"], value
+        stamp = of.get("lastTimestamp") or of.get("eventTime") or of.get("firstTimestamp")
+        moment = moment_of(stamp) if isinstance(stamp, str) else None
+        key = key_of(pod.get("namespace"), pod.get("name"))
+        if pod.get("kind") == "Pod" and moment is not None and key is not None:
+            uid = pod.get("uid") if isinstance(pod.get("uid"), str) else None
+            yield facts.Happened(moment, facts.Reference(key, uid), str(of.get("reason") or ""),
+                                 str(of.get("message") or ""), outside.whole(of.get("count"), 1) or 1)

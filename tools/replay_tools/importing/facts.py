@@ -1,0 +1,174 @@
+"""What a line says, whatever its form: one kind of fact for each kind of message. Moments are seconds since 1970."""
+
+from __future__ import annotations
+
+from dataclasses import dataclass
+from typing import Optional
+
+STARTED, DIED = "started", "died"
+
+
+@dataclass(frozen=True)
+class Reference:
+    """A pod as a line names it: NAMESPACE/NAME and its uid, one of which may be unknown."""
+    key: Optional[str] = None
+    uid: Optional[str] = None
+
+
+@dataclass(frozen=True)
+class Fact:
+    at: float
+
+
+@dataclass(frozen=True)
+class Process(Fact):
+    """The kubelet's process, where it is another one than before; and the node's name, where a line says it."""
+    process: int
+    node: str = ""
+
+
+@dataclass(frozen=True)
+class Begun(Fact):
+    """The kubelet was started."""
+
+
+@dataclass(frozen=True)
+class NodeName(Fact):
+    name: str
+
+
+@dataclass(frozen=True)
+class Missing(Fact):
+    """The journal says that it has not all lines up to here."""
+    why: str
+
+
+@dataclass(frozen=True)
+class Added(Fact):
+    pod: Reference
+    source: str = ""
+
+
+@dataclass(frozen=True)
+class Deleted(Fact):
+    pod: Reference
+
+
+@dataclass(frozen=True)
+class Removed(Fact):
+    pod: Reference
+
+
+@dataclass(frozen=True)
+class Turned(Fact):
+    """The kubelet's look found, or its runtime said, that a container or a sandbox has started or has died. A moment of
+    the runtime's is exact."""
+    pod: Reference
+    id: str
+    what: str
+    is_exact: bool = False
+
+
+@dataclass(frozen=True)
+class Known(Fact):
+    """What a line says of one instance of a container by its id: each part of it may be unknown."""
+    id: str
+    pod: Reference = Reference()
+    container: Optional[str] = None
+    attempt: Optional[int] = None
+    started: Optional[float] = None
+    finished: Optional[float] = None
+    code: Optional[int] = None
+    reason: Optional[str] = None
+    is_sandbox: bool = False
+
+
+@dataclass(frozen=True)
+class Created(Fact):
+    """A container of a pod is started now, by its name; its id is in another line."""
+    pod: Reference
+    container: str
+
+
+@dataclass(frozen=True)
+class Probed(Fact):
+    """The result of a probe: success or failure, and what it put out."""
+    pod: Reference
+    container: str
+    probe: str
+    result: str
+    output: str = ""
+
+
+@dataclass(frozen=True)
+class Turnover(Fact):
+    """What all results of a probe have come to, of a pod whose container is not named: ready, unready, started."""
+    pod: Reference
+    probe: str
+    status: str
+
+
+@dataclass(frozen=True)
+class Killing(Fact):
+    """The kubelet ends an instance: its grace, and why, as far as a line says that."""
+    id: str
+    pod: Reference = Reference()
+    container: Optional[str] = None
+    grace: Optional[int] = None
+    why: str = ""
+
+
+@dataclass(frozen=True)
+class Waits(Fact):
+    """A container waits, and why."""
+    pod: Reference
+    container: str
+    reason: str
+    message: str
+
+
+@dataclass(frozen=True)
+class Observed(Fact):
+    """A round of the eviction manager, and what it found of a signal; None where it says that there was a round."""
+    signal: Optional[str] = None
+    available: Optional[int] = None
+    capacity: Optional[int] = None
+
+
+@dataclass(frozen=True)
+class Reclaims(Fact):
+    """The node is short of a resource, and the eviction manager begins to reclaim it."""
+    resource: str
+
+
+@dataclass(frozen=True)
+class Ranked(Fact):
+    pods: tuple[Reference, ...]
+
+
+@dataclass(frozen=True)
+class Evicted(Fact):
+    pod: Reference
+    is_cleaned_up: bool = False
+
+
+@dataclass(frozen=True)
+class Refused(Fact):
+    """The kubelet did not admit a pod, since the node was under pressure."""
+    pod: Reference
+    conditions: str
+
+
+@dataclass(frozen=True)
+class Happened(Fact):
+    """An Event that the kubelet made of a pod."""
+    pod: Reference
+    reason: str
+    message: str
+    count: int = 1
+
+
+@dataclass(frozen=True)
+class OutOfMemory(Fact):
+    """The kernel ended a process since a memory limit was reached; of a container's id where the runtime says it."""
+    id: Optional[str] = None

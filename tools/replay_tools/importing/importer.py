@@ -1,0 +1,393 @@
+"""From facts to the pods that they are of, and from these to the lines of a trace."""
+
+from __future__ import annotations
+
+from collections import Counter
+from collections.abc import Callable, Iterable, Iterator
+from typing import Any, Optional
+
+from replay_tools import entry
+from replay_tools.record.decisions import EVICTED, REFUSED, Decision
+from replay_tools.record.formats import without_nones
+from replay_tools.record.messages import message_kept
+
+from . import facts
+from .lives import Life
+from .manifests import Manifests
+from .outputs import output_kept
+from .placing import LATE_SECONDS, Placing
+
+# what is placed waits so long for what later lines say of it
+HOLD_SECONDS = 600
+# so often, in seconds of the journal
+SETTLE_SECONDS = 30
+# what a new process of the kubelet finds in its first looks ran before it
+FIRST_LOOKS = 6
+# a process that says twice that it begins is one
+AGAIN_SECONDS = 60
+# an eviction follows its ranking and what the node was short of within so many seconds
+NEAR_SECONDS = 60
+MOST_LOOSE = 100_000
+LONGEST_MESSAGE = 4096
+EVICTED_WORD = "Evicted"
+
+
+class Importer:
+    """Takes facts in the order of their moments, and gives the lines that are settled."""
+
+    def __init__(self, manifests: Manifests, placing: Placing, say: Callable[..., None],
+                 hold: float = HOLD_SECONDS) -> None:
+        self.manifests = manifests
+        self.placing = placing
+        self.say = say
+        self.hold = hold
+        self.lives: list[Life] = []
+        self.by_uid: dict[str, Life] = {}
+        self.by_key: dict[str, Life] = {}
+        self.of_id: dict[str, Life] = {}
+        # what lines say of ids that no pod is known of yet
+        self.loose: dict[str, list[facts.Known]] = {}
+        for known in manifests.known:
+            self.loose.setdefault(known.id, []).append(known)
+        self.has_met_running = False
+        self.node: Optional[str] = None
+        self.kinds: Counter[str] = Counter()
+        self.begun: Optional[float] = None
+        self.now = 0.0
+        self.has_turned = False
+        self.settled_at = 0.0
+        self.process: Optional[int] = None
+        # when the kubelet was started, where the journal has that
+        self.started_at: Optional[float] = None
+        self.resource: tuple[float, str] = (0.0, "")
+        self.ranked: tuple[float, tuple[facts.Reference, ...]] = (0.0, ())
+        self.messages: dict[str, str] = {}
+        self.capacity: dict[str, int] = {}
+        self.probed: dict[tuple[str, str, str], tuple[str, Optional[str]]] = {}
+        self.handlers: dict[type, Callable[[Any], None]] = {
+            facts.Process: self.on_process, facts.NodeName: self.on_node, facts.Missing: self.on_missing,
+            facts.Added: self.on_added, facts.Deleted: self.on_deleted, facts.Removed: self.on_removed,
+            facts.Turned: self.on_turned, facts.Known: self.on_known, facts.Created: self.on_created,
+            facts.Probed: self.on_probed, facts.Turnover: self.on_turnover, facts.Killing: self.on_killing,
+            facts.Waits: self.on_waits, facts.Observed: self.on_observed, facts.Reclaims: self.on_reclaims,
+            facts.Ranked: self.on_ranked, facts.Evicted: self.on_evicted, facts.Refused: self.on_refused,
+            facts.Happened: self.on_happened, facts.Begun: self.on_begun}
+
+    # --- the stream ---
+
+    def take_all(self, found: Iterable[facts.Fact]) -> Iterator[tuple[list[str], bool]]:
+        """The lines of all that is settled, as they are."""
+        for fact in found:
+            self.begun = fact.at if self.begun is None else self.begun
+            self.now = max(self.now, fact.at)
+            if self.placing.written_at is None:
+                self.placing.timeline.place_look(fact.at)
+                self.placing.written_at = int(fact.at)
+                self.settled_at = fact.at
+            self.kinds[type(fact).__name__] += 1
+            self.handlers.get(type(fact), self.ignore)(fact)
+            if self.now - self.settled_at >= SETTLE_SECONDS:
+                yield from self.settle(self.now - self.hold)
+        if self.begun is not None:
+            self.placing.timeline.place_look(self.now)
+            yield from self.settle(self.now, True)
+
+    def ignore(self, fact: facts.Fact) -> None:
+        """What says nothing of a pod by itself."""
+
+    def settle(self, horizon: float, is_end: bool = False) -> Iterator[tuple[list[str], bool]]:
+        """Places what happened up to a moment, and gives the lines that nothing changes any more."""
+        self.settled_at = self.now
+        if self.begun is None or horizon < self.begun or not self.placing.counts["met"]:
+            return
+        if not self.has_met_running:
+            self.meet_running()
+        for life in self.lives:
+            life.settle(horizon, self.placing)
+        yield from self.placing.due(float("inf") if is_end else horizon - LATE_SECONDS)
+        self.forget(horizon)
+
+    def meet_running(self) -> None:
+        """Pods whose statuses say that they ran before the journal begins, and of which it may say nothing."""
+        self.has_met_running = True
+        begun = self.begun or 0.0
+        for known in self.manifests.known:
+            pod, _ = self.manifests.of(known.pod)
+            is_there = known.started is not None and known.started < begun and (known.finished or begun) >= begun
+            if is_there and pod is not None and self.manifests.is_on(known.pod, self.node):
+                life = self.by_uid.get(known.pod.uid or "") or self.by_key.get(known.pod.key or "")
+                if life is None:
+                    life = self.meet(known.pod, begun)
+                if life.uid in (None, known.pod.uid) and not life.was_added and life.arrived is None:
+                    life.added_at = begun
+                    self.own(known.id, life)
+                    self.tell(life, known)
+
+    def forget(self, horizon: float) -> None:
+        """Forgets the pods that are over, and instances."""
+        over = [life for life in self.lives if life.is_over or (life.is_refused and life.added_at <= horizon)]
+        self.lives = [life for life in self.lives if life not in over] if over else self.lives
+        for life in over:
+            if self.by_key.get(life.key) is life:
+                del self.by_key[life.key]
+            if life.uid is not None:
+                self.by_uid.pop(life.uid, None)
+        if over:
+            gone = {id(life) for life in over}
+            self.of_id = {identity: life for identity, life in self.of_id.items() if id(life) not in gone}
+        for life in self.lives:
+            life.forget(horizon - self.hold)
+        while len(self.loose) > MOST_LOOSE:
+            del self.loose[next(iter(self.loose))]
+
+    # --- pods ---
+
+    def life_of(self, pod: facts.Reference, at: float, is_new: bool = False) -> Optional[Life]:
+        """The pod of a reference, which is met by it where it is new; None of a uid without a name."""
+        found = self.by_uid.get(pod.uid) if pod.uid is not None else None
+        if found is None and pod.key is not None:
+            found = self.by_key.get(pod.key)
+            if found is not None and self.is_another(found, pod, is_new):
+                found.replaced_at = at if found.replaced_at is None else found.replaced_at
+                found = None
+        if found is None and pod.key is not None:
+            found = self.meet(pod, at)
+        elif found is not None and found.uid is None and pod.uid is not None:
+            found.uid = pod.uid
+            self.by_uid[pod.uid] = found
+        return found
+
+    @staticmethod
+    def is_another(life: Life, pod: facts.Reference, is_new: bool) -> bool:
+        """Whether a reference is of another pod of that name."""
+        if life.uid is not None and pod.uid is not None:
+            return life.uid != pod.uid
+        return is_new and (life.removed_at is not None or life.deleted_at is not None)
+
+    def meet(self, pod: facts.Reference, at: float) -> Life:
+        life = Life(len(self.lives) + self.placing.counts["met"], str(pod.key), pod.uid, at)
+        self.placing.counts["met"] += 1
+        life.pod, life.is_template = self.manifests.of(pod)
+        if life.pod is not None and life.pod.fault is not None:
+            self.say(f"{life.key} is left out: {life.pod.fault}")
+            life.is_refused = True
+        self.placing.count("pods without a manifest" if life.pod is None else "pods with a manifest", life.key)
+        life.is_spared = bool({pod.uid, pod.key} & self.manifests.spared)
+        self.lives.append(life)
+        self.by_key[life.key] = life
+        if pod.uid is not None:
+            self.by_uid[pod.uid] = life
+        return life
+
+    def on_added(self, fact: facts.Added) -> None:
+        life = self.life_of(fact.pod, fact.at, True)
+        if life is None:
+            return
+        # what a kubelet that is started anew finds was there before
+        life.was_added = life.was_added or not self.is_begin_of_process(fact.at)
+        life.is_spared = life.is_spared or fact.source == "file"
+
+    def on_deleted(self, fact: facts.Deleted) -> None:
+        life = self.known_life(fact.pod)
+        if life is not None and life.deleted_at is None:
+            life.deleted_at = fact.at
+            self.placing.count("pods deleted")
+
+    def on_removed(self, fact: facts.Removed) -> None:
+        life = self.known_life(fact.pod)
+        if life is not None and life.removed_at is None:
+            life.removed_at = fact.at
+
+    def known_life(self, pod: facts.Reference) -> Optional[Life]:
+        found = self.by_uid.get(pod.uid) if pod.uid is not None else None
+        found = self.by_key.get(pod.key) if found is None and pod.key is not None else found
+        return None if found is not None and self.is_another(found, pod, False) else found
+
+    # --- instances ---
+
+    def on_turned(self, fact: facts.Turned) -> None:
+        life = self.of_id.get(fact.id) or self.life_of(fact.pod, fact.at)
+        if life is None:
+            return
+        self.own(fact.id, life)
+        self.has_turned = True
+        life.turn(fact, not life.was_added and self.is_begin_of_process(fact.at))
+
+    def is_begin_of_process(self, at: float) -> bool:
+        """Whether the kubelet was started just before."""
+        return self.started_at is not None and at - self.started_at <= FIRST_LOOKS
+
+    def own(self, identity: str, life: Life) -> None:
+        """An id is of a pod; what lines said of it before is told to it."""
+        if identity not in self.of_id:
+            self.of_id[identity] = life
+            for known in self.loose.pop(identity, ()):
+                self.tell(life, known)
+
+    def on_known(self, fact: facts.Known) -> None:
+        life = self.of_id.get(fact.id)
+        if life is None and (fact.pod.key is not None or fact.pod.uid in self.by_uid):
+            life = self.life_of(fact.pod, fact.at)
+        if life is None:
+            self.loose.setdefault(fact.id, []).append(fact)
+            return
+        self.own(fact.id, life)
+        self.tell(life, fact)
+
+    def tell(self, life: Life, known: facts.Known) -> None:
+        life.instances.of(known.id).know(known)
+        if known.container is not None:
+            life.instances.note_name(known.container)
+
+    def on_created(self, fact: facts.Created) -> None:
+        life = self.life_of(fact.pod, fact.at)
+        if life is not None:
+            life.instances.hints.created.append((fact.at, fact.container))
+            life.instances.note_name(fact.container)
+
+    def on_killing(self, fact: facts.Killing) -> None:
+        life = self.of_id.get(fact.id)
+        if life is None:
+            return
+        instance = life.instances.of(fact.id)
+        before = instance.killing
+        instance.killing = fact if before is None else facts.Killing(
+            before.at, fact.id, grace=fact.grace if before.grace is None else before.grace, why=before.why or fact.why)
+        self.placing.count("kills" if before is None else "lines of kills")
+        # why stands in a line before that of the grace
+        if fact.grace is not None and (before is None or before.grace is None):
+            life.add(fact.at, "kill", (instance, fact.grace))
+
+    def on_waits(self, fact: facts.Waits) -> None:
+        life = self.life_of(fact.pod, fact.at)
+        if life is not None:
+            life.instances.hints.waits.append((fact.at, fact.container))
+            life.instances.note_name(fact.container)
+            life.add(fact.at, "wait", life.entry_of_wait(fact))
+
+    # --- probes ---
+
+    def on_probed(self, fact: facts.Probed) -> None:
+        life = self.life_of(fact.pod, fact.at)
+        if life is None:
+            return
+        self.placing.has_successes = self.placing.has_successes or fact.result == "success"
+        life.instances.hints.probed.append((fact.at, fact.container))
+        life.instances.note_name(fact.container)
+        life.add(fact.at, "result", (fact.container, fact.probe, fact.result))
+        place = life.key, fact.container, fact.probe
+        said = fact.result, output_kept(fact.output)
+        if fact.result == "failure" and self.probed.get(place) != said:
+            is_left_out = said[1] is None and bool(fact.output.strip())
+            self.placing.say(life.key, fact.at, without_nones({
+                "container": fact.container, "reason": "Unhealthy", "probe": fact.probe, "message": said[1],
+                "messageLeftOut": is_left_out or None}))
+        self.probed[place] = said
+
+    def on_turnover(self, fact: facts.Turnover) -> None:
+        """All results of a probe came to something; from then on its successes have lines."""
+        life = self.life_of(fact.pod, fact.at)
+        if life is None or life.pod is None or fact.probe == "liveness":
+            return
+        self.placing.told_probes.add(fact.probe)
+        if fact.status not in ("ready", "started"):
+            return
+        for container in life.pod.containers():
+            if life.pod.has_probe(container, fact.probe):
+                for back in reversed(range(min(life.pod.successes_wanted(container, fact.probe), 100))):
+                    at = fact.at - back * life.pod.period(container, fact.probe)
+                    life.add(at, "result", (container, fact.probe, "success"))
+
+    # --- the node ---
+
+    def on_process(self, fact: facts.Process) -> None:
+        if fact.node and self.node is None:
+            self.node = fact.node
+        if self.process is not None and fact.process != self.process:
+            self.placing.count("processes of the kubelet")
+            self.placing.gap(self.now, fact.at)
+            self.say(f"{int(fact.at)}: the kubelet was started anew; what happened shortly before is not known")
+            self.started_at = fact.at
+        self.process = fact.process
+
+    def on_begun(self, fact: facts.Begun) -> None:
+        """A process of the kubelet begins, which may have the number of the one before, as in a container."""
+        if self.started_at is None or fact.at - self.started_at > AGAIN_SECONDS:
+            if self.has_turned:
+                self.placing.count("processes of the kubelet")
+                self.placing.gap(self.now, fact.at)
+        self.started_at = fact.at
+
+    def on_node(self, fact: facts.NodeName) -> None:
+        self.node = fact.name
+
+    def on_missing(self, fact: facts.Missing) -> None:
+        self.placing.count("places where lines are missing")
+        self.placing.gap(self.now, fact.at)
+
+    def on_observed(self, fact: facts.Observed) -> None:
+        self.placing.judge(fact.at)
+        if fact.signal is None or fact.available is None:
+            return
+        self.placing.count("observations")
+        self.placing.sample(fact.at, fact.signal, fact.available)
+        if fact.capacity is not None:
+            self.capacity[fact.signal] = fact.capacity
+
+    def on_reclaims(self, fact: facts.Reclaims) -> None:
+        self.resource = fact.at, fact.resource
+
+    def on_ranked(self, fact: facts.Ranked) -> None:
+        self.ranked = fact.at, fact.pods
+
+    def on_evicted(self, fact: facts.Evicted) -> None:
+        life = self.known_life(fact.pod) or self.life_of(fact.pod, fact.at)
+        if life is None:
+            return
+        if fact.is_cleaned_up:
+            life.cleaned_at = fact.at if life.cleaned_at is None else life.cleaned_at
+            return
+        if life.decision is not None:
+            return
+        ranked_at, ranked = self.ranked
+        is_first = bool(ranked) and fact.at - ranked_at <= NEAR_SECONDS and (
+            ranked[0].uid == life.uid if ranked[0].uid is not None else ranked[0].key == life.key)
+        said = self.messages.get(life.key) or self.made_message(fact.at, is_first)
+        life.decision = Decision(EVICTED, fact.at, EVICTED_WORD, said)
+        life.decided_since = ranked_at if is_first else fact.at
+
+    def made_message(self, at: float, is_ranked: bool) -> str:
+        """The first sentence of the kubelet's message, of the resource that it says to be short of."""
+        since, resource = self.resource
+        return f"The node was low on resource: {resource}." if is_ranked and at - since <= NEAR_SECONDS else ""
+
+    def on_refused(self, fact: facts.Refused) -> None:
+        life = self.life_of(fact.pod, fact.at)
+        if life is None or life.is_refused:
+            return
+        life.is_refused = True
+        message = f"The node had condition: [{fact.conditions}]. "
+        self.placing.count("pods refused")
+        refused = life.pod_refused(Decision(REFUSED, fact.at, EVICTED_WORD, message))
+        self.placing.timeline.place_decision(refused, fact.at, None)
+
+    def on_happened(self, fact: facts.Happened) -> None:
+        """An Event says more of what a line says."""
+        life = self.known_life(fact.pod)
+        if life is None:
+            return
+        self.placing.count("events")
+        if fact.reason == EVICTED_WORD:
+            kept = message_kept(EVICTED_WORD, fact.message, LONGEST_MESSAGE) or ""
+            self.messages[life.key] = kept
+            if life.decision is not None and kept and not life.is_decided:
+                life.decision = Decision(EVICTED, life.decision.moment, EVICTED_WORD, kept)
+
+
+def refuse_strangers(importer: Importer) -> None:
+    """Refuses manifests of which none is of a pod of the journal."""
+    has_manifests = bool(importer.manifests.by_key or importer.manifests.owners)
+    met = importer.placing.counts["met"]
+    if has_manifests and met and not importer.placing.counts["pods with a manifest"]:
+        raise entry.Fault(f"none of the {entry.counted(met, 'pod')} of the journal is among the manifests: they are of "
+                          "another cluster, or of another time", 1)

@@ -1,0 +1,333 @@
+"""What the lines say of one pod, gathered until it is settled: its instances, and which container each is of. A look of
+the kubelet's says an id and no name, so where no line says it, it is found by exclusion: the container that does not
+run is the one that starts."""
+
+from __future__ import annotations
+
+from dataclasses import dataclass, field
+from typing import Optional, TYPE_CHECKING
+
+if TYPE_CHECKING:
+    from replay_tools.record.pods import Pod
+
+    from . import facts
+
+# starts that the kubelet told within so many seconds came from one look
+LOOK_SECONDS = 0.4
+# a line that names a container which is started stands so long before the look that finds it
+CREATED_SECONDS = 4.0
+# how long a container waits for its next start, by how often it exited
+BACK_OFFS = (0.0, 10.0, 20.0, 40.0, 80.0, 160.0, 300.0)
+# containers that start so soon behind an exit come one behind the other
+SOON_SECONDS = 3.0
+# one that runs so long has not crashed at its start
+LONG_SECONDS = 10.0
+# a container of which no line says the name
+UNNAMED = "unnamed"
+
+
+@dataclass
+class Instance:
+    """One instance of a container, or a sandbox: when the kubelet's look found it started and exited, what is known
+    exactly, and how it ended. `name` is that of its container, once it is known or found."""
+    id: str
+    seen: Optional[float] = None
+    gone: Optional[float] = None
+    started: Optional[float] = None
+    finished: Optional[float] = None
+    name: Optional[str] = None
+    attempt: Optional[int] = None
+    code: Optional[int] = None
+    reason: Optional[str] = None
+    is_sandbox: bool = False
+    is_found: bool = False
+    is_met: bool = False
+    killing: Optional[facts.Killing] = None
+    written: Optional[int] = None
+    has_ended: bool = False
+
+    @property
+    def begin(self) -> Optional[float]:
+        """When it started, as exactly as is known."""
+        return self.seen if self.started is None or self.is_met else self.started
+
+    @property
+    def end(self) -> Optional[float]:
+        return self.gone if self.finished is None else self.finished
+
+    def know(self, known: facts.Known) -> None:
+        """Takes what a line says of it; what was known stays."""
+        self.name = self.name if known.container is None or (self.name and not self.is_found) else known.container
+        self.is_found = self.is_found and known.container is None
+        self.attempt = known.attempt if self.attempt is None else self.attempt
+        self.started = known.started if self.started is None else self.started
+        self.finished = known.finished if self.finished is None else self.finished
+        self.code = known.code if self.code is None else self.code
+        self.reason = known.reason if self.reason is None else self.reason
+        self.is_sandbox = self.is_sandbox or known.is_sandbox
+
+
+@dataclass
+class Chain:
+    """The instances of one container, one behind the other, whose name may not be known yet."""
+    instances: list[Instance]
+    name: Optional[str] = None
+
+    @property
+    def newest(self) -> Instance:
+        return self.instances[-1]
+
+    def is_down(self, at: float) -> bool:
+        """Whether none of them runs at a moment."""
+        before = [each for each in self.instances if each.seen is not None and each.seen <= at]
+        return bool(before) and before[-1].gone is not None and before[-1].gone <= at + LOOK_SECONDS
+
+    def expected(self) -> float:
+        """When its next start is due."""
+        exits = len(self.instances) - 1
+        return (self.newest.gone or 0.0) + BACK_OFFS[min(exits, len(BACK_OFFS) - 1)]
+
+
+@dataclass
+class Hints:
+    """The moments at which lines name a container: one that waits, that is made, that is probed."""
+    waits: list[tuple[float, str]] = field(default_factory=list)
+    created: list[tuple[float, str]] = field(default_factory=list)
+    probed: list[tuple[float, str]] = field(default_factory=list)
+
+    def forget(self, before: float) -> None:
+        for kept in (self.waits, self.created, self.probed):
+            kept[:] = [each for each in kept if each[0] >= before]
+
+
+class Instances:
+    """The instances of a pod, and the names of their containers."""
+
+    def __init__(self) -> None:
+        self.by_id: dict[str, Instance] = {}
+        self.chains: list[Chain] = []
+        self.hints = Hints()
+        self.names: list[str] = []
+
+    def of(self, identity: str) -> Instance:
+        return self.by_id.setdefault(identity, Instance(identity))
+
+    def note_name(self, name: str) -> None:
+        """A name of a container that a line says, of a pod without a manifest."""
+        if name not in self.names:
+            self.names.append(name)
+
+    def forget(self, before: float) -> None:
+        """Forgets what was settled and is over, but for the newest instance of each container."""
+        newest = {id(chain.newest) for chain in self.chains}
+        self.by_id = {identity: each for identity, each in self.by_id.items() if id(each) in newest
+                      or not (each.has_ended or each.is_sandbox) or (each.gone or before) >= before}
+        for chain in self.chains:
+            chain.instances = [each for each in chain.instances if each.id in self.by_id] or [chain.newest]
+        self.hints.forget(before)
+
+    def complete(self, added_at: float) -> None:
+        """Instances that no look found, and of which a status says when they started, ran all the same: from then on,
+        or from before the pod was met."""
+        for each in self.by_id.values():
+            if each.gone is None and each.finished is not None:
+                each.gone = each.finished
+            is_over = each.gone is not None and each.gone < added_at
+            if each.seen is None and each.started is not None and not each.is_sandbox and not is_over:
+                each.is_met = each.started < added_at
+                each.seen = max(each.started, added_at)
+
+    # --- which is the sandbox ---
+
+    def find_sandboxes(self) -> None:
+        """Of the starts that one look found, where no sandbox runs, the last is the sandbox's, or the first alone."""
+        running: Optional[Instance] = None
+        for look in self.looks():
+            known = [each for each in look if each.is_sandbox]
+            if known:
+                running = known[-1]
+            elif running is None or (running.gone is not None and running.gone <= (look[0].seen or 0)):
+                unknown = [each for each in look if each.name is None or each.is_found]
+                if unknown and unknown[-1].written is None:
+                    running = unknown[-1]
+                    running.is_sandbox, running.name, running.is_found = True, None, False
+
+    def looks(self) -> list[list[Instance]]:
+        """The instances that started, by the looks that found them."""
+        found: list[list[Instance]] = []
+        seen = (each for each in self.by_id.values() if each.seen is not None)
+        for each in sorted(seen, key=lambda each: each.seen or 0):
+            if found and (each.seen or 0) - (found[-1][-1].seen or 0) <= LOOK_SECONDS:
+                found[-1].append(each)
+            else:
+                found.append([each])
+        return found
+
+    # --- of which container an instance is ---
+
+    def resolve(self, pod: Optional[Pod], added_at: float) -> None:
+        """Finds the container of each instance that has not been written yet."""
+        self.complete(added_at)
+        self.find_sandboxes()
+        names = pod.containers() if pod is not None else list(self.names)
+        inits = [each["name"] for each in pod.manifest["spec"].get("initContainers") or []] if pod is not None else []
+        policy = pod.manifest["spec"].get("restartPolicy") or "Always" if pod is not None else "Always"
+        kept = [Chain([each for each in chain.instances if each.written is not None], chain.name)
+                for chain in self.chains]
+        chains = [chain for chain in kept if chain.instances]
+        linking = Linking(chains, names, inits, policy, self.hints)
+        unwritten = sorted((each for each in self.by_id.values() if each.written is None and not each.is_sandbox
+                            and each.seen is not None), key=lambda each: each.seen or 0)
+        linking.count_extra(unwritten)
+        for each in unwritten:
+            linking.take(each)
+        self.chains = linking.chains
+        linking.name_all()
+
+
+def serial(instances: list[Instance]) -> int:
+    """How many instances came one behind the other, each soon behind the exit of the one before."""
+    count = 1
+    for before, after in zip(instances, instances[1:]):
+        if before.gone is None or not 0 <= (after.seen or 0) - before.gone + LOOK_SECONDS < SOON_SECONDS:
+            break
+        count += 1
+    return count
+
+
+class Linking:
+    """Puts instances into the chains of their containers, in the order of their starts."""
+
+    def __init__(self, chains: list[Chain], names: list[str], inits: list[str], policy: str, hints: Hints) -> None:
+        self.chains = chains
+        self.names = names
+        self.inits = inits
+        self.policy = policy
+        self.hints = hints
+        self.created = list(hints.created)
+        # how many runs of init containers are runs again
+        self.extra = 0
+
+    def take(self, instance: Instance) -> None:
+        name = instance.name if instance.name and not instance.is_found else self.created_name(instance)
+        if name is None:
+            name = self.init_name(instance)
+        chain = self.named(name) if name is not None else self.chain_by_exclusion(instance)
+        if chain is None:
+            self.chains.append(Chain([instance], name))
+        else:
+            chain.instances.append(instance)
+
+    def created_name(self, instance: Instance) -> Optional[str]:
+        """The name in a line that a container is made, shortly before the look that found it."""
+        at = instance.seen or 0
+        near = [each for each in self.created if at - CREATED_SECONDS <= each[0] <= at + LOOK_SECONDS]
+        # where two are made before one look, only exclusion says which is which
+        if len({name for _, name in near}) != 1:
+            return None
+        self.created.remove(near[0])
+        return near[0][1]
+
+    def named(self, name: str) -> Optional[Chain]:
+        """The chain of a container; where none has its name, the one that may be it."""
+        found = next((chain for chain in self.chains if chain.name == name), None)
+        unnamed = [chain for chain in self.chains if chain.name is None]
+        if found is None and len(unnamed) == 1 and len(self.chains) >= len(self.names):
+            unnamed[0].name = name
+            return unnamed[0]
+        return found
+
+    def init_name(self, instance: Instance) -> Optional[str]:
+        """The init container that starts next, while they do: the next one behind an exit with 0, else the same."""
+        ran = [chain for chain in self.chains if chain.name in self.inits]
+        if not self.inits or any(chain.name is None or chain.name not in self.inits for chain in self.chains):
+            return None
+        if not ran:
+            return self.inits[0]
+        last = max(ran, key=lambda chain: chain.newest.seen or 0)
+        place = self.inits.index(str(last.name))
+        since = last.newest.gone if last.newest.gone is not None else last.newest.seen
+        waited = [name for at, name in self.hints.waits if (since or 0) <= at <= (instance.seen or 0)]
+        if last.newest.code not in (0, None) or (last.newest.code is None and last.name in waited):
+            return last.name
+        if last.newest.code is None and self.extra > 0 and place >= len(self.inits) // 2:
+            self.extra -= 1
+            return last.name
+        return self.inits[place + 1] if place + 1 < len(self.inits) else None
+
+    def count_extra(self, instances: list[Instance]) -> None:
+        """How often an init container ran again without a code that says it, by how many came one behind the other up
+        to the app's. Which of them it was is not known: the middle one leaves most of the others right."""
+        apps = [name for name in self.names if name not in self.inits]
+        if not self.inits or self.chains or not instances:
+            return
+        count = next((place for place, each in enumerate(instances) if each.name in apps and not each.is_found), None)
+        if count is None:
+            count = serial(instances) - 1
+            last = instances[count]
+            # where the last of them soon exited too, and the app is said to wait, it was the app that came again
+            is_short = last.gone is not None and last.gone - (last.seen or 0) < LONG_SECONDS
+            has_crashed = is_short and any(name in apps and at >= (last.gone or 0) for at, name in self.hints.waits)
+            count = 0 if has_crashed or len(apps) != 1 else count
+        known = sum(each.code not in (0, None) for each in instances[:count])
+        self.extra = max(count - known - len(self.inits), 0)
+
+    def chain_by_exclusion(self, instance: Instance) -> Optional[Chain]:
+        """The container that does not run, of which the next start is due about then; None where it is one that has not
+        run yet."""
+        at = instance.seen or 0
+        apps = [chain for chain in self.chains if chain.name not in self.inits]
+        down = [chain for chain in apps if chain.is_down(at) and self.comes_again(chain)]
+        rest = len([name for name in self.names if name not in self.inits]) - len(apps)
+        if rest > 0 and not any(chain.expected() <= at for chain in down):
+            return None
+        if down:
+            return min(down, key=lambda chain: abs(chain.expected() - at))
+        if rest > 0 or not self.names or not apps:
+            return None
+        # the look that found its exit is not in the journal
+        return min(apps, key=lambda chain: chain.newest.seen or 0)
+
+    def comes_again(self, chain: Chain) -> bool:
+        code = chain.newest.code
+        return self.policy == "Always" or (self.policy == "OnFailure" and code != 0)
+
+    # --- names ---
+
+    def name_all(self) -> None:
+        """Names each chain: by a line that names one of its instances, or a container that waits while it alone is
+        down; then in the order in which a kubelet starts them."""
+        for chain in self.chains:
+            said = [each.name for each in chain.instances if each.name and not each.is_found]
+            if chain.name is None and said and not self.is_taken(said[-1]):
+                chain.name = said[-1]
+        self.name_by(self.hints.waits, True)
+        self.name_by(self.hints.probed, False)
+        left = [name for name in self.names if not self.is_taken(name)]
+        for chain in self.chains:
+            if chain.name is None:
+                chain.name = left.pop(0) if left else self.unnamed()
+            for each in chain.instances:
+                if each.name is None or each.is_found or each.name != chain.name:
+                    each.name, each.is_found = chain.name, len(self.names) != 1
+
+    def name_by(self, hints: list[tuple[float, str]], is_down: bool) -> None:
+        """Names chains by moments at which a container is down, or runs, and just one chain does so."""
+        for at, name in hints:
+            if self.is_taken(name) or (self.names and name not in self.names):
+                continue
+            fits = [chain for chain in self.chains
+                    if chain.is_down(at) == is_down and (chain.instances[0].seen or 0) <= at]
+            if len(fits) == 1 and fits[0].name is None:
+                fits[0].name = name
+
+    def is_taken(self, name: Optional[str]) -> bool:
+        return any(chain.name == name for chain in self.chains)
+
+    def unnamed(self) -> str:
+        number, name = 1, UNNAMED
+        while self.is_taken(name):
+            number += 1
+            name = f"{UNNAMED}-{number}"
+        return name
+

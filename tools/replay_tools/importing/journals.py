@@ -1,0 +1,277 @@
+"""Lines of journals in the forms in which they are kept: each with its moment, and what it says. A form is known by
+the first lines of a file; several files are read as one, by their moments."""
+
+from __future__ import annotations
+
+import gzip
+import heapq
+import io
+import itertools
+import os
+import re
+import sys
+import time
+from collections.abc import Callable, Iterator
+from dataclasses import dataclass, field
+from typing import Any, BinaryIO, Optional
+
+from replay_tools import entry, outside, packed
+
+from .moments import Klog, moment_of_iso
+
+PIECE = 1 << 20
+# a line that is longer is cut, which is counted
+LONGEST_LINE = 1 << 18
+# so many bytes say which form a journal has
+LOOKED_AT = 1 << 16
+STANDARD_INPUT = "-"
+
+ISO = re.compile(rb"(\d{4}-\d\d-\d\dT\d\d:\d\d:\d\d(?:[.,]\d+)?(?:Z|[+-]\d\d:?\d\d))")
+SHORT_ISO = re.compile(ISO.pattern + rb" (\S+) ([^\s:\[]+)(?:\[(\d+)\])?: ")
+# what a runtime keeps of a container's output: the moment, the stream, whether the line is whole
+CONTAINER = re.compile(ISO.pattern + rb" (?:stdout|stderr) ([FP])(?:\S*) ")
+STAMPED = re.compile(ISO.pattern + rb" ")
+SYSLOG = re.compile(rb"([A-Z][a-z]{2}) +(\d{1,2}) (\d\d):(\d\d):(\d\d)(?:\.(\d{1,9}))? (\S+) ([^\s:\[]+)"
+                    rb"(?:\[(\d+)\])?: ")
+MONTHS = {name: place + 1 for place, name in enumerate(
+    (b"Jan", b"Feb", b"Mar", b"Apr", b"May", b"Jun", b"Jul", b"Aug", b"Sep", b"Oct", b"Nov", b"Dec"))}
+EXPORTED = re.compile(rb"__(?:CURSOR|REALTIME_TIMESTAMP|SEQNUM)=")
+
+
+@dataclass
+class Line:
+    """One line of a journal: its moment in seconds since 1970 (None where only its message has one), what it says, and
+    which process of which unit of which node said it, as far as that is known."""
+    moment: Optional[float]
+    text: bytes
+    unit: str = ""
+    process: int = 0
+    node: str = ""
+
+
+# stands for messages that are not read
+SKIPPED = Line(None, b"")
+
+
+@dataclass
+class Counts:
+    """What was read, and what of it was not: lines that are longer than is read, that are no line of their form, and
+    that a journal says to be missing."""
+    size: int = 0
+    lines: int = 0
+    cut: int = 0
+    foreign: int = 0
+    suppressed: int = 0
+    back: int = 0
+    faults: list = field(default_factory=list)
+
+
+def blocks_of(file: BinaryIO, counts: Counts) -> Iterator[list[bytes]]:
+    """The lines of a file without their ends, many at once; one that is too long is cut."""
+    rest, is_cut = b"", False
+    while piece := file.read(PIECE):
+        counts.size += len(piece)
+        lines = (rest + piece).split(b"\n")
+        rest = lines.pop()
+        if is_cut and lines:
+            # the end of the line that was cut
+            lines, is_cut = lines[1:], False
+        counts.lines += len(lines)
+        yield lines
+        if is_cut:
+            rest = b""
+        elif len(rest) > LONGEST_LINE:
+            counts.cut += 1
+            yield [rest[:LONGEST_LINE]]
+            rest, is_cut = b"", True
+    if rest:
+        counts.lines += 1
+        yield [rest]
+
+
+# --- forms ---
+
+
+def of_json(lines: Iterator[bytes], counts: Counts) -> Iterator[Line]:
+    """`journalctl -o json`. A message that is no text is a list of bytes."""
+    for text in lines:
+        record = outside.json_of(text)
+        if not isinstance(record, dict):
+            counts.foreign += bool(text.strip())
+            continue
+        yield from line_of(record.get, counts)
+
+
+def line_of(member: Callable[[str], Any], counts: Counts) -> Iterator[Line]:
+    """The line of a record whose members are asked for by their names."""
+    said, stamp = member("MESSAGE"), member("__REALTIME_TIMESTAMP") or member("_SOURCE_REALTIME_TIMESTAMP")
+    if isinstance(said, list):
+        said = bytes(each for each in said if isinstance(each, int) and 0 <= each < 256)
+    said = said.encode("utf-8", "surrogateescape") if isinstance(said, str) else said
+    moment = outside.number_of(str(stamp)) if stamp is not None else None
+    if not isinstance(said, bytes) or moment is None or not outside.moment(moment // 10 ** 6):
+        counts.foreign += 1
+        return
+    unit = str(member("SYSLOG_IDENTIFIER") or member("_SYSTEMD_UNIT") or member("_COMM") or "")
+    process = outside.number_of(str(member("_PID") or member("SYSLOG_PID") or "0")) or 0
+    yield Line(moment / 1e6, said, unit, process, str(member("_HOSTNAME") or ""))
+
+
+def of_export(file: BinaryIO, counts: Counts) -> Iterator[Line]:
+    """`journalctl -o export`: a record's members line by line, and an empty one behind them. One that is no plain text
+    has its name alone, and its length in eight bytes before it."""
+    record: dict[str, Any] = {}
+    while text := file.readline(LONGEST_LINE):
+        counts.size += len(text)
+        name, equals, value = text.rstrip(b"\n").partition(b"=")
+        if name and not equals:
+            length = min(int.from_bytes(file.read(8), "little"), LONGEST_LINE)
+            value = file.read(length)
+            counts.size += length + 9
+            file.read(1)
+        if name:
+            record.setdefault(name.decode("ascii", "replace"),
+                              value if name == b"MESSAGE" else value.decode("utf-8", "replace"))
+        elif record:
+            counts.lines += 1
+            yield from line_of(record.get, counts)
+            record = {}
+    if record:
+        yield from line_of(record.get, counts)
+
+
+def of_short_iso(lines: Iterator[bytes], counts: Counts) -> Iterator[Line]:
+    """`journalctl -o short-iso` and `-o short-iso-precise`."""
+    for text in lines:
+        found = SHORT_ISO.match(text)
+        moment = None if found is None else moment_of_iso(found[1].decode())
+        if found is None or moment is None:
+            if not text.startswith((b"-- ", b" ", b"\t")):
+                counts.foreign += bool(text.strip())
+            yield Line(None, text)
+            continue
+        yield Line(moment, text[found.end():], found[3].decode("utf-8", "replace"), int(found[4] or 0),
+                   found[2].decode("utf-8", "replace"))
+
+
+def of_syslog(lines: Iterator[bytes], counts: Counts, klog: Klog) -> Iterator[Line]:
+    """`journalctl` without a word, with -o short-precise, and syslog: moments without a year and a zone."""
+    for text in lines:
+        found = SYSLOG.match(text)
+        if found is None or found[1] not in MONTHS:
+            counts.foreign += bool(text.strip()) and not text.startswith((b"-- ", b" ", b"\t"))
+            yield Line(None, text)
+            continue
+        day, hour, minute, second = map(int, found.group(2, 3, 4, 5))
+        moment = klog.moment(MONTHS[found[1]], day, hour, minute, second, float(b"0." + (found[6] or b"0")))
+        yield Line(moment, text[found.end():], found[8].decode("utf-8", "replace"), int(found[9] or 0),
+                   found[7].decode("utf-8", "replace"))
+
+
+def of_container(lines: Iterator[bytes], _counts: Counts) -> Iterator[Line]:
+    """What a runtime keeps of a kubelet in a container, or `kubectl logs --timestamps` gives."""
+    for text in lines:
+        found = CONTAINER.match(text) or STAMPED.match(text)
+        yield Line(None if found is None else moment_of_iso(found[1].decode()),
+                   text if found is None else text[found.end():])
+
+
+def of_plain(blocks: Iterator[list[bytes]], is_skipped: Callable[[bytes], bool]) -> Iterator[Line]:
+    """A log as the process writes it, whose messages have their moments. In place of messages that are not read, which
+    most are, there is one line."""
+    has_skipped = False
+    for lines in blocks:
+        for text in lines:
+            if is_skipped(text):
+                has_skipped = True
+                continue
+            if has_skipped:
+                has_skipped = False
+                yield SKIPPED
+            yield Line(None, text)
+
+
+def form_of(head: bytes) -> str:
+    """The name of the form that a journal has that begins so."""
+    lines = [line for line in head.split(b"\n")[:200] if line.strip() and not line.startswith(b"-- ")]
+    for line in lines[:20]:
+        if line.startswith(b"{") and b'"__REALTIME_TIMESTAMP"' in line:
+            return "json"
+        if EXPORTED.match(line):
+            return "export"
+        if SHORT_ISO.match(line):
+            return "short-iso"
+        if CONTAINER.match(line) or STAMPED.match(line):
+            return "container"
+        if SYSLOG.match(line):
+            return "syslog"
+    return "plain"
+
+
+# --- files ---
+
+
+class Journal:
+    """A file of a journal, which may be packed, or standard input. Its lines are in the order of their moments."""
+
+    def __init__(self, path: str, counts: Counts) -> None:
+        self.path = path
+        self.counts = counts
+        self.name = "standard input" if path == STANDARD_INPUT else f"'{path}'"
+        self.file: Any
+        self.file, self.written = self.opened()
+        self.head = self.peeked()
+        self.form = form_of(self.head)
+
+    def opened(self) -> tuple[BinaryIO, float]:
+        """The file, and when it was written last."""
+        if self.path == STANDARD_INPUT:
+            return sys.stdin.buffer, time.time()
+        try:
+            descriptor = os.open(self.path, os.O_RDONLY | os.O_CLOEXEC)
+            return os.fdopen(descriptor, "rb"), os.fstat(descriptor).st_mtime
+        except OSError as fault:
+            raise entry.Fault(f"{self.name} can't be read: {fault.strerror}") from None
+
+    def peeked(self) -> bytes:
+        """What it begins with, unpacked."""
+        try:
+            self.file = buffered(self.file)
+            if self.file.peek(2)[:2] == packed.GZIP:
+                self.file = buffered(gzip.GzipFile(fileobj=self.file))
+            return self.file.peek(LOOKED_AT)[:LOOKED_AT]
+        except packed.DAMAGES as fault:
+            raise entry.Fault(f"{self.name} can't be read: {why(fault)}") from None
+
+    def lines(self, klog: Klog, is_skipped: Callable[[bytes], bool]) -> Iterator[Line]:
+        """Its lines; one behind which the file can't be read further ends it, which is kept."""
+        try:
+            yield from self.read(klog, is_skipped)
+        except packed.DAMAGES as fault:
+            self.counts.faults.append(f"{self.name} can't be read to its end: {why(fault)}")
+
+    def read(self, klog: Klog, is_skipped: Callable[[bytes], bool]) -> Iterator[Line]:
+        if self.form == "export":
+            return of_export(self.file, self.counts)
+        blocks = blocks_of(self.file, self.counts)
+        if self.form == "plain":
+            return of_plain(blocks, is_skipped)
+        lines = itertools.chain.from_iterable(blocks)
+        if self.form == "syslog":
+            return of_syslog(lines, self.counts, klog)
+        readers = {"json": of_json, "short-iso": of_short_iso, "container": of_container}
+        return readers[self.form](lines, self.counts)
+
+
+def buffered(file: Any) -> Any:
+    """A file of which one can see how it goes on."""
+    return io.BufferedReader(file, LOOKED_AT)
+
+
+def why(fault: BaseException) -> str:
+    return getattr(fault, "strerror", None) or str(fault)
+
+
+def merged(sources: list[Iterator[Any]]) -> Iterator[Any]:
+    """What several sources have, by their moments."""
+    return sources[0] if len(sources) == 1 else iter(heapq.merge(*sources, key=lambda each: each.at))

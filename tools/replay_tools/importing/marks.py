@@ -1,0 +1,45 @@
+"""What stands beside what the formats read in an imported trace: what was guessed, and what the kubelet said."""
+
+from __future__ import annotations
+
+from typing import Any
+
+from replay_tools.record.asides import Asides
+
+CODE, MOMENT, CONTAINER, MANIFEST = "exitCode", "moment", "container", "manifest"
+
+
+def is_code_known(listing: dict[str, Any]) -> bool:
+    """Whether the code of an exit that a tick lists, or says of the instance before, is one that was seen."""
+    guessed = listing.get("guessed")
+    return not (isinstance(guessed, list) and CODE in guessed)
+
+
+class ImportedAsides(Asides):
+    """Those of a recording, with the parts of an instance's exit and start that were guessed."""
+
+    def __init__(self) -> None:
+        super().__init__()
+        self.guessed: dict[tuple[str, str, int], tuple[str, ...]] = {}
+
+    def of_listing(self, uid: str, name: str, listing: Any) -> dict[str, Any]:
+        """That a code is guessed stands in each tick that has it, as a reason does; the other marks of an instance in
+        the first tick of each of its states."""
+        said = super().of_listing(uid, name, listing)
+        marks = self.guessed.get((uid, name, listing.attempt), ())
+        if listing.exit_code is None:
+            marks = tuple(mark for mark in marks if mark != CODE)
+        if not self.is_new((uid, name, "guessed"), (listing.attempt, listing.state)):
+            marks = tuple(mark for mark in marks if mark == CODE)
+        if marks:
+            said["guessed"] = list(marks)
+        before = listing.ended
+        if before is not None and "ended" in said:
+            of_end = [mark for mark in self.guessed.get((uid, name, before.attempt), ()) if mark != MOMENT]
+            if of_end:
+                said["ended"]["guessed"] = of_end
+        return said
+
+    def depart(self, uid: str) -> None:
+        super().depart(uid)
+        self.guessed = {place: marks for place, marks in self.guessed.items() if place[0] != uid}

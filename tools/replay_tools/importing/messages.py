@@ -1,0 +1,128 @@
+"""Messages of a kubelet: klog's, as text of both kinds and as JSON, with the lines that continue them."""
+
+from __future__ import annotations
+
+import math
+import re
+from collections.abc import Callable, Iterator
+from dataclasses import dataclass, field
+from typing import Any
+
+from replay_tools import outside
+
+from .journals import SKIPPED, Line
+from .moments import Klog
+
+HEADER = re.compile(rb"([IWEF])(\d\d)(\d\d) (\d\d):(\d\d):(\d\d)\.(\d{1,9}) +(\d+) [^\]\s]{1,200}:\d+\] ")
+# key="value" or key=value behind a quoted message; a value may have blanks in brackets
+KEY = re.compile(r' ([A-Za-z][\w./-]*)=("(?:[^"\\]|\\.)*"|\{[^\n]*?\}(?= [A-Za-z][\w./-]*=|$)|\[[^\]\n]*\]'
+                 r"|&?\{[^}\n]*\}|<\n(?:\t[^\n]*\n)* *>|[^\s]*)")
+QUOTED = re.compile(r'"((?:[^"\\]|\\.)*)"')
+ESCAPE = re.compile(r"\\(u[0-9a-fA-F]{4}|x[0-9a-fA-F]{2}|.)")
+ESCAPED = {"n": "\n", "t": "\t", "r": "\r", '"': '"', "\\": "\\"}
+# a message goes on for so many lines, of which the others are not read
+MOST_CONTINUED = 40
+
+
+@dataclass
+class Message:
+    """One message: its moment, the process that says it, its text up to its keys, and those. Plain text has no keys."""
+    at: float
+    process: int
+    text: str
+    keys: dict[str, Any] = field(default_factory=dict)
+    node: str = ""
+    is_structured: bool = False
+    is_own_moment: bool = False
+
+
+def unquoted(text: str) -> str:
+    """A text as Go quotes it."""
+    return ESCAPE.sub(lambda found: unescaped(found[1]), text) if "\\" in text else text
+
+
+def unescaped(what: str) -> str:
+    if what[0] in "ux" and len(what) > 1:
+        return chr(int(what[1:], 16))
+    return ESCAPED.get(what, what)
+
+
+def split(text: str) -> tuple[str, dict[str, Any], bool]:
+    """A message's text, its keys and whether it has the form that has keys."""
+    found = QUOTED.match(text)
+    if found is None:
+        return text, {}, False
+    keys: dict[str, Any] = {}
+    for name, value in KEY.findall(text, found.end()):
+        keys[name] = unquoted(value[1:-1]) if value.startswith('"') else value
+    return unquoted(found[1]), keys, True
+
+
+def json_message(text: bytes, line: Line) -> Message | None:
+    """A message of `--logging-format json`."""
+    record = outside.json_of(text)
+    if not isinstance(record, dict) or not isinstance(record.get("msg"), str):
+        return None
+    stamp = record.get("ts")
+    moment = line.moment
+    if moment is None and isinstance(stamp, (int, float)) and not isinstance(stamp, bool):
+        # milliseconds since 1970, with a fraction or without
+        moment = stamp / 1000 if stamp > 1e11 else float(stamp)
+    if moment is None or not math.isfinite(moment) or outside.moment(int(moment)) is None:
+        return None
+    keys = {name: value for name, value in record.items() if name not in ("ts", "caller", "msg", "v")}
+    return Message(moment, line.process, record["msg"], keys, line.node, True)
+
+
+def text_message(text: bytes, line: Line, klog: Klog) -> Message | None:
+    """A message of klog's text; None of a line that is none."""
+    found = HEADER.match(text)
+    if found is None:
+        return None
+    month, day, hour, minute, second = map(int, found.groups()[1:6])
+    own = klog.moment(month, day, hour, minute, second, float(b"0." + found[7]))
+    moment = own if line.moment is None else line.moment
+    if moment is None:
+        return None
+    said = text[found.end():].decode("utf-8", "replace")
+    return Message(moment, int(found[8]), said, {}, line.node, False, line.moment is None)
+
+
+def messages_of(lines: Iterator[Line], klog: Klog, is_skipped: Callable[[bytes], bool]) -> Iterator[Message | Line]:
+    """The messages of a journal that are wanted, and the lines that are no kubelet's, as they are."""
+    held: Message | None = None
+    continued = 0
+    for line in lines:
+        text = line.text
+        if line is SKIPPED or is_skipped(text):
+            if held is not None:
+                yield finished(held)
+                held = None
+            continue
+        made: Any = json_message(text, line) if text.startswith(b"{") else text_message(text, line, klog)
+        if made is None and held is not None and is_continuation(line, held):
+            continued += 1
+            if continued <= MOST_CONTINUED:
+                held.text += "\n" + text.decode("utf-8", "replace")
+            continue
+        if held is not None:
+            yield finished(held)
+            held = None
+        if made is None:
+            if text.strip():
+                yield line
+            continue
+        held, continued = made, 0
+    if held is not None:
+        yield finished(held)
+
+
+def is_continuation(line: Line, held: Message) -> bool:
+    """Whether a line that is no message of its own goes on with the one before."""
+    return line.moment is None or (line.process == held.process and line.moment - held.at < 1)
+
+
+def finished(message: Message) -> Message:
+    if not message.is_structured and message.text.startswith('"'):
+        message.text, message.keys, message.is_structured = split(message.text)
+    return message

@@ -1,0 +1,189 @@
+"""Where all pods of a journal are placed: the seconds of a trace, with what stands beside what the formats read."""
+
+from __future__ import annotations
+
+import json
+import re
+from collections import Counter, defaultdict
+from collections.abc import Iterator
+from typing import Any, Optional, TYPE_CHECKING
+
+from replay_tools.record.formats import MOST_PODS, shown
+from replay_tools.record.lines import Format, extended, line_of
+from replay_tools.record.timeline import Timeline
+from replay_tools.traces import SIGNALS
+
+from . import marks
+from .marks import ImportedAsides
+
+if TYPE_CHECKING:
+    from replay_tools.record.pods import Pod
+
+    from .lives import Life
+
+# a tick stands at least so often
+EVERY = 10
+# the seconds behind one in which something may still be placed
+LATE_SECONDS = 60
+# a member of a pod's entry: what the kubelet said
+SAID, FAILED = "said", "failed"
+MOST_SAID = 20
+POD_LINE = '{"kind":"pod"'
+TICK_AT = re.compile(r'\{"kind":"tick","at":(\d+),')
+
+
+class Placing:
+    """The ticks that are not written yet, and the members that are put into their lines."""
+
+    def __init__(self, every: int = EVERY, most_pods_at_once: bool = False) -> None:
+        self.format: Format = extended()
+        self.is_at_once = most_pods_at_once
+        self.timeline = Timeline(self.format)
+        self.timeline.asides = ImportedAsides()
+        self.every = every
+        # which of the probes have their successes in the journal
+        self.told_probes: set[str] = set()
+        self.has_successes = False
+        self.rounds: set[int] = set()
+        self.beside: dict[str, list[tuple[int, str, Any]]] = defaultdict(list)
+        self.gaps: list[tuple[int, dict[str, int]]] = []
+        self.spared: dict[str, bool] = {}
+        self.templates: dict[str, bool] = {}
+        self.gone_at: dict[str, int] = {}
+        self.counts: Counter[str] = Counter()
+        self.named: dict[str, set[str]] = defaultdict(set)
+        self.written_at: Optional[int] = None
+
+    # --- what is placed ---
+
+    def count(self, what: str, name: str = "") -> None:
+        self.counts[what] += 1
+        if name and len(self.named[what]) < 10:
+            self.named[what].add(name)
+
+    def is_silent(self, probe: str) -> bool:
+        """Whether a success of a probe has no line of its own."""
+        return not self.has_successes and probe not in self.told_probes
+
+    def mark(self, life: Life, name: str, attempt: int, *found: list[str]) -> None:
+        """Notes what of an instance was guessed."""
+        guessed = self.timeline.asides.guessed  # type: ignore[attr-defined]
+        place = str(life.pod and life.pod.uid), name, attempt
+        new = tuple(mark for mark in dict.fromkeys([*guessed.get(place, ()), *(one for each in found for one in each)]))
+        if new:
+            guessed[place] = new
+
+    def has_room(self, life: Life) -> bool:
+        """Whether a trace can have one more pod; of traces one behind the other each has those that are there."""
+        present = len(self.timeline.present) + sum(len(tick.arrivals) - len(tick.departures)
+                                                   for tick in self.timeline.ticks.values())
+        if (present if self.is_at_once else self.counts["pods"]) < MOST_PODS:
+            return True
+        self.count("pods left out", life.key)
+        return False
+
+    def arrive(self, life: Life) -> int:
+        """The second of a pod's line, behind that in which the one before it under its name went."""
+        self.count("pods")
+        self.spared[life.key], self.templates[life.key] = life.is_spared, life.is_template
+        return self.timeline.place_arrival(life.pod, max(life.added_at, self.gone_at.get(life.key, -1) + 1.0))
+
+    def depart(self, life: Life, moment: float) -> None:
+        self.gone_at[life.key] = self.timeline.place_departure(life.pod, moment)
+
+    def decide(self, life: Life, pod: Pod) -> int:
+        """What the kubelet did to a pod; the second of its tick. The node has ended the pod with the tick of the first
+        exit behind which none of its containers started."""
+        assert pod.decision is not None
+        second = self.timeline.place_decision(pod, pod.decision.moment, life)  # type: ignore[arg-type]
+        ends = [self.timeline.last_placed.get((pod.uid, name, "listing"), second) for name in life.ended_since()]
+        self.beside[life.key].append((min([second, *ends]), FAILED, pod.decision.reason))
+        self.count(f"pods {pod.decision.kind}")
+        return second
+
+    def say(self, key: str, at: float, said: dict[str, Any]) -> None:
+        """What the kubelet said of a pod, which stands in the first tick from then on."""
+        self.beside[key].append((int(at), SAID, {"at": int(at), **said}))
+
+    def sample(self, at: float, signal: str, available: int) -> None:
+        """A round of the eviction manager has its own observations."""
+        if signal in SIGNALS:
+            self.timeline.place_signal(at, signal, available, True)
+
+    def judge(self, at: float) -> None:
+        self.rounds.add(int(at))
+
+    def gap(self, since: float, until: float) -> None:
+        """Nothing is known of the time between; a tick stands at its end."""
+        self.timeline.place_look(until)
+        self.gaps.append((int(until), {"since": int(since), "until": int(until)}))
+
+    # --- what is written ---
+
+    def due(self, before: float) -> Iterator[tuple[list[str], bool]]:
+        """The lines of all seconds before one, each with its members."""
+        self.fill(before)
+        for lines, has_tick in self.timeline.due(before):
+            yield [self.with_members(line) for line in lines], has_tick
+
+    def fill(self, before: float) -> None:
+        """Ticks where nothing happened for some time."""
+        wanted = sorted(second for second, tick in self.timeline.ticks.items() if tick.is_wanted and second < before)
+        latest = self.written_at
+        for second in wanted:
+            while latest is not None and second - latest > self.every:
+                latest += self.every
+                self.timeline.place_look(latest)
+            latest = second
+        while latest is not None and before != float("inf") and before - latest > self.every:
+            latest += self.every
+            self.timeline.place_look(latest)
+        self.written_at = latest
+
+    def with_members(self, line: str) -> str:
+        """A line with the members that are not the timeline's."""
+        if line.startswith(POD_LINE):
+            return self.pod_with_members(json.loads(line))
+        found = TICK_AT.match(line)
+        return line if found is None else self.tick_with_members(line, int(found[1]))
+
+    def pod_with_members(self, fields: dict[str, Any]) -> str:
+        metadata = fields["pod"]["metadata"]
+        key = f"{metadata['namespace']}/{metadata['name']}"
+        more = {"spared": True} if self.spared.get(key) else {}
+        guessed = {"guessed": [marks.MANIFEST]} if self.templates.get(key) else {}
+        return line_of({**fields, **more, **guessed})
+
+    def tick_with_members(self, line: str, at: int) -> str:
+        """A tick's line; it is read anew only where something was said of a pod."""
+        more: dict[str, Any] = {} if at in self.rounds else {"judged": False}
+        self.rounds.discard(at)
+        gaps = [gap for second, gap in self.gaps if second <= at]
+        if gaps:
+            more["gap"] = gaps[-1]
+            self.gaps = [each for each in self.gaps if each[0] > at]
+        due = [key for key, rows in self.beside.items() if any(row[0] <= at for row in rows)]
+        if due:
+            return line_of({**self.with_rows(json.loads(line), due, at), **more})
+        return f"{line[:-1]},{shown(more)[1:]}" if more else line
+
+    def with_rows(self, fields: dict[str, Any], due: list[str], at: int) -> dict[str, Any]:
+        entries = {each["pod"]: each for each in fields["pods"]}
+        present = {pod.key for pod in self.timeline.present}
+        for key in due:
+            rows = self.beside[key]
+            self.beside[key] = [row for row in rows if row[0] > at]
+            if not self.beside[key]:
+                del self.beside[key]
+            if key in present or key in entries:
+                entry = entries.setdefault(key, {"pod": key, "containers": []})
+                self.take_rows(entry, [row for row in rows if row[0] <= at])
+        return {**fields, "pods": list(entries.values())}
+
+    @staticmethod
+    def take_rows(entry: dict[str, Any], rows: list[tuple[int, str, Any]]) -> None:
+        for _, member, value in rows:
+            if member == FAILED:
+                entry[FAILED] = value
+            elif len(entry.setdefault(SAID, [])) < MOST_SAID:
+                entry[SAID].append(value)

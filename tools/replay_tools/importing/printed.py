@@ -1,0 +1,181 @@
+"""Messages of kubelets up to 1.20, which are sentences: each form with the fact that it says."""
+
+from __future__ import annotations
+
+import re
+from collections.abc import Callable, Iterator
+
+from replay_tools import amounts, outside
+
+from . import facts
+from .messages import Message
+from .references import id_of, placed, placed_in
+from .statuses import of_printed, of_status
+
+LOOP = re.compile(r'SyncLoop \((ADD|DELETE|REMOVE), "(\w+)"\): (.*)', re.S)
+PLEG = re.compile(r'SyncLoop \(PLEG\): (?:"(?P<pod>[^"]*)", event|ignore irrelevant event): '
+                  r'&pleg\.PodLifecycleEvent\{ID:"(?P<uid>[^"]*)", Type:"(?P<type>\w+)", Data:"(?P<id>\w*)"\}')
+PROBE = re.compile(r'(Readiness|Liveness|Startup) probe for "([^"]*\)):([^"]*)" '
+                   r"(?:(succeeded)|failed \((\w+)\): ?(.*))", re.S)
+KILLING = re.compile(r'Killing container "\w+://(\w+)" with a (\d{1,9}) second grace period')
+RESTARTED = re.compile(r'Container "([^"]*)" \(\{"\w+" "(\w+)"\}\) of pod (\S+): (.*)', re.S)
+WAITING = re.compile(r'failed to "(\w+)" for "([^"]*)" with (\w+): "((?:[^"\\]|\\.)*)"')
+MADE = re.compile(r"container: ([a-z0-9][-a-z0-9]{0,62})/([-.a-z0-9]{1,253})/([a-z0-9][-a-z0-9]{0,62}) podIPs: ")
+PATCH = re.compile(r'Patch status for pod "([^"]*)" with ("(?:[^"\\]|\\.)*")')
+OBSERVED = re.compile(r"observations: signal=([\w.]+), available: ([^,\s]+), capacity: ([^,\s]+)")
+RESOURCE = re.compile(r"attempting to reclaim ([-\w]+)")
+REFUSED = re.compile(r"Failed to admit pod (\S+) - node has conditions: \[([A-Za-z, ]{0,200})\]")
+SANDBOX = re.compile(r'Created PodSandbox "(\w+)" for pod "([^"]*)"')
+READINESS = re.compile(r'Container (?:readiness|startup) unchanged \(\w+\): "([^"]*)" - "\w+://(\w+)"')
+NODE = re.compile(r'FLAG: --hostname-override="([^"]+)"'
+                  r"|(?:Attempting to register|Successfully registered) node ([-.a-z0-9]+)")
+NAMED = re.compile(r'(?:killContainer|failed to remove pod init container) "([^"]*)".{0,300}?'
+                   r'(?:\{"\w+" |container )"([0-9a-f]{12,64})"')
+TYPES = {"ContainerStarted": facts.STARTED, "ContainerDied": facts.DIED}
+WHERE = {"ADD": facts.Added, "DELETE": facts.Deleted, "REMOVE": facts.Removed}
+
+
+def of_loop(message: Message) -> Iterator[facts.Fact]:
+    found = LOOP.match(message.text)
+    if found is not None:
+        for pod in placed(found[3]):
+            yield facts.Added(message.at, pod, found[2]) if found[1] == "ADD" else WHERE[found[1]](message.at, pod)
+        return
+    found = PLEG.match(message.text)
+    if found is not None and found["type"] in TYPES and id_of(found["id"]) is not None:
+        pod = placed_in(found["pod"] or "") or facts.Reference(None, found["uid"])
+        yield facts.Turned(message.at, pod, found["id"], TYPES[found["type"]])
+
+
+def of_probe(message: Message) -> Iterator[facts.Fact]:
+    found = PROBE.match(message.text)
+    pod = None if found is None else placed_in(found[2])
+    # what errored says nothing of the container, and is no result
+    if found is not None and pod is not None and outside.is_label(found[3]) and (found[4] or found[5] == "failure"):
+        yield facts.Probed(message.at, pod, found[3], found[1].lower(), "success" if found[4] else "failure",
+                           found[6] or "")
+
+
+def of_killing(message: Message) -> Iterator[facts.Fact]:
+    found = KILLING.match(message.text)
+    if found is not None and id_of(found[1]) is not None:
+        yield facts.Killing(message.at, found[1], grace=int(found[2]))
+
+
+def of_container(message: Message) -> Iterator[facts.Fact]:
+    found = RESTARTED.match(message.text)
+    if found is not None and id_of(found[2]) is not None and outside.is_label(found[1]):
+        pod = placed_in(found[3]) or facts.Reference()
+        yield facts.Known(message.at, found[2], pod, found[1])
+        yield facts.Killing(message.at, found[2], pod, found[1], why=found[4])
+    found = READINESS.match(message.text)
+    if found is not None and (pod := placed_in(found[1])) is not None and id_of(found[2]) is not None:
+        yield facts.Known(message.at, found[2], pod)
+
+
+def of_made(message: Message) -> Iterator[facts.Fact]:
+    found = MADE.match(message.text)
+    if found is not None and outside.is_name(found[2]):
+        yield facts.Created(message.at, facts.Reference(f"{found[1]}/{found[2]}"), found[3])
+
+
+def of_error(message: Message) -> Iterator[facts.Fact]:
+    pod = placed_in(message.text)
+    yield from waits_in(message.at, pod, message.text)
+
+
+def waits_in(at: float, pod: facts.Reference | None, text: str) -> Iterator[facts.Fact]:
+    """The containers that an error of a pod's sync names, and why they wait."""
+    for verb, container, reason, said in WAITING.findall(text):
+        if pod is not None and verb == "StartContainer" and outside.is_label(container):
+            yield facts.Waits(at, pod, container, reason, said.replace('\\"', '"'))
+
+
+def of_pod(message: Message) -> Iterator[facts.Fact]:
+    if "ExitCode:" in message.text:
+        yield from of_printed(message.at, placed_in(message.text) or facts.Reference(), message.text)
+
+
+def of_patch(message: Message) -> Iterator[facts.Fact]:
+    found = PATCH.match(message.text)
+    pod = None if found is None else placed_in(found[1])
+    if found is None or pod is None:
+        return
+    status = patched(outside.json_of(found[2]))
+    yield from of_status(message.at, pod, status)
+
+
+def patched(text: object) -> object:
+    """The status of a patch, which is JSON in a text."""
+    patch = outside.json_of(text) if isinstance(text, str) else text
+    return patch.get("status") if isinstance(patch, dict) else None
+
+
+def of_eviction(message: Message) -> Iterator[facts.Fact]:
+    text = message.text
+    if (found := OBSERVED.search(text)) is not None:
+        yield facts.Observed(message.at, found[1], amount(found[2]), amount(found[3]))
+    elif (found := RESOURCE.search(text)) is not None:
+        yield facts.Reclaims(message.at, found[1])
+    elif "synchronize housekeeping" in text:
+        yield facts.Observed(message.at)
+    elif "pods ranked for eviction:" in text:
+        yield facts.Ranked(message.at, tuple(placed(text)))
+    elif "is evicted successfully" in text:
+        yield from (facts.Evicted(message.at, pod) for pod in placed(text))
+    elif "successfully cleaned up" in text:
+        yield from (facts.Evicted(message.at, pod, True) for pod in placed(text))
+
+
+def amount(text: str) -> int | None:
+    """A quantity in whole units; None where it is none."""
+    try:
+        return amounts.quantity(text) // 1000
+    except (ValueError, TypeError):
+        return None
+
+
+def of_refusal(message: Message) -> Iterator[facts.Fact]:
+    found = REFUSED.match(message.text)
+    pod = None if found is None else placed_in(found[1])
+    if found is not None and pod is not None:
+        yield facts.Refused(message.at, pod, found[2])
+
+
+def of_sandbox(message: Message) -> Iterator[facts.Fact]:
+    found = SANDBOX.match(message.text)
+    if found is not None and id_of(found[1]) is not None:
+        yield facts.Known(message.at, found[1], placed_in(found[2]) or facts.Reference(), is_sandbox=True)
+
+
+def of_node(message: Message) -> Iterator[facts.Fact]:
+    found = NODE.match(message.text)
+    name = None if found is None else found[1] or found[2]
+    if name is not None and outside.is_name(name):
+        yield facts.NodeName(message.at, name)
+
+
+def of_named(message: Message) -> Iterator[facts.Fact]:
+    """An error that has both the name of a container and an id."""
+    found = NAMED.match(message.text)
+    if found is not None and outside.is_label(found[1]) and id_of(found[2]) is not None:
+        yield facts.Known(message.at, found[2], placed_in(message.text) or facts.Reference(), found[1])
+
+
+def of_started(message: Message) -> Iterator[facts.Fact]:
+    if message.text.startswith("Started kubelet"):
+        yield facts.Begun(message.at)
+
+
+def of_kernel(message: Message) -> Iterator[facts.Fact]:
+    if message.text.startswith("Got sys oom event") and " m=-" not in message.text:
+        yield facts.OutOfMemory(message.at)
+
+
+# by the first word of a message
+FORMS: dict[str, Callable[[Message], Iterator[facts.Fact]]] = {
+    "SyncLoop": of_loop, "Readiness": of_probe, "Liveness": of_probe, "Startup": of_probe, "Killing": of_killing,
+    "Container": of_container, "container:": of_made, "Error": of_error, "Pod": of_pod, "Status": of_pod,
+    "Ignoring": of_pod, "Patch": of_patch, "eviction": of_eviction, "Failed": of_refusal, "Created": of_sandbox,
+    "FLAG:": of_node, "Attempting": of_node, "Successfully": of_node, "Started": of_started, "killContainer": of_named,
+    "failed": of_named, "Got": of_kernel}

@@ -1,0 +1,62 @@
+"""Results of probes. A failure has a line from -v=1 on, a success from -v=3 on; below that a probe whose period passes
+without a line has succeeded. Of these successes those are made that change something."""
+
+from __future__ import annotations
+
+from collections.abc import Iterator
+from typing import Optional
+
+from replay_tools.record.probes import Result
+
+SUCCESS, FAILURE = "success", "failure"
+# the kubelet knows of a start once its look has found it
+LOOK_SECONDS = 0.1
+MOST_SUCCESSES = 1000
+
+
+class Probing:
+    """One probe of one container: what its results have come to, and when its next one is due."""
+
+    def __init__(self, probe: str, period: int, delay: int, wanted: int) -> None:
+        self.probe = probe
+        self.period = max(period, 1)
+        self.delay = delay
+        self.wanted = min(max(wanted, 1), MOST_SUCCESSES)
+        # a moment at which it came, as far as one is known
+        self.phase: Optional[float] = None
+        self.due: Optional[float] = None
+        self.successes = 0
+
+    def start(self, started: float, seen: float) -> None:
+        """An instance runs; its first result comes with the first period behind its delay."""
+        self.successes = 0
+        self.due = self.first_behind(max(seen + LOOK_SECONDS, started + self.delay))
+
+    def end(self) -> None:
+        self.due = None
+
+    def first_behind(self, moment: float) -> float:
+        if self.phase is None:
+            return moment + self.period / 2
+        return self.phase + -(-(moment - self.phase) // self.period) * self.period
+
+    def take(self, result: str, moment: float) -> bool:
+        """Takes a result that a line has; whether it changes something."""
+        self.phase = moment
+        if self.due is not None:
+            self.due = moment + self.period
+        if result != SUCCESS:
+            self.successes = 0
+            return result == FAILURE
+        self.successes += 1
+        return self.successes <= self.wanted
+
+    def silent(self, until: float) -> Iterator[Result]:
+        """The successes without a line that were due by a moment, up to those that are wanted."""
+        while self.due is not None and self.due <= until and self.successes < self.wanted:
+            self.successes += 1
+            yield Result(self.due, self.probe, SUCCESS)
+            self.due += self.period
+        if self.due is not None and self.due <= until:
+            self.due = self.first_behind(until) if self.phase is not None else self.due + self.period * (
+                1 + (until - self.due) // self.period)

@@ -1,0 +1,149 @@
+"""Runs the importer: from the words to the lines that are written."""
+
+from __future__ import annotations
+
+import sys
+import tempfile
+import time
+from argparse import Namespace
+
+from replay_tools import entry, outside
+from replay_tools.joined import asked
+from replay_tools.record.formats import name_fault
+from replay_tools.record.program import Ended
+
+from . import cluster, events, manifests, moments, reading, summary
+from .importer import Importer, refuse_strangers
+from .journals import STANDARD_INPUT, Counts, Journal, merged
+from .moments import Klog
+from .placing import Placing
+from .progress import Progress
+from .writing import Folded, Plain, Writer
+
+
+MOST_NOTES = 100
+SINCE = "1h"
+
+
+def run(words: Namespace) -> int:
+    """Imports what the words name, or what the cluster answers of a node; the status."""
+    if not words.named:
+        if words.since is not None or words.context is not None:
+            raise entry.Fault("--since and --context go with NODE (--help says more)")
+        return imported(words)
+    if len(words.named) > 1 or words.journal or words.node is not None:
+        raise entry.Fault("it takes one NODE, or --journal and --node in its place (--help says more)")
+    [node] = words.named
+    if name_fault(node) is not None:
+        raise entry.Fault(f"NODE is a node's name, not '{node}'")
+    since = asked.since_of(words.since or SINCE, time.time())
+    with tempfile.TemporaryDirectory(prefix="import-") as folder:
+        found = cluster.fetch(folder, node, since, words.context)
+        words.node, words.journal, words.pods = node, [found.journal], [found.pods, *words.pods]
+        words.events = [found.events, *words.events] if found.events else words.events
+        try:
+            return imported(words)
+        except Nothing:
+            raise entry.Fault(f"what the cluster answers is no log of the kubelet of {node}", 1,
+                              cluster.instead(node, since)) from None
+
+
+class Nothing(entry.Fault):
+    """No line of the journals was understood."""
+
+
+def imported(words: Namespace) -> int:
+    """Imports journals; the status."""
+    shift = zone_of(words.zone)
+    if words.node is not None and name_fault(words.node) is not None:
+        raise entry.Fault(f"--node takes a node's name, not '{words.node}'")
+    known = manifests_of(words)
+    journals = journals_of(words)
+    writer: Writer = Plain(sys.stdout) if words.into is None else Folded(words.into, words.each, entry.say)
+    placing = Placing(most_pods_at_once=words.into is not None)
+    notes = Notes()
+    importer = Importer(known, placing, notes)
+    found, readers = reading.read_all(journals, lambda journal: Klog(words.year, shift, journal.written), words.node)
+    happened = events.read_all(words.events)
+    stream = merged([found, happened]) if words.events else found
+    progress = Progress(journals)
+    try:
+        for lines, has_tick in importer.take_all(progress.over(stream)):
+            if not writer.is_begun:
+                refuse_strangers(importer)
+                writer.begin(summary.node_line(importer, name_of(words, importer, known)))
+            writer.write(lines, has_tick)
+        refuse_nothing(importer, journals)
+        progress.end()
+        writer.end()
+    except Ended as ended:
+        progress.end()
+        writer.end()
+        if ended.status:
+            raise entry.Fault(str(ended.reason), ended.status) from None
+        entry.say(f"{ended.reason}; --into writes several")
+    for line in notes.said:
+        entry.say(line)
+    for line in summary.lines_of(importer, readers, reading.all_counts(journals), words):
+        entry.say(line)
+    return 0
+
+
+class Notes:
+    """What is said at the end, once of each text: where nothing is written that alone is said."""
+
+    def __init__(self) -> None:
+        self.said: dict[str, None] = {}
+
+    def __call__(self, text: str, *_: object) -> None:
+        if len(self.said) < MOST_NOTES:
+            self.said[text] = None
+
+
+def zone_of(text: str | None) -> int:
+    shift = moments.shift_of(text)
+    if shift is None:
+        raise entry.Fault(f"--zone takes a zone as +02:00 or Z, not '{text}'")
+    return shift
+
+
+def manifests_of(words: Namespace) -> manifests.Manifests:
+    """What --pods and --audit have."""
+    known = manifests.Manifests()
+    for word, paths in (("--pods", words.pods), ("--audit", words.audit)):
+        for path in paths:
+            before = known.taken
+            for value in manifests.read(path, word):
+                known.take(value)
+            if known.taken == before and word == "--pods":
+                raise entry.Fault(f"--pods: '{path}' has no manifest of a pod, or of what owns one")
+    return known
+
+
+def journals_of(words: Namespace) -> list[Journal]:
+    paths = words.journal or [STANDARD_INPUT]
+    if STANDARD_INPUT in paths and entry.standard_input().isatty():
+        raise entry.Fault("it wants a journal: --journal FILE, or one on standard input (--help says more)")
+    if len(set(paths)) < len(paths):
+        raise entry.Fault("--journal has a file twice (--help says more)")
+    return [Journal(path, Counts()) for path in paths]
+
+
+def name_of(words: Namespace, importer: Importer, known: manifests.Manifests) -> str:
+    """The node's name: as it was given, as lines have it, or as all manifests do."""
+    nodes = known.nodes if len(known.nodes) == 1 else set()
+    name = words.node or importer.node or next(iter(nodes), None)
+    if name is None or not outside.is_name(name):
+        raise entry.Fault("no line names the node: give --node NAME")
+    return str(name)
+
+
+def refuse_nothing(importer: Importer, journals: list[Journal]) -> None:
+    """Refuses journals of which nothing was understood."""
+    if importer.begun is None:
+        faults = [fault for journal in journals for fault in journal.counts.faults]
+        names = ", ".join(journal.name for journal in journals)
+        raise Nothing(faults[0] if faults else f"no line of {names} is a kubelet's or a runtime's", 1)
+    if not importer.placing.counts["met"]:
+        raise entry.Fault("the journal names no pod of the node", 1)
+

@@ -1,0 +1,66 @@
+"""Pods as lines name them."""
+
+from __future__ import annotations
+
+import re
+from collections.abc import Iterator
+from typing import Any
+
+from replay_tools import outside
+
+from .facts import Reference
+
+# n_ns(uid), as printf messages name a pod; a name has no underscore
+PLACED = re.compile(r"([a-z0-9][-.a-z0-9]{0,252})_([a-z0-9][-a-z0-9]{0,62})\(([-0-9A-Za-z]{1,64})\)")
+UID = re.compile(r"[-0-9A-Za-z]{1,64}")
+KEYED = re.compile(r"[a-z0-9][-a-z0-9]{0,62}/[a-z0-9][-.a-z0-9]{0,252}")
+ID = re.compile(r"[0-9a-f]{12,64}")
+
+
+def key_of(namespace: Any, name: Any) -> str | None:
+    """NAMESPACE/NAME, where both are what the formats take."""
+    if not (isinstance(name, str) and isinstance(namespace, str)):
+        return None
+    return f"{namespace}/{name}" if outside.is_name(name) and outside.is_label(namespace) else None
+
+
+def placed(text: str) -> Iterator[Reference]:
+    """The pods of a text that names them as n_ns(uid)."""
+    for name, namespace, uid in PLACED.findall(text):
+        key = key_of(namespace, name)
+        if key is not None:
+            yield Reference(key, uid)
+
+
+def placed_in(text: str) -> Reference | None:
+    """The first pod of a text."""
+    found = PLACED.search(text)
+    key = None if found is None else key_of(found[2], found[1])
+    return None if found is None or key is None else Reference(key, found[3])
+
+
+def reference_of(value: Any, uid: Any = None) -> Reference | None:
+    """A pod of a message with keys: ns/n, n_ns(uid), or an object with both names."""
+    uid = uid if isinstance(uid, str) and UID.fullmatch(uid) else None
+    if isinstance(value, dict):
+        key = key_of(value.get("namespace"), value.get("name"))
+    elif isinstance(value, str) and (found := placed_in(value)) is not None:
+        return found
+    else:
+        namespace, slash, name = str(value or "").partition("/")
+        key = key_of(namespace, name) if slash else None
+    return None if key is None and uid is None else Reference(key, uid)
+
+
+def references_of(value: Any) -> list[Reference]:
+    """The pods of a list, as a text or as JSON has one."""
+    if isinstance(value, list):
+        return [found for each in value if (found := reference_of(each)) is not None]
+    text = str(value or "")
+    return list(placed(text)) or [Reference(key) for key in KEYED.findall(text) if key_of(*key.split("/")) is not None]
+
+
+def id_of(text: Any) -> str | None:
+    """An id of the runtime's, as containerd://ID or as it is."""
+    found = str(text or "").rpartition("//")[2]
+    return found if ID.fullmatch(found) else None

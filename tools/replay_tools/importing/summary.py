@@ -1,0 +1,85 @@
+"""What is said of a journal at the end: what it had and what it lacked, by kind; and the node line."""
+
+from __future__ import annotations
+
+import time
+from argparse import Namespace
+from collections import Counter
+from typing import Any, TYPE_CHECKING
+
+from replay_tools import entry
+from replay_tools.traces import SIGNALS
+
+if TYPE_CHECKING:
+    from .importer import Importer
+    from .journals import Counts
+    from .reading import Reader
+
+# a kind of fact: what it is called, and what it means where there is none
+KINDS = {
+    "Turned": ("starts and exits", "no starts and exits: a kubelet writes them from -v=2 on, containerd and CRI-O in "
+               "their own journals (--journal)"),
+    "Killing": ("kills", None), "Probed": ("results of probes", None), "Waits": ("waits", None),
+    "Created": ("names of starts", None), "Deleted": ("deletions", None), "Happened": ("events", None),
+    "Evicted": ("lines of evictions", None), "Refused": ("refusals", None),
+    "Observed": ("observations of rounds", "no rounds of the eviction manager (a kubelet writes them from -v=3 on): "
+                 "no signals")}
+NAMED = 3
+
+
+def node_line(importer: Importer, name: str) -> dict[str, Any]:
+    """The node line. No threshold stands in it: without the pods' use of the node the rules would evict whom they
+    should not."""
+    capacity = {signal: importer.capacity[signal] for signal in SIGNALS if signal in importer.capacity}
+    line: dict[str, Any] = {"kind": "node", "version": importer.placing.format.version, "name": name,
+                            "capacity": capacity, "evictionHard": {}, "evictionsRecorded": True, "imported": True}
+    return line | ({"recordsKubelet": True} if importer.process is not None else {})
+
+
+def lines_of(importer: Importer, readers: list[Reader], counts: Counts, words: Namespace) -> list[str]:
+    """What is said, a line each."""
+    kinds, placed = importer.kinds, importer.placing.counts
+    span = f"{stamp(importer.begun)} to {stamp(importer.now)}"
+    had = [f"{called} {kinds[kind]}" for kind, (called, _) in KINDS.items() if kinds[kind]]
+    said = [f"{entry.counted(counts.lines, 'line')}, {counts.size / 1e6:.1f} MB, {span}: "
+            f"{entry.counted(placed['pods'], 'pod')}; {', '.join(had)}"]
+    if any(reader.uses_klog or reader.journal.form == "syslog" for reader in readers):
+        year = time.gmtime(importer.begun or 0).tm_year
+        said.append(f"its moments have neither a year nor a zone: taken as {words.year or year} and "
+                    f"{words.zone or 'UTC'} (--year, --zone)")
+    return said + lacking(importer, kinds, placed) + of_counts(counts)
+
+
+def stamp(moment: float | None) -> str:
+    return time.strftime("%Y-%m-%dT%H:%M:%SZ", time.gmtime(moment or 0))
+
+
+def lacking(importer: Importer, kinds: Counter[str], placed: Counter[str]) -> list[str]:
+    """What the journal lacks, and what was made in its place."""
+    said = [without for kind, (_, without) in KINDS.items() if without is not None and not kinds[kind]]
+    lost, known = placed["exits without their code"], placed["exits with their code"]
+    if lost:
+        exits = entry.counted(lost + known, "exit")
+        said.append(f"{lost} of {exits} without a code, which is guessed: a kubelet up to 1.20 writes "
+                    "codes from -v=3 on, later ones from -v=2 on")
+    if kinds["Probed"] and importer.placing.is_silent("readiness"):
+        said.append("no successes of probes (a kubelet writes them from -v=3 on): where a period passes without a "
+                    "failure one is inferred")
+    for what, means in (("pods without a manifest", "they have the containers that lines name, and no probes"),
+                        ("containers that no manifest has", "they are left out"),
+                        ("pods left out", "a trace has at most 256 at once")):
+        if placed[what]:
+            names = sorted(importer.placing.named[what])
+            more = ", .." if placed[what] > NAMED else ""
+            said.append(f"{placed[what]} {what} ({', '.join(names[:NAMED])}{more}): {means}")
+    said.append("no journal has pods' use of the node: the rules evict nobody")
+    return said
+
+
+def of_counts(counts: Counts) -> list[str]:
+    """What of the files could not be read."""
+    told = ((counts.cut, "line", "longer than 256 KiB, of which the rest was not read"),
+            (counts.foreign, "line", "not of the form of the journal, and left out"),
+            (counts.suppressed, "place", "where journald left out messages"),
+            (counts.back, "line", "whose moment is behind that of the one before, which it is given"))
+    return [f"{entry.counted(count, what)} {means}" for count, what, means in told if count] + counts.faults
