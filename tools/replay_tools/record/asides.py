@@ -6,12 +6,16 @@ from typing import Any, TYPE_CHECKING
 
 from .formats import without_nones
 from .reasons import better
+from .pods import all_containers
 from .runtime import RUNNING
+from .statuses import changed
+from .used import UsedByContainers
 
 if TYPE_CHECKING:
     from .pods import Pod
     from .reasons import Reason
     from .runtime import Listing
+    from .statuses import Beside
 
 
 def stands(wait: Reason, listing: Listing | None) -> bool:
@@ -32,10 +36,13 @@ class Asides:
         self.ends: dict[Any, Any] = {}
         self.waits: dict[str, dict[str, Any]] = {}
         self.told: dict[Any, Any] = {}
+        self.beside: dict[str, Beside] = {}
+        self.used = UsedByContainers()
 
     def copied(self) -> Asides:
         copied = Asides()
         copied.ends, copied.waits, copied.told = dict(self.ends), dict(self.waits), dict(self.told)
+        copied.beside, copied.used = dict(self.beside), self.used.copied()
         return copied
 
     def take_end(self, uid: str, name: str, attempt: int, reason: Reason | None) -> None:
@@ -47,9 +54,26 @@ class Asides:
 
     def depart(self, uid: str) -> None:
         self.waits.pop(uid, None)
+        self.beside.pop(uid, None)
+        self.used.depart(uid)
         for kept in (self.ends, self.told):
             for place in [place for place in kept if place[0] == uid]:
                 del kept[place]
+
+    def of_gates(self, uid: str) -> dict[str, bool] | None:
+        """The member of an entry: the pod's readiness gates, and whether each is true; None where it has none."""
+        return self.beside[uid].gates or None if uid in self.beside else None
+
+    def of_container(self, pod: Pod, name: str) -> dict[str, Any]:
+        """The members of a listing that are of the container: what it used, and the resources that it has by now, where
+        they are others than its manifest had as the pod came."""
+        used, said = self.used.of(pod.uid, name), None
+        if pod.uid in self.beside:
+            said = self.beside[pod.uid].resources.get(name)
+        if not said:
+            return used
+        declared = next(each for each in all_containers(pod.manifest) if each["name"] == name).get("resources") or {}
+        return {"resources": said, **used} if changed(said, declared) else used
 
     def of_listing(self, uid: str, name: str, listing: Listing) -> dict[str, Any]:
         """The members of a listing: why the instance ended, and how the one before it did, whose exit its tick says."""
@@ -61,7 +85,7 @@ class Asides:
         ended = listing.ended
         if ended is not None and self.is_new((uid, name, "ended"), ended):
             said["ended"] = {"attempt": ended.attempt, "exitCode": ended.exit_code,
-                             **self.members((uid, name), ended.attempt, ended.reason)}
+                             **self.members((uid, name), ended.attempt, ended.reason), **self.used.before(uid, name)}
         return said
 
     def of_waits(self, pod: Pod, listings: dict[str, Listing]) -> list[dict[str, Any]] | None:
@@ -82,7 +106,9 @@ class Asides:
             return {}
         is_new = self.is_new(place, (what, reason))
         return without_nones({"reason": reason.word, "message": reason.message if is_new else None,
-                              "messageLeftOut": is_new and reason.is_left_out or None})
+                              "messageLeftOut": is_new and reason.is_left_out or None,
+                              "log": is_new and list(reason.log) or None,
+                              "logLeftOut": is_new and reason.log_left_out or None})
 
     def is_new(self, place: tuple[str, ...], said: Any) -> bool:
         before, self.told[place] = self.told.get(place), said

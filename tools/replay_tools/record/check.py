@@ -5,8 +5,10 @@ from __future__ import annotations
 from collections.abc import Callable
 from typing import Any, TYPE_CHECKING
 
+from .events import ready_in, said_in
 from .formats import shown
 from .node import node_line_of
+from .observer import EVENTS, NODE
 from .pods import pods_of
 from .probes import counters_of
 from .runtime import inspected_of, instances_of
@@ -79,6 +81,22 @@ def node_checks(sources: Sources, node: str, trace_format: Format) -> list[tuple
             ("/configz", configure, wish(sources, "configz") + own)]
 
 
+def api_checks(sources: Sources) -> list[tuple[str, Callable[..., Any], str]]:
+    """What asks the API server, where --events names it."""
+    def listed() -> str:
+        said_in(sources.events("default", "none"), EVENTS)
+        return "they may be listed"
+
+    def read() -> str:
+        ready = ready_in(sources.node_object())
+        return "no condition Ready" if ready is None else f"Ready is {ready.status}"
+
+    wanted = "; the rights of deploy/rights-events.yaml do"
+    return [] if sources.api is None else [
+        (EVENTS, listed, f"it wants the permission to list events{wanted}"),
+        (NODE, read, f"it wants the permission to get nodes{wanted}")]
+
+
 def checks_of(sources: Sources, node: str, trace_format: Format) -> list[tuple[str, Callable[..., Any], str]]:
     """Each source with how it is asked and what it wants: (name, ask, wish)."""
     if sources.alone is not None:
@@ -88,7 +106,7 @@ def checks_of(sources: Sources, node: str, trace_format: Format) -> list[tuple[s
             (sources.pods_name(), lambda: counted(len(pods_of(sources.pods(), sources.pods_name())), "pod"), pods),
             ("/metrics/probes", lambda: f"{counted(len(counters_of(sources.probes())), 'probe')} with results",
              wish(sources, "metrics")),
-            *node_checks(sources, node, trace_format)]
+            *node_checks(sources, node, trace_format), *api_checks(sources)]
 
 
 def check(sources: Sources, node: str, trace_format: Format, show: Callable[[str], None]) -> bool:

@@ -22,8 +22,9 @@ from typing import Any, Optional
 from urllib.parse import urlsplit
 
 from .alone import ALONE, RuntimeAlone
-from .answers import decoded
-from .sources import ENDPOINT_SECONDS, MOST_BYTES, PART_BYTES, Failed, Refused, Sources, shown_line, too_long
+from .answers import Answer, decoded
+from .sources import (ENDPOINT_SECONDS, KUBECTL, MOST_BYTES, PART_BYTES, Failed, Refused, Sources, shown_line,
+                      too_long)
 
 # what an answer fails with: of the connection, and of an address or a header that can't be sent
 FAULTS = (http.client.HTTPException, OSError, ValueError)
@@ -392,6 +393,34 @@ class Proxy:
         if self.folder is not None:
             shutil.rmtree(self.folder, ignore_errors=True)
             self.folder = None
+
+
+class ByKubectl:
+    """The API server as kubectl asks it: by the proxy that the recorder has, or for each answer."""
+
+    def __init__(self, sources: Sources) -> None:
+        self.sources = sources
+
+    def endpoint(self, path: str) -> Answer:
+        keeps = self.sources.keeps
+        if isinstance(keeps, Proxy) and keeps.works():
+            return keeps.get(f"/{path}")
+        return self.sources.run(["kubectl", "get", "--raw", f"/{path}"], ENDPOINT_SECONDS)
+
+    def close(self) -> None:
+        """The proxy is the sources' own."""
+
+
+def api_of(events: str, curl_file: str | None, sources: Sources) -> Any:
+    """What asks the API server; Failed where the file of curl has more than is read."""
+    if events == KUBECTL:
+        return ByKubectl(sources)
+    try:
+        return Kubelet(events, curl_file)
+    except NotRead as other:
+        raise Failed(f"--events: {curl_file} has {other}, which is not read") from None
+    except (OSError, UnicodeDecodeError) as error:
+        raise Failed(f"--events: {curl_file} can't be read: {error}") from None
 
 
 def kept_sources(node: str, kubelet: str | None, curl_file: str | None, say: Callable[..., None]) -> Sources:

@@ -15,7 +15,7 @@ from collections.abc import Callable
 from dataclasses import dataclass
 from typing import Any, BinaryIO
 
-from .part import PART, Ahead, Part, created, opened
+from .part import AHEAD, PART, SHIPPED, Ahead, Part, created, opened
 
 STAMP = "%Y-%m-%dT%H-%M-%SZ"
 NAME = (r"[.](?P<stamp>[0-9]{4}-[0-9]{2}-[0-9]{2}T[0-9]{2}-[0-9]{2}-[0-9]{2}Z)"
@@ -92,7 +92,7 @@ class Folder:
         if not status.st_mode & stat.S_ISVTX:
             raise Refused(f"--into: other users may write into '{self.path}', and change what is there: chmod go-w")
         for entry in sorted(self.entries()):
-            if self.form.fullmatch(entry) or os.path.join(self.path, entry) == self.ahead.path:
+            if self.form.fullmatch(entry) or entry in (f"{self.node}.{AHEAD}", f"{self.node}.{SHIPPED}"):
                 if os.lstat(os.path.join(self.path, entry)).st_uid != own:
                     raise Refused(f"--into: other users may write into '{self.path}', and {entry} there is another's")
 
@@ -119,16 +119,25 @@ class Folder:
         """The traces of the node that have ended, in the order in which they begin; or those of another kind."""
         found = []
         for entry in self.entries():
-            parts = self.form.fullmatch(entry)
-            if parts is not None and parts["kind"] == kind:
+            place = self.place_of(entry, kind)
+            if place is not None:
                 try:
-                    begun = calendar.timegm(time.strptime(parts["stamp"], STAMP))
                     status = os.lstat(os.path.join(self.path, entry))
-                except (ValueError, OSError):
+                except OSError:
                     continue
                 if stat.S_ISREG(status.st_mode):
-                    found.append(Trace(entry, begun, int(parts["number"] or 1), status.st_size))
+                    found.append(Trace(entry, *place, status.st_size))
         return sorted(found, key=lambda trace: (trace.begun, trace.number))
+
+    def place_of(self, entry: str, kind: str = PACKED) -> tuple[int, int] | None:
+        """The second at which the trace of a name begins, and its number there; None of any other name."""
+        parts = self.form.fullmatch(entry)
+        if parts is None or parts["kind"] != kind:
+            return None
+        try:
+            return calendar.timegm(time.strptime(parts["stamp"], STAMP)), int(parts["number"] or 1)
+        except ValueError:
+            return None
 
     def entries(self) -> list[str]:
         try:

@@ -6,6 +6,7 @@ from __future__ import annotations
 import contextlib
 import errno
 import json
+import os
 from collections.abc import Callable, Iterator
 from typing import Any, TYPE_CHECKING
 
@@ -16,6 +17,7 @@ from .lasting import LastingRecorder, forget_strangers, set_back
 from .left import Left, damages, end_of_newest
 from .lines import line_of
 from .program import Ended, Output, Recording, watch
+from .ship import Shipping
 from .standing import Standing
 
 if TYPE_CHECKING:
@@ -338,6 +340,7 @@ class LastingRecording(Recording):
         self.recorder = LastingRecorder(words.format, words.every, say)
         self.damages = damages(output.folder)
         self.observer.answered = Answered(output.folder.path, say)
+        self.shipping = Shipping(words.into.ship, output.folder, say) if words.into.ship else None
 
     def begin(self) -> None:
         super().begin()
@@ -346,7 +349,7 @@ class LastingRecording(Recording):
     def go_on(self) -> None:
         moment = self.begun
         while not self.output.is_stopped and not self.is_over(moment):
-            self.clock.wait(min(max(moment + self.words.look - self.clock.now(), 0), self.words.look))
+            self.wait_for_next(moment)
             before, moment = moment, self.clock.now()
             with self.output.undisturbed():
                 self.see_clock(before, moment)
@@ -355,8 +358,11 @@ class LastingRecording(Recording):
                 self.recorder.take(seen)
                 due = list(self.recorder.due(moment))
                 self.output.take_look(due, self.recorder.timeline.next_second, self.recorder.foreseen(moment))
+                self.count(due)
                 self.forget()
                 next(self.damages, None)
+                if self.shipping is not None:
+                    self.shipping.look()
 
     def see_clock(self, before: float, moment: float) -> None:
         """What the clock says at a look, behind the look before."""
@@ -392,13 +398,26 @@ class LastingRecording(Recording):
                 self.output.end()
                 self.output.pack()
                 self.output.folder.ahead.drop()
+                if self.shipping is not None:
+                    self.shipping.end()
         if self.output.is_lost and self.output.last is None:
             raise Ended(1)
+
+
+def made(path: str) -> None:
+    """Makes a folder that is not there, for its owner to write."""
+    try:
+        os.mkdir(path, 0o755)
+    except FileExistsError:
+        return
+    except OSError as error:
+        raise Refused(f"--into: '{path}' can't be made: {why(error)}") from None
 
 
 def recorded_into(words: Words, sources: Sources, clock: Any, say: Callable[..., None]) -> int:
     """Records traces one behind the other; the status."""
     try:
+        made(words.into.folder)
         folder = Folder(words.into.folder, words.node, words.into.keep, words.into.most, say)
     except Refused as refused:
         say(str(refused))

@@ -16,8 +16,8 @@ if TYPE_CHECKING:
     from .observer import Observer
     from .pods import Pod
     from .probes import Result
-    from .recorder import Seen
     from .runtime import Change
+    from .seen import Seen
 
 
 class LastingTimeline(Timeline):
@@ -92,7 +92,7 @@ class LastingRecorder(Recorder):
         """What was seen is written, and the clock says an earlier moment."""
         second = int(moment)
         self.timeline.begin_at(second)
-        self.begun = self.planned_at = self.sampled_at = moment
+        self.begun = self.planned_at = self.sampled_at = self.pods_at = moment
         self.listed_at = None if self.listed_at is None else moment
         self.wanted_at, self.is_behind, self.gone_at = float("-inf"), False, {}
         for recorded in self.followed():

@@ -2,6 +2,7 @@
 
 from __future__ import annotations
 
+from collections.abc import Sequence
 from dataclasses import dataclass, replace
 from typing import Any, Optional, TYPE_CHECKING
 
@@ -10,6 +11,8 @@ from .runtime import CREATED, RUNNING, UNKNOWN
 
 if TYPE_CHECKING:
     from .asides import Asides
+    from .decisions import Decision
+    from .events import Said
     from .pods import Pod
     from .runtime import Listing
 
@@ -20,20 +23,24 @@ class TooLong(Exception):
 
 @dataclass(frozen=True)
 class Format:
-    """A version of the formats: whether it says that a pod goes, has gone or has no sample, and for how many seconds no
-    pod is evicted after an eviction unless the evicted one has ended (None where it can't say so)."""
+    """A version of the formats: whether it says that a pod goes, has gone, was ended or has no sample, and for how many
+    seconds no pod is evicted after an eviction unless the evicted one has ended (None where it can't say so); and
+    whether the rules are to evict pods by themselves, or end those alone that the node has ended."""
     version: int
     says_gone: bool
     eviction_pause: Optional[int]
+    is_simulated: bool = True
 
 
 STANDARD = Format(2, False, None)
+# a tick has at most so many Events of a pod
+MOST_EVENTS = 20
 # so long a kubelet waits at most for the pod that it evicted
 EVICTION_PAUSE = 30
 
 
-def extended(eviction_pause: int = EVICTION_PAUSE) -> Format:
-    return Format(3, True, eviction_pause)
+def extended(eviction_pause: int = EVICTION_PAUSE, is_simulated: bool = False) -> Format:
+    return Format(3, True, eviction_pause, is_simulated)
 
 
 # what is written without a word; extended() where the program reads that
@@ -47,13 +54,13 @@ def line_of(fields: dict[str, Any]) -> str:
     return text
 
 
-def pod_line(pod: Pod) -> str:
-    return line_of(pod_fields(pod.known_uid(), pod.manifest))
+def pod_line(pod: Pod, says_spared: bool = True) -> str:
+    return line_of(pod_fields(pod.known_uid(), pod.manifest, says_spared and pod.is_spared))
 
 
-def pod_fields(uid: str | None, manifest: dict[str, Any]) -> dict[str, Any]:
-    """The line of a pod, with its uid, which the formats don't read, where it is known."""
-    return without_nones({"kind": "pod", "uid": uid, "pod": manifest})
+def pod_fields(uid: str | None, manifest: dict[str, Any], is_spared: bool = False) -> dict[str, Any]:
+    """The line of a pod, with its uid, which the formats don't read, where it is known, and whether it is spared."""
+    return without_nones({"kind": "pod", "uid": uid, "pod": manifest, "spared": is_spared or None})
 
 
 def gone_line(pod: Pod) -> str:
@@ -72,31 +79,39 @@ def container_fields(name: str, listing: Listing) -> dict[str, int | str]:
 
 
 def entry_of(pod: Pod, listings: dict[str, Listing], results: dict[tuple[str, str], str], usage: dict[str, int] | None,
-             is_unsampled: bool, is_deleted: bool, asides: Asides) -> dict[str, Any] | None:
+             is_unsampled: bool, deletion: dict[str, Any] | None, asides: Asides,
+             failed: str | None = None, events: Sequence[Said] = ()) -> dict[str, Any] | None:
     """One pod's entry of a tick: {container: listing}, {(container, probe): result}, its usage or None, whether it has
-    no sample from here on, whether it is being deleted from here on, and what stands beside; None where there is
-    nothing to say of it."""
-    containers = [container_fields(name, listing) | asides.of_listing(pod.uid, name, listing)
-                  for name, listing in sorted(listings.items())]
+    no sample from here on, what is known of its deletion where it is being deleted from here on, what stands beside,
+    for what the node has ended it here, and what Events say of it; None where there is nothing to say of it."""
+    containers = [container_fields(name, listing) | asides.of_container(pod, name)
+                  | asides.of_listing(pod.uid, name, listing) for name, listing in sorted(listings.items())]
     probes = [{"container": name, "probe": probe, "result": results[name, probe]}
               for name in pod.containers() for probe in ("startup", "liveness", "readiness")
               if (name, probe) in results]
     waiting = asides.of_waits(pod, listings)
     said = without_nones({"probes": probes or None, "usage": usage or None, "unsampled": is_unsampled or None,
-                          "deleting": is_deleted or None, "waiting": waiting})
+                          "deleting": None if deletion is None else True, "deletion": deletion or None,
+                          "failed": failed, "readinessGates": asides.of_gates(pod.uid), "waiting": waiting,
+                          "said": [each.told() for each in events[:MOST_EVENTS]] or None})
     return {"pod": pod.key, "containers": containers, **said} if containers or said else None
 
 
-def told(decisions: list[tuple[Pod, bool, int]]) -> dict[str, list[dict[str, Any]]] | None:
-    """What the kubelet did in a tick, which the formats don't read: {"evicted" or "refused": [..]}, or None."""
+def told(decisions: list[tuple[Pod, bool, int]],
+         ends: Sequence[tuple[Pod, Decision, int]] = ()) -> dict[str, list[dict[str, Any]]] | None:
+    """What the kubelet did in a tick, which the formats don't read: {"evicted", "refused" or "ended": [..]}; or
+    None."""
     found: dict[str, Any] = {}
     for pod, is_left_out, at in decisions:
         uid = pod.known_uid() if is_left_out else None
         found.setdefault(pod.decision.kind, []).append(pod.decision.told(pod.key, at, is_left_out, uid))
+    for pod, decision, at in ends:
+        found.setdefault(decision.kind, []).append(decision.told(pod.key, at, False, None))
     return found or None
 
 
 def tick_line(second: int, entries: list[dict[str, Any]], signals: dict[str, int],
-              kubelet: dict[str, list[dict[str, Any]]] | None = None) -> str:
-    return line_of(without_nones({"kind": "tick", "at": second, "pods": entries, "signals": signals,
-                                  "kubelet": kubelet}))
+              kubelet: dict[str, list[dict[str, Any]]] | None = None, is_judged: bool = True,
+              node_ready: dict[str, Any] | None = None) -> str:
+    return line_of(without_nones({"kind": "tick", "at": second, "judged": None if is_judged else False, "pods": entries,
+                                  "signals": signals, "kubelet": kubelet, "nodeReady": node_ready}))

@@ -37,6 +37,17 @@ class Nearness:
         if any(value < limit.limit for limit, value in left):
             self.pressed_at = moment
 
+    def below(self, signals: dict[str, int]) -> frozenset[str]:
+        """The signals that are below a threshold of theirs."""
+        return frozenset(limit.signal for limit in self.thresholds
+                         if limit.signal in signals and 1000 * signals[limit.signal] < limit.limit)
+
+    def may_evict_by(self, signals: dict[str, int]) -> bool:
+        """Whether the kubelet may evict a pod by these samples: one is below a threshold, or not above it by what is to
+        be reclaimed."""
+        return any(1000 * signals[limit.signal] < limit.limit + limit.reclaim for limit in self.thresholds
+                   if limit.signal in signals)
+
     def decide(self, moment: float) -> None:
         """The kubelet has evicted or refused a pod."""
         self.pressed_at = moment

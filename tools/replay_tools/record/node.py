@@ -14,6 +14,7 @@ from replay_tools.traces import SIGNALS
 from .answers import read_json
 from .formats import (at_place, duration_fault, first_fault, is_percentage, limit_fault, name_fault, percentage_fault,
                       seconds_of, whole_fault, without_nones)
+from .rounds import are_told
 from .sources import Failed, reads
 
 if TYPE_CHECKING:
@@ -26,6 +27,8 @@ RECLAIMS = "evictionMinimumReclaim"
 # what the formats don't read: the ticks say what the kubelet did, so where they say nothing it evicted none; but for a
 # node of which nothing is sampled, as by its runtime alone
 TELLS = {"recordsKubelet": True}
+# whether the program heeds which ticks are judged: until it does, a pause stands for what the rounds say
+HEEDS_ROUNDS = False
 PERCENT_NUMBER = re.compile(r"[0-9]+[.]?[0-9]*|[.][0-9]+")
 GO_DURATION = re.compile(r"[+]?(0|(([0-9]+[.]?[0-9]*|[.][0-9]+)(h|ms|m|s|us|µs|μs|ns))+)")
 GO_UNITS = {"h": Fraction(3600), "m": Fraction(60), "s": Fraction(1), "ms": Fraction(1, 10 ** 3),
@@ -155,17 +158,31 @@ def node_line_of(text: Answer, name: str, summary: Summary, node_format: Format)
         raise Failed(f"{fault}; a node line of your own can be given with --node-line")
     line = {"kind": "node", "version": node_format.version, "name": name, "maxRestartDelay": delay,
             "capacity": summary.capacity, "dedicatedImagefs": summary.has_dedicated_image_fs, **fields,
-            **pause_of(node_format), **(TELLS if summary.signals else {})}
+            **pause_of(node_format, summary), **({**TELLS, **recorded_in(node_format)} if summary.signals else {}),
+            "bootedAt": booted_at(summary)}
     return NodeLine(without_nones(line), reader.notes)
 
 
-def pause_of(node_format: Format) -> dict[str, bool | int | None]:
-    """How long no pod is evicted after an eviction: a kubelet waits for the evicted one."""
-    seconds = node_format.eviction_pause
+def pause_of(node_format: Format, summary: Summary) -> dict[str, bool | int | None]:
+    """How long no pod is evicted after an eviction: a kubelet waits for the evicted one. Where the ticks say in which
+    it decides, none is needed."""
+    seconds = None if HEEDS_ROUNDS and are_told(summary.signals) else node_format.eviction_pause
     return {"evictionPauseSeconds": seconds, "evictionPauseUntilGone": None if seconds is None else True}
 
 
-def own_node_line(fields: dict[str, Any], node_format: Format) -> NodeLine:
+def booted_at(summary: Summary) -> int | None:
+    """The second at which the node's system was started, which the formats do not read."""
+    return None if summary.booted_at is None else int(summary.booted_at)
+
+
+def recorded_in(node_format: Format) -> dict[str, bool]:
+    """That the ticks say whom the node has ended, so that the rules evict nobody and name whom they would."""
+    return {} if node_format.is_simulated else {"evictionsRecorded": True}
+
+
+def own_node_line(fields: dict[str, Any], node_format: Format, summary: Summary) -> NodeLine:
     """A node line that the operator gives, in the version that is recorded; its own pause goes before."""
-    pause = {} if "evictionPauseSeconds" in fields else pause_of(node_format)
-    return NodeLine(without_nones({**pause, **fields, "kind": "node", "version": node_format.version, **TELLS}), [])
+    pause = {} if "evictionPauseSeconds" in fields else pause_of(node_format, summary)
+    line = {**pause, **recorded_in(node_format), **fields, "kind": "node", "version": node_format.version, **TELLS,
+            "bootedAt": booted_at(summary)}
+    return NodeLine(without_nones(line), [])

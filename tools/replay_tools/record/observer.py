@@ -6,16 +6,19 @@ from collections.abc import Callable
 from dataclasses import replace
 from typing import Any, TYPE_CHECKING
 
+from .events import Asking, failing, has_changed, ready_in, said_in
+from .logs import kept_of, lines_of
 from .near import Nearness
 from .pods import pods_of
 from .probes import counters_of
 from .reasons import better
-from .recorder import PATIENCE, Seen
 from .runtime import CREATED, EXITED, RUNNING, inspected_of, instances_of
+from .seen import PATIENCE, Seen
 from .sources import Failed
 from .summary import summary_of
 
 if TYPE_CHECKING:
+    from .events import Ready, Said
     from .pods import Pod
     from .reasons import Reason
     from .runtime import End, Instance
@@ -25,6 +28,7 @@ if TYPE_CHECKING:
 # the kubelet samples its node and its pods about as often, and its node for each decision about evictions
 SUMMARY_SECONDS = 10
 PODS_SECONDS = 10
+NODE_SECONDS = 10
 # under pressure a pod without a running container may be evicted, which the runtime shows late: the kubelet is asked at
 # each look, and the API server less often
 PRESSED_PODS_SECONDS = {True: 1, False: 5}
@@ -40,12 +44,15 @@ MOST_LISTS = 3
 # what is silent for so long is said again, as often
 SILENT_SECONDS = 300
 RUNTIME, PROBES, PODS, SUMMARY = "crictl ps", "/metrics/probes", "the list of pods", "/stats/summary"
+EVENTS, NODE = "the events of pods", "the node"
 KUBELETS = {PROBES, PODS, SUMMARY}
 MEANWHILE = {
     RUNTIME: "ticks wait for it up to 30 s, and then list containers as unknown",
     PROBES: "ticks wait for it up to 30 s; its results are written once it answers",
     PODS: "the pods stand as they were",
     SUMMARY: "signals stand as last sampled, up to 60 s",
+    EVENTS: "what they would say is left out",
+    NODE: "whether it is Ready is left out",
 }
 
 
@@ -54,11 +61,12 @@ class Observer:
     of those that fail, and `now` gives the moment, by which a look has lasted."""
 
     def __init__(self, sources: Sources, summary_seconds: int, say: Callable[..., None],
-                 now: Callable[[], float] | None = None) -> None:
+                 now: Callable[[], float] | None = None, log_lines: int = 0) -> None:
         self.sources = sources
+        self.log_lines = log_lines
         self.say = say
         self.now = now
-        self.seconds = {PODS: PODS_SECONDS, SUMMARY: max(SUMMARY_SECONDS, summary_seconds)}
+        self.seconds = {PODS: PODS_SECONDS, SUMMARY: max(SUMMARY_SECONDS, summary_seconds), NODE: NODE_SECONDS}
         self.near = Nearness()
         self.decided: set[str] = set()
         self.asked_at: dict[str, float] = {}
@@ -68,8 +76,8 @@ class Observer:
         self.answered: Callable[[bool], None] | None = None
         self.details: dict[str, Any] = {}
         self.states: dict[str, Any] = {}
-        # the instances whose code is not known yet, how pods' statuses say that instances have ended, and since when, and
-        # since which answer of the list of pods, the runtime has those no more
+        # the instances whose code is not known yet, how pods' statuses say that instances have ended, and since when,
+        # and since which answer of the list of pods, the runtime has those no more
         self.unended: dict[str, Any] = {}
         self.ends: dict[str, End] = {}
         self.missed_at: dict[str, tuple[float, int]] = {}
@@ -79,6 +87,7 @@ class Observer:
         self.counters: dict | None = None
         self.listed_at: float = 0
         self.moved_at: float = 0
+        self.asking = Asking(sources.api is not None)
         self.known: set[str] = set()
         self.strangers: set[str] = set()
 
@@ -89,10 +98,10 @@ class Observer:
         pods = self.take_pods(moment)
         summary = self.take_summary(moment)
         self.listed_at = self.moved_at = moment
-        self.may_have_changed_pods(listed)
+        self.may_have_changed_pods(listed, moment)
         self.decided = {pod.uid for pod in pods if pod.decision is not None}
         self.pass_over(listed)
-        return Seen(moment, self.resolved(listed, moment), counters, pods, summary)
+        return Seen(moment, self.resolved(listed, moment), counters, pods, summary, ready=self.ready(moment))
 
     def pass_over(self, listed: list[Instance]) -> None:
         """Of the pods that are there at the first look no start is asked for, and of instances that were replaced no
@@ -114,7 +123,7 @@ class Observer:
         else:
             self.listed_at = moment
             listed = self.attempt(RUNTIME, moment, lambda: instances_of(self.sources.listed()), is_whole=False)
-        if self.wants_pods(moment) or (listed is not None and self.may_have_changed_pods(listed)):
+        if self.wants_pods(moment) or (listed is not None and self.may_have_changed_pods(listed, moment)):
             seen.pods = self.attempt(PODS, moment, lambda: self.take_pods(moment))
         if listed is not None:
             seen.instances = self.attempt(RUNTIME, moment, lambda: self.resolved(listed, moment))
@@ -123,9 +132,35 @@ class Observer:
         if self.wants_summary(seen.pods, moment):
             seen.summary = self.attempt(SUMMARY, moment, lambda: self.take_summary(moment))
         seen.is_summary_silent, seen.low = SUMMARY in self.silent, self.near.low
+        seen.said = self.events(moment)
+        seen.ready = self.ready(moment)
         seen.took = 0 if self.now is None else max(self.now() - moment, 0)
         if self.answered is not None:
             self.answered(RUNTIME not in self.silent and not self.silent.keys() >= KUBELETS)
+        return seen
+
+    def events(self, moment: float) -> dict[str, list[Said]]:
+        """The Events of pods in which something has happened some moments ago, by their uids."""
+        found = {}
+        for uid in self.asking.due(moment):
+            pod = self.listed_pods.get(uid)
+            if pod is not None and pod.known_uid() is not None and pod.fault is None:
+                namespace = pod.key.partition("/")[0]
+                said = self.attempt(EVENTS, moment, lambda: said_in(self.sources.events(namespace, uid), EVENTS))
+                found.update({} if said is None else {uid: said})
+        return found
+
+    def ready(self, moment: float) -> Ready | None:
+        """Whether the node is Ready, where the API server is asked, from time to time."""
+        if self.sources.api is None or not self.is_due(NODE, moment):
+            return None
+        self.asked_at[NODE] = moment
+        return self.attempt(NODE, moment, lambda: ready_in(self.sources.node_object()))
+
+    def glance(self, moment: float) -> Seen:
+        """What the summary alone shows at a moment between two looks."""
+        seen = Seen(moment, summary=self.attempt(SUMMARY, moment, lambda: self.take_summary(moment)))
+        seen.is_summary_silent, seen.low = SUMMARY in self.silent, self.near.low
         return seen
 
     def wants_pods(self, moment: float) -> bool:
@@ -136,6 +171,7 @@ class Observer:
     def wants_list(self, counters: dict[tuple[str, str, str], dict[str, int]] | None, moment: float) -> bool:
         """Whether the runtime is asked at a look: not at each where nothing happens and no probe finds anything."""
         is_still = counters is not None and counters == self.counters and moment - self.moved_at > STILL_SECONDS
+        self.asking.want(failing(self.counters, counters), moment)
         self.counters = counters
         is_sure = self.instances is not None and not self.near.is_near(moment)
         return not (is_still and is_sure and 0 <= moment - self.listed_at < LIST_SECONDS)
@@ -187,6 +223,8 @@ class Observer:
     def take_pods(self, moment: float) -> list[Pod]:
         self.asked_at[PODS] = moment
         pods = pods_of(self.sources.pods(), self.sources.pods_name())
+        if self.pods_answers:
+            self.asking.want((pod.uid for pod in pods if has_changed(self.listed_pods.get(pod.uid), pod)), moment)
         # a pod that is no longer listed stays known, since its containers may have yet to exit
         self.listed_pods = {pod.uid: pod for pod in pods}
         self.pods_answers += 1
@@ -197,13 +235,15 @@ class Observer:
         self.known |= set(self.listed_pods)
         return pods
 
-    def may_have_changed_pods(self, listed: list[Instance]) -> bool:
+    def may_have_changed_pods(self, listed: list[Instance], moment: float) -> bool:
         """Whether the runtime has a pod that is not known, or an instance has exited or gone: then pods may have come
         or gone. Each is asked for once."""
         uids = {each.uid for each in listed}
         has_stranger = bool(uids - self.known - self.strangers)
         self.strangers |= uids
         now = {each.id: each.state for each in listed}
+        self.asking.want((each.uid for each in listed if each.uid in self.known
+                          and self.states.get(each.id, each.state) != each.state), moment)
         has_exited = any(state in (CREATED, RUNNING) and now.get(identity) not in (CREATED, RUNNING)
                         for identity, state in self.states.items())
         has_gone = not set(self.states) <= set(now)
@@ -286,8 +326,19 @@ class Observer:
             detail = inspected_of(self.sources.inspected(instance.id), instance)
         except Failed as failed:
             return failed
-        self.details[instance.id] = detail
+        self.details[instance.id] = self.with_log(detail)
         return None
+
+    def with_log(self, detail: Instance) -> Instance:
+        """An instance that has failed with what is kept of its last lines, where they are asked for."""
+        if not self.log_lines or not detail.exit_code or detail.reason is None:
+            return detail
+        try:
+            kept, left_out = kept_of(lines_of(self.sources.logged(detail.id, self.log_lines), self.log_lines))
+        except Failed as failed:
+            self.say(str(failed), "logs")
+            return detail
+        return replace(detail, reason=replace(detail.reason, log=kept, log_left_out=left_out))
 
     def detailed(self, instance: Instance) -> Instance:
         detail = self.details.get(instance.id)

@@ -11,6 +11,7 @@ from typing import Any, BinaryIO
 
 PART = "part"
 AHEAD = "ahead"
+SHIPPED = "shipped"
 # at most so many bytes of what is to stand behind a part are read again
 LONGEST_AHEAD = 64 << 20
 

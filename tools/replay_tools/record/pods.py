@@ -9,11 +9,13 @@ from dataclasses import dataclass, field
 from typing import Any, Optional, TYPE_CHECKING
 
 from .answers import read_parts
-from .decisions import Decision, decision_of
-from .formats import (at_place, first_fault, label_fault, name_fault, quantity_fault, whole_fault, without_nones)
+from .decisions import ENDED, Decision, end_of
+from .formats import (at_place, first_fault, is_whole, label_fault, name_fault, quantity_fault, whole_fault,
+                      without_nones)
 from .reasons import reason_of, waits_in
 from .runtime import End, code_fault, moment_of
 from .sources import Failed, reads
+from .statuses import Beside, beside_in, deletion_in, picked, resources_of
 
 if TYPE_CHECKING:
     from .answers import Answer
@@ -23,6 +25,9 @@ PROBE_FIELDS = ("initialDelaySeconds", "periodSeconds", "timeoutSeconds", "succe
 RESOURCES = ("cpu", "memory", "ephemeral-storage")
 MOST_CONTAINERS = 16
 MOST_SECONDS = 2 ** 31 - 1
+# a pod of the API server, among those of a kubelet, and the least priority of the system's
+FROM_API = "api"
+LEAST_CRITICAL = 2_000_000_000
 UID = re.compile(r"[0-9A-Za-z-]{1,64}")
 
 
@@ -32,7 +37,9 @@ class Pod:
     the kubelet did to it, `is_deleted` that it was told to go, and `deleted_at` when, if that is known; `ends` has the
     instances that its status says have ended, by their ids, and is None where its status has no container; `waits` why
     its containers wait, by their names; `probed` has of each container that runs its restarts, whether it has started,
-    and whether it is ready."""
+    and whether it is ready. `ended` is the decision by which the node has ended it, of whatever kind, and
+    `is_spared` whether a kubelet evicts it for no lack of the node's. `ruled` names its containers whose own rules of
+    restarts are left out, and `deletion` has by whom it is deleted, and its grace."""
     key: str
     uid: str
     manifest: dict
@@ -44,6 +51,11 @@ class Pod:
     ends: Optional[dict] = field(default=None, compare=False)
     waits: dict = field(default_factory=dict, compare=False)
     probed: dict = field(default_factory=dict, compare=False)
+    ended: Optional[Decision] = None
+    is_spared: bool = False
+    ruled: tuple = ()
+    beside: Beside = field(default_factory=Beside, compare=False)
+    deletion: dict = field(default_factory=dict, compare=False)
 
     def known_uid(self) -> str | None:
         """Its uid as a trace has it; None where its source says none, or one that no cluster gives."""
@@ -58,12 +70,25 @@ class Pod:
         containers = {container["name"]: container for container in all_containers(self.manifest)}
         return containers.get(container_name, {}).get(PROBES[probe], {})
 
+    def has_probe(self, container_name: str, probe: str) -> bool:
+        """Whether a container has a probe, be it one of defaults alone."""
+        return any(container["name"] == container_name and container.get(PROBES[probe]) is not None
+                   for container in all_containers(self.manifest))
+
     def period(self, container_name: str, probe: str) -> int:
         """Seconds from one result of a probe to the next."""
         return self.probe(container_name, probe).get("periodSeconds", 10)
 
     def initial_delay(self, container_name: str, probe: str) -> int:
         return self.probe(container_name, probe).get("initialDelaySeconds", 0)
+
+    def is_restarted(self, container_name: str, exit_code: int) -> bool:
+        """Whether the pod's policy, or a sidecar's own, starts a container again that has exited with a code."""
+        inits = {each["name"]: each.get("restartPolicy") for each in self.manifest["spec"].get("initContainers") or []}
+        policy = self.manifest["spec"].get("restartPolicy", "Always")
+        if inits.get(container_name) == "Always" or (policy == "Always" and container_name not in inits):
+            return True
+        return policy != "Never" and exit_code != 0
 
     def successes_wanted(self, container_name: str, probe: str) -> int:
         return self.probe(container_name, probe).get("successThreshold", 1)
@@ -86,13 +111,25 @@ def pod_of(item: Any) -> Pod:
     metadata = item.get("metadata") or {}
     status = item.get("status") or {}
     try:
-        manifest, volumes = manifest_of(item), local_volumes(item)
+        manifest, volumes, ruled = manifest_of(item), local_volumes(item), with_own_rules(item)
         fault = manifest_fault(manifest)
     except (KeyError, TypeError, AttributeError):
-        manifest, volumes, fault = {}, frozenset(), "no manifest"
+        manifest, volumes, ruled, fault = {}, frozenset(), [], "no manifest"
+    ended = end_of(status)
     return Pod(f"{metadata.get('namespace') or 'default'}/{metadata.get('name')}", str(uid_of(metadata)), manifest,
-               fault, volumes, decision_of(status), metadata.get("deletionTimestamp") is not None,
-               deleted_at(metadata), ends_in(status), waits_in(item), probed_in(status))
+               fault, volumes, None if ended is None or ended.kind == ENDED else ended,
+               metadata.get("deletionTimestamp") is not None, deleted_at(metadata), ends_in(status), waits_in(item),
+               probed_in(status), ended, is_spared(metadata, item.get("spec") or {}), tuple(ruled),
+               beside_in(item, RESOURCES), deletion_in(item))
+
+
+def is_spared(metadata: dict[str, Any], spec: dict[str, Any]) -> bool:
+    """Whether a kubelet takes a pod for a critical one: a static pod, the API server's copy of one, or one of a
+    priority of the system's. It evicts none of these for what the node lacks."""
+    annotations, priority = metadata.get("annotations") or {}, spec.get("priority")
+    source = annotations.get("kubernetes.io/config.source")
+    return (source not in (None, FROM_API) or "kubernetes.io/config.mirror" in annotations
+            or (is_whole(priority) and priority >= LEAST_CRITICAL))
 
 
 def deleted_at(metadata: dict[str, Any]) -> float | None:
@@ -137,20 +174,15 @@ def all_containers(manifest: Any) -> list[dict[str, Any]]:
     return (manifest["spec"].get("initContainers") or []) + manifest["spec"]["containers"]
 
 
-def picked(fields: dict[str, Any] | None, names: tuple[str, ...]) -> dict[str, float | str] | None:
-    return None if fields is None else without_nones({name: fields.get(name) for name in names})
+def is_sidecar(container: dict[str, Any], is_init: bool) -> bool:
+    return is_init and container.get("restartPolicy") == "Always"
 
 
-def resources_of(resources: dict[str, dict[str, float | str]] | None) -> dict[str, dict[str, float | str]] | None:
-    if resources is None:
-        return None
-    return without_nones({side: picked(resources.get(side), RESOURCES) for side in ("requests", "limits")})
-
-
-def container_of(container: dict[str, Any]) -> dict[str, Any]:
+def container_of(container: dict[str, Any], is_init: bool) -> dict[str, Any]:
+    """A container without a restart policy of its own, which the formats take of a sidecar alone."""
     return without_nones({
-        "name": container["name"], "restartPolicy": container.get("restartPolicy"),
-        "resources": resources_of(container.get("resources")),
+        "name": container["name"], "restartPolicy": "Always" if is_sidecar(container, is_init) else None,
+        "resources": resources_of(container.get("resources"), RESOURCES),
         **{field: picked(container.get(field), PROBE_FIELDS) for field in PROBES.values()}})
 
 
@@ -160,8 +192,17 @@ def manifest_of(item: Any) -> dict[str, dict[str, Any]]:
             "spec": without_nones({
                 "restartPolicy": spec.get("restartPolicy"), "priority": spec.get("priority"),
                 "terminationGracePeriodSeconds": spec.get("terminationGracePeriodSeconds"),
-                "initContainers": None if inits is None else list(map(container_of, inits)),
-                "containers": list(map(container_of, spec["containers"]))})}
+                "resources": resources_of(spec.get("resources"), RESOURCES),
+                "initContainers": None if inits is None else [container_of(each, True) for each in inits],
+                "containers": [container_of(each, False) for each in spec["containers"]]})}
+
+
+def with_own_rules(item: Any) -> list[str]:
+    """The containers that have rules of their own for when they are restarted, which are left out."""
+    spec = item["spec"]
+    roles = [(each, True) for each in spec.get("initContainers") or []] + [(each, False) for each in spec["containers"]]
+    return [each["name"] for each, is_init in roles if each.get("restartPolicyRules")
+            or (each.get("restartPolicy") is not None and not is_sidecar(each, is_init))]
 
 
 # --- what the formats do not take ---
@@ -191,11 +232,6 @@ def resource_faults(container: dict[str, Any]) -> Iterator[str | None]:
             yield at_place(f"resources.{side}.{resource}", quantity_fault(amount))
 
 
-def policy_fault(container: dict[str, Any], is_init: bool) -> str | None:
-    policy = container.get("restartPolicy")
-    return None if policy is None or (is_init and policy == "Always") else f"restartPolicy {policy} of its own"
-
-
 def init_probe_fault(container: dict[str, Any], is_init: bool) -> str | None:
     """An init container has no probes, but where its own policy makes it a sidecar."""
     has_probe = any(field in container for field in PROBES.values())
@@ -204,7 +240,7 @@ def init_probe_fault(container: dict[str, Any], is_init: bool) -> str | None:
 
 def container_fault(container: dict[str, Any], is_init: bool) -> str | None:
     return at_place(f"container {container['name']}", first_fault([
-        label_fault(container["name"]), policy_fault(container, is_init), *resource_faults(container),
+        label_fault(container["name"]), *resource_faults(container),
         init_probe_fault(container, is_init), *(probe_fault(container, probe) for probe in PROBES)]))
 
 

@@ -14,9 +14,10 @@ from replay_tools import outside
 
 from .check import check
 from .clock import Clock
-from .connections import kept_sources
+from .connections import api_of, kept_sources
 from .formats import MOST_BYTES
 from .lines import TooLong
+from .metrics import Metrics
 from .node import node_line_of, own_node_line
 from .observer import Observer
 from .recorder import Recorder
@@ -31,6 +32,8 @@ if TYPE_CHECKING:
 INTERRUPTS = (signal.SIGINT, signal.SIGTERM, signal.SIGHUP)
 # a recorder that goes on for ever does not grow by what it has said
 MOST_REMEMBERED = 10000
+# how often the summary is asked between two looks
+GLANCE_SECONDS = 1
 
 
 class Stopped(Exception):
@@ -115,8 +118,9 @@ class Recording:
         self.sources = sources
         self.clock = clock
         self.output = output
-        self.observer = Observer(sources, words.every, say, clock.now)
+        self.observer = Observer(sources, words.every, say, clock.now, words.log_lines)
         self.recorder = Recorder(words.format, words.every, say)
+        self.metrics = None if words.metrics is None else Metrics(words.metrics, say)
         self.begun: float | None = None
 
     def begin(self) -> None:
@@ -125,7 +129,7 @@ class Recording:
         try:
             seen = self.observer.first_look(moment)
             if self.words.node_line is not None:
-                node_line = own_node_line(self.words.node_line, self.words.format)
+                node_line = own_node_line(self.words.node_line, self.words.format, seen.summary)
             else:
                 node_line = node_line_of(self.sources.configuration(), self.words.node, seen.summary, self.words.format)
             first = self.recorder.begin(node_line)
@@ -136,6 +140,19 @@ class Recording:
             self.output.write([first])
             self.recorder.take(seen)
             self.begun = moment
+            if self.metrics is not None:
+                self.metrics.take([first])
+
+    def count(self, due: list[Any]) -> None:
+        """Counts what was settled at a look, for the file of metrics."""
+        if self.metrics is not None and due:
+            is_first = self.metrics.standing.at is None
+            for lines, _ in due:
+                self.metrics.take(lines)
+                if is_first and self.metrics.standing.at is not None:
+                    is_first = False
+                    self.metrics.assume({pod.key: pod.probed for pod in self.recorder.listed})
+            self.metrics.write()
 
     def has_all(self) -> bool:
         """Whether all ticks that are asked for are written or wanted."""
@@ -146,16 +163,30 @@ class Recording:
         duration = self.words.duration
         return duration is not None and moment + self.words.look - self.begun > duration
 
+    def wait_for_next(self, moment: float) -> None:
+        """Waits for the look behind one at a moment. Where the kubelet may evict a pod the summary is asked each second
+        until then, since each of its samples counts."""
+        until = moment + self.words.look
+        while self.observer.near.is_near(moment) and not self.output.is_stopped \
+                and moment <= self.clock.now() < until - GLANCE_SECONDS:
+            self.clock.wait(GLANCE_SECONDS)
+            seen = self.observer.glance(self.clock.now())
+            with self.output.undisturbed():
+                self.recorder.take(seen)
+        self.clock.wait(min(max(until - self.clock.now(), 0), self.words.look))
+
     def go_on(self) -> None:
         """Looks until the end."""
         moment = self.begun
         while not self.has_all() and not self.output.is_stopped and not self.is_over(moment):
-            self.clock.wait(min(max(moment + self.words.look - self.clock.now(), 0), self.words.look))
+            self.wait_for_next(moment)
             moment = self.clock.now()
             seen = self.observer.look(moment)
             with self.output.undisturbed():
                 self.recorder.take(seen)
-                self.output.write_due(self.recorder.due(moment))
+                due = list(self.recorder.due(moment))
+                self.output.write_due(iter(due))
+                self.count(due)
 
     def run(self) -> None:
         """Records to the end; what is seen is written also where an interrupt ends it."""
@@ -166,7 +197,9 @@ class Recording:
             pass
         if self.begun is not None:
             with self.output.undisturbed():
-                self.output.write_due(self.recorder.rest(self.clock.now()))
+                due = list(self.recorder.rest(self.clock.now()))
+                self.output.write_due(iter(due))
+                self.count(due)
 
 
 def recorded(words: Words, sources: Sources, clock: Any, say: Callable[..., None]) -> int:
@@ -224,6 +257,8 @@ def main(arguments: list[str], clock: Any = None, make_sources: Callable[..., An
     sources = kept_sources(*asked, say) if make_sources is None else make_sources(*asked)
     sources = replace(sources, crictl=words.crictl)
     try:
+        if words.events is not None:
+            sources = replace(sources, api=api_of(words.events, words.curl_file, sources))
         missing = missing_commands(sources.commands())
         if missing and not words.is_check:
             say(f"not on the PATH: {', '.join(missing)} (--check asks the other sources)")
@@ -231,6 +266,9 @@ def main(arguments: list[str], clock: Any = None, make_sources: Callable[..., An
         if words.is_check:
             return checked(words, sources)
         return recorded(words, sources, clock or Clock(), say)
+    except Failed as failed:
+        say(str(failed))
+        return 1
     except Stopped:
         return 0
     finally:

@@ -22,11 +22,14 @@ OTHER = "Other"
 @dataclass(frozen=True)
 class Reason:
     """One word of why, and what is kept of the message that stood beside it; whether a message was left out, since
-    nothing of it is known to have no secret; and of a wait the attempt behind which it is, if that is known."""
+    nothing of it is known to have no secret; of a wait the attempt behind which it is, if that is known; and of an exit
+    what is kept of the last lines that its container wrote, and of how many nothing is."""
     word: str
     message: Optional[str] = None
     is_left_out: bool = False
     behind: Optional[int] = None
+    log: tuple = ()
+    log_left_out: int = 0
 
 
 def reason_of(said: Any) -> Reason | None:
@@ -61,4 +64,6 @@ def waits_of(statuses: list[dict[str, Any]] | None) -> dict[str, Reason]:
 def better(ours: Reason | None, theirs: Reason | None) -> Reason | None:
     """The reason that says more: the runtime's own, but for a plain one."""
     is_plain = ours is None or ours.word in PLAIN
-    return theirs if is_plain and theirs is not None and theirs.word not in PLAIN else ours
+    if not is_plain or theirs is None or theirs.word in PLAIN:
+        return ours
+    return theirs if ours is None else replace(theirs, log=ours.log, log_left_out=ours.log_left_out)

@@ -3,33 +3,29 @@
 from __future__ import annotations
 
 from collections.abc import Callable, Iterator
-from dataclasses import dataclass, field
 from typing import Any, Optional, TYPE_CHECKING
 
 from .decisions import EVICTED, REFUSED
+from .ends import second_of_end, settled_before
 from .formats import MOST_PODS
 from .lines import line_of
 from .probes import PROBES, grown, have_begun_anew, most_results, results_of
-from .runtime import EXITED, RUNNING, Container
+from .runtime import EXITED, Container
+from .samples import Sampling
+from .seen import PATIENCE, Recorded, Seen
 from .timeline import Timeline
 
 if TYPE_CHECKING:
+    from .events import Ready
     from .lines import Format
     from .node import NodeLine
     from .pods import Pod
     from .probes import Result
     from .reasons import Reason
     from .runtime import Change, Instance
-    from .summary import Sample, Summary
 
-# how long what was seen waits for a source that is silent, since with it the moments can be told
-PATIENCE = 30
-# how long signals stand as last sampled where the summary is silent
-SIGNAL_AGE = 60
 # how long the new pod of a name waits for the containers of the one before to exit
 GOING_SECONDS = 30
-# the kubelet takes a sample about as often where nothing is near a threshold
-SAMPLE_SECONDS = 10
 # a tick is written once some seconds after it have passed, so that what is seen only then still finds its place
 HELD_SECONDS = 4
 ANEW = "was made anew under its name, and is left out from here on"
@@ -37,51 +33,11 @@ LEFT_OUT = {EVICTED: "the kubelet had evicted it before it was seen",
             REFUSED: "the kubelet refused it under pressure, so it never ran"}
 
 
-@dataclass
-class Seen:
-    """What one look saw that began at a moment in seconds since 1970, and `took` so many. None is what was not asked,
-    or gave no answer: `instances` has the instances of each pod's uid, `counters` the counts of probes, `pods` those
-    that are there, `low` the signals near their thresholds."""
-    moment: float
-    instances: Optional[dict[str, list[Instance]]] = None
-    counters: Optional[dict] = None
-    pods: Optional[list[Pod]] = None
-    summary: Optional[Summary] = None
-    is_summary_silent: bool = False
-    low: frozenset = frozenset()
-    took: float = 0
-
-    @property
-    def end(self) -> float:
-        """Up to when what it saw may have happened."""
-        return self.moment + self.took
-
-
-@dataclass
-class Recorded:
-    """A pod of the trace, the second of its line, that from which on its containers change, what was seen of them, and
-    what is not planned yet; `usage` has its newest samples, `sampled_at` is when a summary had it last, `unsampled_at`
-    since when none has it, `waits` says why its containers wait, and `found` what each of their probes found last."""
-    pod: Pod
-    arrived: int
-    changes_from: int
-    containers: dict = field(default_factory=dict)
-    changes: dict = field(default_factory=dict)
-    usage: dict = field(default_factory=dict)
-    sampled_at: float = 0
-    unsampled_at: Optional[float] = None
-    waits: dict = field(default_factory=dict)
-    found: dict = field(default_factory=dict)
-    is_followed: bool = True
-    is_deleting: bool = False
-    going_since: Optional[float] = None
-    evicted_at: Optional[int] = None
-
-
-class Recorder:
+class Recorder(Sampling):
     """Makes the lines of a trace in a format, with a tick at least every some seconds; `say` takes what is said."""
 
     def __init__(self, trace_format: Format, every: int, say: Callable[..., None]) -> None:
+        super().__init__()
         self.format = trace_format
         self.every = every
         self.say = say
@@ -92,18 +48,17 @@ class Recorder:
         # the second up to which a recording before this one says what the kubelet did
         self.told_until: float | None = None
         self.listed: list[Pod] = []
+        # when they were listed last
+        self.pods_at: float = 0
         # the second behind which the last pod of a name is no more
         self.gone_at: dict[str, int] = {}
+        self.ready: Optional[Ready] = None
         self.is_first = True
         self.is_behind = False
         self.begun: Optional[float] = None
         self.planned_at: Optional[float] = None
         self.listed_at: Optional[float] = None
-        self.sampled_at: Optional[float] = None
-        self.wanted_at = self.newest = float("-inf")
-        self.samples: dict[str, Sample] = {}
-        # the newest summary, and the pods that had gone by the time at which the kubelet evicted them
-        self.summary: Optional[Summary] = None
+        # the pods that had gone by the time at which the kubelet evicted them
         self.evicted_behind: list = []
         self.counters: dict = {}
         self.planned_counters: dict = {}
@@ -130,11 +85,13 @@ class Recorder:
             self.timeline.place_look(seen.moment)
         if seen.counters is not None:
             self.take_counters(seen)
-        self.listed = self.listed if seen.pods is None else seen.pods
+        if seen.pods is not None:
+            self.listed, self.pods_at = seen.pods, seen.moment
         self.take_pods(seen)
         if seen.instances is not None:
             self.take_instances(seen)
         self.take_summary(seen)
+        self.take_events(seen)
         self.see_evicted_behind()
         has_both = seen.instances is not None and seen.counters is not None
         if has_both or seen.moment - self.planned_at > PATIENCE:
@@ -142,6 +99,20 @@ class Recorder:
         if int(seen.moment) - self.timeline.latest >= self.every:
             self.timeline.place_look(seen.moment)
         self.is_first = False
+
+    def take_events(self, seen: Seen) -> None:
+        """Whether the node is Ready; and what is said of pods, once of each time that an Event was. What was said
+        before the recording is not."""
+        if seen.ready is not None and seen.ready != self.ready:
+            self.ready = seen.ready
+            since = seen.moment if seen.ready.since is None else seen.ready.since
+            self.timeline.place_ready(max(self.begun, min(since, seen.moment)), seen.ready)
+        for uid, said in seen.said.items():
+            recorded = self.recorded.get(uid)
+            for each in said if recorded is not None and recorded.is_followed else ():
+                if each.at >= int(self.begun) and recorded.said.get(each.identity) != each.count:
+                    recorded.said[each.identity] = each.count
+                    self.timeline.place_said(recorded.pod, max(each.at, recorded.arrived), each)
 
     def take_counters(self, seen: Seen) -> None:
         """The counts of a pod that is there stay where an answer leaves them out."""
@@ -172,6 +143,9 @@ class Recorder:
                 self.see_waits(recorded, pod.waits, seen)
             if pod is not None and pod.decision is not None:
                 self.see_decision(pod, seen)
+            if pod is not None:
+                self.see_end(recorded, pod, seen)
+                self.see_beside(recorded, pod, seen)
             if pod is None or pod.is_deleted:
                 self.see_deletion(recorded, pod, seen)
             # the status of a pod that was evicted may be written anew
@@ -200,6 +174,10 @@ class Recorder:
             second = self.timeline.place_arrival(pod, moment)
             self.recorded[pod.uid] = Recorded(pod, second, second)
             self.see_waits(self.recorded[pod.uid], pod.waits, seen)
+            self.see_end(self.recorded[pod.uid], pod, seen)
+            self.see_beside(self.recorded[pod.uid], pod, seen)
+            for name in pod.ruled:
+                self.say(f"{pod.key} {name}: its own rules of restarts are left out, and it restarts as its pod does")
 
     def reason_to_leave_out(self, pod: Pod) -> str | None:
         """Why a pod has no line, by what came before; None where it can have one."""
@@ -218,6 +196,9 @@ class Recorder:
         """Why a pod's containers wait, where that is another than before."""
         if waits != recorded.waits:
             recorded.waits = waits
+            newest = {name: container.newest for name, container in recorded.containers.items()}
+            recorded.waited |= {name: newest[name].attempt if wait.behind is None else wait.behind
+                                for name, wait in waits.items() if newest.get(name) is not None}
             self.timeline.place_waits(recorded.pod, seen.moment, waits)
 
     def has_room(self) -> bool:
@@ -265,13 +246,26 @@ class Recorder:
                    if each.finished is not None and each.finished > self.planned_at]
         return min([seen.moment, *moments] if pod.decision.moment is None else [seen.end, pod.decision.moment])
 
+    @staticmethod
+    def see_end(recorded: Recorded, pod: Pod, seen: Seen) -> None:
+        """The node has ended a pod, which finds its place among what happened to it."""
+        if pod.ended is not None and recorded.ended is None:
+            recorded.ended, recorded.ended_at = pod.ended, seen.moment
+
+    def see_beside(self, recorded: Recorded, pod: Pod, seen: Seen) -> None:
+        """What the object says beside what the formats read, where that is another than before."""
+        if pod.beside != recorded.beside:
+            recorded.beside = pod.beside
+            self.timeline.place_beside(recorded.pod, seen.moment, pod.beside)
+
     def see_deletion(self, recorded: Recorded, pod: Pod | None, seen: Seen) -> None:
         """A pod was told to go, or is no longer listed: nothing of it is restarted from then on, which is said once."""
         if self.format.says_gone and not recorded.is_deleting:
             recorded.is_deleting = True
             told_at = None if pod is None else pod.deleted_at
             moment = seen.moment if told_at is None else min(told_at, seen.end)
-            self.timeline.place_deletion(recorded.pod, max(moment, recorded.arrived))
+            deletion = {} if pod is None else pod.deletion
+            self.timeline.place_deletion(recorded.pod, max(moment, recorded.arrived), deletion)
 
     def see_going(self, recorded: Recorded, is_listed: bool, seen: Seen) -> None:
         """A pod is no longer listed, was told to go, or the kubelet ended it. It is gone once each of its containers
@@ -363,6 +357,9 @@ class Recorder:
             changes = recorded.changes.pop(name, [])
             results = self.results(recorded, name, moment)
             self.timeline.place_container(recorded.pod, name, changes, results, recorded.changes_from)
+        if recorded.ended is not None and not recorded.is_end_placed and self.format.says_gone:
+            recorded.is_end_placed = True
+            self.timeline.place_end(recorded.pod, second_of_end(recorded, self.timeline), recorded.ended)
 
     def results(self, recorded: Recorded, name: str, moment: float) -> list[Result]:
         """The results of a container's probes since what was planned last."""
@@ -397,86 +394,16 @@ class Recorder:
                  "last look, and are left out")
         return {}
 
-    # --- what the node has left ---
-
-    def take_summary(self, seen: Seen) -> None:
-        """Samples of the kubelet's that are new stand at their own moments. Those of signals want a tick, but for one
-        that is counted when it is asked, where it is not near its threshold; usage is in the next one."""
-        if seen.summary is None:
-            if seen.is_summary_silent and seen.moment - self.sampled_at > SIGNAL_AGE:
-                self.say(f"{int(seen.moment)}: the signals are older than {SIGNAL_AGE} s, and are left out until "
-                         "/stats/summary answers", ("signals", self.sampled_at))
-                self.take_signals({}, seen, False)
-            return
-        self.sampled_at, self.summary = seen.moment, seen.summary
-        self.newest = max(self.newest, self.newest_moment(seen))
-        self.take_signals(seen.summary.signals, seen, True)
-        for recorded in self.followed():
-            usage = seen.summary.usage(recorded.pod, self.has_running(recorded))
-            for resource, sample in usage.items():
-                if sample != recorded.usage.get(resource):
-                    moment = max(self.sampled_moment(sample, seen), recorded.arrived, recorded.unsampled_at or 0)
-                    self.timeline.place_usage(recorded.pod, moment, resource, sample.value)
-            recorded.usage = usage
-            self.see_unsampled(recorded, seen)
-
-    def newest_moment(self, seen: Seen) -> float:
-        """When the newest sample of the node was taken."""
-        return max((self.sampled_moment(sample, seen) for sample in seen.summary.signals.values()
-                    if sample.moment is not None), default=seen.moment)
-
-    def see_unsampled(self, recorded: Recorded, seen: Seen) -> None:
-        """A summary without a pod that has run: the kubelet has no sample of it, and evicts it before all others. That
-        is said once, until a sample comes, and from the newest sample of the node on, by which the kubelet decides; but
-        behind an exit since, as an eviction leads to."""
-        if recorded.pod.uid in seen.summary.pods:
-            recorded.sampled_at, recorded.unsampled_at = seen.moment, None
-            return
-        is_deleted = recorded.going_since is not None and recorded.evicted_at is None
-        if is_deleted and (recorded.sampled_at or not self.has_running(recorded)):
-            # it has ended, and the kubelet evicts no such pod once it knows that
-            return
-        newest = [container.newest for container in recorded.containers.values() if container.newest is not None]
-        ran = [each for each in newest if each.state in (RUNNING, EXITED)]
-        if ran and recorded.unsampled_at is None and self.format.says_gone:
-            # one that was sampled and is listed as running has exited since
-            exits = [each.finished or seen.moment for each in ran
-                     if each.state == EXITED or 0 < (each.started or 1) <= recorded.sampled_at]
-            behind = [int(moment) + 1 for moment in exits if int(moment) >= int(self.newest)]
-            recorded.unsampled_at = max(self.newest, recorded.sampled_at, recorded.arrived, *behind)
-            self.timeline.place_unsampled(recorded.pod, recorded.unsampled_at)
-
-    def take_signals(self, samples: dict[str, Sample], seen: Seen, is_wanted: bool) -> None:
-        """Places the samples that are others than before; a signal that is no longer there has no value. In the
-        standard format each tick below a threshold evicts a pod, so there samples want no more ticks than those that
-        the kubelet takes of itself."""
-        is_wanted = is_wanted and (self.format.says_gone or seen.moment - self.wanted_at >= SAMPLE_SECONDS)
-        self.wanted_at = seen.moment if is_wanted else self.wanted_at
-        for signal in dict.fromkeys([*self.samples, *samples]):
-            sample = samples.get(signal)
-            if sample is None:
-                self.timeline.place_signal(seen.moment, signal, None, is_wanted)
-            elif sample != self.samples.get(signal):
-                wants = signal in seen.low or sample.moment is not None or signal not in self.samples
-                self.timeline.place_signal(self.sampled_moment(sample, seen), signal, sample.value, is_wanted and wants)
-        self.samples = samples
-
-    def sampled_moment(self, sample: Sample, seen: Seen) -> float:
-        """When a sample was taken, within what is recorded; the first tick has those of the first look."""
-        latest = seen.moment if self.is_first else seen.end
-        return seen.moment if sample.moment is None else max(self.begun, min(sample.moment, latest))
-
-    @staticmethod
-    def has_running(recorded: Recorded) -> bool:
-        return any(container.newest is not None and container.newest.state == RUNNING
-                   for container in recorded.containers.values())
-
     # --- what is written ---
 
     def due(self, moment: float) -> Iterator[Any]:
         """The lines whose seconds are settled at a moment, as (lines, whether a tick is among them). None are while the
         end of an instance is looked for, which may lie in each second that is not written yet."""
         before = min(int(moment) - HELD_SECONDS, int(self.planned_at))
+        if self.format.says_gone:
+            with_status = {pod.uid for pod in self.listed if pod.ends is not None}
+            before = min(before, settled_before(self.followed(), with_status, self.pods_at, moment),
+                         int(self.rounds.open_since(moment)))
         before = int(self.timeline.next_second) if self.awaits_end(moment) else before
         return self.timeline.due(before, self.silent_from(moment))
 

@@ -28,6 +28,10 @@ MOST_SAID = 1 << 12
 MOST_SHOWN = 300
 
 
+# --events has this word where kubectl asks the API server
+KUBECTL = "kubectl"
+
+
 class Failed(Exception):
     """A source that gave no answer, or none that can be read; its text says which source, and why."""
 
@@ -120,6 +124,8 @@ class Sources:
     crictl: tuple[str, ...] = ("crictl",)
     # in place of a kubelet, where none is asked
     alone: Optional[RuntimeAlone] = None
+    # the API server, which is asked for Events: a connection that is kept, or by kubectl; None where it is not asked
+    api: Optional[Any] = None
 
     def commands(self) -> list[str]:
         """The commands that are needed on the PATH."""
@@ -128,8 +134,8 @@ class Sources:
         return [self.crictl[0]] if self.keeps or self.alone else [self.crictl[0], "curl"]
 
     def close(self) -> None:
-        if self.keeps is not None:
-            self.keeps.close()
+        for kept in filter(None, (self.keeps, self.api)):
+            kept.close()
 
     def ask(self, what: str, words: list[str], seconds: int) -> Answer:
         return self.answer(what, lambda: self.run(words, seconds))
@@ -165,6 +171,11 @@ class Sources:
         return self.ask(f"crictl inspect {container_id}", [*self.crictl, "inspect", "-o", "json", container_id],
                         RUNTIME_SECONDS)
 
+    def logged(self, container_id: str, count: int) -> Answer:
+        """The last lines that a container wrote; crictl says those of its standard error on its own."""
+        words = [*self.crictl, "logs", "--tail", str(count), container_id]
+        return self.ask(f"crictl logs {container_id}", ["sh", "-c", 'exec "$@" 2>&1', "sh", *words], RUNTIME_SECONDS)
+
     def pods_name(self) -> str:
         if self.alone is not None:
             return "crictl ps: its pods"
@@ -178,6 +189,15 @@ class Sources:
         words = ["kubectl", "get", "pods", "--all-namespaces", "--field-selector", f"spec.nodeName={self.node}",
                  "-o", "json", f"--request-timeout={ENDPOINT_SECONDS}s"]
         return self.ask(self.pods_name(), words, ENDPOINT_SECONDS + 5)
+
+    def events(self, namespace: str, uid: str) -> Answer:
+        """The Events of a pod."""
+        path = f"api/v1/namespaces/{namespace}/events?fieldSelector=involvedObject.uid%3D{uid}"
+        return self.answer("the events of pods", lambda: self.api.endpoint(path))
+
+    def node_object(self) -> Answer:
+        """The node as the API server has it."""
+        return self.answer("the node", lambda: self.api.endpoint(f"api/v1/nodes/{self.node}"))
 
     def summary(self) -> Answer:
         return self.endpoint("stats/summary")

@@ -12,6 +12,8 @@ from .runtime import EXITED, LOST_CODE, RUNNING, UNKNOWN
 
 FIELDS = {"startup": "startupProbe", "liveness": "livenessProbe", "readiness": "readinessProbe"}
 DELAY = "initialDelaySeconds"
+# members of a listing that are told once
+OF_TICKS = ("ended", "used", "log", "logLeftOut")
 # a run of results that is longer counts as one of so many
 MOST_CARRIED = 100
 
@@ -84,6 +86,7 @@ class Container:
     def show(self, listing: dict[str, Any] | None, second: int) -> None:
         """What a tick lists of it, or None. The first state of an exit counts, and what is not known changes none."""
         self.is_listed = listing is not None
+        self.take_resources(listing)
         if listing is None:
             if self.listing is not None and self.listing["state"] != EXITED:
                 self.change(self.lost(), second)
@@ -98,6 +101,12 @@ class Container:
         elif listing["state"] not in (UNKNOWN, self.listing["state"]):
             self.change(listing, second)
 
+    def take_resources(self, listing: dict[str, Any] | None) -> None:
+        """What an instance has by now may be said while it stays as it is listed."""
+        if listing is not None and self.listing is not None and listing["attempt"] == self.listing["attempt"]:
+            kept = {name: value for name, value in self.listing.items() if name != "resources"}
+            self.listing = kept | {name: listing[name] for name in ("resources",) if name in listing}
+
     def lost(self) -> dict[str, int | str]:
         """Its newest instance, as one that is no longer listed ended."""
         return {"name": self.listing["name"], "attempt": self.listing["attempt"], "state": EXITED,
@@ -105,7 +114,7 @@ class Container:
 
     def change(self, listing: dict[str, Any], second: int) -> None:
         """It is listed otherwise from a second on; of its exit before that tells, and no later one."""
-        self.listing, self.since = {name: value for name, value in listing.items() if name != "ended"}, second
+        self.listing, self.since = {name: value for name, value in listing.items() if name not in OF_TICKS}, second
         if listing["state"] == RUNNING:
             self.started = second
 
@@ -206,10 +215,11 @@ class Container:
 class Pod:
     """A pod that is there, as its line has it."""
 
-    def __init__(self, manifest: Any, uid: str | None) -> None:
+    def __init__(self, manifest: Any, uid: str | None, is_spared: bool = False) -> None:
         metadata, spec = manifest["metadata"], manifest["spec"]
         self.key = f"{metadata['namespace']}/{metadata['name']}"
         self.uid = uid
+        self.is_spared = is_spared
         self.fields = manifest
         inits = spec.get("initContainers") or []
         self.containers = {each["name"]: Container(each, each in inits and each.get("restartPolicy") == "Always")
@@ -217,6 +227,11 @@ class Pod:
         self.usage: dict[str, Any] = {}
         self.is_unsampled = False
         self.is_deleting = False
+        # members that the formats do not read: what is known of its deletion, and its readiness gates
+        self.deletion: dict[str, Any] | None = None
+        self.gates: dict[str, bool] | None = None
+        # for what the node has ended it
+        self.failed: str | None = None
         self.waiting: dict[str, Any] = {}
         self.decisions: list[Any] = []
 
@@ -234,6 +249,9 @@ class Pod:
         elif entry.get("unsampled"):
             self.usage, self.is_unsampled = {}, True
         self.is_deleting = self.is_deleting or entry.get("deleting") is True
+        self.failed = self.failed or entry.get("failed")
+        self.deletion = self.deletion or entry.get("deletion")
+        self.gates = entry.get("readinessGates") or self.gates
         # a message stands in the first tick alone
         before, self.waiting = self.waiting, {}
         for each in entry.get("waiting") or []:
@@ -248,13 +266,14 @@ class Pod:
 
     def entry(self, second: int, back: int) -> dict[str, Any] | None:
         """Its entry of a tick that stands so many before the border: usage, and why it waits, are in that of the border
-        alone; that it is being deleted is in each."""
+        alone; that it is being deleted, or was ended, is in each."""
         containers = [each.listed(second, back) for _, each in sorted(self.containers.items())
                       if each.listing is not None]
         rows = [(name, each.carried()) for name, each in self.containers.items()]
         probes = [{"container": name, "probe": probe, "result": result} for name, carried in rows
                   if len(carried) > back for probe, result in carried[-1 - back].items()]
-        said: dict[str, Any] = {"probes": probes or None, "deleting": self.is_deleting or None}
+        said: dict[str, Any] = {"probes": probes or None, "deleting": self.is_deleting or None,
+                                "deletion": self.deletion, "failed": self.failed, "readinessGates": self.gates}
         if back == 0:
             said |= {"usage": self.usage or None, "unsampled": self.is_unsampled or None,
                      "waiting": list(self.waiting.values()) or None}
@@ -272,8 +291,11 @@ class Standing:
         self.signals: dict[str, Any] = {}
         # what the last tick says that the kubelet did to pods that are left out
         self.left_out: list[Any] = []
-        # the second of the last tick
+        # the second of the last tick, whether it is judged, and whether any is said not to be
         self.at: int | None = None
+        self.judged: bool | None = None
+        self.node_ready: dict[str, Any] | None = None
+        self.tells_rounds = False
 
     def take(self, record: dict[str, Any]) -> None:
         """A line that is written, or would be where there was room."""
@@ -281,7 +303,7 @@ class Standing:
         if kind == "node":
             self.node = record
         elif kind == "pod":
-            pod = Pod(record["pod"], record.get("uid"))
+            pod = Pod(record["pod"], record.get("uid"), record.get("spared") is True)
             self.pods[pod.key] = pod
         elif kind == "gone":
             self.pods.pop(record["pod"], None)
@@ -290,6 +312,8 @@ class Standing:
 
     def take_tick(self, tick: dict[str, Any]) -> None:
         self.at, self.signals, self.left_out = tick["at"], tick.get("signals") or {}, []
+        self.judged, self.node_ready = tick.get("judged"), tick.get("nodeReady")
+        self.tells_rounds = self.tells_rounds or self.judged is False
         entries = {entry["pod"]: entry for entry in tick["pods"]}
         for key, pod in self.pods.items():
             pod.take(entries.get(key, {}), self.at)
@@ -316,18 +340,20 @@ class Standing:
         count = max([1, *(len(container.carried()) for container in containers)])
         yield line_of(without_nones({**self.node, "follows": follows}))
         for pod in self.pods.values():
-            yield line_of(pod_fields(pod.uid, pod.manifest()))
+            yield line_of(pod_fields(pod.uid, pod.manifest(), pod.is_spared))
         # of a pod without a line it is told once
         did = [each for pod in self.pods.values() for each in pod.decisions] + ([] if follows else self.left_out)
         for back in reversed(range(count)):
-            yield self.tick(second - back, back, did)
+            # what is known was judged before
+            judged = False if (follows or back) and self.tells_rounds else self.judged
+            yield self.tick(second - back, back, did, judged)
 
-    def tick(self, second: int, back: int, did: list[Any]) -> str:
+    def tick(self, second: int, back: int, did: list[Any], judged: bool | None) -> str:
         """One of the ticks that show what is known; signals, and what the kubelet did, are in that of the border."""
         entries = [pod.entry(second, back) for pod in self.pods.values()]
         told: dict[str, Any] = {}
         for kind, decision in did if back == 0 else ():
             told.setdefault(kind, []).append(decision)
         return line_of(without_nones({
-            "kind": "tick", "at": second, "pods": [entry for entry in entries if entry is not None],
-            "signals": self.signals if back == 0 else {}, "kubelet": told or None}))
+            "kind": "tick", "at": second, "judged": judged, "pods": [entry for entry in entries if entry is not None],
+            "signals": self.signals if back == 0 else {}, "kubelet": told or None, "nodeReady": self.node_ready}))

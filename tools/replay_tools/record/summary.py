@@ -16,7 +16,9 @@ if TYPE_CHECKING:
 
 
 # what is read of the stats of a container
-CONTAINER_PARTS = ("memory", "rootfs", "logs")
+CONTAINER_PARTS = ("name", "memory", "cpu", "rootfs", "logs")
+# of a core
+NANO_OF_MILLI = 10 ** 6
 
 
 @dataclass(frozen=True)
@@ -27,12 +29,28 @@ class Sample:
 
 
 @dataclass(frozen=True)
+class Used:
+    """What one container used at a moment in seconds since 1970: its working set and its whole memory in bytes, and its
+    processor time in thousandths of a core. What is not known is None."""
+    moment: float
+    working_set: Optional[int]
+    usage: Optional[int]
+    cpu: Optional[int]
+
+    def told(self, second: int) -> dict[str, int]:
+        """What a tick says of it, with how many seconds before it that was."""
+        return without_nones({"workingSet": self.working_set, "usage": self.usage, "cpu": self.cpu,
+                              "age": max(second - int(self.moment), 0) or None})
+
+
+@dataclass(frozen=True)
 class Summary:
-    """One answer: the capacities, and the samples of the signals."""
+    """One answer: the capacities, the samples of the signals, and since when the node's system runs."""
     capacity: dict
     has_dedicated_image_fs: bool
     signals: dict
     pods: dict
+    booted_at: Optional[float] = None
 
     def usage(self, pod: Pod, has_running: bool) -> dict[str, Sample]:
         """The samples of what a recorded pod uses, by resource. A kubelet 1.20 counts no process of any container, so 0
@@ -41,6 +59,25 @@ class Summary:
         if has_running and "pids" in samples and samples["pids"].value == 0:
             del samples["pids"]
         return samples
+
+
+    def used(self, pod: Pod) -> dict[str, Used]:
+        """What each container of a pod used, by name, where the summary has its moment."""
+        return used_in(self.pods.get(pod.uid, {}))
+
+
+def used_in(stats: dict[str, Any]) -> dict[str, Used]:
+    found = {str(each.get("name")): used_of(fields_of(each.get("memory")), fields_of(each.get("cpu")))
+             for each in stats.get("containers") or []}
+    return {name: used for name, used in found.items() if used is not None}
+
+
+def used_of(memory: dict[str, Any], cpu: dict[str, Any]) -> Used | None:
+    moment, nano = moment_of(memory.get("time")), units(cpu.get("usageNanoCores"))
+    if moment is None:
+        return None
+    return Used(moment, units(memory.get("workingSetBytes")), units(memory.get("usageBytes")),
+                None if nano is None else round(nano / NANO_OF_MILLI))
 
 
 def units(value: Any) -> int | None:
@@ -90,7 +127,8 @@ def summary_of(text: Answer) -> Summary:
     pods = answer.get("pods") or []
     if not isinstance(pods, list):
         raise Failed("/stats/summary: no list of pods in the answer")
-    return Summary(whole_values(capacity), is_dedicated(images, file_system), samples, dict(pods))
+    return Summary(whole_values(capacity), is_dedicated(images, file_system), samples, dict(pods),
+                   moment_of(node.get("startTime")))
 
 
 def stats_of(stats: Any) -> tuple[str, dict[str, Any]]:
@@ -99,6 +137,7 @@ def stats_of(stats: Any) -> tuple[str, dict[str, Any]]:
     kept["containers"] = [{part: container.get(part) for part in CONTAINER_PARTS}
                           for container in stats.get("containers") or []]
     usage_of(kept, {volume.get("name") for volume in stats.get("volume") or []})
+    used_in(kept)
     return str(fields_of(stats.get("podRef")).get("uid")), kept
 
 

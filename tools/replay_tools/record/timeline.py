@@ -12,21 +12,25 @@ from __future__ import annotations
 import copy
 from collections.abc import Iterator
 from dataclasses import dataclass, field, replace
-from typing import Any, TYPE_CHECKING
+from typing import Any, Optional, TYPE_CHECKING
 
 from .asides import Asides
-from .decisions import EVICTED
+from .decisions import ENDED, EVICTED
 from .formats import without_nones
 from .lines import EVICTION_PAUSE, entry_of, gone_line, pod_line, tick_line, told, unknown
 from .near import Nearness
 from .runtime import CREATED, EXITED, LOST_CODE, RUNNING, Change
 
 if TYPE_CHECKING:
+    from .decisions import Decision
+    from .events import Ready, Said
     from .lines import Format
     from .pods import Pod
     from .probes import Result
     from .reasons import Reason
-    from .recorder import Recorded
+    from .seen import Recorded
+    from .statuses import Beside
+    from .summary import Used
 
 # a pod's sync that kills a container starts its successor; what the kubelet shows has nothing between the two
 SYNC_SECONDS = 1.0
@@ -36,16 +40,24 @@ ROUNDING_SECONDS = 2
 
 @dataclass
 class Tick:
-    """What changes at one second; it is written as a tick if it is wanted, else with the next one."""
+    """What changes at one second; it is written as a tick if it is wanted, else with the next one. `is_judged` is
+    whether it is a round of the kubelet's eviction manager."""
     is_wanted: bool = False
+    is_judged: bool = False
     arrivals: list = field(default_factory=list)
     listings: dict = field(default_factory=dict)
     results: dict = field(default_factory=dict)
     usages: dict = field(default_factory=dict)
     unsampled: set = field(default_factory=set)
-    deleted: set = field(default_factory=set)
+    deleted: dict = field(default_factory=dict)
+    failed: dict = field(default_factory=dict)
+    ends: list = field(default_factory=list)
     waits: dict = field(default_factory=dict)
+    beside: dict = field(default_factory=dict)
+    used: dict = field(default_factory=dict)
+    said: dict = field(default_factory=dict)
     signals: dict = field(default_factory=dict)
+    ready: Optional[Ready] = None
     decisions: list = field(default_factory=list)
     departures: list = field(default_factory=list)
 
@@ -118,10 +130,16 @@ class Timeline:
         self.results: dict[tuple[str, ...], str] = {}
         self.usages: dict[str, dict[str, Any]] = {}
         self.unsampled: set[str] = set()
-        self.deleted: set[str] = set()
+        self.deleted: dict[str, dict[str, Any]] = {}
+        self.failed: dict[str, str] = {}
+        self.said: dict[str, list[Said]] = {}
+        self.ready: Ready | None = None
         self.signals: dict[str, int] = {}
         # when the kubelet evicted a pod last, and the signals that were not sampled since
         self.evicted_at: int | None = None
+        # the second of the last eviction that has a place, and whether rounds of the eviction manager are known
+        self.evicted_last: int | None = None
+        self.tells_rounds = False
         self.outdated: set[str] = set()
         self.near = Nearness()
         self.asides = Asides()
@@ -161,6 +179,8 @@ class Timeline:
         """What the kubelet did to a pod, which is recorded or left out; the second of its tick."""
         second = self.second_of(moment, *([] if recorded is None else [recorded.arrived]))
         self.tick(second, True).decisions.append((pod, recorded is None, second))
+        if pod.decision.kind == EVICTED:
+            self.evicted_last = second
         return second
 
     def place_past_decision(self, pod: Pod, moment: float) -> None:
@@ -175,9 +195,29 @@ class Timeline:
         self.tick(second, is_wanted).signals[signal] = value
         self.last_placed["signal", signal] = second
 
+    def place_round(self, moment: float) -> None:
+        """The kubelet has judged its thresholds by a sample of this moment, whose tick says so."""
+        self.tick(self.second_of(moment), True).is_judged = True
+
     def place_waits(self, pod: Pod, moment: float, waits: dict[str, Reason]) -> None:
         """Why the containers of a pod wait from a moment on; that wants no tick."""
         self.tick(self.second_of(moment), False).waits[pod.uid] = waits
+
+    def place_beside(self, pod: Pod, moment: float, beside: Beside) -> None:
+        """What a pod's object says beside from a moment on; that wants no tick."""
+        self.tick(self.second_of(moment), False).beside[pod.uid] = beside
+
+    def place_ready(self, moment: float, ready: Ready) -> None:
+        """Whether the node is Ready from a moment on."""
+        self.tick(self.second_of(moment), True).ready = ready
+
+    def place_said(self, pod: Pod, moment: float, said: Said) -> None:
+        """What was said of a pod, which stands in the first tick from then on."""
+        self.tick(self.second_of(moment), False).said.setdefault(pod.uid, []).append(said)
+
+    def place_used(self, pod: Pod, container: str, used: Used, arrived: int) -> None:
+        """What a container used at a moment; that wants no tick."""
+        self.tick(self.second_of(used.moment, arrived), False).used[pod.uid, container] = used
 
     def place_usage(self, pod: Pod, moment: float, resource: str, value: Any) -> None:
         tick = self.tick(self.second_of(moment), False)
@@ -190,9 +230,21 @@ class Timeline:
         tick.usages.pop(pod.uid, None)
         tick.unsampled.add(pod.uid)
 
-    def place_deletion(self, pod: Pod, moment: float) -> None:
-        """From this moment on a pod is being deleted, which stands in the first tick that is written then."""
-        self.tick(self.second_of(moment), False).deleted.add(pod.uid)
+    def place_deletion(self, pod: Pod, moment: float, deletion: dict[str, Any] | None = None) -> None:
+        """From this moment on a pod is being deleted, which stands in the first tick that is written then, with what is
+        known of that."""
+        self.tick(self.second_of(moment), False).deleted[pod.uid] = deletion or {}
+
+    def place_end(self, pod: Pod, second: int, decision: Decision) -> None:
+        """The node has ended a pod in a second. What it says of an eviction stands with the kubelet's decision."""
+        second = self.second_of(second)
+        tick = self.tick(second, True)
+        tick.failed[pod.uid] = decision.word
+        tick.ends += [(pod, decision, second)] if decision.kind == ENDED else []
+
+    def listed_in(self, pod: Pod, container: str) -> int | None:
+        """The second in which a container is listed otherwise last; None where it was not placed."""
+        return self.last_placed.get((pod.uid, container, "listing"))
 
     def place_container(self, pod: Pod, container: str, changes: list[Change], results: list[Result],
                         arrived: int) -> None:
@@ -267,14 +319,15 @@ class Timeline:
         copied.present, copied.results = list(self.present), dict(self.results)
         copied.listings = {uid: dict(listings) for uid, listings in self.listings.items()}
         copied.usages = {uid: dict(usages) for uid, usages in self.usages.items()}
-        copied.deleted = set(self.deleted)
+        copied.deleted, copied.failed = dict(self.deleted), dict(self.failed)
+        copied.said = {uid: list(said) for uid, said in self.said.items()}
         copied.asides = self.asides.copied()
         copied.place_look(moment)
         return list(copied.due(float("inf"), silent_from))
 
     def lines_of(self, second: int, tick: Tick, is_silent: bool) -> list[str]:
         """The lines of a second: the pods that come, the tick if one is wanted, the pods that go."""
-        lines = [pod_line(pod) for pod in tick.arrivals]
+        lines = [pod_line(pod, self.format.says_gone) for pod in tick.arrivals]
         self.present += tick.arrivals
         if not self.format.says_gone:
             self.depart(tick.departures)
@@ -284,17 +337,26 @@ class Timeline:
             self.results = {place: result for place, result in self.results.items() if place[:2] != (uid, container)}
         self.results.update(tick.results)
         self.take_usages(tick)
-        self.deleted |= tick.deleted
+        self.deleted.update(tick.deleted)
+        self.failed.update(tick.failed)
+        self.ready = tick.ready or self.ready
+        for uid, said in tick.said.items():
+            self.said.setdefault(uid, []).extend(said)
         for uid, waits in tick.waits.items():
             self.asides.take_waits(uid, waits)
+        self.asides.beside.update(tick.beside)
+        self.asides.used.take(second, tick.listings, tick.used)
         self.signals = without_nones({**self.signals, **tick.signals})
         signals = self.shown_signals(second, tick)
         if tick.is_wanted:
             changed = set(tick.listings) if is_silent else None
             entries = [self.entry(pod, changed) for pod in self.present]
             entries = [entry for entry in entries if entry is not None]
-            lines.append(tick_line(second, entries, signals, told(tick.decisions)))
-            self.results, self.usages, self.unsampled, self.deleted = {}, {}, set(), set()
+            is_judged = tick.is_judged or not self.tells_rounds
+            node_ready = None if self.ready is None else self.ready.told()
+            lines.append(tick_line(second, entries, signals, told(tick.decisions, tick.ends), is_judged, node_ready))
+            self.results, self.usages, self.failed, self.deleted, self.unsampled = {}, {}, {}, {}, set()
+            self.said = {}
         if self.format.says_gone:
             lines += [gone_line(pod) for pod in tick.departures]
             self.depart(tick.departures)
@@ -342,4 +404,4 @@ class Timeline:
         of_pod = {(container, probe): result for (uid, container, probe), result in self.results.items()
                   if uid == pod.uid}
         return entry_of(pod, listings, of_pod, self.usages.get(pod.uid), pod.uid in self.unsampled,
-                        pod.uid in self.deleted, self.asides)
+                        self.deleted.get(pod.uid), self.asides, self.failed.get(pod.uid), self.said.get(pod.uid, ()))

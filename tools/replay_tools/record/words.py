@@ -13,12 +13,17 @@ from typing import Any, Optional
 from . import lines
 from .alone import ALONE
 from .formats import MOST_TICKS, name_fault
+from .logs import MOST_LINES
+from .metrics import fault_of
+from .sources import KUBECTL
 
 HELP = """\
 usage: tools/record [--node NAME] [--every SECONDS] [--look SECONDS] [--ticks N] [--for SECONDS]
-                    [--kubelet URL [--curl FILE]] [--crictl WORDS] [--node-line FILE]
-                    [--standard | --extended [--eviction-pause N]] > TRACE
-       tools/record --into FOLDER [--each 1h] [--keep 48h] [--most 2Gi], and the other words but --standard
+                    [--kubelet URL [--curl FILE]] [--crictl WORDS] [--node-line FILE] [--logs N] [--metrics FILE]
+                    [--events API]
+                    [--standard | --extended [--eviction-pause N] [--simulate]] > TRACE
+       tools/record --into FOLDER [--each 1h] [--keep 48h] [--most 2Gi] [--ship COMMAND], and the other words but
+                    --standard
        tools/record --check [--node NAME] [--kubelet URL [--curl FILE]]
 
 Records a node as the lines of a trace (docs/formats.md). It looks at the container runtime and at the results of probes
@@ -26,14 +31,21 @@ every --look seconds (1), and writes a tick for each second in which something h
 (10). It ends after N ticks (20000, the most that a trace takes), after --for seconds, or at an interrupt, at the end
 of a line. NAME is the node's name in the cluster (uname -n). --check asks each source once, those too whose command
 is there where another one is missing, says what works and what is missing, and ends.
---crictl has the words that start crictl, as 'chroot /host crictl'.
+--crictl has the words that start crictl, as 'chroot /host crictl'. With --logs N the last N lines of each container
+that exits with another code than 0 are asked for (crictl logs), and what of them is known to have no secret is told.
+With --events the Events of a pod are asked for, behind an exit, a probe that fails and a wait: of the API server at
+API, as https://kubernetes.default.svc, with the token of --curl, or of kubectl, where that is the word; it wants the
+right to list events. With --metrics FILE has what was recorded so far as OpenMetrics text: restarts, deaths, kills,
+readiness, pressure.
 
 --into FOLDER writes traces of the extended format one behind the other, as NODE.2026-11-27T05-00-00Z.trace.gz, until it
 is interrupted (docs/recorder.md). Each begins where the one before it ends: after --each (1h, by UTC), or earlier at
 --ticks, 64 MiB or 256 pods. While it is written it is .trace.part; what a crash leaves is ended at the next start. It
 keeps traces for --keep (48h), and at most --most bytes of them (2Gi), of which 128Mi, or half where --most is below
 256Mi, are left for what is not packed yet; and it takes the oldest away where the disk is full. Where none is left it
-waits for room. A second recorder of one folder is refused.
+waits for room. A second recorder of one folder is refused. --ship has a command, as 'rclone copy {} far:traces', that
+is run for each whole trace, with its path for {} or behind its words, one at a time; where it fails or takes longer
+than ten minutes it is run again, after 10 s and then after longer.
 
 It needs python3, crictl (as root, on the node) and
   kubectl  that may get nodes/proxy and list pods, which it starts once, as a proxy on a socket of its own; or
@@ -66,7 +78,8 @@ why instances ended and why containers wait stands in the ticks, for the tools; 
 
 --standard writes version 2, --extended version 3 with a line for a pod that goes, its new line where its name comes
 again, evictionPauseSeconds (30, or --eviction-pause) until the evicted pod has ended, and which pods a summary has no
-sample of, which a kubelet evicts first; without either it is --{default}.
+sample of, which a kubelet evicts first; without either it is --{default}. It says whom the node has ended, so the rules
+end these and name whom they would evict; with --simulate they evict by themselves.
 
 It leaves out
   - an instance that came and went between two looks and was removed by then, and the code of an exit that neither the
@@ -87,10 +100,11 @@ group or others; or a source of --check does not work; 2: a bad word; 127: a com
 """
 
 # word: what its value is
-NUMBERS = {"--every": 86400, "--look": 3600, "--ticks": MOST_TICKS, "--for": 31622400}
-LASTING = ("--each", "--keep", "--most")
-TEXTS = ("--node", "--kubelet", "--curl", "--crictl", "--node-line", "--eviction-pause", "--into", *LASTING, *NUMBERS)
-SWITCHES = ("--standard", "--extended", "--check")
+NUMBERS = {"--every": 86400, "--look": 3600, "--ticks": MOST_TICKS, "--for": 31622400, "--logs": MOST_LINES}
+LASTING = ("--each", "--keep", "--most", "--ship")
+TEXTS = ("--node", "--kubelet", "--curl", "--crictl", "--node-line", "--eviction-pause", "--metrics", "--events",
+         "--into", *LASTING, *NUMBERS)
+SWITCHES = ("--standard", "--extended", "--simulate", "--check")
 MOST_PAUSE = 2 ** 31 - 1
 UNITS = {"s": 1, "m": 60, "h": 3600, "d": 86400}
 SIZES = {"": 1, "k": 10 ** 3, "M": 10 ** 6, "G": 10 ** 9, "T": 10 ** 12, "Ki": 2 ** 10, "Mi": 2 ** 20, "Gi": 2 ** 30,
@@ -104,11 +118,13 @@ class BadWord(Exception):
 
 @dataclass(frozen=True)
 class Into:
-    """Where traces stand one behind the other, for how many seconds each, and how many seconds and bytes are kept."""
+    """Where traces stand one behind the other, for how many seconds each, how many seconds and bytes are kept, and the
+    words of the command that takes them away, if there is one."""
     folder: str
     each: int
     keep: int
     most: int
+    ship: tuple = ()
 
 
 @dataclass(frozen=True)
@@ -126,6 +142,9 @@ class Words:
     is_check: bool
     into: Optional[Into]
     crictl: tuple
+    log_lines: int
+    metrics: Optional[str]
+    events: Optional[str]
 
 
 def help_text() -> Any:
@@ -154,27 +173,28 @@ def number(given: dict[str, Any], word: str, default: int | None) -> int | None:
     if text is None:
         return default
     if not re.fullmatch("[1-9][0-9]{0,7}", text) or int(text) > NUMBERS[word]:
-        what = "number" if word == "--ticks" else "number of seconds"
+        what = "number" if word in ("--ticks", "--logs") else "number of seconds"
         raise BadWord(f"{word} takes a whole {what} from 1 to {NUMBERS[word]}, not '{text}'")
     return int(text)
 
 
 def trace_format(given: dict[str, Any]) -> lines.Format:
     """The format that the words ask for. Raises BadWord where they ask for two."""
-    text = given.get("--eviction-pause")
+    text, is_simulated = given.get("--eviction-pause"), "--simulate" in given
     if "--standard" in given and "--extended" in given:
         raise BadWord("--standard and --extended are two formats: give one")
     if "--standard" in given and "--into" in given:
         raise BadWord("--into writes the extended format, and not the standard one")
     is_extended = ({"--extended", "--into"} & set(given)
                    or ("--standard" not in given and lines.DEFAULT.says_gone))
+    alone = [word for word in ("--eviction-pause", "--simulate") if word in given]
+    if alone and not is_extended:
+        raise BadWord(f"{alone[0]} goes with --extended")
     if text is None:
-        return lines.extended() if is_extended else lines.STANDARD
-    if not is_extended:
-        raise BadWord("--eviction-pause goes with --extended")
+        return lines.extended(is_simulated=is_simulated) if is_extended else lines.STANDARD
     if not re.fullmatch("0|[1-9][0-9]{0,9}", text) or int(text) > MOST_PAUSE:
         raise BadWord(f"--eviction-pause takes a whole number of seconds from 0 to {MOST_PAUSE}, not '{text}'")
-    return lines.extended(int(text))
+    return lines.extended(int(text), is_simulated)
 
 
 def node_line(given: dict[str, Any]) -> dict[str, Any] | None:
@@ -219,23 +239,40 @@ def into(given: dict[str, Any], node: str) -> Into | None:
         if alone:
             raise BadWord(f"{alone[0]} goes with --into")
         return None
-    if not os.path.isdir(given["--into"]):
-        raise BadWord(f"--into: '{given['--into']}' is no folder")
+    folder = given["--into"]
+    can_be_made = not os.path.lexists(folder) and os.path.isdir(os.path.dirname(os.path.abspath(folder)))
+    if not os.path.isdir(folder) and not can_be_made:
+        raise BadWord(f"--into: '{folder}' is no folder")
     if name_fault(node) is not None:
         raise BadWord(f"--into wants --node with a name of the formats, not '{node}'")
-    return Into(given["--into"], duration(given, "--each", "1h"), duration(given, "--keep", "48h"),
-                size(given, "--most", "2Gi"))
+    return Into(folder, duration(given, "--each", "1h"), duration(given, "--keep", "48h"),
+                size(given, "--most", "2Gi"), command(given, "--ship", "", "rclone copy {} far:traces"))
 
 
-def crictl_words(given: dict[str, Any]) -> tuple[str, ...]:
-    """The words that start crictl."""
+def command(given: dict[str, Any], word: str, default: str, example: str) -> tuple[str, ...]:
+    """The words of a command, as a shell splits them."""
     try:
-        words = shlex.split(given.get("--crictl", "crictl"))
+        words = shlex.split(given.get(word, default))
     except ValueError:
         words = []
-    if not words:
-        raise BadWord(f"--crictl takes words as 'chroot /host crictl', not '{given['--crictl']}'")
+    if not words and word in given:
+        raise BadWord(f"{word} takes words as '{example}', not '{given[word]}'")
     return tuple(words)
+
+
+def metrics_file(given: dict[str, Any]) -> str | None:
+    path = given.get("--metrics")
+    fault = None if path is None else fault_of(path)
+    if fault is not None:
+        raise BadWord(f"--metrics: {fault}")
+    return path
+
+
+def events_api(given: dict[str, Any]) -> str | None:
+    api = given.get("--events")
+    if api is not None and api != KUBECTL and not re.fullmatch("https://[^/ ]+/?", api):
+        raise BadWord(f"--events takes a URL as https://kubernetes.default.svc, or kubectl, not '{api}'")
+    return api
 
 
 def words_of(arguments: list[str]) -> Words:
@@ -254,7 +291,8 @@ def words_of(arguments: list[str]) -> Words:
     return Words(node, kubelet.rstrip("/") if kubelet else None, curl_file, node_line(given),
                  number(given, "--every", 10), number(given, "--look", 1), number(given, "--ticks", MOST_TICKS),
                  number(given, "--for", None), trace_format(given), "--check" in given, into(given, node),
-                 crictl_words(given))
+                 command(given, "--crictl", "crictl", "chroot /host crictl"), number(given, "--logs", 0),
+                 metrics_file(given), events_api(given))
 
 
 def missing_commands(commands: list[str]) -> list[str]:

@@ -1,0 +1,135 @@
+"""What the kubelet samples of its node and its pods, each value at its own moment, and by which samples it decided."""
+
+from __future__ import annotations
+
+from typing import Optional, TYPE_CHECKING
+
+from . import rounds
+from .runtime import EXITED, RUNNING
+
+if TYPE_CHECKING:
+    from collections.abc import Callable
+
+    from .lines import Format
+    from .seen import Recorded, Seen
+    from .summary import Sample, Summary, Used
+    from .timeline import Timeline
+
+# how long signals stand as last sampled where the summary is silent
+SIGNAL_AGE = 60
+# the kubelet takes a sample about as often where nothing is near a threshold
+SAMPLE_SECONDS = 10
+
+
+class Sampling:
+    """The part of the recorder's core that takes the answers of the summary."""
+
+    format: Format
+    say: Callable[..., None]
+    timeline: Timeline
+    is_first: bool
+    begun: Optional[float]
+
+    def __init__(self) -> None:
+        self.sampled_at: Optional[float] = None
+        self.wanted_at = self.newest = float("-inf")
+        self.samples: dict[str, Sample] = {}
+        # the newest summary
+        self.summary: Optional[Summary] = None
+        self.rounds = rounds.Rounds()
+
+    def followed(self) -> list[Recorded]:
+        raise NotImplementedError
+
+    def take_summary(self, seen: Seen) -> None:
+        """Samples of the kubelet's that are new stand at their own moments. Those of signals want a tick, but for one
+        that is counted when it is asked, where it is not near its threshold; usage is in the next one."""
+        if seen.summary is None:
+            if seen.is_summary_silent and seen.moment - self.sampled_at > SIGNAL_AGE:
+                self.say(f"{int(seen.moment)}: the signals are older than {SIGNAL_AGE} s, and are left out until "
+                         "/stats/summary answers", ("signals", self.sampled_at))
+                self.take_signals({}, seen, False)
+            return
+        self.sampled_at, self.summary = seen.moment, seen.summary
+        self.newest = max(self.newest, self.newest_moment(seen))
+        self.take_signals(seen.summary.signals, seen, True)
+        self.take_rounds(seen)
+        for recorded in self.followed():
+            usage = seen.summary.usage(recorded.pod, self.has_running(recorded))
+            for resource, sample in usage.items():
+                if sample != recorded.usage.get(resource):
+                    moment = max(self.sampled_moment(sample, seen), recorded.arrived, recorded.unsampled_at or 0)
+                    self.timeline.place_usage(recorded.pod, moment, resource, sample.value)
+            recorded.usage = usage
+            self.take_used(recorded, seen.summary.used(recorded.pod))
+            self.see_unsampled(recorded, seen)
+
+    def take_used(self, recorded: Recorded, used: dict[str, Used]) -> None:
+        """What its containers used, where that is a new sample; the formats do not read it."""
+        if self.format.says_gone:
+            for name, each in used.items():
+                if each.moment != recorded.used_at.get(name):
+                    recorded.used_at[name] = each.moment
+                    self.timeline.place_used(recorded.pod, name, each, recorded.arrived)
+
+    def newest_moment(self, seen: Seen) -> float:
+        """When the newest sample of the node was taken."""
+        return max((self.sampled_moment(sample, seen) for sample in seen.summary.signals.values()
+                    if sample.moment is not None), default=seen.moment)
+
+    def see_unsampled(self, recorded: Recorded, seen: Seen) -> None:
+        """A summary without a pod that has run: the kubelet has no sample of it, and evicts it before all others. That
+        is said once, until a sample comes, and from the newest sample of the node on, by which the kubelet decides; but
+        behind an exit since, as an eviction leads to."""
+        if recorded.pod.uid in seen.summary.pods:
+            recorded.sampled_at, recorded.unsampled_at = seen.moment, None
+            return
+        is_deleted = recorded.going_since is not None and recorded.evicted_at is None
+        if is_deleted and (recorded.sampled_at or not self.has_running(recorded)):
+            # it has ended, and the kubelet evicts no such pod once it knows that
+            return
+        newest = [container.newest for container in recorded.containers.values() if container.newest is not None]
+        ran = [each for each in newest if each.state in (RUNNING, EXITED)]
+        if ran and recorded.unsampled_at is None and self.format.says_gone:
+            # one that was sampled and is listed as running has exited since
+            exits = [each.finished or seen.moment for each in ran
+                     if each.state == EXITED or 0 < (each.started or 1) <= recorded.sampled_at]
+            behind = [int(moment) + 1 for moment in exits if int(moment) >= int(self.newest)]
+            recorded.unsampled_at = max(self.newest, recorded.sampled_at, recorded.arrived, *behind)
+            self.timeline.place_unsampled(recorded.pod, recorded.unsampled_at)
+
+    def take_signals(self, samples: dict[str, Sample], seen: Seen, is_wanted: bool) -> None:
+        """Places the samples that are others than before; a signal that is no longer there has no value. In the
+        standard format each tick below a threshold evicts a pod, so there samples want no more ticks than those that
+        the kubelet takes of itself."""
+        is_wanted = is_wanted and (self.format.says_gone or seen.moment - self.wanted_at >= SAMPLE_SECONDS)
+        self.wanted_at = seen.moment if is_wanted else self.wanted_at
+        for signal in dict.fromkeys([*self.samples, *samples]):
+            sample = samples.get(signal)
+            if sample is None:
+                self.timeline.place_signal(seen.moment, signal, None, is_wanted)
+            elif sample != self.samples.get(signal):
+                wants = signal in seen.low or sample.moment is not None or signal not in self.samples
+                self.timeline.place_signal(self.sampled_moment(sample, seen), signal, sample.value, is_wanted and wants)
+        self.samples = samples
+
+    def take_rounds(self, seen: Seen) -> None:
+        """The kubelet judges its thresholds in rounds, and the tick of each round's sample is judged."""
+        if self.is_first:
+            self.timeline.tells_rounds = self.format.says_gone and rounds.are_told(seen.summary.signals)
+        if self.timeline.tells_rounds:
+            values = {signal: sample.value for signal, sample in seen.summary.signals.items()}
+            near = self.timeline.near
+            evicted_at = self.timeline.evicted_last if near.may_evict_by(values) else None
+            for moment in self.rounds.of(seen.summary.signals, near.below(values), evicted_at):
+                self.timeline.place_round(max(self.begun, min(moment, seen.end)))
+
+    def sampled_moment(self, sample: Sample, seen: Seen) -> float:
+        """When a sample was taken, within what is recorded; the first tick has those of the first look."""
+        latest = seen.moment if self.is_first else seen.end
+        return seen.moment if sample.moment is None else max(self.begun, min(sample.moment, latest))
+
+    @staticmethod
+    def has_running(recorded: Recorded) -> bool:
+        return any(container.newest is not None and container.newest.state == RUNNING
+                   for container in recorded.containers.values())

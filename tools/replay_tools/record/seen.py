@@ -1,0 +1,71 @@
+"""What a look of the recorder saw, and what is known of a pod that it follows."""
+
+from __future__ import annotations
+
+from dataclasses import dataclass, field
+from typing import Optional, TYPE_CHECKING
+
+from .statuses import Beside
+
+if TYPE_CHECKING:
+    from .decisions import Decision
+    from .events import Ready
+    from .pods import Pod
+    from .runtime import Instance
+    from .summary import Summary
+
+# how long what was seen waits for a source that is silent, since with it the moments can be told
+PATIENCE = 30
+
+@dataclass
+class Seen:
+    """What one look saw that began at a moment in seconds since 1970, and `took` so many. None is what was not asked,
+    or gave no answer: `instances` has the instances of each pod's uid, `counters` the counts of probes, `pods` those
+    that are there, `low` the signals near their thresholds, `said` the Events of the pods that were asked for,
+    and `ready` whether the node is Ready."""
+    moment: float
+    instances: Optional[dict[str, list[Instance]]] = None
+    counters: Optional[dict] = None
+    pods: Optional[list[Pod]] = None
+    summary: Optional[Summary] = None
+    is_summary_silent: bool = False
+    low: frozenset = frozenset()
+    said: dict = field(default_factory=dict)
+    ready: Optional[Ready] = None
+    took: float = 0
+
+    @property
+    def end(self) -> float:
+        """Up to when what it saw may have happened."""
+        return self.moment + self.took
+
+
+@dataclass
+class Recorded:
+    """A pod of the trace, the second of its line, that from which on its containers change, what was seen of them, and
+    what is not planned yet. `usage` has its newest samples, `sampled_at` is when a summary had it last, `unsampled_at`
+    since when none has it; `waits` says why its containers wait, `waited` behind which attempts they have, and `found`
+    what each of their probes found last. `ended` is the decision by which the node has ended it, `ended_at` when that
+    was seen; `beside` is what was placed of what its object says beside, `used_at` has
+    the moments of the newest samples of its containers, and `said` how often each Event was by then."""
+    pod: Pod
+    arrived: int
+    changes_from: int
+    containers: dict = field(default_factory=dict)
+    changes: dict = field(default_factory=dict)
+    usage: dict = field(default_factory=dict)
+    sampled_at: float = 0
+    unsampled_at: Optional[float] = None
+    waits: dict = field(default_factory=dict)
+    waited: dict = field(default_factory=dict)
+    found: dict = field(default_factory=dict)
+    is_followed: bool = True
+    is_deleting: bool = False
+    going_since: Optional[float] = None
+    evicted_at: Optional[int] = None
+    ended: Optional[Decision] = None
+    ended_at: float = 0
+    is_end_placed: bool = False
+    beside: Beside = field(default_factory=Beside)
+    used_at: dict = field(default_factory=dict)
+    said: dict = field(default_factory=dict)

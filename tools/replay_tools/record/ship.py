@@ -1,0 +1,157 @@
+"""Takes traces away from the node: a command of the operator's is run for each whole trace, one at a time and in their
+order, beside the recording. One that fails, or takes too long, is run again; what was taken is kept in a file of the
+folder."""
+
+from __future__ import annotations
+
+import contextlib
+import os
+import signal
+import subprocess
+import time
+from collections.abc import Callable
+from typing import Optional, TYPE_CHECKING
+
+from .folder import why
+from .part import SHIPPED, created, opened
+from .sources import MOST_SAID, PART_BYTES, shown_line
+
+if TYPE_CHECKING:
+    from .folder import Folder, Trace
+
+# in the operator's words the path of a trace stands for this; where it does not occur the path comes last
+PATH = "{}"
+# a command that takes longer is ended
+LONGEST_SECONDS = 600
+# after the first failure it is run again after so long, then after twice that, up to the most
+AGAIN_SECONDS, MOST_AGAIN_SECONDS = 10, 600
+# at the end of the recorder a command that runs has so long to end
+END_SECONDS = 5
+MOST_PARTS = 16
+
+
+class Shipping:
+    """Runs a command for each trace of a folder that has ended; `say` takes what is said."""
+
+    def __init__(self, words: tuple[str, ...], folder: Folder, say: Callable[..., None],
+                 now: Callable[[], float] = time.monotonic) -> None:
+        self.words = words
+        self.folder = folder
+        self.say = say
+        self.now = now
+        self.path = os.path.join(folder.path, f"{folder.node}.{SHIPPED}")
+        self.last = self.read()
+        self.process: Optional[subprocess.Popen] = None
+        self.trace: Optional[Trace] = None
+        self.said = bytearray()
+        self.begun_at = self.again_at = 0.0
+        self.failures = 0
+
+    def look(self) -> None:
+        """What has become of the command that runs; and the next one, where none does. It waits for nothing."""
+        if self.process is not None:
+            self.see_end()
+        if self.process is None and self.now() >= self.again_at:
+            left = self.left()
+            if left:
+                self.start(left[0])
+
+    def end(self) -> None:
+        """The recorder ends: a command that runs has some seconds to end, and what is left is for the next start."""
+        until = self.now() + END_SECONDS
+        while self.process is not None and self.now() < until:
+            self.see_end()
+            time.sleep(0.05)
+        if self.process is not None:
+            self.kill()
+            self.process.stderr.close()
+        left = self.left()
+        if left:
+            self.say(f"{len(left)} traces are not taken away yet, from {left[0].name} on: the next start does that")
+
+    def left(self) -> list[Trace]:
+        """The traces that were not taken away, in their order."""
+        return [trace for trace in self.folder.traces() if self.last is None or place_of(trace) > self.last]
+
+    # --- one command ---
+
+    def start(self, trace: Trace) -> None:
+        path = os.path.join(self.folder.path, trace.name)
+        words = [word.replace(PATH, path) for word in self.words]
+        words += [] if words != list(self.words) else [path]
+        self.trace, self.begun_at, self.said = trace, self.now(), bytearray()
+        try:
+            # an interrupt of the recorder's terminal is none of its own
+            self.process = subprocess.Popen(words, stdin=subprocess.DEVNULL, stdout=subprocess.DEVNULL,
+                                            stderr=subprocess.PIPE, start_new_session=True)
+            os.set_blocking(self.process.stderr.fileno(), False)
+        except OSError as error:
+            self.fail(f"can't be started: {why(error)}")
+
+    def see_end(self) -> None:
+        """Takes what the command says, and its end."""
+        status = self.process.poll()
+        self.listen()
+        if status is None:
+            if self.now() - self.begun_at <= LONGEST_SECONDS:
+                return
+            self.kill()
+        self.process.stderr.close()
+        self.process = None
+        if status == 0:
+            self.failures = 0
+            self.last = place_of(self.trace)
+            self.write(self.trace.name)
+        else:
+            said = shown_line(self.said.decode("utf-8", "replace"))
+            self.fail(f"went on for {LONGEST_SECONDS} s, and was ended" if status is None else
+                      f"failed with status {status}{': ' if said else ''}{said}")
+
+    def listen(self) -> None:
+        """Reads what the command says on standard error, of which the begin is kept."""
+        with contextlib.suppress(BlockingIOError):
+            # one that never ends to say something is not listened to for longer at a look
+            for _ in range(MOST_PARTS):
+                part = os.read(self.process.stderr.fileno(), PART_BYTES)
+                self.said += part[:MOST_SAID - len(self.said)]
+                if not part:
+                    break
+
+    def kill(self) -> None:
+        with contextlib.suppress(ProcessLookupError):
+            os.killpg(self.process.pid, signal.SIGKILL)
+        self.process.wait()
+
+    def fail(self, reason: str) -> None:
+        """The command is run again, each time after twice as long."""
+        seconds = min(AGAIN_SECONDS * 2 ** min(self.failures, 16), MOST_AGAIN_SECONDS)
+        self.failures += 1
+        self.again_at = self.now() + seconds
+        self.say(f"--ship: {self.words[0]} {reason}; {self.trace.name} is taken again in {seconds} s", object())
+
+    # --- what was taken ---
+
+    def read(self) -> Optional[tuple[int, int]]:
+        """The place of the trace that was taken last; None where none is known."""
+        try:
+            with opened(self.path) as file:
+                name = file.read(1 << 12).decode("utf-8", "replace").strip()
+        except OSError:
+            return None
+        return self.folder.place_of(name)
+
+    def write(self, name: str) -> None:
+        temporary = f"{self.path}.part"
+        try:
+            with contextlib.suppress(FileNotFoundError):
+                os.unlink(temporary)
+            with os.fdopen(created(temporary), "wb") as file:
+                file.write(f"{name}\n".encode())
+            os.rename(temporary, self.path)
+        except OSError as error:
+            self.say(f"{self.path} can't be written, so a start later takes traces once more: {why(error)}", SHIPPED)
+
+
+def place_of(trace: Trace) -> tuple[int, int]:
+    """Where a trace stands in the order of the folder's."""
+    return trace.begun, trace.number

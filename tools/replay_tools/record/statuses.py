@@ -1,0 +1,76 @@
+"""What an object of a pod says beside what the formats read: its readiness gates, by whom it is deleted, and the
+resources that its containers have by now."""
+
+from __future__ import annotations
+
+import re
+from dataclasses import dataclass, field
+from typing import Any, Optional
+
+from replay_tools import amounts
+
+from .formats import without_nones, whole_fault
+
+MOST_GRACE = 2 ** 40 - 1
+# the condition of a pod that is to end for the sake of others, and its reasons
+DISRUPTED = "DisruptionTarget"
+WORD = re.compile(r"[A-Za-z][A-Za-z0-9]{0,63}")
+# a condition's type, as the API takes it
+TYPE = re.compile(r"([a-z0-9.-]{1,253}/)?[A-Za-z0-9][-A-Za-z0-9_.]{0,62}")
+
+
+@dataclass(frozen=True)
+class Beside:
+    """Whether each readiness gate of a pod is true, by its condition's type; and by container the resources that the
+    status says, where it does."""
+    gates: dict = field(default_factory=dict)
+    resources: dict = field(default_factory=dict)
+
+
+def beside_in(item: Any, resources: tuple[str, ...]) -> Beside:
+    """What an object says so, of these resources; a gate of which no condition is there yet is not true."""
+    status, gates = item.get("status") or {}, (item.get("spec") or {}).get("readinessGates") or []
+    values = {each.get("type"): each.get("status") for each in status.get("conditions") or []}
+    types = [each.get("conditionType") for each in gates]
+    known = [name for name in types if isinstance(name, str) and TYPE.fullmatch(name)]
+    return Beside({name: values.get(name) == "True" for name in known},
+                  {each.get("name"): resources_of(each["resources"], resources) for each in container_statuses(status)
+                   if each.get("resources")})
+
+
+def container_statuses(status: dict[str, Any]) -> list[dict[str, Any]]:
+    return [*(status.get("initContainerStatuses") or []), *(status.get("containerStatuses") or [])]
+
+
+def deletion_in(item: Any) -> dict[str, Any]:
+    """By whom a pod is deleted, where a condition says it, and its grace in seconds."""
+    grace = (item.get("metadata") or {}).get("deletionGracePeriodSeconds")
+    conditions = (item.get("status") or {}).get("conditions") or []
+    reasons = [each.get("reason") for each in conditions
+               if each.get("type") == DISRUPTED and each.get("status") == "True"]
+    by: Optional[str] = next((each for each in reasons if isinstance(each, str) and WORD.fullmatch(each)), None)
+    return without_nones({"by": by, "grace": None if whole_fault(grace, 0, MOST_GRACE) else grace})
+
+
+def picked(fields: dict[str, Any] | None, names: tuple[str, ...]) -> dict[str, float | str] | None:
+    return None if fields is None else without_nones({name: fields.get(name) for name in names})
+
+
+def resources_of(amounts_of: dict[str, Any] | None, resources: tuple[str, ...]) -> dict[str, Any] | None:
+    """The requests and limits of these resources."""
+    if amounts_of is None:
+        return None
+    return without_nones({side: picked(amounts_of.get(side), resources) for side in ("requests", "limits")})
+
+
+def changed(said: dict[str, Any], declared: dict[str, Any]) -> bool:
+    """Whether a container's status says other resources than its pod's manifest did as it came."""
+    return any(amount_of(of_side.get(resource)) != amount_of((declared.get(side) or {}).get(resource))
+               for side, of_side in said.items() for resource in of_side)
+
+
+def amount_of(value: Any) -> int | None:
+    try:
+        return None if value is None else amounts.quantity(value)
+    except (ValueError, TypeError, AttributeError):
+        return None
