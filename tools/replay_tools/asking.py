@@ -8,7 +8,8 @@ from collections.abc import Callable
 from dataclasses import dataclass
 from typing import Any
 
-from replay_tools import entry, kubelet as kubelets, naming, report as reports, traces, why as why_ticks, why_text
+from replay_tools import (clock, endings, entry, kubelet as kubelets, naming, overview, report as reports, summary,
+                          traces, why as why_ticks, why_text)
 from replay_tools.joined import asked, join, known
 
 
@@ -20,6 +21,16 @@ class Given:
     trace: traces.Trace | None
     several: join.Joined | None = None
     ticks: why_ticks.Ticks | None = None
+
+    @property
+    def since(self) -> int:
+        """The moment behind which it is counted: that which was asked for, or up to which the trace shows what was so
+        in one that is not there."""
+        if self.several is not None:
+            asked_for = self.several.asked.since
+            return self.several.known if asked_for is None else max(self.several.known, asked_for)
+        follows = self.trace.follows() if self.trace is not None else None
+        return follows["at"] if follows else summary.NEVER
 
     def is_near(self, at: int) -> bool:
         """Whether a moment is told, where one was asked for."""
@@ -48,15 +59,16 @@ def given(found: Namespace, gather: Callable[..., Any] | None = None) -> Given:
     else:
         trace = several.trace
     if several is not None and trace is not None:
-        tell_left(trace, report)
+        endings.tell_left(trace, report)
         if ticks is not None:
             of_whole_ticks(lambda: ticks.take_all(trace))
     return Given(report, trace, several, ticks)
 
 
-def is_utc(found: Namespace, given_to: Given) -> bool:
-    """Whether moments are written as times: that was asked for, or a time was given."""
-    return found.utc or given_to.several is not None and given_to.several.is_utc
+def clock_of(found: Namespace, given_to: Given) -> clock.Clock:
+    """How moments are written: as the words say, else by what they are."""
+    is_dated = given_to.several is not None and given_to.several.is_utc
+    return clock.clock_of(found, summary.last_moment(given_to.report, given_to.trace), is_dated)
 
 
 def key_named(report: reports.Report, name: str, kubelet: kubelets.Kubelet | None = None) -> str:
@@ -106,7 +118,7 @@ def trace_of(report: reports.Report, path: str, watch: Callable[..., Any] | None
     try:
         trace = traces.read_trace(path, watch)
         traces.check_belongs(trace, report, path)
-        tell_left(trace, report)
+        endings.tell_left(trace, report)
         if trace.follows():
             known.tell_known(report, trace.follows()["at"])
     except traces.TraceFault as fault:
@@ -114,12 +126,6 @@ def trace_of(report: reports.Report, path: str, watch: Callable[..., Any] | None
     except (ValueError, TypeError, KeyError, AttributeError):
         raise entry.Fault(f"{path} has a tick line that is none (tools/explain says which)") from None
     return trace
-
-
-def tell_left(trace: traces.Trace, report: reports.Report) -> None:
-    """From now on each pod has left when the trace lets it go, whether another one of its name came or not."""
-    for ours, pod in zip(trace.pods, report.pods):
-        pod.left = trace.ticks[ours.gone].at if ours.gone is not None and ours.gone < len(trace.ticks) else None
 
 
 def kubelet_beside(trace: traces.Trace | None, report: reports.Report) -> kubelets.Kubelet | None:
@@ -132,12 +138,23 @@ def without_line(kubelet: kubelets.Kubelet | None, key: str, show: Callable[[int
     return kubelets.no_line_text(key, kubelet.of_no_line(key), show) if kubelet is not None else ""
 
 
-def why(trace: traces.Trace, report: reports.Report, pods: list[reports.Pod], show: Callable[[int], str],
-        kubelet: kubelets.Kubelet | None, is_near: Callable[..., Any] = why_text.always) -> str:
+def why(given_to: Given, pods: list[reports.Pod], show: Callable[[int], str], kubelet: kubelets.Kubelet | None,
+        with_worst: bool = False) -> str:
     """What the trace holds around the events of some pods, those of moments that are near, and what the kubelet did to
-    them, as text."""
-    return "\n".join(f"why {pod.key} on {report.node}{reports.number_words(report, pod)}\n\n"
-                     + why_of(trace, report, pod, show, kubelet, is_near) for pod in pods)
+    them, as text; with the worst of each, where no story stands before it."""
+    trace, report = given_to.trace, given_to.report
+
+    def head(pod: reports.Pod) -> str:
+        line = worst_line(given_to, pod, show, kubelet) + "\n" if with_worst else ""
+        return f"why {pod.key} on {report.node}{reports.number_words(report, pod)}\n{line}\n"
+
+    return "\n".join(head(pod) + why_of(trace, report, pod, show, kubelet, given_to.is_near) for pod in pods)
+
+
+def worst_line(given_to: Given, pod: reports.Pod, show: Callable[[int], str],
+               kubelet: kubelets.Kubelet | None) -> str:
+    """What a pod came to, in one line, as it stands in the list of pods."""
+    return overview.line_of(given_to.report, pod, show, given_to.trace, kubelet, given_to.since)
 
 
 def why_of(trace: traces.Trace, report: reports.Report, pod: reports.Pod, show: Callable[[int], str],

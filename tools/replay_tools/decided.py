@@ -1,8 +1,9 @@
-"""What the ticks of a trace say of what was done to pods: whom the kubelet evicted or refused, and which pods are being
-deleted."""
+"""What the ticks of a trace say of what was done to pods: whom the kubelet evicted, refused or ended, and which pods
+are being deleted."""
 
 from __future__ import annotations
 
+import re
 from collections.abc import Iterator
 from dataclasses import dataclass
 from typing import Any, TYPE_CHECKING
@@ -12,13 +13,21 @@ from replay_tools import outside
 if TYPE_CHECKING:
     from replay_tools.traces import Pod, Trace
 
+EVICTED = "Evicted"
+# docs/extended.md: the word that a tick has of a pod that the node has ended
+REASON = re.compile(r"[A-Za-z][A-Za-z0-9_./-]{0,62}", re.ASCII)
+# who deletes a pod, by the reason of its condition DisruptionTarget (Kubernetes, "Disruptions")
+DELETERS = {"EvictionByEvictionAPI": "the eviction API", "DeletionByTaintManager": "the taint manager",
+            "PreemptionByScheduler": "the scheduler, for a pod of higher priority",
+            "DeletionByPodGC": "the garbage collection of pods", "TerminationByKubelet": "the kubelet"}
+
 
 @dataclass
 class Decision:
     """What the kubelet did to a pod, as a recording of it says; the formats do not read that."""
 
     kind: str
-    """evicted or refused"""
+    """evicted, refused or ended"""
     at: int
     pod: str
     number: int | None
@@ -29,20 +38,54 @@ class Decision:
     """that of a pod that has no line in the trace, where it is known"""
 
 
-def deletions(trace: Trace, present: dict[str, Pod]) -> Iterator[tuple[int, int]]:
-    """The pods that are being deleted, as the newest tick says, each with its moment."""
+@dataclass
+class Deletion:
+    """Since when a pod is being deleted, and by whom and with which grace, where a recording says it."""
+
+    at: int
+    by: str | None = None
+    """the reason of its condition DisruptionTarget"""
+    grace: int | None = None
+    """in seconds"""
+
+    def words(self) -> str:
+        by = f" by {DELETERS.get(self.by, self.by)}" if self.by else ""
+        return f"{by}{'' if self.grace is None else f', {self.grace} s of grace'}"
+
+
+def take_words(trace: Trace, present: dict[str, Pod]) -> None:
+    """What the newest tick says of pods that are being deleted, and of those that the node has ended: the first tick
+    counts. What else is known of a deletion may come later."""
     tick = trace.ticks[-1]
-    if trace.heeds_unsampled() and tick.may_have(b"deleting"):
-        for key, entry in tick.entries.items():
-            if entry.get("deleting") is True:
-                yield present[key].number, tick.at
+    if not trace.heeds_words() or not (tick.may_have(b"deleting") or tick.may_have(b"failed")):
+        return
+    for key, entry in tick.entries.items():
+        pod = present[key]
+        if entry.get("deleting") is True:
+            known = trace.deletions.setdefault(pod.number, Deletion(tick.at))
+            known.by, known.grace = deleter_of(entry) or known.by, grace_of(entry, known.grace)
+        reason = entry.get("failed")
+        if isinstance(reason, str) and REASON.fullmatch(reason) and pod.number not in trace.failed:
+            kind = "evicted" if reason == EVICTED else "ended"
+            trace.failed[pod.number] = Decision(kind, tick.at, key, pod.number, reason, "")
+
+
+def deleter_of(entry: dict[str, Any]) -> str | None:
+    said = entry.get("deletion")
+    return outside.text_of(said.get("by")) if isinstance(said, dict) else None
+
+
+def grace_of(entry: dict[str, Any], otherwise: int | None) -> int | None:
+    said = entry.get("deletion")
+    found = outside.moment(said.get("grace")) if isinstance(said, dict) else None
+    return otherwise if found is None else found
 
 
 def decisions_of(trace: Trace, found: dict[str, Any]) -> Iterator[Decision]:
     """What a tick says that the kubelet did, by its own moment, to the last pod of a key unless it is left out. Since
     the formats do not read it, what has another shape says nothing."""
     told = found.get("kubelet")
-    for kind in ("evicted", "refused"):
+    for kind in ("evicted", "refused", "ended"):
         each_of = told.get(kind) if isinstance(told, dict) else None
         for each in each_of if isinstance(each_of, list) else []:
             if isinstance(each, dict) and isinstance(each.get("pod"), str):
@@ -51,3 +94,10 @@ def decisions_of(trace: Trace, found: dict[str, Any]) -> Iterator[Decision]:
                 reason, message = (outside.text_of(str(each.get(name) or "")) for name in ("reason", "message"))
                 yield Decision(kind, found["at"] if at is None else at, key, pods[-1].number if pods else None,
                                reason or "", message or "", outside.text_of(each.get("uid")))
+
+
+def decisions_with_endings(trace: Trace) -> list[Decision]:
+    """All that the kubelet did; of a pod that it ended what a recording says with its message, where it does."""
+    told = {decision.number for decision in trace.decisions if decision.kind != "refused"}
+    return sorted([*trace.decisions, *(each for number, each in trace.failed.items() if number not in told)],
+                  key=lambda decision: decision.at)

@@ -115,7 +115,7 @@ def read_report() -> reports.Report:
     """The report of standard input."""
     given = standard_input()
     if given.isatty():
-        raise Fault("it wants a report on standard input, as kubelet_replay run TRACE > REPORT writes it: .. < REPORT")
+        raise Fault("it wants a report on standard input, as kubelet-replay run TRACE > REPORT writes it: .. < REPORT")
     text = read_bounded(given, "standard input")
     try:
         return reports.read_report(text.decode("utf-8", "replace"))

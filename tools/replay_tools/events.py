@@ -53,6 +53,8 @@ class Kind:
     """what is said of it behind a border of several traces, from which on what it goes by is counted anew"""
     is_counted: bool
     """its record has that border"""
+    sentence_guessed: str
+    """where the trace says that its code was guessed"""
 
     @functools.cached_property
     def form(self) -> re.Pattern[str]:
@@ -67,10 +69,12 @@ class Kind:
         """The values of its fields, by their names."""
         return {field.name: field.value(text) for field, text in zip(self.fields, rest)}
 
-    def told(self, rest: list[str], why: str = "", is_beside: bool = False) -> str:
+    def told(self, rest: list[str], why: str = "", is_beside: bool = False, is_guessed: bool = False) -> str:
         """An event in words, but for its attempt."""
         given = {field.name: text for field, text in zip(self.fields, rest)}
-        return filled(self.sentence_beside if is_beside else self.sentence, given | {"why": f": {why}" if why else ""})
+        beside = self.sentence_beside if is_beside else self.sentence
+        sentence = self.sentence_guessed if is_guessed else beside
+        return filled(sentence, given | {"why": f": {why}" if why else ""})
 
     def attempt(self, rest: list[str]) -> str:
         """The attempt, as a text; none of a kind without one."""
@@ -96,9 +100,10 @@ def attempt_sentence() -> str:
     return definitions()["event"]["told_attempt"]
 
 
-def decision_sentence() -> str:
-    """In which words it is told what the kubelet did to a pod."""
-    return definitions()["decision"]["sentence"]
+def decision_sentence(decision: str = "") -> str:
+    """In which words it is told what the kubelet did to a pod, of a kind that has words of its own in those."""
+    found = definitions()["decision"]
+    return found.get(f"sentence_{decision}", found["sentence"])
 
 
 @functools.cache
@@ -116,7 +121,8 @@ def kind_of(found: dict) -> Kind:
     subject, _, rest = found["line"].partition(f" {word}")
     fields = tuple(field_of(name, properties[name]) for name in PLACE.findall(rest))
     return Kind(word, SUBJECTS[subject], fields, found["sentence"], found.get("sentence_beside", found["sentence"]),
-                found.get("anew"), "counted_anew_since" in properties)
+                found.get("anew"), "counted_anew_since" in properties,
+                found.get("sentence_guessed", found["sentence"]))
 
 
 def field_of(name: str, found: dict) -> Field:
@@ -124,6 +130,6 @@ def field_of(name: str, found: dict) -> Field:
     if written:
         return Field(name, f"(?:{'|'.join(map(re.escape, written))})", False, found["written"][0]
                      if found.get("type") == "boolean" else None)
-    if found["type"] == "integer":
+    if found["type"] in ("integer", ["integer", "null"]):
         return Field(name, r"\d+" if found.get("minimum") == 0 else r"-?\d+", True, None)
     return Field(name, r"\S+/\S+" if name == "pod" else r"\S+", False, None)

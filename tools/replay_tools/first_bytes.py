@@ -71,11 +71,11 @@ def instead_of_report(head: bytes, what: str = "standard input") -> str | None:
     if kind in (None, REPORT):
         return None
     if kind in (EMPTY, BLANK):
-        return f"{what} is empty: it wants a whole report, which kubelet_replay run TRACE writes"
+        return f"{what} is empty: it wants a whole report, which kubelet-replay run TRACE writes"
     if kind == REFUSAL:
         return f"{what} is {kind}: tools/explain TRACE says what it means"
     if kind == TRACE:
-        return f"{what} is a trace, and it wants the report: run it first, as in: kubelet_replay run TRACE | .."
+        return f"{what} is a trace, and it wants the report: run it first, as in: kubelet-replay run TRACE | .."
     if kind == PACKED[b"\x1f\x8b"][0]:
         return f"{what} is {kind}, and it wants a report; if it is a trace, --traces FILE replays it"
     return f"{what} is {kind}, and it wants a report{how_to_unpack(kind)}"

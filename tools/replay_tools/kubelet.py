@@ -7,13 +7,19 @@ import re
 from collections.abc import Callable
 from dataclasses import dataclass, field
 
-from replay_tools import amounts, events, report as reports, traces, why
+from replay_tools import amounts, decided, endings, events, report as reports, traces, why
 
 # what is no further apart is one eviction, in seconds
 NEAR = 2
 # how far back the samples go that are shown beside what the kubelet did
 SAMPLE_SECONDS = 30
 RESOURCE = re.compile(r"The node was low on resource: ([a-z-]+)")
+# what a pod may use by its own limits (Kubernetes, "Local ephemeral storage"); no threshold of the node is behind it
+OWN_LIMIT = re.compile(r"exceeds the (?:total )?limit|exceeded its local ephemeral storage limit")
+# what the reason says with which a kubelet ends a pod (Kubernetes, "Node Shutdowns", "Jobs", and the kubelet's own)
+MEANINGS = {"DeadlineExceeded": "it ran for longer than its activeDeadlineSeconds",
+            "Preempting": "a critical pod had no room beside it", "Terminated": "the node was shut down",
+            "Shutdown": "the node was shut down", "NodeShutdown": "the node was shut down"}
 USING = re.compile(r"Container (\S+) was using ([^\s,]+), "
                    r"(?:which exceeds its request of|request is) ([^\s,]+?)[.,]?(?:\s|$)")
 CONDITION = re.compile(r"The node had condition: \[([^\]]*)\]")
@@ -29,36 +35,53 @@ class Fact:
     eviction: reports.Eviction | None
     causes: list = field(default_factory=list)
     """why they differ, as far as the trace shows: each as its parts, texts and moments as numbers"""
+    is_imported: bool = False
+    """the trace was made of a journal, which has no thresholds"""
 
     @property
     def agrees(self) -> bool:
         return self.eviction is not None and abs(self.eviction.at - self.decision.at) <= NEAR
 
+    @property
+    def is_judged(self) -> bool:
+        """Whether the rules have anything to say of it: of an eviction under pressure of the node."""
+        return self.decision.kind == "evicted" and not self.is_imported and not is_own_limit(self.decision)
+
 
 @dataclass
 class Alone:
-    """An eviction by the rules of a pod that the kubelet did not evict."""
+    """A pod that the rules evict, or name, and the kubelet did not evict."""
 
     eviction: reports.Eviction
+    """the first"""
     causes: list
+    times: int = 1
 
 
 @dataclass
 class Kubelet:
-    """All that the kubelet did in a trace, and the evictions that the rules alone make of it."""
+    """All that the kubelet did in a trace, and whom the rules alone evict or name over it."""
 
     evicted: list[Fact] = field(default_factory=list)
+    ended: list[Fact] = field(default_factory=list)
+    """pods that it ended for other reasons"""
     refused: list[traces.Decision] = field(default_factory=list)
     alone: list[Alone] = field(default_factory=list)
+    names: bool = False
+    """the rules name pods, and evict none"""
+
+    @property
+    def facts(self) -> list[Fact]:
+        return [*self.evicted, *self.ended]
 
     def decisions(self) -> list[tuple[traces.Decision, Fact | None]]:
-        """Each decision with its fact, or None where it is no eviction, in order."""
-        all_of = [(fact.decision, fact) for fact in self.evicted] + [(each, None) for each in self.refused]
-        return sorted(all_of, key=lambda pair: pair[0].at)
+        """Each decision with its fact, or None where it is none that the rules could make, in order."""
+        all_of = [(fact.decision, fact if fact.decision.kind == "evicted" else None) for fact in self.facts]
+        return sorted([*all_of, *((each, None) for each in self.refused)], key=lambda pair: pair[0].at)
 
     def fact(self, number: int | None) -> Fact | None:
-        """The kubelet's eviction of a pod, or None."""
-        found = (fact for fact in self.evicted if number is not None and fact.decision.number == number)
+        """That the kubelet evicted a pod, or ended it otherwise, or None."""
+        found = (fact for fact in self.facts if number is not None and fact.decision.number == number)
         return next(found, None)
 
     def by_rules_alone(self, number: int | None) -> Alone | None:
@@ -66,7 +89,7 @@ class Kubelet:
 
     def of_no_line(self, key: str) -> list[traces.Decision]:
         """What the kubelet did to pods of a key that have no line in the trace."""
-        return [each for each in [*(fact.decision for fact in self.evicted), *self.refused]
+        return [each for each in [*(fact.decision for fact in self.facts), *self.refused]
                 if each.number is None and each.pod == key]
 
 
@@ -74,19 +97,35 @@ def beside(trace: traces.Trace, report: reports.Report) -> Kubelet | None:
     """What the kubelet did beside the report; None where the trace does not say what it did."""
     if not trace.tells():
         return None
-    # over several traces the rules may evict a pod twice, of which the first is what they do
-    by_number = {eviction.number: eviction for eviction in reversed(report.evictions)}
-    found = Kubelet()
-    for decision in trace.decisions:
+    rules = endings.by_rules(report)
+    found = Kubelet(names=report.heeds_rounds)
+    for decision in decided.decisions_with_endings(trace):
         if decision.kind == "refused":
             found.refused.append(decision)
         else:
-            found.evicted.append(Fact(decision, by_number.get(decision.number)))
+            fact = Fact(decision, of_rules(rules, decision), is_imported=trace.is_imported())
+            (found.evicted if decision.kind == "evicted" else found.ended).append(fact)
     add_causes(trace, report, found.evicted)
-    numbers = {fact.decision.number for fact in found.evicted}
-    found.alone = [Alone(eviction, [[then(found.evicted, eviction)]]) for eviction in report.evictions
-                   if eviction.number not in numbers]
+    found.alone = alone_of(rules, found)
     return found
+
+
+def of_rules(rules: list[reports.Eviction], decision: traces.Decision) -> reports.Eviction | None:
+    """What the rules do to the pod of a decision. They may name it often, and then what is nearest counts; over several
+    traces they may evict it twice, of which the first is what they do."""
+    own = [each for each in rules if each.number is not None and each.number == decision.number]
+    return min(own, key=lambda each: (abs(each.at - decision.at) if each.is_named else 0, each.at), default=None)
+
+
+def alone_of(rules: list[reports.Eviction], found: Kubelet) -> list[Alone]:
+    numbers = {fact.decision.number for fact in found.facts}
+    alone: dict[int | None, Alone] = {}
+    for eviction in rules:
+        if eviction.number in alone:
+            alone[eviction.number].times += 1
+        elif eviction.number not in numbers:
+            alone[eviction.number] = Alone(eviction, [[then(found.evicted, eviction)]])
+    return list(alone.values())
 
 
 def then(facts: list[Fact], eviction: reports.Eviction) -> str:
@@ -99,7 +138,12 @@ def then(facts: list[Fact], eviction: reports.Eviction) -> str:
 
 
 def add_causes(trace: traces.Trace, report: reports.Report, facts: list[Fact]) -> None:
-    others = [fact for fact in facts if not fact.agrees and trace.ticks]
+    for fact in facts:
+        if is_own_limit(fact.decision):
+            fact.causes = [["it came to a limit of its own, which is no pressure of the node"]]
+        elif fact.is_imported:
+            fact.causes = [["a journal has no thresholds, and not what pods use of the node"]]
+    others = [fact for fact in facts if fact.is_judged and not fact.agrees and trace.ticks]
     usages = why.usages_at(trace, {place_of(trace, fact) for fact in others})
     for fact in others:
         if fact.decision.number is None:
@@ -129,7 +173,7 @@ def causes_of(trace: traces.Trace, report: reports.Report, decision: traces.Deci
     limits = [limit for limit in trace.thresholds if limit.signal in signals]
     if not limits:
         return [[f"the trace has no threshold of {resource or 'any signal'}"]]
-    near = ticks_near(trace, decision.at)
+    near = ticks_near(trace, report, decision.at)
     thresholds = reports.Thresholds(report)
     active: dict[tuple[str, str], int] = {}
     for tick in near:
@@ -146,24 +190,26 @@ def causes_of(trace: traces.Trace, report: reports.Report, decision: traces.Deci
     return other_causes(trace, report, decision, served, usages)
 
 
-def ticks_near(trace: traces.Trace, at: int) -> list[traces.Tick]:
-    """The ticks near a moment, or the last one before it, or the first."""
-    near = [tick for tick in trace.ticks if abs(tick.at - at) <= NEAR]
-    return near or [tick for tick in trace.ticks if tick.at < at][-1:] or trace.ticks[:1]
+def ticks_near(trace: traces.Trace, report: reports.Report, at: int) -> list[traces.Tick]:
+    """The ticks near a moment at which the node decides, or the last one before it, or the first."""
+    judged = why.judged(report, trace.ticks)
+    near = [tick for tick in judged if abs(tick.at - at) <= NEAR]
+    return near or [tick for tick in judged if tick.at < at][-1:] or judged[:1] or trace.ticks[:1]
 
 
 def other_causes(trace: traces.Trace, report: reports.Report, decision: traces.Decision, limit: traces.Threshold,
                  usages: dict[int, dict[str, int]]) -> list[list[str | int]]:
     """The causes where a threshold was due."""
     place = max(place for place, tick in enumerate(trace.ticks) if tick.at <= decision.at + NEAR)
-    before = [eviction for eviction in report.evictions if eviction.at <= trace.ticks[place].at]
+    before = [eviction for eviction in endings.by_rules(report) if eviction.at <= trace.ticks[place].at]
     candidates = why.candidates_of(trace, report, place, limit.signal, decision.number, usages)
     ours = next((each for each in candidates if each.victim), None)
     counts = ours is not None and ours.usage is None and ours.unsampled_at is None
     found: list[list[str | int]] = [["the pod had no sample, which counts as 0"]] if counts else []
     if before and before[-1].at >= decision.at - NEAR:
-        return [*found, [f"they evict {before[-1].pod} in its place, at", before[-1].at]]
-    if trace.pause() and before and trace.pause_end(before[-1]) > decision.at - NEAR:
+        does = "name" if before[-1].is_named else "evict"
+        return [*found, [f"they {does} {before[-1].pod} in its place, at", before[-1].at]]
+    if trace.pause() and before and not before[-1].is_named and trace.pause_end(before[-1]) > decision.at - NEAR:
         over = " or until it has ended" if trace.pauses_until_gone() else ""
         return [*found, [f"they had evicted {before[-1].pod} at", before[-1].at,
                          f"and then evict no pod for {trace.pause()} s{over}"]]
@@ -198,8 +244,9 @@ def around(trace: traces.Trace, report: reports.Report, decision: traces.Decisio
     first = next(tick.at for tick in trace.ticks if tick.at >= min(at, decision.at - SAMPLE_SECONDS))
     candidates = why.candidates_of(trace, report, place, limit.signal, decision.number,
                                    why.usages_at(trace, {place})[place])
-    return why.Evicted(limit.signal, limit, since, why.samples_of(trace, at, limit.signal, first), candidates,
-                       trace.pause(), trace.pauses_until_gone(), before[-1] if before else None)
+    samples = why.samples_of(trace, report, at, limit.signal, first)
+    return why.Evicted(limit.signal, limit, since, samples, candidates, trace.pause(), trace.pauses_until_gone(),
+                       before[-1] if before else None)
 
 
 # --- in words ---
@@ -210,17 +257,36 @@ def resource_of(decision: traces.Decision) -> str | None:
     return None if found is None else found[1]
 
 
+def is_own_limit(decision: traces.Decision) -> bool:
+    """Whether the kubelet evicted a pod for a limit of the pod's own."""
+    return OWN_LIMIT.search(decision.message) is not None
+
+
 def why_words(decision: traces.Decision) -> str:
     """Why the kubelet did it, in its own words, shortened where their form is known."""
     if decision.kind == "refused":
         found = CONDITION.search(decision.message)
         return f"the node had {found[1]}" if found else decision.message or decision.reason
+    if decision.kind == "ended":
+        return reason_words(decision.reason, decision.message)
     resource = resource_of(decision)
     if resource is None:
-        return decision.message or decision.reason
+        return decision.message.strip() or decision.reason
     using = [f"{name} was using {amount_of(used)}, request {amount_of(request)}"
              for name, used, request in USING.findall(decision.message)]
     return ", ".join([f"low on {resource}", *using])
+
+
+def reason_words(reason: str, message: str = "") -> str:
+    """The reason with which the kubelet ended a pod, with what it says or what that means."""
+    says = message or MEANINGS.get(reason)
+    return f"{reason} ({says})" if says else reason
+
+
+def ended_words(reason: str) -> str:
+    """That the kubelet ended a pod, as a report alone says it."""
+    kind = "evicted" if reason == decided.EVICTED else "ended"
+    return event_words(traces.Decision(kind, 0, "", None, reason, ""))
 
 
 def amount_of(text: str) -> str:
@@ -232,7 +298,8 @@ def amount_of(text: str) -> str:
 
 def event_words(decision: traces.Decision) -> str:
     """What the kubelet did, as an event is told."""
-    return events.filled(events.decision_sentence(), {"decision": decision.kind, "why": why_words(decision)})
+    sentence = events.decision_sentence(decision.kind)
+    return events.filled(sentence, {"decision": decision.kind, "why": why_words(decision)})
 
 
 def did_words(decision: traces.Decision, show: Callable[[int], str]) -> str:
@@ -247,21 +314,32 @@ def causes_text(causes: list[list[int | str]], show: Callable[[int], str]) -> st
     return "".join(f"; {cause}" for cause in told)
 
 
-def rules_words(fact: Fact, show: Callable[[int], str]) -> str:
+def rules_words(fact: Fact, show: Callable[[int], str], names: bool = False) -> str:
     """What the rules do to the pod beside what the kubelet did."""
+    if not fact.is_judged and fact.eviction is None:
+        return f"the rules have nothing to say of it{causes_text(fact.causes, show)}"
     if fact.eviction is None:
-        return "the rules, over the recorded samples, differ: they do not evict it" + causes_text(fact.causes, show)
+        does = "name" if names else "evict"
+        return f"the rules, over the recorded samples, differ: they do not {does} it" + causes_text(fact.causes, show)
     apart = fact.eviction.at - fact.decision.at
     when = f", {abs(apart)} s {'after' if apart > 0 else 'before'}" if apart else ""
+    if fact.eviction.is_named and fact.agrees:
+        named = f"{fact.eviction.signal} {fact.eviction.kind}"
+        return f"the rules name it too: {named}, at {show(fact.eviction.at)}{when}"
     does = "agree" if fact.agrees else "differ"
-    return (f"the rules, over the recorded samples, {does}: they evict it at {show(fact.eviction.at)}{when}"
-            + causes_text(fact.causes, show))
+    return (f"the rules, over the recorded samples, {does}: they {verb(fact.eviction)} it at "
+            f"{show(fact.eviction.at)}{when}" + causes_text(fact.causes, show))
+
+
+def verb(eviction: reports.Eviction) -> str:
+    return "name" if eviction.is_named else "evict"
 
 
 def alone_words(alone: Alone, show: Callable[[int], str]) -> str:
     """That the rules alone evict a pod."""
-    return (f"the kubelet did not evict it; the rules, over the recorded samples, evict it at "
-            f"{show(alone.eviction.at)}" + causes_text(alone.causes, show))
+    times = f", the first of {alone.times} times" if alone.times > 1 else ""
+    return (f"the kubelet did not evict it; the rules, over the recorded samples, {verb(alone.eviction)} it at "
+            f"{show(alone.eviction.at)}{times}" + causes_text(alone.causes, show))
 
 
 def lines_of(kubelet: Kubelet | None, number: int, show: Callable[[int], str]) -> list[str]:
@@ -270,7 +348,8 @@ def lines_of(kubelet: Kubelet | None, number: int, show: Callable[[int], str]) -
         return []
     fact, alone = kubelet.fact(number), kubelet.by_rules_alone(number)
     if fact is not None:
-        return [did_words(fact.decision, show), rules_words(fact, show)]
+        says_more = fact.decision.kind == "evicted" or fact.eviction is not None
+        return [did_words(fact.decision, show), *([rules_words(fact, show, kubelet.names)] if says_more else [])]
     refused = [did_words(each, show) for each in kubelet.refused if each.number == number]
     return [*refused, *([alone_words(alone, show)] if alone is not None else [])]
 

@@ -3,10 +3,10 @@ alone, and 137 also for an instance that a tick just leaves out."""
 
 from __future__ import annotations
 
-from dataclasses import dataclass
+from dataclasses import dataclass, field
 from typing import Any, TYPE_CHECKING
 
-from replay_tools import amounts, outside
+from replay_tools import amounts, limits, outside
 
 if TYPE_CHECKING:
     from replay_tools import report as reports, traces
@@ -18,7 +18,9 @@ PLAIN = "Error"
 # a start that failed
 NEVER_RAN = ("StartError", "ContainerCannotRun", "CreateContainerError", "RunContainerError")
 # a tick line without one of them says no reason
-SIGNS = (b'"reason"', b'"waiting"', b'"ended"', b"\\u")
+SIGNS = (b'"reason"', b'"waiting"', b'"ended"', b'"guessed"', b'"readinessGates"', b"\\u")
+# in the array of members that were guessed, as where a log says of an exit no code
+CODE = "exitCode"
 
 
 @dataclass
@@ -28,6 +30,11 @@ class End:
     code: int | None
     reason: str | None = None
     message: str | None = None
+    is_guessed: bool = False
+    """the trace says that its code was guessed"""
+    used: limits.Used | None = None
+    log: list[str] = field(default_factory=list)
+    """the last lines that it wrote"""
 
 
 @dataclass
@@ -53,25 +60,32 @@ class Reasons:
         self.waits: dict[tuple[int, str], list[Wait]] = {}
         """lists by the pod's number and the container, in order"""
         self.open: dict[tuple[int, str], Wait] = {}
+        self.gates: dict[tuple[int, str], list[Wait]] = {}
+        """as waits, by the pod's number and the condition of a readiness gate that is not true"""
+        self.closed: dict[tuple[int, str], Wait] = {}
 
     def take(self, line: bytes, at: int, entries: dict[str, dict[str, Any]], present: dict[str, traces.Pod]) -> None:
         """What a tick says, by its bytes and its entries."""
-        if not self.open and not any(sign in line for sign in SIGNS):
+        if not self.open and not self.closed and not any(sign in line for sign in SIGNS):
             return
-        waiting = {}
+        waiting: dict[tuple[int, str], tuple[str, str | None]] = {}
+        closed: dict[tuple[int, str], tuple[str, str | None]] = {}
         for key, found in entries.items():
             number = present[key].number
             for listed in dicts_at(found, "containers"):
-                for said in (listed if "reason" in listed else None, listed.get("ended")):
+                has_words = any(word in listed for word in ("reason", "guessed"))
+                for said in (listed if has_words else None, listed.get("ended")):
                     if isinstance(said, dict):
                         self.take_end(number, listed.get("name"), said)
             for each in dicts_at(found, "waiting"):
                 reason = text_at(each, "reason")
                 if reason and isinstance(each.get("container"), str):
                     waiting[number, each["container"]] = reason, text_at(each, "message")
-        self.take_waits(at, waiting)
+            closed.update({(number, gate): ("readiness gate", None) for gate in closed_gates(found)})
+        take_waits(self.waits, self.open, at, waiting)
+        take_waits(self.gates, self.closed, at, closed)
 
-    def take_end(self, number: int, name: str, said: dict[str, int | str]) -> None:
+    def take_end(self, number: int, name: str, said: dict[str, Any]) -> None:
         """A later reason is the better one, and a message stands in the first tick alone."""
         reason, code = text_at(said, "reason"), outside.whole(said.get("exitCode"), -outside.MOST_OF_CODE - 1,
                                                              outside.MOST_OF_CODE)
@@ -81,27 +95,53 @@ class Reasons:
         end = self.ends.setdefault((number, name, attempt), End(code))
         end.reason = reason or end.reason
         end.message = end.message or text_at(said, "message")
-
-    def take_waits(self, at: int, waiting: dict[tuple[int, str], tuple[str, str | None]]) -> None:
-        for place, wait in list(self.open.items()):
-            said = waiting.get(place)
-            if said is None or said[0] != wait.reason or said[1] not in (None, wait.message):
-                wait.until = at
-                del self.open[place]
-        for place, (reason, message) in waiting.items():
-            if place not in self.open:
-                self.open[place] = Wait(at, None, reason, message)
-                self.waits.setdefault(place, []).append(self.open[place])
+        end.is_guessed = guesses_code(said)
+        end.used = limits.used_in(said) or end.used
+        lines = said.get("log")
+        end.log = list(filter(None, map(outside.text_of, lines))) if isinstance(lines, list) else end.log
 
     def end_of(self, event: reports.Event) -> End | None:
         """How the instance of a death ended; None where the trace does not say it."""
         return self.ends.get((event.number, event.container, int(event.rest[0])))
+
+    def gates_of(self, pod: reports.Pod) -> list[tuple[str, Wait]]:
+        """The times in which readiness gates of a pod were not true, with their conditions."""
+        found = [(gate, wait) for (number, gate), waits in self.gates.items() if number == pod.number for wait in waits]
+        return sorted(found, key=lambda pair: pair[1].since)
 
     def waits_of(self, pod: reports.Pod) -> list[tuple[str, Wait]]:
         """The waits of a pod of the report, with their containers, by their moments."""
         found = [(container.name, wait) for container in pod.containers
                  for wait in self.waits.get((pod.number, container.name), [])]
         return sorted(found, key=lambda pair: pair[1].since)
+
+
+def take_waits(waits: dict[tuple[int, str], list[Wait]], still: dict[tuple[int, str], Wait], at: int,
+               waiting: dict[tuple[int, str], tuple[str, str | None]]) -> None:
+    """What a tick says of all that waits: what it does not say any more is over, what is new begins."""
+    for place, wait in list(still.items()):
+        said = waiting.get(place)
+        if said is None or said[0] != wait.reason or said[1] not in (None, wait.message):
+            wait.until = at
+            del still[place]
+    for place, (reason, message) in waiting.items():
+        if place not in still:
+            still[place] = Wait(at, None, reason, message)
+            waits.setdefault(place, []).append(still[place])
+
+
+def closed_gates(found: dict[str, Any]) -> list[str]:
+    """The conditions of the readiness gates that an entry says are not true."""
+    gates = found.get("readinessGates")
+    named = [outside.text_of(gate) for gate, is_true in gates.items() if is_true is False] if isinstance(gates, dict) \
+        else []
+    return [gate for gate in named if gate is not None]
+
+
+def guesses_code(said: dict[str, Any]) -> bool:
+    """Whether a listing says that its exit code was guessed."""
+    guessed = said.get("guessed")
+    return isinstance(guessed, list) and CODE in guessed
 
 
 def dicts_at(found: dict[str, Any], name: str) -> list[dict[str, Any]]:
@@ -122,7 +162,7 @@ def cause_words(event: reports.Event, code: int, trace: traces.Trace | None, is_
     end = trace.reasons.end_of(event) if trace is not None else None
     if end is not None and end.reason:
         return reason_words(event, end, trace, is_whole)
-    if code != LOST:
+    if code != LOST or end is not None and end.is_guessed:
         return ""
     if trace is None:
         return "killed, or unknown"
@@ -131,26 +171,45 @@ def cause_words(event: reports.Event, code: int, trace: traces.Trace | None, is_
     return "it was no longer listed, its own code is not known"
 
 
+def code_words(code: int | str, end: End | None) -> str:
+    """A code that stands in a table, which is not told where it was guessed."""
+    return "unknown" if end is not None and end.is_guessed else str(code)
+
+
+def last_end(pod: reports.Pod, container: reports.Container, trace: traces.Trace | None) -> End | None:
+    """How the newest instance of a container ended, where it did and the trace says it."""
+    ended = trace is not None and container.state == "Terminated"
+    return trace.reasons.ends.get((pod.number, container.name, int(container.restarts))) if ended else None
+
+
 def reason_words(event: reports.Event, end: End, trace: traces.Trace, is_whole: bool) -> str | None:
     if end.reason == OUT_OF_MEMORY:
-        limit = trace.memory_limit(event.number, event.container)
-        return f"{OUT_OF_MEMORY}, {f'its memory limit is {limit}' if limit else 'it has no memory limit'}"
-    if end.reason == PLAIN and end.code == LOST:
+        limit = limits.limit_of(event, trace)
+        used = f", {end.used.words()}" if end.used is not None else ""
+        had = f"{limit.whose} memory limit is {limit.text}" if limit else "it has no memory limit"
+        return f"{OUT_OF_MEMORY}, {had}{used}"
+    if end.reason == PLAIN and end.code == LOST and not end.is_guessed:
         return f"{PLAIN}, as signal 9 leaves it"
     return f"{end.reason}: {end.message}" if end.message and is_whole else end.reason
 
 
 def because_lines(event: reports.Event, trace: traces.Trace) -> list[str]:
-    """What the reason of a death means, as lines; none where the code says as much."""
+    """What the reason of a death means, as lines, and the last lines that the instance wrote; none where the code says
+    as much."""
     end = trace.reasons.end_of(event)
-    if end is None or not end.reason:
+    if end is None:
         return []
+    wrote = ["it wrote last:", *(f"  {line}" for line in end.log)] if end.log else []
+    return [*meaning_lines(event, end, trace), *wrote]
+
+
+def meaning_lines(event: reports.Event, end: End, trace: traces.Trace) -> list[str]:
     if end.reason == OUT_OF_MEMORY:
-        limit = trace.memory_limit(event.number, event.container)
-        because = f"it came to its memory limit, {limit} (resources.limits.memory)" if limit else \
+        limit = limits.limit_of(event, trace)
+        because = f"it came to {limit.whose} memory limit, {limit.text} ({limit.field})" if limit else \
             "memory ran out, and it has no limit of its own"
         return [f"OOM-killed because {because}{left_words(event, trace)}"]
-    if end.reason == PLAIN and end.code == LOST:
+    if end.reason == PLAIN and end.code == LOST and not end.is_guessed:
         return [f"the runtime says {PLAIN} and not {OUT_OF_MEMORY}: it was killed, as at the end of a grace period, or "
                 f"exited with {LOST} itself"]
     if end.reason in NEVER_RAN:
@@ -165,8 +224,18 @@ def left_words(event: reports.Event, trace: traces.Trace) -> str:
 
 
 def is_known(event: reports.Event, trace: traces.Trace) -> bool:
-    """Whether the code of a death is that of the instance, and not that of one that a tick just leaves out."""
-    return int(event.rest[1]) != LOST or trace.reasons.end_of(event) is not None or is_listed(event, trace)
+    """Whether the code of a death is that of the instance, and neither that of one that a tick just leaves out nor one
+    that was guessed."""
+    end = trace.reasons.end_of(event)
+    if end is not None:
+        return not end.is_guessed
+    return int(event.rest[1]) != LOST or is_listed(event, trace)
+
+
+def is_guessed(event: reports.Event, trace: traces.Trace | None) -> bool:
+    """Whether the trace says that the code of a death was guessed."""
+    end = trace.reasons.end_of(event) if trace is not None and event.word == "died" else None
+    return end is not None and end.is_guessed
 
 
 def is_listed(event: reports.Event, trace: traces.Trace) -> bool:

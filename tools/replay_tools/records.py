@@ -6,14 +6,11 @@ from __future__ import annotations
 from collections.abc import Iterator
 from typing import Any, TYPE_CHECKING
 
-from replay_tools import events, kubelet as kubelets, reasons, report as reports
+from replay_tools import events, kubelet as kubelets, reasons, report as reports, summary as summing
+from replay_tools.summary import NEVER, came_again, last_moment, seconds_of
 
 if TYPE_CHECKING:
     from replay_tools import traces
-
-
-# a moment before all others
-NEVER = -1
 
 
 def records_of(report: reports.Report, kubelet: kubelets.Kubelet | None = None, trace: traces.Trace | None = None,
@@ -31,10 +28,12 @@ def records_of(report: reports.Report, kubelet: kubelets.Kubelet | None = None, 
         yield event_record(report, number, event) | reason_fields(event, trace)
     for number, border in enumerate(report.borders):
         yield border_record(report, number, border)
+    ranked = summing.summaries(report, trace, kubelet, last, known)
+    ranks = {summary.number: (rank, summary) for rank, summary in enumerate(ranked, 1)}
     for pod in report.pods:
-        yield pod_record(report, pod, last, known)
+        yield pod_record(report, pod, *ranks[pod.number], known) | deletion_fields(pod, trace)
         for container in pod.containers:
-            yield container_record(report, pod, container, known)
+            yield container_record(report, pod, container, known, trace)
         for condition in pod.conditions:
             yield condition_record(report, condition, pod)
     for condition in report.conditions:
@@ -55,11 +54,6 @@ def first_moment(report: reports.Report) -> int | None:
     return min(named) if report.tick_count else None
 
 
-def last_moment(report: reports.Report) -> int | None:
-    """The last moment that the report names, which is no later than that of the last tick; None without a tick."""
-    return max(reports.moments(report)) if report.tick_count else None
-
-
 def node_record(report: reports.Report, first: int, last: int, known: int = NEVER) -> dict[str, Any]:
     updates, events, orders = report.totals
     return {
@@ -78,12 +72,6 @@ PRESSURES = {"MemoryPressure": "memory_pressure_seconds", "DiskPressure": "disk_
 def pressure_seconds(report: reports.Report, kind: str, last: int, known: int = NEVER) -> int:
     """For how long a condition of the node was True, until the last moment."""
     return seconds_of(reports.pressure_spans(report, kind), last, known)
-
-
-def seconds_of(spans: list[reports.Span], last: int, known: int) -> int:
-    """The seconds of spans behind a moment, of those that are open to the last one."""
-    ends = [(span, last if span.until is None else min(span.until, last)) for span in spans]
-    return sum(max(end - max(span.since, known), 0) for span, end in ends)
 
 
 def border_record(report: reports.Report, number: int, border: reports.Border) -> dict[str, Any]:
@@ -111,12 +99,14 @@ def reason_fields(event: reports.Event, trace: traces.Trace | None) -> dict[str,
     if event.word != "died" or trace is None:
         return {}
     end = trace.reasons.end_of(event)
-    return {"code_is_known": reasons.is_known(event, trace), "reason": end.reason if end else None,
+    guessed = {"code": None} if reasons.is_guessed(event, trace) else {}
+    return {**guessed, "code_is_known": reasons.is_known(event, trace), "reason": end.reason if end else None,
             "message": end.message if end else None}
 
 
-def pod_record(report: reports.Report, pod: reports.Pod, last: int, known: int = NEVER) -> dict[str, Any]:
-    """A pod, with what its events come to."""
+def pod_record(report: reports.Report, pod: reports.Pod, rank: int, summary: summing.Summary,
+               known: int = NEVER) -> dict[str, Any]:
+    """A pod, with what its events come to, and its summary and rank as all tools say them."""
     namespace, _, name = pod.key.partition("/")
     ended, ready, seen = reports.end_of(pod), pod.condition("Ready"), reports.has_ticks(report, pod)
     evicted = next((eviction for eviction in report.evictions if eviction.number == pod.number), None)
@@ -126,13 +116,20 @@ def pod_record(report: reports.Report, pod: reports.Pod, last: int, known: int =
         "ready": ready.value == "True", "ready_since": ready.at if seen else None,
         "first_tick": reports.first_tick(pod) if seen else None,
         "ended_at": ended[0] if ended else None, "ended_as": ended[1] if ended else None,
-        "restarts": sum(int(container.restarts) for container in pod.containers),
+        "restarts": summary.all_restarts, "restarts_since": summary.restarts,
         "deaths": count(pod, "died", known=known), "kills": count(pod, "kill", known=known),
-        "backoffs": count(pod, "backoff", known=known), "became_unready": became_unready(pod, known),
-        "unready_seconds": unready_seconds(pod, last, known) if seen else 0,
+        "backoffs": count(pod, "backoff", known=known), "named": count(pod, "names", known=known),
+        "became_unready": became_unready(pod, known), "unready_seconds": summary.unready_seconds,
         "evicted_at": evicted.at if evicted else None, "evicted_signal": evicted.signal if evicted else None,
-        "evicted_kind": evicted.kind if evicted else None,
+        "evicted_kind": evicted.kind if evicted else None, "worst": summary.found.worst.value,
+        "worst_at": summary.found.at, "worst_words": summary.found.words or None, "rank": rank,
     }
+
+
+def deletion_fields(pod: reports.Pod, trace: traces.Trace | None) -> dict[str, Any]:
+    deletion = trace.deletions.get(pod.number) if trace else None
+    return {"deleted_at": deletion.at if deletion else None, "deleted_by": deletion.by if deletion else None,
+            "deletion_grace_seconds": deletion.grace if deletion else None}
 
 
 def became_unready(pod: reports.Pod, known: int = NEVER) -> int:
@@ -142,22 +139,8 @@ def became_unready(pod: reports.Pod, known: int = NEVER) -> int:
                for before, after in zip(spans, spans[1:]))
 
 
-def unready_seconds(pod: reports.Pod, last: int, known: int = NEVER) -> int:
-    """For how long the pod was not Ready, from its first tick until its end, or until it was gone, or else until the
-    last moment."""
-    end = reports.end_of_spans(pod)
-    spans = [span for span in reports.ready_spans(pod) if span.value == "False"]
-    return seconds_of(spans, last if end is None else end, known)
-
-
 def count(pod: reports.Pod, word: str, name: str | None = None, known: int = NEVER) -> int:
     return sum(event.word == word and name in (None, event.container) and event.at > known for event in pod.events)
-
-
-def came_again(pod: reports.Pod, name: str) -> int:
-    """How many instances of a container came after another one, as far as they were recorded."""
-    seen = {event.rest[0] for event in pod.events if event.container == name and event.word in ("started", "died")}
-    return max(len(seen) - 1, 0)
 
 
 def none_of(text: str) -> str | None:
@@ -165,11 +148,13 @@ def none_of(text: str) -> str | None:
 
 
 def container_record(report: reports.Report, pod: reports.Pod, container: reports.Container,
-                     known: int = NEVER) -> dict[str, Any]:
+                     known: int = NEVER, trace: traces.Trace | None = None) -> dict[str, Any]:
     """A container, with how often each event was of it."""
+    end = reasons.last_end(pod, container, trace)
+    has_code = container.code != "-" and not (end is not None and end.is_guessed)
     return {
         "record": "container", "node": report.node, "pod": pod.key, "pod_number": pod.number, "name": container.name,
-        "state": container.state, "code": None if container.code == "-" else int(container.code),
+        "state": container.state, "code": int(container.code) if has_code else None,
         "restarts": int(container.restarts), "ready": container.ready == "true",
         "started": container.started == "true", "starts": count(pod, "started", container.name, known),
         "deaths": count(pod, "died", container.name, known), "kills": count(pod, "kill", container.name, known),
@@ -239,6 +224,6 @@ def decision_record(report: reports.Report, number: int, decision: traces.Decisi
               "message": decision.message, "rules_at": None, "agrees": None, "causes": None}
     if fact is not None:
         causes = kubelets.causes_text(fact.causes, str).removeprefix("; ")
-        record |= {"rules_at": fact.eviction.at if fact.eviction else None, "agrees": fact.agrees,
-                   "causes": causes or None}
+        record |= {"rules_at": fact.eviction.at if fact.eviction else None,
+                   "agrees": None if fact.is_imported else fact.agrees, "causes": causes or None}
     return record

@@ -91,6 +91,8 @@ class Eviction:
     """that of the pod"""
     anew: int | None = None
     """the moment of a border behind which its grace period or the pause began anew"""
+    is_named: bool = False
+    """the rules would evict the pod, and the recording says whom the kubelet evicted"""
 
 
 @dataclass
@@ -129,6 +131,11 @@ class Report:
     def gaps(self) -> list[tuple[int, int]]:
         """The spans of moments in which nothing was recorded."""
         return [(border.since, border.at) for border in self.borders if border.is_gap]
+
+    @functools.cached_property
+    def heeds_rounds(self) -> bool:
+        """Whether its program heeds which ticks are judged and which pods are spared: one that does names pods."""
+        return any(event.word == "names" for event in self.events)
 
 
 @dataclass
@@ -285,7 +292,8 @@ def add_line(report: Report, kind: str, parts: tuple[Any, ...]) -> None:
     elif kind == "node event":
         at, word, rest = parts
         rest = rest.split()
-        report.events.append(checked(Event(moment(at), rest[0] if word == "evicted" else None, None, word, rest)))
+        pod = rest[0] if events.kinds()[word].is_of_pod else None
+        report.events.append(checked(Event(moment(at), pod, None, word, rest)))
     elif kind == "pod":
         if counted(parts[0]) != len(report.pods):
             raise ValueError
@@ -347,7 +355,8 @@ def end_of(pod: Pod) -> tuple[int, str] | None:
             return event.at, "Evicted"
         if event.word == "phase" and event.rest[0] in ("Succeeded", "Failed"):
             later = [other for other in pod.events if other.word == "evicted" and other.at == event.at]
-            return event.at, "Evicted" if later else event.rest[0]
+            is_evicted = later or (event.rest[0], pod.reason) == ("Failed", "Evicted")
+            return event.at, "Evicted" if is_evicted else event.rest[0]
     return None
 
 

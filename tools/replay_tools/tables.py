@@ -16,9 +16,11 @@ TABLES = {
                       "tells_kubelet INTEGER"),
     "pod": ("pods", "node TEXT, number INTEGER, pod TEXT, namespace TEXT, name TEXT, phase TEXT, reason TEXT, "
                     "qos TEXT, ready INTEGER, ready_since INTEGER, first_tick INTEGER, ended_at INTEGER, "
-                    "ended_as TEXT, restarts INTEGER, deaths INTEGER, kills INTEGER, backoffs INTEGER, "
-                    "became_unready INTEGER, unready_seconds INTEGER, evicted_at INTEGER, evicted_signal TEXT, "
-                    "evicted_kind TEXT"),
+                    "ended_as TEXT, restarts INTEGER, restarts_since INTEGER, deaths INTEGER, kills INTEGER, "
+                    "backoffs INTEGER, named INTEGER, became_unready INTEGER, unready_seconds INTEGER, "
+                    "evicted_at INTEGER, evicted_signal TEXT, evicted_kind TEXT, worst TEXT, worst_at INTEGER, "
+                    "worst_words TEXT, rank INTEGER, deleted_at INTEGER, deleted_by TEXT, "
+                    "deletion_grace_seconds INTEGER"),
     "container": ("containers", "node TEXT, pod TEXT, pod_number INTEGER, name TEXT, state TEXT, code INTEGER, "
                                 "restarts INTEGER, ready INTEGER, started INTEGER, starts INTEGER, deaths INTEGER, "
                                 "kills INTEGER, backoffs INTEGER, came_again INTEGER"),

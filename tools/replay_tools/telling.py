@@ -11,9 +11,10 @@ from replay_tools import events, reasons
 if TYPE_CHECKING:
     from replay_tools import report as reports, traces
 
-DATE = re.compile(r"\d{4}-\d\d-\d\d (?=\d\d:\d\d:\d\dZ)")
+ZONE = r"(?:Z|[+-]\d\d:\d\d)"
+DATE = re.compile(rf"\d{{4}}-\d\d-\d\d (?=\d\d:\d\d:\d\d{ZONE})")
 # a cell that is a moment, or several of them
-MOMENTS = re.compile(rf"({DATE.pattern})[\d:]{{8}}Z(?:, .*)?", re.ASCII)
+MOMENTS = re.compile(rf"({DATE.pattern})[\d:]{{8}}{ZONE}(?:, .*)?", re.ASCII)
 
 
 def table(title: str, heads: list[str], rows: list[list[str]]) -> list[str]:
@@ -57,7 +58,7 @@ def event_words(event: reports.Event, is_beside: bool = False, trace: traces.Tra
     kubelet did, and a death with why, as far as the trace says it, and the whole with its message."""
     why = reasons.cause_words(event, int(event.rest[1]), trace, is_whole) if event.word == "died" else ""
     kind = events.kinds()[event.word]
-    return kind.attempt(event.rest), kind.told(event.rest, why, is_beside)
+    return kind.attempt(event.rest), kind.told(event.rest, why, is_beside, reasons.is_guessed(event, trace))
 
 
 def beside_words(pod: reports.Pod, event: reports.Event, show: Callable[[int], str]) -> str:

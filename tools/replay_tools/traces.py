@@ -9,8 +9,10 @@ from dataclasses import dataclass, field
 from typing import Any, TYPE_CHECKING
 
 from replay_tools import amounts, first_bytes, outside, packed
-from replay_tools.decided import Decision, decisions_of, deletions
-from replay_tools.reasons import Reasons
+from replay_tools.decided import Decision, Deletion, decisions_of, take_words
+from replay_tools.fields import dict_at, list_at, number_at, text_at, value_at
+from replay_tools.limits import memory_in
+from replay_tools.reasons import Reasons, guesses_code
 
 if TYPE_CHECKING:
     from replay_tools import report as reports
@@ -68,6 +70,10 @@ class Pod:
     """the place of the first tick at which it is not present any more"""
     uid: str | None = None
     """as a recording says it; None where it does not"""
+    is_spared: bool = False
+    """it is no candidate for eviction"""
+    memory_limit: int | None = None
+    """of all its containers together, in thousandths of a byte"""
 
     def is_present(self, place: int) -> bool:
         return self.first <= place and (self.gone is None or place < self.gone)
@@ -126,6 +132,8 @@ class Tick:
     signals: dict[str, int]
     """thousandths by signal"""
     after_reclaim: dict[str, int]
+    is_judged: bool = True
+    """whether the node decides at it"""
 
     @property
     def entries(self) -> dict[str, dict[str, Any]]:
@@ -163,8 +171,10 @@ class Trace:
     """what the kubelet did, in the order of the ticks"""
     reasons: Reasons = field(default_factory=Reasons)
     """why instances ended and containers wait"""
-    deleted: dict[int, int] = field(default_factory=dict)
-    """since when a pod is being deleted, by its number"""
+    deletions: dict[int, Deletion] = field(default_factory=dict)
+    """by the number of the pod"""
+    failed: dict[int, Decision] = field(default_factory=dict)
+    """that the node has ended a pod, by its number"""
     gaps: list[tuple[int, int]] = field(default_factory=list)
     """of one that is joined of several, the spans in which nothing was recorded"""
 
@@ -174,15 +184,13 @@ class Trace:
 
     def listing(self, pod: Pod, name: str, place: int) -> Listing | None:
         """The instance of a container that a tick lists, or None."""
-        for found in list_at(self.entry(pod, place) or {}, "containers"):
-            if found.get("name") == name:
-                return listing_of(found)
-        return None
+        found = self.listed_as(pod, name, place)
+        return listing_of(found) if found else None
 
-    def memory_limit(self, number: int, name: str) -> str | None:
-        """The memory limit of a container of the pod of a number, as a text; None where it has none."""
-        found = next((one.memory_limit for one in self.pods[number].containers if one.name == name), None)
-        return amounts.amount_text(found, True) if found else None
+    def listed_as(self, pod: Pod, name: str, place: int) -> dict[str, Any]:
+        """What a tick lists of a container, as it is written; nothing where it does not."""
+        listed = list_at(self.entry(pod, place) or {}, "containers")
+        return next((found for found in listed if found.get("name") == name), {})
 
     def pause(self) -> int:
         """evictionPauseSeconds, which version 3 alone has."""
@@ -207,13 +215,28 @@ class Trace:
         listed = (self.listing(pod, container.name, place) for container in pod.containers)
         return not pod.is_present(place) or all(one is None or one.state == STATES[2] for one in listed)
 
-    def heeds_unsampled(self) -> bool:
-        """Whether an entry may say that its pod has no sample, or is being deleted."""
+    @property
+    def deleted(self) -> dict[int, int]:
+        """Since when a pod is being deleted, by its number."""
+        return {number: deletion.at for number, deletion in self.deletions.items()}
+
+    def heeds_words(self) -> bool:
+        """Whether the words of the extended format count: that a pod has no sample, is being deleted, was ended or is
+        spared, and that a tick is not judged."""
         return self.settings.get("version") == 3
+
+    def records_evictions(self) -> bool:
+        """Whether it says that it has each pod that the kubelet evicted."""
+        return self.heeds_words() and self.settings.get("evictionsRecorded") is True
+
+    def is_imported(self) -> bool:
+        """Whether the trace was made of a kubelet's journal."""
+        return self.settings.get("imported") is True
 
     def tells(self) -> bool:
         """Whether the trace says what the kubelet did: where it then says nothing, the kubelet did nothing."""
-        return self.settings.get("recordsKubelet") is True or bool(self.decisions)
+        return (self.settings.get("recordsKubelet") is True or bool(self.decisions or self.failed)
+                or self.records_evictions())
 
     def follows(self) -> dict[str, Any] | None:
         return follows_of(self.settings)
@@ -248,52 +271,13 @@ def present_at_each(trace: Trace) -> Iterator[dict[str, Pod]]:
         yield present
 
 
-def value_at(found: dict[str, Any], name: str, otherwise: Any = None) -> Any:
-    """A field's value, where null counts as absent."""
-    value = found.get(name)
-    return otherwise if value is None else value
-
-
-def list_at(found: dict[str, Any], name: str) -> list[dict[str, Any]]:
-    value = found.get(name)
-    if value is None:
-        return []
-    if not isinstance(value, list):
-        raise ValueError(name)
-    for item in value:
-        if not isinstance(item, dict):
-            raise ValueError(name)
-    return value
-
-
-def dict_at(found: dict[str, Any], name: str) -> dict[str, Any]:
-    value = value_at(found, name, {})
-    if not isinstance(value, dict):
-        raise ValueError(name)
-    return value
-
-
-def number_at(found: dict[str, Any], name: str, otherwise: int) -> int:
-    value = value_at(found, name, otherwise)
-    if not isinstance(value, int) or isinstance(value, bool):
-        raise ValueError(name)
-    return value
-
-
-def text_at(found: dict[str, Any], name: str, otherwise: str | None = None) -> str:
-    value = value_at(found, name, otherwise)
-    if not isinstance(value, str):
-        raise ValueError(name)
-    return value
-
-
 def listing_of(found: dict[str, Any]) -> Listing:
     state = value_at(found, "state")
     if isinstance(state, int) and 0 <= state < len(STATES):
         state = STATES[state]
     if state not in STATES:
         raise ValueError("state")
-    code = number_at(found, "exitCode", 0) if state == "CONTAINER_EXITED" else None
+    code = number_at(found, "exitCode", 0) if state == "CONTAINER_EXITED" and not guesses_code(found) else None
     return Listing(number_at(found, "attempt", 0), state, code)
 
 
@@ -353,14 +337,15 @@ def trace_with(trace: Trace | None, present: dict[str, Pod], lines: Lines, begin
         if pod.key in present:
             raise ValueError("pod")
         pod.uid = outside.text_of(found.get("uid"))
+        pod.is_spared = trace.heeds_words() and found.get("spared") is True
         present[pod.key] = pod
         trace.pods.append(pod)
     elif kind == "gone":
         present.pop(found["pod"]).gone = len(trace.ticks)
     elif kind == "tick":
         add_tick(trace, present, tick_of(found, lines, begin, end))
-        for pod_number, at in deletions(trace, present):
-            trace.deleted.setdefault(pod_number, at)
+        trace.ticks[-1].is_judged = not (trace.heeds_words() and found.get("judged") is False)
+        take_words(trace, present)
         trace.decisions += decisions_of(trace, found)
         trace.reasons.take(lines.text[begin:end], found["at"], trace.ticks[-1].entries, present)
     else:
@@ -397,7 +382,8 @@ def pod_of(number: int, manifest: dict[str, Any], first: int) -> Pod:
                   for found in list_at(spec, "initContainers")]
     containers += [container_of(found, "app") for found in list_at(spec, "containers")]
     return Pod(number, key, text_at(spec, "restartPolicy", "Always"), number_at(spec, "priority", 0),
-               number_at(spec, "terminationGracePeriodSeconds", 30), containers, first)
+               number_at(spec, "terminationGracePeriodSeconds", 30), containers, first,
+               memory_limit=memory_in(spec.get("resources")))
 
 
 def container_of(found: dict[str, Any], role: str) -> Container:

@@ -10,10 +10,14 @@ from collections.abc import Iterable
 from dataclasses import dataclass, field
 from typing import Any
 
-from replay_tools import report as reports, traces
+from replay_tools import endings, report as reports, traces
 
 # an exit behind a run this long, in seconds, begins the count of exits anew
 LONG_RUN = 600
+# words of events that say whom the rules evict, or would evict
+OF_RULES = ("evicted", "names")
+# a pod that is named within so many seconds is named once more
+NAMED_AGAIN = 60
 # the member by which an entry says that its pod has no sample
 UNSAMPLED = "unsampled"
 
@@ -82,6 +86,10 @@ class Evicted:
     """evictionPauseUntilGone of the extended format"""
     before: int | None
     """the moment of the eviction before"""
+    is_named: bool = False
+    """the rules would evict the pod, and evict none"""
+    spared: list[str] = field(default_factory=list)
+    """the pods that were present and are no candidates"""
 
     @property
     def is_victim_first(self) -> bool:
@@ -198,7 +206,7 @@ class Ticks:
         self.take(trace, tick, present)
         if may_sample(tick):
             for key, entry in tick.entries.items():
-                take_usage(self.usages.setdefault(present[key].number, {}), entry, tick.at, trace.heeds_unsampled())
+                take_usage(self.usages.setdefault(present[key].number, {}), entry, tick.at, trace.heeds_words())
         if tick.at in self.usages_at:
             self.usages_at[tick.at] = {number: dict(usage) for number, usage in self.usages.items()}
 
@@ -233,7 +241,7 @@ def around_events(trace: traces.Trace, report: reports.Report, pod: reports.Pod)
             around.listed = [(other, ticks.listed(other, event.at)) for other in specs]
         elif event.word in ("backoff", "restart"):
             around.exits = counted(exits.get(name, []))
-        elif event.word != "evicted":
+        elif event.word not in OF_RULES:
             around.results = results_of(ticks, specs[name], event, starts.get(name), around.died)
         found.append(around)
     add_evictions(trace, report, found)
@@ -264,7 +272,12 @@ def results_of(ticks: PodTicks, container: traces.Container, event: reports.Even
 
 
 def add_evictions(trace: traces.Trace, report: reports.Report, found: list[Around]) -> None:
-    evictions = [around for around in found if around.event.word == "evicted"]
+    evictions, named_at = [], None
+    for around in (around for around in found if around.event.word in OF_RULES):
+        # under pressure a pod is named again and again
+        if around.event.word == "evicted" or named_at is None or around.event.at > named_at + NAMED_AGAIN:
+            evictions.append(around)
+        named_at = around.event.at if around.event.word == "names" else named_at
     gathered = gather_evictions(trace, report, {around.event.at for around in evictions})
     for around in evictions:
         around.evicted = gathered[around.event.at]
@@ -278,7 +291,7 @@ def gather_evictions(trace: traces.Trace, report: reports.Report, moments: set[i
         by_place = usages_at(trace, {trace.places[at] for at in moments})
         usages = {trace.ticks[place].at: usage for place, usage in by_place.items()}
     active, found = reports.Thresholds(report), {}
-    evictions = sorted(report.evictions, key=lambda eviction: eviction.at)
+    evictions = sorted(endings.by_rules(report), key=lambda eviction: eviction.at)
     for before, eviction in zip([None, *evictions], evictions):
         since = active.at(eviction.at).get((eviction.signal, eviction.kind))
         if eviction.at not in moments:
@@ -287,19 +300,30 @@ def gather_evictions(trace: traces.Trace, report: reports.Report, moments: set[i
                           if (limit.signal, limit.kind) == (eviction.signal, eviction.kind)), None)
         place = trace.places[eviction.at]
         found[eviction.at] = Evicted(eviction.signal, threshold, since,
-                                     samples_of(trace, eviction.at, eviction.signal, since),
+                                     samples_of(trace, report, eviction.at, eviction.signal, since),
                                      candidates_of(trace, report, place, eviction.signal, eviction.number,
                                                    usages[eviction.at]), trace.pause(),
-                                     trace.pauses_until_gone(), None if before is None else before.at)
+                                     trace.pauses_until_gone(), None if before is None else before.at,
+                                     eviction.is_named, spared_at(trace, report, place))
     return found
 
 
-def samples_of(trace: traces.Trace, at: int, signal: str,
+def spared_at(trace: traces.Trace, report: reports.Report, place: int) -> list[str]:
+    return [pod.key for pod in trace.pods if report.heeds_rounds and pod.is_spared and pod.is_present(place)]
+
+
+def judged(report: reports.Report, ticks: list[traces.Tick]) -> list[traces.Tick]:
+    """Those of some ticks at which the node decides."""
+    return [tick for tick in ticks if tick.is_judged or not report.heeds_rounds]
+
+
+def samples_of(trace: traces.Trace, report: reports.Report, at: int, signal: str,
                since: int | None) -> list[tuple[int, int | None, int | None]]:
-    """The samples of a signal from one tick to another; a value that a tick repeats is no sample of its own."""
+    """The samples of a signal from one tick to another, of those at which the node decides; a value that a tick repeats
+    is no sample of its own."""
     last = trace.places[at]
     found: list[tuple[int, int | None, int | None]] = []
-    for tick in trace.ticks[trace.places.get(since, last) : last + 1]:
+    for tick in judged(report, trace.ticks[trace.places.get(since, last) : last + 1]):
         sample = tick.signals.get(signal), tick.after_reclaim.get(signal)
         if not found or found[-1][1:] != sample:
             found.append((tick.at, *sample))
@@ -314,7 +338,7 @@ def usages_at(trace: traces.Trace, places: set[int]) -> dict[int, dict[int, dict
     for place, (tick, present) in enumerate(zip(trace.ticks, traces.present_at_each(trace))):
         # most ticks have no sample, and to read them takes long
         for key, entry in tick.entries.items() if may_sample(tick) else ():
-            take_usage(usages[present[key].number], entry, tick.at, trace.heeds_unsampled())
+            take_usage(usages[present[key].number], entry, tick.at, trace.heeds_words())
         if place in places:
             found[place] = {number: dict(usage) for number, usage in usages.items()}
         if len(found) == len(places):
@@ -342,12 +366,12 @@ def take_usage(usage: dict[str, int], entry: dict[str, Any], at: int, heeds_unsa
 
 def candidates_of(trace: traces.Trace, report: reports.Report, place: int, signal: str, number: int | None,
                   usages: dict[int, dict[str, int]]) -> list[Candidate]:
-    """The pods that were present at a tick and had not ended before it, in the order of the rules for a signal; one of
-    a number was evicted."""
+    """The pods that were present at a tick, had not ended before it and are not spared, in the order of the rules for a
+    signal; one of a number was evicted."""
     found, at = [], trace.ticks[place].at
     for pod, status in zip(trace.pods, report.pods):
-        ended = reports.end_of(status)
-        if not pod.is_present(place) or (ended and ended[0] <= at and ended != (at, "Evicted")):
+        is_spared = report.heeds_rounds and pod.is_spared
+        if not pod.is_present(place) or is_spared or endings.had_ended(status, at):
             continue
         usage = usages.get(pod.number, {})
         found.append(Candidate(pod, used(usage, signal, trace.dedicated()), requested(pod, signal), status.qos,

@@ -14,6 +14,7 @@ if TYPE_CHECKING:
 
 MOST_ROWS = 12
 MOST_MOMENTS = 6
+DELETED = "being deleted{by} from here on: nothing of it is restarted"
 ORDERS = {True: "usage above the request first, then lower priority, then more usage above it, then lower number",
           False: "lower priority first, then greater usage, then lower number"}
 
@@ -48,7 +49,7 @@ def whole_text(trace: traces.Trace, report: reports.Report, pod: reports.Pod, sh
 def beside(pod: reports.Pod, around: why.Around, show: Callable[[int], str],
            kubelet: kubelets.Kubelet | None) -> list[str]:
     """What the kubelet did, below an eviction by the rules."""
-    return kubelets.lines_of(kubelet, pod.number, show) if around.event.word == "evicted" else []
+    return kubelets.lines_of(kubelet, pod.number, show) if around.event.word in why.OF_RULES else []
 
 
 def kubelet_parts(trace: traces.Trace, report: reports.Report, pod: reports.Pod, show: Callable[[int], str],
@@ -58,7 +59,9 @@ def kubelet_parts(trace: traces.Trace, report: reports.Report, pod: reports.Pod,
     if not fact:
         return []
     head = f"{show(fact.decision.at)}  {kubelets.event_words(fact.decision)}"
-    lines = [kubelets.rules_words(fact, show)]
+    if fact.decision.kind != "evicted":
+        return [(fact.decision.at, [head])]
+    lines = [kubelets.rules_words(fact, show, kubelet.names)]
     is_over = fact.eviction is not None and fact.eviction.at <= fact.decision.at + kubelets.NEAR
     around = None if is_over else kubelets.around(trace, report, fact.decision)
     if around is not None:
@@ -91,7 +94,9 @@ def told(trace: traces.Trace, pod: reports.Pod, around: why.Around, show: Callab
                      [[name, *listing_cells(listed.now)] for name, listed in around.listed])[:-1]
     if word in ("backoff", "restart"):
         return exit_lines(trace, pod, around, show)
-    if word == "evicted":
+    if word in why.OF_RULES and around.evicted is None:
+        return ["once more, as above"]
+    if word in why.OF_RULES:
         return evicted_lines(around.evicted, show)
     if around.died:
         return ["it died at this tick"]
@@ -149,7 +154,9 @@ def exit_lines(trace: traces.Trace, pod: reports.Pod, around: why.Around, show: 
     policy, most = trace.pods[pod.number].policy, traces.value_at(trace.settings, "maxRestartDelay", 300)
     name = around.event.container
     rows = [[str(found.number), str(found.attempt), "-" if found.started is None else show(found.started),
-             show(found.died), f"{found.run} s", str(found.code), reason_of(trace, pod, name, found)] for found in kept]
+             show(found.died), f"{found.run} s",
+             reasons.code_words(found.code, trace.reasons.ends.get((pod.number, name, found.attempt))),
+             reason_of(trace, pod, name, found)] for found in kept]
     # a trace that says no reason has no such column
     kept_columns = 7 if any(row[6] != "-" for row in rows) else 6
     lines = table(f"exits that count (policy {policy}, greatest delay {most} s):",
@@ -169,13 +176,21 @@ def evicted_lines(evicted: why.Evicted, show: Callable[[int], str], is_kubelets:
     lines = threshold_lines(evicted, of_bytes, show) + pause_lines(evicted, show, is_kubelets)
     lines += sample_lines(evicted, of_bytes, show, is_kubelets)
     with_requests = any(candidate.request is not None for candidate in evicted.candidates)
-    rows = [candidate_row(place, candidate, of_bytes, show) for place, candidate in enumerate(evicted.candidates, 1)]
+    rows = [candidate_row(place, candidate, of_bytes, show, victim_word(evicted))
+            for place, candidate in enumerate(evicted.candidates, 1)]
     lines += table("pods that were present and had not ended:",
                    ["place", "pod", "usage", "request", "above", "priority", "class", ""], rows)[:-1]
     lines += [f"their order: {order_words(evicted, with_requests)}"]
+    if evicted.spared:
+        lines += [f"spared, and no candidates: {', '.join(evicted.spared[:MOST_ROWS])}"]
+        lines += left_out(len(evicted.spared) - MOST_ROWS, "more of these")
     if not evicted.is_victim_first:
-        lines += ["the evicted pod does not come first in it"]
+        lines += [f"the {victim_word(evicted)} pod does not come first in it"]
     return lines
+
+
+def victim_word(evicted: why.Evicted) -> str:
+    return "named" if evicted.is_named else "evicted"
 
 
 def threshold_lines(evicted: why.Evicted, of_bytes: bool, show: Callable[[int], str]) -> list[str]:
@@ -232,7 +247,7 @@ def sample_lines(evicted: why.Evicted, of_bytes: bool, show: Callable[[int], str
 
 
 def candidate_row(place: int, candidate: why.Candidate, of_bytes: bool,
-                  show: Callable[[int], str] | None = None) -> list[str]:
+                  show: Callable[[int], str] | None = None, victim: str = "evicted") -> list[str]:
     """A pod's row; `show` makes the moment from which on it has no sample a text."""
     request = "-" if candidate.request is None else amount_text(candidate.request, of_bytes)
     above = "-" if candidate.request is None else amount_text(candidate.above, of_bytes)
@@ -240,4 +255,4 @@ def candidate_row(place: int, candidate: why.Candidate, of_bytes: bool,
     if candidate.unsampled_at is not None:
         usage = "none any more" if show is None else f"none since {show(candidate.unsampled_at)}"
     return [str(place), candidate.pod.key, usage, request, above,
-            str(candidate.pod.priority), candidate.qos, "evicted" if candidate.victim else ""]
+            str(candidate.pod.priority), candidate.qos, victim if candidate.victim else ""]

@@ -312,6 +312,35 @@ def check_kubelet(chromedriver, path):
         tell("of what the kubelet did: no error came", page.log(), [])
 
 
+def check_ends(chromedriver, path):
+    """Pods that the node ended, that are deleted and that are named, as summaries/ has them, in the order of all tools;
+    and the clock in turn."""
+    with Page(chromedriver, path) as page:
+        tell("ranks pods as all tools do", page.texts(".pod .name"), [
+            f"shop/{name}" for name in ("hog", "late", "probed", "loop", "guessed", "once", "never", "named", "gone",
+                                        "calm")])
+        metas = dict(zip(page.texts(".pod .name"), page.texts(".pod .meta .bad")))
+        told = metas["shop/late"][:47], metas["shop/named"], metas["shop/gone"]
+        tell("tells what ended a pod, and who deleted it", told,
+             ("ended by the kubelet 00:00:30: DeadlineExceeded", "named by the rules alone",
+              "deleted by the eviction API, 30 s of grace 00:00:30"))
+        page.click(".pod .name", 1)
+        tell("has it in a story, with the pod's rank", [words in page.text("#panel") for words in (
+            "the kubelet ended it at 2026-01-01 00:00:30Z: DeadlineExceeded",
+            "the worst: 2026-01-01 00:00:30Z ended by the kubelet", "place 2 of 10")], [True] * 3)
+        page.press(Keys.ESCAPE)
+        page.click(".pod .name", 4)
+        tell("tells no code that was guessed", ["died, code unknown" in page.text("#panel"),
+                                                "code 1" in page.text("#panel")], [True, False])
+        page.press(Keys.ESCAPE)
+        clocks = [page.text("#clock")]
+        for _ in range(3):
+            page.press("u")
+            clocks.append((page.text("#clock"), page.text("#range").split(" –")[0][-1:]))
+        tell("goes from one clock to the next", clocks, ["local", ("seconds", "0"), ("UTC", "0"), ("local", "Z")])
+        tell("of ends: no error came", page.log(), [])
+
+
 def check_reasons(chromedriver, path):
     """Why instances died and containers waited, as recordings/reasons has it."""
     with Page(chromedriver, path) as page:
@@ -330,10 +359,10 @@ def check_reasons(chromedriver, path):
         page.press(Keys.ESCAPE)
         page.click(".pod .name", page.texts(".pod .name").index("shop/config"))
         tell("says in a story why a container waits", [words in page.text("#panel") for words in (
-            "Waits", "app waits: CreateContainerConfigError: no key $TOKEN in secret shop/keys")], [True, True])
+            "Waits", "app waits: CreateContainerConfigError")], [True, True])
         page.press(Keys.ESCAPE)
         tell("says it where one points at the lane", page.tip(page.row("shop/image"), 12 / 20, 20).split("\n")[1:],
-             ["app: waiting", 'waits: ImagePullBackOff: Back-off pulling image "registry.example/shop/web:v9"'])
+             ["app: waiting", 'waits: ImagePullBackOff: registry.example/shop/web:v9'])
         tell("says why it died there too", page.tip(page.row("shop/late"), 18 / 20, 20).split("\n")[1],
              "app: terminated with code 137: OOMKilled, it has no memory limit, attempt 0")
         tell("of reasons: no error came", page.log(), [])
@@ -406,6 +435,7 @@ def main(folder, chromedriver):
     check_odd(chromedriver, f"{folder}/odd.html")
     check_again(chromedriver, f"{folder}/again.html")
     check_kubelet(chromedriver, f"{folder}/kubelet.html")
+    check_ends(chromedriver, f"{folder}/ends.html")
     check_reasons(chromedriver, f"{folder}/reasons.html")
     check_gap(chromedriver, f"{folder}/gap.html")
     check_big(chromedriver, f"{folder}/big.html")

@@ -24,11 +24,16 @@ import test_connections
 import test_decisions
 import test_deletions
 import test_deploy
+import test_ends
+import test_events
 import test_explain
 import test_fleet
 import test_fleet_nodes
+import test_follow
 import test_hostile_nodes
 import test_hostile_traces
+import test_import
+import test_import_real
 import test_into
 import test_into_folder
 import test_into_kills
@@ -37,15 +42,23 @@ import test_joined
 import test_joined_files
 import test_json
 import test_kubectl
+import test_logs
+import test_members
+import test_metrics
 import test_page
 import test_plays
 import test_probes
 import test_real_node
 import test_reasons
 import test_record
+import test_rounds
 import test_secrets
+import test_ship
+import test_summary
 import test_tests
+import test_used
 import test_why
+import test_workloads
 from checks import HERE, REPLAY, TOOLS, TOP, expect, expect_kept, expect_refused, read, run
 
 import ending
@@ -54,8 +67,9 @@ import processes
 MODULES = (test_record, test_connections, test_plays, test_into, test_into_folder, test_joined, test_joined_files,
            test_cluster, test_real_node, test_json, test_why, test_decisions, test_page, test_fleet, test_fleet_nodes,
            test_kubectl, test_command, test_explain, test_reasons, test_deploy, test_probes, test_answers,
-           test_secrets, test_deletions, test_into_kills, test_into_room, test_tests, test_hostile_nodes,
-           test_hostile_traces)
+           test_secrets, test_deletions, test_ends, test_members, test_rounds, test_into_kills, test_into_room,
+           test_used, test_logs, test_ship, test_metrics, test_events, test_tests, test_hostile_nodes,
+           test_hostile_traces, test_import, test_import_real, test_summary, test_workloads, test_follow)
 RECORDINGS = f"{HERE}/recordings"
 COMMANDS = f"{HERE}/commands"
 
@@ -67,7 +81,7 @@ def test_stories():
     for recording, pod, words in (
         ("crash_loop", "shop/api-7f9c", []),
         ("whole_node", "shop/web", []),
-        ("whole_node", "shop/web", ["--utc"]),
+        ("whole_node", "shop/web", ["--seconds"]),
         ("whole_node", "batch/report-28401", []),
         ("attempt_falls", "shop/api-7f9c", []),
         ("made_anew", "default/late", []),
@@ -304,8 +318,6 @@ def test_edits_of_what_is_not_there():
     renamed = 'pod("shop/web"; .metadata.name = "other") | pod("shop/other"; .)'
     expect("what-if finds a pod that the edit has renamed",
            run([f"{TOOLS}/what-if", renamed], trace, KUBELET_REPLAY=f"{COMMANDS}/show")[0], 0)
-
-
     without_memory = f"{COMMANDS}/without_memory"
     answer = run([f"{TOOLS}/what-if", "."], trace, KUBELET_REPLAY=without_memory)
     expect_refused("what-if of a program without memory", answer, 1, "can't be replayed (status 1): out of memory")
@@ -336,7 +348,7 @@ def test_words():
         (["record", "--standard", "--extended"], "give one"),
         (["record", "--standard", "--eviction-pause", "5"], "goes with --extended"),
         (["record", "--extended", "--eviction-pause", "2147483648"], "--eviction-pause takes"),
-        (["record", "--into", "/nonexistent"], "--into: '/nonexistent' is no folder"),
+        (["record", "--into", "/nonexistent/traces"], "--into: '/nonexistent/traces' is no folder"),
         (["record", "--into", f"{HERE}/run.py"], "run.py' is no folder"),
         (["record", "--into", HERE, "--node", "worker/3"], "--node takes a node's name, not 'worker/3'"),
         (["record", "--into", HERE, "--node", ".."], "--into wants --node with a name of the formats, not '..'"),
@@ -398,15 +410,15 @@ def test_full_disks():
 def test_versions():
     """Each tool says its version, and its help by its short name too."""
     version = read(f"{TOP}/VERSION")
-    for tool in ("record", "story", "timeline", "what-if", "json", "why", "page", "fleet", "explain", "kubelet-replay",
-                 "kubectl-replay", "kubectl_complete-replay"):
+    for tool in ("record", "story", "timeline", "what-if", "json", "why", "page", "fleet", "explain", "import",
+                 "kubelet-replay", "kubectl-replay", "kubectl_complete-replay"):
         for word in ("--version", "-V"):
             expect(f"{tool} {word}", run([f"{TOOLS}/{tool}", word]), (0, f"{tool} {version}", ""))
         expect(f"{tool} -h", run([f"{TOOLS}/{tool}", "-h"]), run([f"{TOOLS}/{tool}", "--help"]))
 
 
 def test_help():
-    for tool in ("record", "story", "timeline", "what-if", "json", "why", "page", "fleet", "explain"):
+    for tool in ("record", "story", "timeline", "what-if", "json", "why", "page", "fleet", "explain", "import"):
         status, help_text, said = run([f"{TOOLS}/{tool}", "--help"])
         found = [words in help_text for words in (f"usage: tools/{tool} ", "It needs", "leaves out", "Status 0")]
         expect(f"{tool} --help", (status, said, found), (0, "", [True] * 4))

@@ -173,13 +173,16 @@ def test_story_of_a_cluster():
     with Folder() as folder, Cluster(folder) as cluster:
         wanted = folder.tell("story", "shop/web", "--without-why")
         for words in (["story", "web", "-n", "shop", "--node", "n1"], ["story", "shop/web", "--node=n1"],
-                      ["story", "-A", "web", "--node", "n1", "--since", "2026-01-01T00:00:05Z"],
                       ["story", "shop/web", "--node", "n1", "--recorders", "kubelet-replay"],
                       ["story", "shop/web", "--node", "n1", "--context", "far"]):
             answer = cluster.run("kubectl-replay", *words)
             expect(f"kubectl replay {' '.join(words)}", answer, (0, wanted[1], f"story: {WRITTEN}"))
         expect("kubelet-replay of a node of a cluster", cluster.run("kubelet-replay", "story", "web", "--node", "n1"),
                (0, wanted[1], f"story: {WRITTEN}"))
+        since = ["--since", "2026-01-01T00:00:05Z"]
+        expect("kubectl replay story of a node since a moment", cluster.run(
+            "kubectl-replay", "story", "-A", "web", "--node", "n1", *since)[1],
+            folder.tell("story", "shop/web", "--without-why", *since)[1])
         cluster.asked()
         answer = cluster.run("kubectl-replay", "timeline", "-n", "shop", "--node", "n1", "--since",
                              "2026-01-01T00:01:01Z")
@@ -189,7 +192,8 @@ def test_story_of_a_cluster():
             (["story", "web", "--node", "n12"], 2, "no recorder on n12; the nearest: n2, n1"),
             (["story", "web", "--node", "n3"], 1, "n3: its recorder recorder-c is Pending"),
             (["story", "web", "--node", "n1", "--since", "1h"], 1, "n1: its recorder holds no trace of that time"),
-            (["story", "web", "--since", "1h"], 2, "-f FILE or FOLDER for traces that are here, or --node NODE"),
+            (["story", "web", "--since", "1h"], 1, "the pods of default can't be listed: kubectl: not"),
+            (["page", "--since", "1h"], 2, "-f FILE or FOLDER for traces that are here, or --node NODE"),
             (["story", "web", "--node"], 2, "--node wants a value"),
             (["story", "web", "--node", "n1", "-f", folder.path, "--recorders", "x"], 2, "--recorders is for"),
         ):

@@ -12,8 +12,8 @@ import tempfile
 from checks import HERE, REPLAY, TOOLS, TOP, expect, expect_refused, read, run
 
 COMMAND = f"{TOOLS}/kubelet-replay"
-NAMES = ("record", "run", "check", "explain", "story", "why", "page", "timeline", "json", "what-if", "fleet",
-         "fetch", "nodes")
+NAMES = ("record", "run", "check", "explain", "story", "why", "page", "timeline", "json", "what-if", "import",
+         "fleet", "fetch", "nodes")
 TRACE, REPORT = (f"{TOP}/examples/memory_pressure.{kind}" for kind in ("trace", "report"))
 
 
@@ -59,7 +59,8 @@ def test_what_cannot_be_read():
 
 def test_words_of_the_program_are_only_shown():
     """What the program says of a word is shown, and not followed by a terminal."""
-    for words in (["run", "--a\x1b[31mb"], ["check", "--a\x1b[31mb"], ["run", TRACE, "--fail-on", "evicted", "--\x9b31m"]):
+    for words in (["run", "--a\x1b[31mb"], ["check", "--a\x1b[31mb"],
+                  ["run", TRACE, "--fail-on", "evicted", "--\x9b31m"]):
         status, out, said = run([COMMAND, *words])
         expect(f"kubelet-replay {words}", (status, out, "[31m" in said or "\\x9b" in said,
                                            [each for each in said if not each.isprintable() and each != "\n"]),
@@ -160,10 +161,11 @@ def test_command_completion():
         ([""], [*sorted(NAMES), ":4"]),
         (["story", "-f", TRACE, "d"], ["default/a", "default/b", "default/c", ":4"]),
         (["story", "-f", TRACE, "-n", "default", ""], ["a", "b", "c", ":4"]),
-        (["story", "--"], ["--at", "--filename", "--namespace", "--node", "--recorders", "--since", "--trace",
-                           "--traces", "--utc", "--without-why", ":4"]),
+        (["story", "--"], ["--at", "--filename", "--follow", "--local", "--namespace", "--node", "--recorders",
+                           "--seconds", "--selector", "--since", "--trace", "--traces", "--utc", "--without-why",
+                           ":4"]),
         (["run", ""], [":0"]),
-        (["record", "--e"], ["--each", "--every", "--eviction-pause", "--extended", ":4"]),
+        (["record", "--e"], ["--each", "--events", "--every", "--eviction-pause", "--extended", ":4"]),
         (["record", "--curl", ""], [":0"]),
         (["record", "--node", ""], [":4"]),
     ):

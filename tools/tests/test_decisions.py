@@ -54,12 +54,28 @@ def test_stories_of_decisions():
                    "no pod shop/late")
 
 
+def test_who_ended_a_pod():
+    """What a pod came to is by the rules where these have it; a pod that the node has ended ended by its word."""
+    for recording, pod, wanted in (
+        ("ended_extended", "deadline", ["shop/deadline on n1: Failed (DeadlineExceeded), BestEffort",
+                                        "first tick 1767225600, ended 1767225605 as Failed"]),
+        ("kubelet_evicts_extended", "hog", [
+            "shop/hog on n1: by the rules Failed (Evicted), BestEffort",
+            "first tick 1767225600, ended by the rules 1767225607 as Evicted, gone before 1767225613"]),
+    ):
+        folder = f"{HERE}/recordings/{recording}"
+        words = [f"{TOOLS}/story", "--seconds", f"shop/{pod}", "--trace", f"{folder}/trace", "--without-why"]
+        told = run(words, read(f"{folder}/report"))[1].splitlines()
+        heads = [line for line in told if line.startswith(("shop/", "first tick"))]
+        expect(f"story of {recording}: who ended shop/{pod}", heads, wanted)
+
+
 CAUSES = {"shop/agree": None, "shop/first": "no sample below the threshold was recorded (memory.available was 900Mi, "
           "hard threshold 100Mi; memory.available was 900Mi, soft threshold 200Mi)",
           "shop/unseen": "the pod had no sample, which counts as 0; they evict shop/paused in its place, at 30",
           "shop/soft": "they had evicted shop/paused at 30 and then evict no pod for 10 s",
-          "shop/alone": "memory.available was below the soft threshold since 30 in the samples, and its grace period of "
-                        "30 s was not over"}
+          "shop/alone": "memory.available was below the soft threshold since 30 in the samples, and its grace period "
+                        "of 30 s was not over"}
 
 
 def test_causes_of_differences():
@@ -120,7 +136,7 @@ def test_fleet_of_decisions():
     expect("fleet of decisions", (status, said), (0, ""))
     lines = [line.split() for line in told.split("\n")]
     expect("fleet of decisions: the worst", [line[1:2] + line[4:6] for line in lines if line[1:2] and "/" in line[1]],
-           [["shop/first", "1", "0"], ["shop/unseen", "1", "0"], ["shop/soft", "1", "0"], ["shop/agree", "1", "1"],
+           [["shop/soft", "1", "0"], ["shop/first", "1", "0"], ["shop/unseen", "1", "0"], ["shop/agree", "1", "1"],
             ["shop/alone", "1", "0"]])
     did = [line for line in lines if line[:1] in (["evicted"], ["refused"])]
     expect("fleet of decisions: what the kubelet did", did,
@@ -182,14 +198,15 @@ def test_list_of_pods():
     folder = tempfile.mkdtemp()
     with open(f"{folder}/trace", "w") as file:
         file.write(calm)
-    told = run([f"{TOOLS}/story", "--trace", f"{folder}/trace"], replayed(calm)[1])[1]
+    told = run([f"{TOOLS}/story", "--seconds", "--trace", f"{folder}/trace"], replayed(calm)[1])[1]
     shutil.rmtree(folder)
     rows = [line.split() for line in told.splitlines()[2:]]
     expect("the list of pods: whom the kubelet evicted", [(row[0], row[1], " ".join(row[5:8])) for row in rows], [
-        ("shop/hog", "Running", "the kubelet evicted"), ("shop/new", "Running", "the kubelet evicted"),
+        ("shop/hog", "Failed", "the kubelet evicted"), ("shop/new", "Failed", "the kubelet evicted"),
         ("shop/web", "Running", "-")])
     unready = ('{"kind":"node","name":"n1"}\n'
-               '{"kind":"pod","pod":{"metadata":{"name":"a"},"spec":{"containers":[{"name":"c","readinessProbe":{}}]}}}\n')
+               '{"kind":"pod","pod":{"metadata":{"name":"a"},"spec":{"containers":[{"name":"c","readinessProbe":{}}]}}}'
+               '\n')
     unready += "".join(f'{{"kind":"tick","at":{at},"pods":[{{"pod":"default/a","containers":[{{"name":"c","attempt":0,'
                        f'"state":"CONTAINER_RUNNING"}}]}}]}}\n' for at in (0, 54, 64))
     with tempfile.NamedTemporaryFile("w", suffix=".trace") as file:

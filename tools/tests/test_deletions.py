@@ -34,7 +34,8 @@ def test_deletion_over_a_border():
         if '"deleting":true' in line:
             break
     carried = [json.loads(line) for line in standing.beginning(BEGIN + 60, None)]
-    said = [(entry["pod"], entry.get("deleting")) for line in carried if line["kind"] == "tick" for entry in line["pods"]]
+    said = [(entry["pod"], entry.get("deleting")) for line in carried if line["kind"] == "tick"
+            for entry in line["pods"]]
     expect("deleted, over a border", said, [("shop/stays", None), ("shop/web", True)])
 
 
@@ -42,12 +43,13 @@ def test_deletion_is_told():
     trace = traces.trace_of(read(f"{RECORDED}/trace").encode(), "it")
     names = {trace.pods[number].key: at - BEGIN for number, at in trace.deleted.items()}
     expect("deleted: what a trace says", names, {"shop/web": 4})
-    status, told, said = run([f"{TOOLS}/story", "shop/web", "--trace", f"{RECORDED}/trace"],
+    status, told, said = run([f"{TOOLS}/story", "shop/web", "--seconds", "--trace", f"{RECORDED}/trace"],
                              read(f"{RECORDED}/report"))
     [line] = [line for line in told.splitlines() if "being deleted" in line]
     expect("deleted: the story", (status, said, line.split()),
            (0, "", f"{BEGIN + 4} - - being deleted from here on: nothing of it is restarted".split()))
-    expect("deleted: no restart behind it", (" restart " in read(f"{RECORDED}/report"), "backoff" in told), (False, False))
+    came_again = " restart " in read(f"{RECORDED}/report"), "backoff" in told
+    expect("deleted: no restart behind it", came_again, (False, False))
 
 
 def test_version_2_says_none():

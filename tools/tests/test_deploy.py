@@ -57,6 +57,18 @@ def manifest(name):
     return {part["kind"]: part for part in yaml.safe_load_all(read(f"{DEPLOY}/{name}"))}
 
 
+def test_right_of_events():
+    """The right to list events stands apart, for the same account."""
+    parts = manifest("rights-events.yaml")
+    if parts is None:
+        return
+    expect("the right of events", [parts["ClusterRole"]["rules"], parts["ClusterRoleBinding"]["subjects"]],
+           [[{"apiGroups": [""], "resources": ["events"], "verbs": ["list"]},
+             {"apiGroups": [""], "resources": ["nodes"], "verbs": ["get"]}],
+            manifest("daemonset.yaml")["ClusterRoleBinding"]["subjects"]])
+    expect("the right of events is no other's", "events" in read(f"{DEPLOY}/daemonset.yaml"), False)
+
+
 def test_rights():
     """Of the kubelet the recorder may get four things, none of which starts a command; where a kubelet does not know
     these rights another role of that name has what it asks for in their place."""

@@ -67,6 +67,21 @@ def test_explanations():
         expect_kept(f"explain --line {name}: the text", shown, f"{EXPLAINED}/{name}/line")
 
 
+def test_words_of_recordings():
+    """The fields that the extended format has of pods that are ended, spared or named, where the program refuses one."""
+    node = '{"kind":"node","version":3,"name":"n1"%s}\n'
+    pod = '{"kind":"pod"%s,"pod":{"metadata":{"name":"a"},"spec":{"containers":[{"name":"c"}]}}}\n'
+    tick = '{"kind":"tick","at":1%s,"pods":[{"pod":"default/a"%s}]}\n'
+    for text, said, path in (
+        (node % ',"evictionsRecorded":1', "line 1: 36 Config", ("evictionsRecorded",)),
+        (node % "" + pod % ',"spared":"x"', "line 2: 35 Manifest 12", ("spared",)),
+        (node % "" + pod % "" + tick % (',"judged":0', ""), "line 3: 46 Usage", ("judged",)),
+        (node % "" + pod % "" + tick % ("", ',"failed":"no such"'), "line 3: 46 Usage", ("pods", 0, "failed")),
+    ):
+        found = found_of(text.encode(), f"status 2: {said}", True).found
+        expect(f"explain {path[-1]} of another kind", [each.path for each in found], [path])
+
+
 def test_files():
     """Of what can't be read the reason is said, of what is something else what it is."""
     folder = tempfile.mkdtemp()

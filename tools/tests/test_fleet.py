@@ -70,7 +70,7 @@ def test_fleet_of_the_extended_format():
     status, told, said = run([FLEET, "run", folder, "--out", f"{folder}/fleet.db", "--processes", "1"])
     expect("fleet of the extended format", (status, said, told.split("\n")[0]),
            (0, "", "1 trace: 1 replayed, 0 refused, 0 failed; 2 pods on 1 node"))
-    worst = [line.split() for line in told.split("\n") if "shop/" in line]
+    worst = [line.split()[:8] for line in told.split("\n") if "shop/" in line]
     expect("fleet: pods of one name are one line", worst,
            [["n1", "shop/db", "1", "20", "-", "1", "memory.available", "1"]])
     connection = sqlite3.connect(f"{folder}/fleet.db")

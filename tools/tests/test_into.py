@@ -23,7 +23,8 @@ def told_in(report, behind=-1):
 
 
 def known_in(report):
-    """What a report says at its end of each pod and its containers, by their keys; the last one of a key counts."""
+    """What a report says at its end of each pod and its containers, by their keys; the last one of a key counts. Of a
+    pod that the node has ended it says how its containers were then, and the next trace how they are at its begin."""
     found, keys = {}, {}
     for line in report.splitlines():
         word, number, *rest = line.split(" ")
@@ -31,7 +32,9 @@ def known_in(report):
             keys[number] = rest[0]
             found[rest[0]] = {"-": rest[1:3]}
         elif word == "container":
-            found[keys[number]][rest[0]] = rest[1:]
+            phase, reason = found[keys[number]]["-"]
+            is_ended = phase == "phase=Failed" and reason != "reason=-"
+            found[keys[number]][rest[0]] = rest[3:] if is_ended else rest[1:]
     return found
 
 

@@ -1,5 +1,5 @@
 """The tests of what goes out of the folder of `tools/record --into` for room: only as long as that makes some, and each
-is said."""
+is said; and of a folder that is made."""
 
 import contextlib
 import errno
@@ -9,7 +9,7 @@ import random
 from unittest import mock
 
 from chance import BEGIN
-from checks import expect
+from checks import expect, expect_refused
 from into_plays import Clock, Into, laid, recorded_here
 from test_into_folder import can_mount, on_a_mount
 from test_into_kills import end_left
@@ -116,4 +116,19 @@ def test_a_disk_that_another_fills():
     expect("a disk that another fills", (answer, sorted(os.listdir(f"{into.folder}.made"))),
            ((1, "", f"record: {BEGIN}: nothing is written into '{into.folder}' until it can be: the file system has no "
              "room to spare\n"), ["another", *HOURS[:4]]))
+    into.clean()
+
+
+def test_folder_that_is_made():
+    """One that is not there is made, for its owner alone to write, where the folder above it is there."""
+    into = Into(quiet_node(1, 60))
+    os.rmdir(into.folder)
+    expect("a folder that is made", (into.into("--for", "10"), into.names(), os.stat(into.folder).st_mode & 0o022),
+           ((0, "", ""), ["n1.2026-01-01T00-00-00Z.trace.gz"], 0))
+    into.clean()
+    into = Into(quiet_node(1, 60))
+    os.rmdir(into.folder)
+    os.symlink(f"{into.run}/nowhere", into.folder)
+    expect_refused("a link to no folder", into.into("--for", "10"), 2, "is no folder")
+    os.unlink(into.folder)
     into.clean()

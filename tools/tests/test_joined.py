@@ -152,9 +152,13 @@ def test_joined_belongs():
         file.write(whole)
     one, several = (records(run([f"{TOOLS}/json", *words], given)) for words, given in (
         (["--trace", f"{into.run}/trace"], replayed(whole)[1]), (["--traces", into.folder], "")))
-    did = [[(line["pod"], line["at"], line["rules_at"], line["agrees"]) for line in lines
-            if line["record"] == "decision"] for lines in (one, several)]
-    expect("joined traces of real_evictions: what the kubelet did, and the rules", did[1], did[0])
+    did = [[line for line in lines if line["record"] == "decision"] for lines in (one, several)]
+    facts = [[(line["pod"], line["at"]) for line in lines] for lines in did]
+    expect("joined traces of real_evictions: what the kubelet did", facts[1], facts[0])
+    # the rules evict h-bulk before a border and the kubelet behind it: there they begin anew, and evict h-above later
+    rules = [[(line["pod"], line["rules_at"], line["agrees"]) for line in lines if line["pod"] != "shop/h-above"]
+             for lines in did]
+    expect("joined traces of real_evictions: whom the rules evict", rules[1], rules[0])
     told = run([f"{TOOLS}/story", "--traces", into.folder, "shop/h-bulk", "--without-why"])[1]
     near = run([f"{TOOLS}/story", "--traces", into.folder, "shop/h-bulk", "--at", "2026-11-27T14:28Z"])[1]
     expect("a pod that the kubelet evicted near a moment", near.split("\n")[1],
@@ -354,7 +358,8 @@ def test_a_pod_of_the_same_name_behind_a_gap():
     expect("another pod behind a gap: its first lines", [line for line in told.split("\n") if "first tick" in line], [
         "first tick 2026-01-01 00:00:00Z, ended 2026-01-01 00:00:20Z as Failed, gone before 2026-01-01 00:00:40Z",
         "first tick 2026-01-01 00:00:40Z"])
-    expect("another pod behind a gap: its exit", told.count("died with code 3"), 1)
+    expect("another pod behind a gap: its exit", len([line for line in told.split("\n") if "died with code 3" in line
+                                                     and not line.startswith("the worst")]), 1)
     expect("another pod that runs too", met_again("two")[1], [["Running", 0, 0], ["Running", 40, 0]])
     expect("the same pod behind a gap", met_again("one")[1], [["Running", 0, 0]])
     expect("traces without uids", met_again("two", is_told=False)[1], [["Running", 0, 0]])
@@ -395,10 +400,13 @@ def test_evicted_while_no_recorder_ran():
     """A recorder that goes on in a folder tells in its first tick whom the kubelet has evicted since."""
     wanted = {"evicted": [{"pod": "shop/c", "uid": "uid-c", "at": BEGIN + 45, "reason": "Evicted", "leftOut": True,
                            "message": "The node was low on resource: memory."}]}
-    for name, how in (("a trace", {}), ("a part that was left", {"is_left": True}), ("no probes", {"is_probed": False})):
+    for name, how in (("a trace", {}), ("a part that was left", {"is_left": True}),
+                      ("no probes", {"is_probed": False})):
         answer, told, did, story = evicted_meanwhile(45, **how)
         expect(f"evicted behind {name}", (answer, told, did), ((0, 1), [(1, wanted)], [("shop/c", 45)]))
-        expect(f"evicted behind {name}: the story", [line for line in story[1].split("\n") if "evict" in line][:3], [
+        expect(f"evicted behind {name}: the story", [
+            line for line in story[1].split("\n")
+            if ("evict" in line or line.startswith("the rules")) and not line.startswith("the worst")][:3], [
             "the kubelet evicted it at 2026-01-01 00:00:45Z: low on memory",
             "the rules, over the recorded samples, differ: they do not evict it; nothing was recorded then",
             f"{' ' * 13}00:00:45Z  -                -  the kubelet evicted it: low on memory"])

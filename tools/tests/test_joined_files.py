@@ -123,7 +123,7 @@ def test_reports_alone():
         words = []
         for second in (0, 20, 40):
             words += ["--traces", folder.write(f"report{second}", replayed(folder.text(second))[1])]
-        status, told, said = run([f"{TOOLS}/story", "web", *words])
+        status, told, said = run([f"{TOOLS}/story", "--seconds", "web", *words])
         starts = [line.split()[2:] for line in told.split("\n") if " started" in line and "ready" not in line]
         expect("reports alone", (status, said, starts), (0, "", [["0", "started"], ["1", "started"], ["2", "started"],
                                                                 ["3", "started"], ["4", "started"]]))

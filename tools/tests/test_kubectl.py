@@ -11,8 +11,8 @@ import tempfile
 from checks import HERE, REPLAY, TOOLS, TOP, expect, expect_refused, read, run
 
 KEPT = f"{HERE}/kubectl"
-TOOL_NAMES = ("record", "explain", "story", "why", "timeline", "page", "json", "what-if", "fleet", "fetch",
-              "nodes")
+TOOL_NAMES = ("record", "explain", "story", "why", "timeline", "page", "json", "what-if", "import", "fleet",
+              "fetch", "nodes")
 TRACE = ('{"kind":"node","name":"made"}\n'
          '{"kind":"pod","pod":{"metadata":{"name":"web","namespace":"shop"},"spec":{"containers":[{"name":"app"}]}}}\n'
          '{"kind":"pod","pod":{"metadata":{"name":"other","namespace":"shop"},'

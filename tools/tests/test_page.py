@@ -17,6 +17,7 @@ NODE = f"{HERE}/whys/file_system"
 PROBES = f"{HERE}/whys/probes"
 KUBELET = f"{HERE}/whys/kubelet"
 REASONS = f"{HERE}/recordings/reasons"
+ENDS = f"{HERE}/summaries"
 AGAIN = f"{TOP}/crates/case_runner/data/traces/extended"
 PODS, TICKS = 256, 20000
 # of the page of this many pods and ticks
@@ -67,7 +68,7 @@ def test_page_tells_events_as_why_does():
     for folder in (NODE, PROBES, KUBELET, REASONS):
         data = data_in(page_of(read(f"{folder}/report"), f"{folder}/trace")[1])
         for pod in data["podList"]:
-            heads = run([f"{TOOLS}/why", pod["key"], "--trace", f"{folder}/trace"], read(f"{folder}/report"))[1]
+            heads = run([f"{TOOLS}/why", "--seconds", pod["key"], "--trace", f"{folder}/trace"], read(f"{folder}/report"))[1]
             told = re.findall(r"^\d+  (.*)$", heads, re.M)
             expect(f"page: events of {pod['key']} in the words of why", [each for each in told_in(data, pod)
                                                                        if each not in told], [])
@@ -161,6 +162,7 @@ def write_pages(folder):
         "odd": page_of(odd.replace("shop/api-7f9c", "shop/<img/src=x/onerror=document.title='x'>")),
         "again": page_of(read(f"{AGAIN}/evicted_pod_comes_again_and_is_evicted_again.report")),
         "kubelet": page_of(read(f"{KUBELET}/report"), f"{KUBELET}/trace"),
+        "ends": page_of(read(f"{ENDS}/report"), f"{ENDS}/trace"),
         "reasons": page_of(read(f"{REASONS}/report"), f"{REASONS}/trace"),
         "gap": page_of_gap(),
         "big": page_of("".join(big_node.report_of(PODS, TICKS, PODS))),

@@ -132,9 +132,13 @@ def names_of(found):
 
 
 def steps_of(trace, pod, container):
-    """What the ticks of a trace say of one container: its starts and its exits, as (words, moment)."""
+    """What the ticks of a trace say of one container: its starts and its exits, as (words, moment). Those behind the
+    tick with which the node has ended the pod are none of it."""
     before, started = None, set()
+    last = trace.failed[pod.number].at if pod.number in trace.failed else trace.ticks[-1].at
     for place in range(pod.first, len(trace.ticks) if pod.gone is None else pod.gone):
+        if trace.ticks[place].at > last:
+            return
         listing, moment = trace.listing(pod, container, place), trace.ticks[place].at - BEGIN
         is_other = before is not None and (listing is None or listing.attempt != before.attempt)
         if is_other and before.state != "CONTAINER_EXITED":

@@ -119,9 +119,12 @@ def test_trimmed_answers():
     """A look has the answers that are others than before, without the fields that the recorder does not read."""
     states = {"lastState": {"terminated": {"exitCode": 1, "reason": "Error", "message": "its own words"}},
               "state": {"waiting": {"reason": "CrashLoopBackOff", "message": "back-off 10s", "more": 1}}}
-    pod = {"metadata": {"name": "a", "uid": "1", "labels": {}},
-           "status": {"phase": "Running", "hostIP": "10.0.0.1", "containerStatuses": [{"name": "c", "x": 0, **states}]},
-           "spec": {"priority": 1, "hostNetwork": True, "containers": [{"name": "c", "command": ["sh"]}]}}
+    gate = {"type": "balancer", "status": "True"}
+    pod = {"metadata": {"name": "a", "uid": "1", "labels": {}, "deletionGracePeriodSeconds": 4},
+           "status": {"phase": "Running", "hostIP": "10.0.0.1", "containerStatuses": [{"name": "c", "x": 0, **states}],
+                      "conditions": [gate, {"type": "PodScheduled", "status": "True"}]},
+           "spec": {"priority": 1, "hostNetwork": True, "readinessGates": [{"conditionType": "balancer"}],
+                    "containers": [{"name": "c", "command": ["sh"], "restartPolicy": "Never"}]}}
     listed = {"id": "5", "state": 1, "image": {}, "labels": {"io.kubernetes.pod.uid": "1", "app": "a"}}
     answers = {
         "pods": ("curl https://127.0.0.1:10250/pods", json.dumps({"kind": "PodList", "items": [pod]})),
@@ -130,7 +133,8 @@ def test_trimmed_answers():
         "configz": ("curl https://127.0.0.1:10250/configz",
                     json.dumps({"kubeletconfig": {"clusterDomain": "local", "staticPodPath": "/etc/pods"}})),
         "summary": ("curl https://127.0.0.1:10250/stats/summary",
-                    json.dumps({"node": {"memory": {"availableBytes": 7, "rssBytes": 3}, "cpu": {"time": "1"}}})),
+                    json.dumps({"node": {"memory": {"availableBytes": 7, "rssBytes": 3}, "cpu": {"time": "1"},
+                                         "network": {"time": "1"}, "startTime": "2"}})),
         "probes": ("curl https://127.0.0.1:10250/metrics/probes", "# HELP\nprober_probe_total{} 1\nother 2\n"),
     }
     asked = [{"at": 1, "words": words.split(), "answer": answer} for words, answer in answers.values()]
@@ -145,13 +149,16 @@ def test_trimmed_answers():
     shutil.rmtree(folder)
     expect("trimmed: the first look", made[0], {"at": 1.0, "answers": {
         "pods": {"kind": "PodList", "items": [
-            {"metadata": {"name": "a", "uid": "1"}, "status": {"phase": "Running", "containerStatuses": [
-                {"name": "c", "lastState": {"terminated": {"exitCode": 1, "reason": "Error"}},
-                 "state": {"waiting": {"reason": "CrashLoopBackOff", "message": "back-off 10s"}}}]},
-             "spec": {"priority": 1, "containers": [{"name": "c"}]}}]},
+            {"metadata": {"name": "a", "uid": "1", "deletionGracePeriodSeconds": 4},
+             "status": {"phase": "Running", "conditions": [gate], "containerStatuses": [
+                 {"name": "c", "lastState": {"terminated": {"exitCode": 1, "reason": "Error"}},
+                  "state": {"waiting": {"reason": "CrashLoopBackOff", "message": "back-off 10s"}}}]},
+             "spec": {"priority": 1, "readinessGates": [{"conditionType": "balancer"}],
+                      "containers": [{"name": "c", "restartPolicy": "Never"}]}}]},
         "ps": {"containers": [{"id": "5", "state": 1, "labels": {"io.kubernetes.pod.uid": "1"}}]},
         "5": {"status": {}}, "configz": {"kubeletconfig": {"clusterDomain": "local"}},
-        "summary": {"node": {"memory": {"availableBytes": 7}}}, "probes": "prober_probe_total{} 1\n"}})
+        "summary": {"node": {"memory": {"availableBytes": 7}, "cpu": {"time": "1"}, "startTime": "2"}},
+        "probes": "prober_probe_total{} 1\n"}})
     expect("trimmed: the other looks", made[1:],
            [{"at": 2.0, "answers": {}}, {"at": 3.0, "answers": {"ps": {"failed": "no answer"}}}])
 

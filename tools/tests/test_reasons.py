@@ -74,7 +74,7 @@ def test_stories_of_reasons():
         "OOM-killed because it came to its memory limit, 32Mi (resources.limits.memory); the node had "), 4)
     told = run([f"{TOOLS}/story", "shop/oom"], read(f"{RECORDED}.report"))[1]
     expect("story of it without the trace", (told.count("died with code 137: killed, or unknown"), "OOM" in told),
-           (4, False))
+           (5, False))
 
 
 DEATHS = [["shop/command", 128, True, "StartError"], ["shop/loop", 1, True, "Error"],
@@ -119,7 +119,7 @@ def test_json_of_reasons():
 
 def test_pictures_of_reasons():
     """Why a container waits stands in its lane, where there is room for it, and why it died in its bar."""
-    picture = xml.dom.minidom.parseString(played("timeline", "--trace", f"{PLAYED}/trace")[1])
+    picture = xml.dom.minidom.parseString(played("timeline", "--seconds", "--trace", f"{PLAYED}/trace")[1])
     titles = [title.firstChild.data for title in picture.getElementsByTagName("title")]
     expect("timeline: a bar with a reason", [title for title in titles if "OOMKilled, its memory limit" in title],
            ["app: attempt 0 terminated with code 137: OOMKilled, its memory limit is 32Mi, 1767225608 to 1767225609"])

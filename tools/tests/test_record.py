@@ -60,7 +60,9 @@ class Recorder:
 
 
 def test_recordings():
-    recorders = [Recorder(name) for name in sorted(os.listdir(RECORDINGS))]
+    # a kubelet's journal has no words: test_import_real.py has it
+    names = [name for name in sorted(os.listdir(RECORDINGS)) if os.path.exists(f"{RECORDINGS}/{name}/words")]
+    recorders = list(map(Recorder, names))
     with ThreadPoolExecutor(4) as threads:
         answers = list(threads.map(Recorder.whole, recorders))
     for recorder, (status, trace, said) in zip(recorders, answers):
@@ -317,3 +319,16 @@ def test_texts():
         got = [getattr(formats, f"{kind}_fault")(text) is None for text, _ in rows]
         different = [row[0] for row, a, b in zip(rows, got, wanted) if a != b]
         expect(f"texts of a {kind}", different, [])
+
+
+def test_words_of_the_recorder():
+    for words, said in (
+        (["--metrics", f"{HERE}/run.py"], "is there and has no metrics of tools/record"),
+        (["--metrics", "/nowhere/it.prom"], "'/nowhere' is no folder that can be written"),
+        (["--events", "http://api"], "--events takes a URL as https://kubernetes.default.svc, or kubectl"),
+        (["--logs", "1001"], "--logs takes a whole number from 1 to 1000"),
+        (["--standard", "--simulate"], "--simulate goes with --extended"),
+        (["--ship", "cp {} x"], "--ship goes with --into"),
+        (["--into", HERE, "--node", "n1", "--ship", ""], "--ship takes words as 'rclone copy {} far:traces'"),
+    ):
+        expect_refused(f"record {' '.join(words)[:40]}", run([f"{TOOLS}/record", *words]), 2, said)

@@ -2,6 +2,7 @@
 
 import glob
 import os
+import re
 import shutil
 import tempfile
 
@@ -99,9 +100,11 @@ def test_why_with_story():
     trace, report = trace_and_report("probes")
     story = run([f"{TOOLS}/story", "shop/web", "--trace", trace, "--without-why"], read(report))[1]
     both = run([f"{TOOLS}/story", "shop/web", "--trace", trace], read(report))
-    expect("story with a trace", both, (0, f"{story}\n{read(f'{WHYS}/probes/of_shop_web')}", ""))
+    # the story has the worst above it already
+    why = re.sub(r"^the worst: .*\n", "", read(f"{WHYS}/probes/of_shop_web"), flags=re.M)
+    expect("story with a trace", both, (0, f"{story}\n{why}", ""))
     utc = run([f"{TOOLS}/why", "--utc", "shop/web", f"--trace={trace}"], read(report))[1].split("\n")
-    expect("why --utc", utc[2], "1970-01-01 00:00:05Z  app started (attempt 0)")
+    expect("why --utc", utc[3], "1970-01-01 00:00:05Z  app started (attempt 0)")
 
 
 def test_dates_once():

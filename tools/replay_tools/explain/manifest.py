@@ -34,6 +34,8 @@ def faults_of(line: dict[str, Any]) -> Iterator[tuple[int, Found]]:
             yield fault
             return
     yield from spec_faults(line["pod"]["spec"])
+    if not isinstance(line.get("spared"), (bool, type(None))):
+        yield WRONG_KIND, is_(("spared",), line["spared"], "it is true or false, without quotes")
 
 
 def object_fault(around: Any, path: tuple[Any, ...], wanted: str) -> tuple[int, Found] | None:

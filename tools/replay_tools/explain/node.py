@@ -37,9 +37,9 @@ def config_faults(node: Any, is_extended: bool) -> Iterator[Found]:
         yield from duration_fault(node, (PERIOD,), node[PERIOD])
     if node.get("version") == 3:
         yield from whole_fault(node, "evictionPauseSeconds", 0, MOST_SECONDS)
-        if not isinstance(node.get("evictionPauseUntilGone"), (bool, type(None))):
-            yield is_(("evictionPauseUntilGone",), node["evictionPauseUntilGone"],
-                      "it is true or false, without quotes")
+        for field in ("evictionPauseUntilGone", "evictionsRecorded"):
+            if not isinstance(node.get(field), (bool, type(None))):
+                yield is_((field,), node[field], "it is true or false, without quotes")
 
 
 def version_fault(node: Any, is_extended: bool) -> Iterator[Found]:

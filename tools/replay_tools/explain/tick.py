@@ -5,6 +5,7 @@ from __future__ import annotations
 from collections.abc import Callable, Iterable, Iterator
 from typing import Any
 
+from replay_tools.decided import REASON
 from replay_tools.record import formats
 from replay_tools.traces import SIGNALS
 
@@ -44,8 +45,11 @@ def field_faults(line: dict[str, Any], before: earlier.Before) -> Iterator[Found
     for index, entry in enumerate(pods if isinstance(pods, list) else []):
         yield from entry_faults(entry, ("pods", index))
         if before.version == 3 and isinstance(entry, dict):
-            yield from truth_faults(entry, ("pods", index, "unsampled"))
-            yield from truth_faults(entry, ("pods", index, "deleting"))
+            for word in ("unsampled", "deleting"):
+                yield from truth_faults(entry, ("pods", index, word))
+            yield from failed_faults(entry, ("pods", index, "failed"))
+    if before.version == 3:
+        yield from truth_faults(line, ("judged",))
     yield from signal_faults(line, "signals", SIGNALS)
     yield from signal_faults(line, "afterReclaim", FREED)
 
@@ -88,6 +92,13 @@ def entry_faults(entry: Any, path: tuple[Any, ...]) -> Iterator[Found]:
 def truth_faults(entry: Any, path: tuple[Any, ...]) -> Iterator[Found]:
     if not isinstance(entry.get(path[-1]), (bool, type(None))):
         yield is_(path, entry[path[-1]], "it is true or false, without quotes")
+
+
+def failed_faults(entry: Any, path: tuple[Any, ...]) -> Iterator[Found]:
+    reason = entry.get(path[-1])
+    if reason is not None and not (isinstance(reason, str) and REASON.fullmatch(reason)):
+        yield is_(path, reason, "it is a reason of 1 to 63 letters, digits, -, _, . and /, a letter first",
+                  "write it as the pod's status has it, or Other")
 
 
 def missing_or(around: Any, path: tuple[Any, ...], wanted: str) -> Found:

@@ -16,7 +16,7 @@ from replay_tools import entry
 
 
 # of which form the rows are: those of another one are no answers
-FORM = "4"
+FORM = "5"
 
 
 class Kept:

@@ -9,7 +9,9 @@ from typing import Any
 from replay_tools import entry, kubelet as kubelets, traces
 
 # what a node is worst by, an hour of recording; the seconds of recording are those between a trace's ticks
-ORDERS = {"restarts": "restarts", "unready": "unready", "evicted": "evicted"}
+ORDERS = {"worst": "bad", "restarts": "restarts", "unready": "unready", "evicted": "evicted"}
+# in words, where the word of the measure is none
+MEASURES = {"worst": "pods that were ended, killed or crashed,"}
 # an instance that a trace begins with is no restart of it, and was counted in the trace before, where that is there
 NODES = """
 WITH recorded AS (
@@ -20,9 +22,10 @@ WITH recorded AS (
                    AND pod_number IS NOT NULL) ELSE evictions END) AS evicted
     FROM nodes GROUP BY node),
 ran AS (SELECT node, SUM(came_again) AS restarts, SUM(kills) AS kills FROM containers GROUP BY node),
-were AS (SELECT node, SUM(unready_seconds) AS unready FROM pods GROUP BY node)
+were AS (SELECT node, SUM(unready_seconds) AS unready,
+                SUM(worst IN ('ended', 'killed', 'crashed_and_not_ready', 'crashed')) AS bad FROM pods GROUP BY node)
 SELECT node, COALESCE(seconds, 0) AS seconds, COALESCE(restarts, 0) AS restarts, COALESCE(kills, 0) AS kills,
-       evicted, COALESCE(unready, 0) AS unready, memory, disk, pid
+       evicted, COALESCE(unready, 0) AS unready, COALESCE(bad, 0) AS bad, memory, disk, pid
 FROM recorded LEFT JOIN ran USING (node) LEFT JOIN were USING (node)
 """
 WORST = """
@@ -35,10 +38,19 @@ PRESSED = """
 SELECT SUBSTR(signal, 1, INSTR(signal, '.') - 1), COUNT(DISTINCT evictions.node), COUNT(*)
 FROM evictions JOIN nodes USING (report) WHERE tells_kubelet IS NULL GROUP BY 1
 """
+ENDED = """
+SELECT reason, COUNT(DISTINCT node), COUNT(DISTINCT node || ' ' || pod) FROM decisions WHERE decision = 'ended'
+GROUP BY reason
+"""
+DELETED = """
+SELECT deleted_by, COUNT(DISTINCT node), COUNT(DISTINCT node || ' ' || pod) FROM pods WHERE deleted_at IS NOT NULL
+GROUP BY deleted_by
+"""
 DID = "SELECT node, reason, message FROM decisions WHERE decision = 'evicted'"
 UNDER = """
 SELECT COUNT(DISTINCT node), SUM({column}) FROM nodes
 WHERE {column} > 0 AND report NOT IN (SELECT report FROM evictions)
+      AND report NOT IN (SELECT report FROM decisions WHERE decision = 'evicted')
 """
 CONTAINERS = "COUNT(DISTINCT node || ' ' || pod || ' ' || container)"
 DIED = f"""
@@ -76,8 +88,8 @@ HEADS = ["node", "hours", "restarts", "kills", "evicted", "by the rules for", "m
 
 def causes(connection: Connection, top: int) -> list[str]:
     """A line for each cause, the one on the most nodes first."""
-    found = [*pressed(connection), *under_pressure(connection), *died(connection), *waited(connection),
-             *killed(connection)]
+    found = [*pressed(connection), *ended(connection), *deleted(connection), *under_pressure(connection),
+             *died(connection), *waited(connection), *killed(connection)]
     return [f"  {entry.visible(said)}" for _, said in sorted(found, key=lambda cause: (*cause[0], cause[1]))[:top]]
 
 
@@ -93,10 +105,24 @@ def pressed(connection: Connection) -> Iterator[tuple[tuple[int, int], str]]:
     by_resource: dict[str, Any] = {}
     for node, reason, message in connection.execute(DID):
         decision = traces.Decision("evicted", 0, "", None, reason, message)
-        by_resource.setdefault(kubelets.resource_of(decision), []).append(node)
-    for resource, named in by_resource.items():
-        what = f"{RESOURCES.get(resource, resource)} pressure" if resource else "a cause that the kubelet alone names"
+        resource = kubelets.resource_of(decision)
+        what = f"{RESOURCES.get(resource, resource)} pressure" if resource else \
+            "a limit of a pod's own" if kubelets.is_own_limit(decision) else "a cause that the kubelet alone names"
+        by_resource.setdefault(what, []).append(node)
+    for what, named in by_resource.items():
         yield cause(len(set(named)), len(named), what, f"{entry.counted(len(named), 'eviction')} by the kubelet")
+
+
+def ended(connection: Connection) -> Iterator[tuple[tuple[int, int], str]]:
+    """Pods that the kubelet ended for other reasons."""
+    for reason, nodes, pods in connection.execute(ENDED):
+        yield cause(nodes, pods, kubelets.reason_words(reason), f"{entry.counted(pods, 'pod')} ended by the kubelet")
+
+
+def deleted(connection: Connection) -> Iterator[tuple[tuple[int, int], str]]:
+    for by, nodes, pods in connection.execute(DELETED):
+        what = f"a deletion{traces.Deletion(0, by).words()}"
+        yield cause(nodes, pods, what, f"{entry.counted(pods, 'pod')}")
 
 
 def under_pressure(connection: Connection) -> Iterator[Any]:
@@ -108,7 +134,7 @@ def under_pressure(connection: Connection) -> Iterator[Any]:
 
 def died(connection: Connection) -> Iterator[tuple[tuple[int, int], str]]:
     for reason, code, nodes, times, containers in connection.execute(DIED):
-        known = f"code {code}" if code is not None else "137, killed or unknown"
+        known = "code unknown" if code is None else f"code {code}"
         what = known if reason is None else f"{reason} ({known})"
         yield cause(nodes, times, what, f"{entry.counted(times, 'death')} of {entry.counted(containers, 'container')}")
 

@@ -14,14 +14,15 @@ import subprocess
 from collections.abc import Iterator
 from typing import Any
 
-from replay_tools import (entry, kubelet as kubelets, outside, packed, program as programs, records,
-                          report as reports, traces)
+from replay_tools import (endings, entry, kubelet as kubelets, outside, packed, program as programs, records,
+                          report as reports, summary, traces)
 
 LONGEST_INPUT = 64 << 20
 # events are in the report alone: they would be most of the rows
 KINDS = ("node", "pod", "container", "condition", "eviction", "decision", "cause")
-# of what a trace may say beside what the formats read
-SIGNS = (b'"kubelet"', b'"reason"', b'"waiting"', b'"ended"')
+# of what a trace may say beside its report
+SIGNS = (b'"kubelet"', b'"reason"', b'"waiting"', b'"ended"', b'"guessed"', b'"deleting"', b'"failed"', b'"gone"',
+         b'"readinessGates"')
 REFUSED_LINE = re.compile(r"line (\d+): (\d+) (\S.*)")
 
 
@@ -74,7 +75,7 @@ def rows_of(text: bytes, made: bytes, until: int | None) -> list[dict[str, Any]]
         # what it shows of the time before it ends with its last tick
         begun = None if begun is None else min(begun, span[1])
         span = span[0] if begun is None else max(span[0], begun), max(span[1], until or 0)
-    found = records.records_of(report, kubelet, trace, span, records.NEVER if begun is None else begun)
+    found = records.records_of(report, kubelet, trace, span, summary.NEVER if begun is None else begun)
     return [record for record in found if record["record"] in KINDS]
 
 
@@ -82,11 +83,13 @@ def beside(text: bytes, report: reports.Report) -> tuple[traces.Trace | None, ku
     """A trace and what it says that the kubelet did, beside its report; None for each where it says nothing that the
     formats don't read, or can't be read as the tools read one."""
     node_line = text.lstrip().split(b"\n", 1)[0]
-    if b'"recordsKubelet"' not in node_line and not any(sign in text for sign in SIGNS):
+    says = any(word in node_line for word in (b'"recordsKubelet"', b'"evictionsRecorded"'))
+    if not says and not any(sign in text for sign in SIGNS):
         return None, None
     try:
         trace = traces.trace_of(text, "the trace")
         traces.check_belongs(trace, report, "the trace")
+        endings.tell_left(trace, report)
         return trace, kubelets.beside(trace, report)
     except (traces.TraceFault, ValueError, TypeError, KeyError, AttributeError):
         return None, None

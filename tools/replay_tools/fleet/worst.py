@@ -9,16 +9,22 @@ from collections.abc import Iterator
 from replay_tools import entry, telling
 from replay_tools.explain import beside
 from replay_tools.fleet import database, nodes
+from replay_tools.summary import Worst
 
-# by the kubelet, where the trace says what it did, else by the rules
-MEASURES = {"restarts": "restarts", "unready": "unready_seconds", "evicted": "evictions"}
+WORST = "worst"
+# evictions are by the kubelet, where the trace says what it did, else by the rules
+MEASURES = {WORST: "badness", "restarts": "restarts", "unready": "unready_seconds", "evicted": "evictions"}
+# how far its worst is before nothing, by the order that all tools have; that it exited by itself is nothing bad
+BADNESS = "CASE worst " + " ".join(f"WHEN '{kind.value}' THEN {Worst.NOTHING.place - kind.place}" for kind in Worst
+                                   if kind not in (Worst.EXITED, Worst.NOTHING)) + " ELSE 0 END"
 # a pod that is in more than one trace is one pod: its restarts are counted on by the kubelet, the others are summed
-PODS = """
+PODS = f"""
 SELECT * FROM (
-SELECT node, pod, MAX(restarts) AS restarts, SUM(unready_seconds) AS unready_seconds,
+SELECT node, pod, MAX(badness) AS badness, MAX(restarts) AS restarts, SUM(unready_seconds) AS unready_seconds,
        SUM(COALESCE(by_kubelet, by_rules)) AS evictions, SUM(by_kubelet) AS by_kubelet, SUM(by_rules) AS by_rules,
        GROUP_CONCAT(signals) AS signals, COUNT(*) AS traces
-FROM (SELECT report, node, pod, SUM(restarts) AS restarts, SUM(unready_seconds) AS unready_seconds,
+FROM (SELECT report, node, pod, MAX({BADNESS}) AS badness, SUM(restarts) AS restarts,
+             SUM(unready_seconds) AS unready_seconds,
              COUNT(evicted_at) AS by_rules, GROUP_CONCAT(evicted_signal) AS signals,
              (SELECT CASE WHEN tells_kubelet THEN (
                   SELECT COUNT(*) FROM decisions WHERE decisions.report = pods.report AND decisions.pod = pods.pod
@@ -26,8 +32,9 @@ FROM (SELECT report, node, pod, SUM(restarts) AS restarts, SUM(unready_seconds) 
               FROM nodes WHERE nodes.report = pods.report) AS by_kubelet
       FROM pods GROUP BY report, node, pod)
 GROUP BY node, pod)
-WHERE {measure} > 0 ORDER BY {order}, node, pod LIMIT ?
+WHERE {{measure}} > 0 ORDER BY {{order}}, node, pod LIMIT ?
 """
+WORDS = f"SELECT worst_words FROM pods WHERE node = ? AND pod = ? ORDER BY {BADNESS} DESC, worst_at LIMIT 1"
 SIGNALS = """
 SELECT signal, kind, COUNT(*), COUNT(DISTINCT node || ' ' || pod), COUNT(DISTINCT node) FROM evictions
 GROUP BY signal, kind ORDER BY COUNT(*) DESC, signal, kind
@@ -69,12 +76,11 @@ def lines_of(connection: sqlite3.Connection, by: str, top: int) -> list[str]:
     order = [MEASURES[by], *(measure for name, measure in MEASURES.items() if name != by)]
     query = PODS.format(measure=order[0], order=", ".join(f"{measure} DESC" for measure in order))
     pods = [[node, pod, str(restarts), str(unready), "-" if by_kubelet is None else str(by_kubelet), str(by_rules),
-             distinct(signals), str(traces)]
-            for node, pod, restarts, unready, _, by_kubelet, by_rules, signals, traces
-            in connection.execute(query, [top])]
-    lines += table(f"Worst pods, by {by}", ["node", "pod", "restarts", "unready s", "evicted by kubelet",
-                                            "by the rules", "signals", "traces"], pods)
-    lines += table(f"Worst nodes, by {by} an hour of recording", nodes.HEADS,
+             distinct(signals), str(traces), words_of(connection, node, pod)]
+            for node, pod, _, restarts, unready, _, by_kubelet, by_rules, signals, traces
+            in connection.execute(query, [top]).fetchall()]
+    lines += table(f"Worst pods{'' if by == WORST else f', by {by}'}", HEADS, pods)
+    lines += table(f"Worst nodes, by {nodes.MEASURES.get(by, by)} an hour of recording", nodes.HEADS,
                    list(nodes.worst_rows(connection, by, top)))
     lines += ["Causes, those on the most nodes first", *(nodes.causes(connection, top) or ["  none"]), ""]
     signals = [[row[0], row[1], *map(str, row[2:])] for row in connection.execute(SIGNALS)]
@@ -91,6 +97,16 @@ def lines_of(connection: sqlite3.Connection, by: str, top: int) -> list[str]:
         lines += table("What the refusal of the first means (tools/explain shows the line)", ["fault", "meaning"],
                        list(meanings(connection)))
     return lines
+
+
+HEADS = ["node", "pod", "restarts", "unready s", "evicted by kubelet", "by the rules", "signals", "traces",
+         "worst event"]
+
+
+def words_of(connection: sqlite3.Connection, node: str, pod: str) -> str:
+    """The worst that happened to a pod over its traces, in words."""
+    [[said]] = connection.execute(WORDS, [node, pod])
+    return said or "-"
 
 
 def meanings(connection: sqlite3.Connection) -> Iterator[list[str]]:

@@ -33,6 +33,8 @@ class Asked:
     at: int | None = None
     is_utc: bool = False
     """a time was given, and not a number of seconds"""
+    is_quiet: bool = False
+    """it is asked again and again, and what is left out is not said"""
 
     @property
     def first(self) -> int | None:

@@ -4,7 +4,7 @@ from __future__ import annotations
 
 from dataclasses import dataclass
 
-from replay_tools import entry, records, report as reports, traces
+from replay_tools import entry, report as reports, summary, traces
 from replay_tools.joined import asked as asking_for, borders as joined_borders, of_reports, of_traces, parts
 
 # a tick stands as far behind the one before at most, as a recorder writes them
@@ -25,6 +25,8 @@ class Joined:
     """the moment up to which the first of them shows what was so in one that is not there"""
     is_utc: bool
     """a time was given, or the name of a trace has one"""
+    is_whole: bool = True
+    """the last of them is not written any more"""
 
     def is_near(self, at: int) -> bool:
         """Whether a moment is told, where one was asked for."""
@@ -43,15 +45,16 @@ def joined(asked: asking_for.Asked) -> Joined:
     borders = joined_borders.borders_of(found)
     check_time(asked, found, borders)
     for border in borders:
-        if border.missing:
+        if border.missing and not asked.is_quiet:
             entry.say(f"{border.name} follows {border.missing}, which is not there: its time is a gap")
     report, numbers = of_reports.join_reports(found, borders)
     trace = None if found[0].trace is None else of_traces.join_traces(found, borders, numbers)
     if trace is not None:
         report.tick_count = len(trace.ticks)
     is_utc = asked.is_utc or any(part.source.begun is not None for part in found)
-    known = found[0].known_until if found[0].follows else records.NEVER
-    return Joined(asked, report, trace, len(found), found[0].shown_until, found[-1].last, known, is_utc)
+    known = found[0].known_until if found[0].follows else summary.NEVER
+    return Joined(asked, report, trace, len(found), found[0].shown_until, found[-1].last, known, is_utc,
+                  not found[-1].source.is_part)
 
 
 def check_time(asked: asking_for.Asked, found: list[parts.Part], borders: list[reports.Border]) -> None:

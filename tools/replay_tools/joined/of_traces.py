@@ -30,7 +30,7 @@ def join_traces(found: list[parts.Part], borders: list[reports.Border], numbers:
         dropped = take_ticks(made, part.trace, border)
         take_pods(made, part.trace, of, place, dropped)
         take_decisions(made, part.trace, of)
-        made.deleted = {**{of[number]: at for number, at in part.trace.deleted.items()}, **made.deleted}
+        take_words(made, part.trace, of)
         take_reasons(made, part.trace, of, border)
     made.gaps = [(border.since, border.at) for border in borders if border.is_gap]
     made.places = {tick.at: place for place, tick in enumerate(made.ticks)}
@@ -47,7 +47,7 @@ def take_ticks(made: traces.Trace, trace: traces.Trace, border: reports.Border |
     kept = [tick for tick in trace.ticks if tick.at > border.at]
     at = next((tick for tick in trace.ticks if tick.at == border.at), None)
     if at is not None and at.at > last:
-        kept.insert(0, Known(at.at, at.lines, at.begin, at.end, at.signals, at.after_reclaim))
+        kept.insert(0, Known(at.at, at.lines, at.begin, at.end, at.signals, at.after_reclaim, at.is_judged))
     made.ticks += kept
     return len(trace.ticks) - len(kept)
 
@@ -72,13 +72,23 @@ def take_pods(made: traces.Trace, trace: traces.Trace, of: dict[int, int], begin
 
 
 def take_decisions(made: traces.Trace, trace: traces.Trace, of: dict[int, int]) -> None:
-    """A pod that the kubelet has evicted, and that is still there, is told once more at a border. One that it evicted in
-    a gap has no line behind it, and is the one of its uid before."""
+    """A pod that the kubelet has evicted, and that is still there, is told once more at a border. One that it evicted
+    in a gap has no line behind it, and is the one of its uid before."""
     told = {(one.kind, one.pod, one.at) for one in made.decisions}
     for one in trace.decisions:
         if (one.kind, one.pod, one.at) not in told:
             number = number_of(made, one) if one.number is None else of[one.number]
             made.decisions.append(replace(one, number=number))
+
+
+def take_words(made: traces.Trace, trace: traces.Trace, of: dict[int, int]) -> None:
+    """A trace that follows another says once more which pods are being deleted, or were ended, in its first ticks."""
+    for number, deletion in trace.deletions.items():
+        known = made.deletions.setdefault(of[number], replace(deletion))
+        known.by = known.by or deletion.by
+        known.grace = deletion.grace if known.grace is None else known.grace
+    for number, decision in trace.failed.items():
+        made.failed.setdefault(of[number], replace(decision, number=of[number]))
 
 
 def number_of(made: traces.Trace, decision: traces.Decision) -> int | None:
@@ -89,14 +99,15 @@ def number_of(made: traces.Trace, decision: traces.Decision) -> int | None:
 
 def take_reasons(made: traces.Trace, trace: traces.Trace, of: dict[int, int], border: reports.Border | None) -> None:
     for (number, name, attempt), end in trace.reasons.ends.items():
-        known = made.reasons.ends.setdefault((of[number], name, attempt), end)
-        known.reason, known.message = end.reason or known.reason, known.message or end.message
-    going_on = {(of[number], name) for number, name in trace.reasons.waits}
-    for place, waits in made.reasons.waits.items():
-        if waits[-1].until is None and (border.is_gap or place not in going_on):
-            waits[-1].until = border.since
-    for (number, name), waits in trace.reasons.waits.items():
-        take_waits(made.reasons.waits.setdefault((of[number], name), []), waits, border)
+        before = made.reasons.ends.setdefault((of[number], name, attempt), end)
+        before.reason, before.message = end.reason or before.reason, before.message or end.message
+    for known, said in ((made.reasons.waits, trace.reasons.waits), (made.reasons.gates, trace.reasons.gates)):
+        going_on = {(of[number], name) for number, name in said}
+        for place, waits in known.items():
+            if waits[-1].until is None and (border.is_gap or place not in going_on):
+                waits[-1].until = border.since
+        for (number, name), waits in said.items():
+            take_waits(known.setdefault((of[number], name), []), waits, border)
 
 
 def take_waits(known: list[reasons.Wait], waits: list[reasons.Wait], border: reports.Border | None) -> None:

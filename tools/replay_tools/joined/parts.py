@@ -11,7 +11,7 @@ from concurrent.futures import ThreadPoolExecutor
 from dataclasses import dataclass
 from typing import Any, TYPE_CHECKING
 
-from replay_tools import entry, first_bytes, packed, program as programs, records, report as reports, traces
+from replay_tools import entry, first_bytes, packed, program as programs, records, report as reports, summary, traces
 from replay_tools.explain import beside
 from replay_tools.joined import files
 
@@ -189,7 +189,8 @@ def of_source(source: files.Source, text: bytes | Unusable, made: bytes | Unusab
     except Unusable as fault:
         if source.is_named:
             raise entry.Fault(f"{source.shown}: {fault}", means=fault.means) from None
-        entry.say(f"{source.shown} is left out: {fault}" + (f" ({fault.means})" if fault.means else ""))
+        if not asked.is_quiet:
+            entry.say(f"{source.shown} is left out: {fault}" + (f" ({fault.means})" if fault.means else ""))
         return None
     if asked.node not in (None, part.report.node):
         if source.is_named:
@@ -197,7 +198,7 @@ def of_source(source: files.Source, text: bytes | Unusable, made: bytes | Unusab
         return None
     if not source.is_named and is_of_another_time(part, asked):
         return None
-    if source.is_part:
+    if source.is_part and not asked.is_quiet:
         until = reports.moment_text(part.last, part.first > 10 ** 8)
         entry.say(f"{source.shown} is still written, or was left so: it is read up to {until}")
     return part
@@ -219,7 +220,7 @@ def read_part(source: files.Source, text: bytes, made: bytes) -> Part:
     if made is text:
         if not report.tick_count:
             raise Unusable("it has no tick")
-        return Part(source, None, report, records.first_moment(report), records.last_moment(report))
+        return Part(source, None, report, records.first_moment(report), summary.last_moment(report))
     try:
         trace = traces.trace_of(text, "it")
         traces.check_belongs(trace, report, "it")

@@ -11,14 +11,17 @@ from replay_tools.page import data
 
 if TYPE_CHECKING:
     from replay_tools import report as reports, traces, why
+    from replay_tools.clock import Clock
 
 HERE = os.path.dirname(os.path.realpath(__file__))
 SCRIPTS = ("decode.js", "draw.js", "lanes.js", "panel.js", "page.js")
 
 
-def page_of(report: reports.Report, trace: traces.Trace | None, ticks: why.Ticks, utc: bool) -> str:
-    """The text of the page of a report, and of its trace with its ticks where there is one."""
-    shown = data.data_of(report, trace, ticks, utc)
+def page_of(report: reports.Report, trace: traces.Trace | None, ticks: why.Ticks, clock: Clock,
+            since: int) -> str:
+    """The text of the page of a report, and of its trace with its ticks where there is one; pods are ranked by what
+    came behind a moment."""
+    shown = data.data_of(report, trace, ticks, clock, since)
     script = "\n".join(["'use strict';", "(() => {", *map(read, SCRIPTS), "})();"])
     parts = {"title": escape(f"{report.node}: a replay"), "style": read("page.css"), "script": script,
              "data": as_script(shown)}

@@ -5,8 +5,9 @@ from __future__ import annotations
 
 from typing import Any
 
-from replay_tools import (events, kubelet as kubelets, reasons, records, report as reports, telling, traces, why,
-                          why_text)
+from replay_tools import (events, kubelet as kubelets, reasons, records, report as reports, summary as summing, telling,
+                          traces, why, why_text)
+from replay_tools.clock import Clock
 
 STATES = ("Waiting", "Running", "Terminated")
 RESULTS = ("success", "failure", "unknown")
@@ -39,28 +40,32 @@ def differences(moments: list[int]) -> list[int]:
     return [at - before for before, at in zip([0, *moments], moments)]
 
 
-def data_of(report: reports.Report, trace: traces.Trace | None, ticks: why.Ticks, utc: bool) -> dict[str, Any]:
+def data_of(report: reports.Report, trace: traces.Trace | None, ticks: why.Ticks, clock: Clock,
+            since: int = summing.NEVER) -> dict[str, Any]:
     """All that the page shows; what a trace alone would tell is left out without one."""
-    span = Span(report, trace)
+    span, kubelet = Span(report, trace), kubelets.beside(trace, report) if trace else None
+    ranked = summing.summaries(report, trace, kubelet, since=since)
+    ranks = {summary.number: (rank, summary) for rank, summary in enumerate(ranked, 1)}
     left = [] if trace else list(WITHOUT_TRACE)
     budget, words = Budget(MOST_RUNS), Words(trace)
     data: dict[str, Any] = {
-        "node": report.node, "utc": utc, "first": span.first, "last": span.of(span.last), "hasTrace": bool(trace),
+        "node": report.node, "clock": clock.value, "first": span.first, "last": span.of(span.last),
+        "hasTrace": bool(trace),
         **table_of_words(trace), "states": STATES, "results": RESULTS,
         "pods": report.pod_count, "ticks": report.tick_count,
         "tickSteps": repeated(differences([span.of(tick.at) for tick in trace.ticks])) if trace else [],
         "signals": signals_of(trace), "active": active_of(report, span), "pressure": pressure_of(report, span),
         "gaps": [[span.of(since), span.of(at)] for since, at in report.gaps],
         "reclaims": [[span.of(event.at), *event.rest] for event in report.events if event.word == "reclaim"],
-        "evictions": evictions_of(report, trace, ticks, span, left), "kubelet": kubelet_of(report, trace, span),
-        "podList": [pod_of(report, trace, span, pod, ticks, budget, words) | notes_of(pod, utc)
-                    for pod in report.pods],
+        "evictions": evictions_of(report, trace, ticks, span, left), "kubelet": kubelet_of(kubelet, span),
+        "podList": [pod_of(report, trace, span, pod, ticks, budget, words) | notes_of(pod, clock)
+                    | summary_of(*ranks[pod.number], span) | deletion_of(trace, pod, span) for pod in report.pods],
         "causes": words.causes, "waits": words.waits,
     }
     refused = sorted({one["key"] for one in data["kubelet"]["refused"]} if data["kubelet"] else ())
     if refused:
         left.append(f"the pods that the kubelet refused under pressure, which never ran: {', '.join(refused)}")
-    left += not_known(report, utc)
+    left += not_known(report, clock)
     if budget.refused:
         left.append(f"the results of the probes of {budget.refused} containers, behind the first {MOST_RUNS} runs")
     if trace:
@@ -68,11 +73,9 @@ def data_of(report: reports.Report, trace: traces.Trace | None, ticks: why.Ticks
     return data | {"left": left}
 
 
-def not_known(report: reports.Report, utc: bool) -> list[str]:
+def not_known(report: reports.Report, clock: Clock) -> list[str]:
     """What is not known between the traces that a report is joined of."""
-    def show(at: int) -> str:
-        return reports.moment_text(at, utc)
-
+    show = clock.text
     gaps = [f"the time from {show(since)} to {show(at)}, of which nothing was recorded" for since, at in report.gaps]
     anew = [show(border.at) for border in report.borders if not border.is_gap]
     return gaps + ([f"the exits, grace periods and pauses before {', '.join(anew)}, where traces begin: they are "
@@ -84,8 +87,11 @@ def table_of_words(trace: traces.Trace | None) -> dict[str, Any]:
     is_beside = trace is not None and trace.tells()
     told = {kind.word: [[field.name for field in kind.fields], kind.sentence_beside if is_beside else kind.sentence]
             for kind in events.kinds().values() if kind.is_of_pod}
-    return {"words": list(told), "told": told | {"kubelet": [["decision", "why"], events.decision_sentence()]},
-            "toldAttempt": events.attempt_sentence()}
+    told_of_it = {"kubelet": [["decision", "why"], events.decision_sentence()],
+                  "ended": [["decision", "why"], events.decision_sentence("ended")],
+                  "deleted": [["by"], why_text.DELETED]}
+    return {"words": list(told), "told": told | told_of_it, "toldAttempt": events.attempt_sentence(),
+            "toldGuessed": events.kinds()["died"].sentence_guessed}
 
 
 class Budget:
@@ -116,8 +122,8 @@ class Words:
         """A list of the place of what is known of why an instance died, with what it means; empty where its code says
         as much."""
         said = reasons.cause_words(event, int(event.rest[1]), self.trace, True)
-        because = reasons.because_lines(event, self.trace) if self.trace and said else []
-        return [self.place(self.causes, [said, *because])] if said else []
+        because = reasons.because_lines(event, self.trace) if self.trace else []
+        return [self.place(self.causes, [said, *because])] if said or because else []
 
     def wait(self, wait: reasons.Wait) -> int:
         return self.place(self.waits, wait.words())
@@ -201,18 +207,38 @@ def evictions_of(report: reports.Report, trace: traces.Trace | None, ticks: why.
     return found
 
 
-def kubelet_of(report: reports.Report, trace: traces.Trace | None, span: Span) -> dict[str, list[Any]] | None:
+def kubelet_of(found: kubelets.Kubelet | None, span: Span) -> dict[str, Any] | None:
     """What the kubelet did, beside what the rules do; None where no trace says so."""
-    found = kubelets.beside(trace, report) if trace else None
     if found is None:
         return None
     return {
-        "evicted": [decision_of(fact.decision, span) | {
-            "rules": span.of(fact.eviction.at) if fact.eviction else None, "agrees": fact.agrees,
-            "causes": causes_of(fact.causes, span)} for fact in found.evicted],
-        "refused": [decision_of(decision, span) for decision in found.refused],
+        "evicted": [fact_of(fact, span) for fact in found.evicted],
+        "ended": [fact_of(fact, span) for fact in found.ended],
+        "refused": [decision_of(decision, span) for decision in found.refused], "names": found.names,
         "alone": [[each.eviction.number, causes_of(each.causes, span)] for each in found.alone],
+        "named": {each.eviction.number: [span.of(each.eviction.at), each.times] for each in found.alone
+                  if each.eviction.is_named},
     }
+
+
+def fact_of(fact: kubelets.Fact, span: Span) -> dict[str, Any]:
+    eviction = fact.eviction
+    return decision_of(fact.decision, span) | {
+        "rules": span.of(eviction.at) if eviction else None, "agrees": fact.agrees, "judged": fact.is_judged,
+        "named": [eviction.signal, eviction.kind] if eviction and eviction.is_named else None,
+        "causes": causes_of(fact.causes, span)}
+
+
+def summary_of(rank: int, summary: summing.Summary, span: Span) -> dict[str, Any]:
+    """A pod's place among all, and the worst that happened to it."""
+    found = summary.found
+    return {"rank": rank, "worst": None if found.at is None else [span.of(found.at), found.words]}
+
+
+def deletion_of(trace: traces.Trace | None, pod: reports.Pod, span: Span) -> dict[str, Any]:
+    """Since when a pod is being deleted, and by whom; nothing of one that is not."""
+    deletion = trace.deletions.get(pod.number) if trace else None
+    return {"deleted": [span.of(deletion.at), deletion.words()]} if deletion else {}
 
 
 def decision_of(decision: traces.Decision, span: Span) -> dict[str, int | str | None]:
@@ -244,16 +270,16 @@ def around_of(evicted: why.Evicted, span: Span) -> dict[str, Any]:
 def pod_of(report: reports.Report, trace: traces.Trace | None, span: Span, pod: reports.Pod, ticks: why.Ticks,
            budget: Budget, words: Words) -> dict[str, Any]:
     """What the page shows of a pod: that of the report, and with a trace its listings and results."""
-    ended, seen = reports.end_of(pod), has_ticks(report, trace, pod)
+    ended, seen = reports.end_of(pod), summing.has_ticks(report, pod, trace)
     found = {
         "key": pod.key, "phase": pod.phase, "reason": records.none_of(pod.reason), "qos": pod.qos,
         "first": span.of(reports.first_tick(pod)) if seen else None,
         "end": [span.of(ended[0]), ended[1]] if ended else None, "gone": span.of(pod.left),
-        "unready": records.unready_seconds(pod, span.last) if seen else 0,
+        "unready": summing.unready_seconds(pod, span.last) if seen else 0,
         "ready": [[span.of(ready.since), int(ready.value == "True")]
                   for ready in (reports.ready_spans(pod) if seen else [])],
         "conditions": [[one.kind, one.value, span.of(one.at) if seen else None, one.reason] for one in pod.conditions],
-        "containers": [container_of(span, pod, container, seen) for container in pod.containers],
+        "containers": [container_of(span, pod, container, trace, seen) for container in pod.containers],
         "events": events_of(span, pod, words),
     }
     if trace:
@@ -265,9 +291,9 @@ def pod_of(report: reports.Report, trace: traces.Trace | None, span: Span, pod: 
     return found
 
 
-def notes_of(pod: reports.Pod, utc: bool) -> dict[str, Any]:
+def notes_of(pod: reports.Pod, clock: Clock) -> dict[str, Any]:
     """What is not known of events of several traces, by the places of the events; nothing where all is."""
-    told = {str(place): telling.beside_words(pod, event, lambda at: reports.moment_text(at, utc))
+    told = {str(place): telling.beside_words(pod, event, clock.text)
             for place, event in enumerate(pod.events)}
     told = {place: words for place, words in told.items() if words}
     return {"notes": told} if told else {}
@@ -280,14 +306,8 @@ def waits_of(trace: traces.Trace, span: Span, pod: reports.Pod, words: Words) ->
             for name, wait in trace.reasons.waits_of(pod)]
 
 
-def has_ticks(report: reports.Report, trace: traces.Trace | None, pod: reports.Pod) -> bool:
-    if trace is None:
-        return reports.has_ticks(report, pod)
-    ours = trace.pods[pod.number]
-    return ours.first < (len(trace.ticks) if ours.gone is None else ours.gone)
-
-
-def container_of(span: Span, pod: reports.Pod, container: reports.Container, seen: bool) -> dict[str, Any]:
+def container_of(span: Span, pod: reports.Pod, container: reports.Container, trace: traces.Trace | None,
+                 seen: bool) -> dict[str, Any]:
     """A container's status, and its states as differences of moments, states, attempts and codes in one list."""
     states, moments = reports.state_spans(pod, container.name) if seen else [], []
     flat = []
@@ -295,10 +315,18 @@ def container_of(span: Span, pod: reports.Pod, container: reports.Container, see
         moments.append(span.of(state.since))
         attempt, _, code = state.note.partition(" ")
         flat += [moments[-1] - (moments[-2] if len(moments) > 1 else 0), STATES.index(state.value),
-                 int(attempt or 0), int(code or 0)]
-    return {"name": container.name, "state": container.state, "code": records.none_of(container.code),
+                 int(attempt or 0), code_of(trace, pod, container, attempt, code)]
+    code = reasons.code_words(container.code, reasons.last_end(pod, container, trace))
+    return {"name": container.name, "state": container.state, "code": records.none_of(code),
             "restarts": int(container.restarts), "ready": container.ready == "true",
             "started": container.started == "true", "states": flat}
+
+
+def code_of(trace: traces.Trace | None, pod: reports.Pod, container: reports.Container, attempt: str,
+            code: str) -> int | None:
+    """The code of an instance, 0 where it has none, and None where it was guessed."""
+    end = trace.reasons.ends.get((pod.number, container.name, int(attempt))) if trace and code else None
+    return None if end is not None and end.is_guessed else int(code or 0)
 
 
 def events_of(span: Span, pod: reports.Pod, words: Words) -> list[list[Any]]:
@@ -316,6 +344,8 @@ def events_of(span: Span, pod: reports.Pod, words: Words) -> list[list[Any]]:
         elif event.word == "died":
             of_it = exits.setdefault(event.container, [])
             why.add_exit(of_it, event, starts.get(event.container))
+            if reasons.is_guessed(event, words.trace):
+                rest[1] = None
             rest += [of_it[-1].number, of_it[-1].run, *words.cause(event)]
         place = names.index(event.container) if event.container in names else -1
         found.append([span.of(event.at) - before, place, words.kinds.index(event.word), *rest])
@@ -328,7 +358,8 @@ def listings_of(span: Span, ticks: why.PodTicks, name: str) -> list[int]:
     flat, before = [], 0
     for at, listing in zip(*ticks.listings[name]):
         told = (-1, 0, 0) if listing is None else (
-            listing.attempt, traces.STATES.index(listing.state), 0 if listing.code is None else listing.code)
+            listing.attempt, traces.STATES.index(listing.state),
+            0 if listing.code is None and listing.state != traces.STATES[2] else listing.code)
         flat += [span.of(at) - before, *told]
         before = span.of(at)
     return flat

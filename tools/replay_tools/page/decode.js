@@ -34,9 +34,10 @@ function eventsOf(pod) {
     at += event[0];
     return {at, place: event[1], word: data.words[event[2]], rest: event.slice(3), number, pod};
   });
-  if (!pod.fact) return events;
-  const did = {at: pod.fact.at, place: -1, word: 'kubelet', rest: [pod.fact.kind, pod.fact.why], number: events.length, pod};
-  return [...events, did].sort((a, b) => a.at - b.at);
+  const add = (at, word, rest) => events.push({at, place: -1, word, rest, number: events.length, pod});
+  if (pod.fact) add(pod.fact.at, pod.fact.kind === 'ended' ? 'ended' : 'kubelet', [pod.fact.kind, pod.fact.why]);
+  if (pod.deleted) add(pod.deleted[0], 'deleted', [pod.deleted[1]]);
+  return events.sort((a, b) => a.at - b.at);
 }
 
 // Results of a probe as runs of equal ones, from one moment until another.
@@ -71,13 +72,15 @@ function lazily(pod, name, make) {
 const keyCounts = new Map();
 data.podList.forEach((pod) => keyCounts.set(pod.key, (keyCounts.get(pod.key) || 0) + 1));
 
+const facts = data.kubelet ? [...data.kubelet.evicted, ...data.kubelet.ended] : [];
+
 data.podList.forEach((pod, number) => {
   pod.number = number;
   pod.name = keyCounts.get(pod.key) > 1 ? `${pod.key}, number ${number}` : pod.key;
   pod.restarts = pod.containers.reduce((sum, container) => sum + container.restarts, 0);
   pod.isReady = pod.conditions.some((one) => one[0] === 'Ready' && one[1] === 'True');
   pod.eviction = data.evictions.find((one) => one.pod === number) || null;
-  pod.fact = data.kubelet && data.kubelet.evicted.find((one) => one.pod === number) || null;
+  pod.fact = facts.find((one) => one.pod === number) || null;
   pod.kills = pod.events.filter((event) => data.words[event[2]] === 'kill').length;
   lazily(pod, 'list', () => eventsOf(pod));
   pod.containers.forEach((container) => lazily(container, 'spans', () => entries(container.states, 4)));
@@ -96,33 +99,36 @@ function placeBefore(length, of, at) {
 
 // Whether the kubelet evicted a pod, where the trace says so, or else whether the rules do.
 function isEvicted(pod) {
-  return Boolean(data.kubelet ? pod.fact : pod.eviction);
+  return Boolean(data.kubelet ? pod.fact && pod.fact.kind === 'evicted' : pod.eviction);
 }
 
-function worth(pod) {
-  const failed = pod.phase === 'Failed' ? 1 : 0;
-  return [isEvicted(pod) ? 1 : 0, failed, pod.restarts + pod.kills, pod.unready];
-}
-
+// The order that all tools have.
 function isWorse(left, right) {
-  const [a, b] = [worth(left), worth(right)];
-  const place = a.findIndex((value, at) => value !== b[at]);
-  return place < 0 ? left.number - right.number : b[place] - a[place];
+  return left.rank - right.rank;
 }
 
 // Words of moments and amounts.
-const view = {from: 0, to: Math.max(data.last, 1), utc: data.utc};
+const view = {from: 0, to: Math.max(data.last, 1), clock: data.clock};
 const LAST_DATE = 253402300799;
 
 function moment(at) {
   const whole = data.first + at;
-  if (!view.utc || whole > LAST_DATE) return String(whole);
-  return new Date(whole * 1000).toISOString().slice(0, 19).replace('T', ' ') + 'Z';
+  if (view.clock === 'seconds' || whole > LAST_DATE) return String(whole);
+  const date = new Date(whole * 1000);
+  const ahead = view.clock === 'local' ? -date.getTimezoneOffset() : 0;
+  const text = new Date((whole + 60 * ahead) * 1000).toISOString().slice(0, 19).replace('T', ' ');
+  return text + (view.clock === 'local' ? zoneWords(ahead) : 'Z');
+}
+
+// How far a zone is from UTC, as +01:00, by its minutes.
+function zoneWords(ahead) {
+  const two = (number) => String(Math.floor(Math.abs(number))).padStart(2, '0');
+  return `${ahead < 0 ? '-' : '+'}${two(ahead / 60)}:${two(ahead % 60)}`;
 }
 
 function shortMoment(at, step) {
   const text = moment(at);
-  if (text.length !== 20) return text;
+  if (!text.includes(':')) return text;
   return step >= 86400 ? text.slice(5, 10) : text.slice(11, step < 60 ? 19 : 16);
 }
 
@@ -148,25 +154,42 @@ function causesWords(causes) {
 }
 
 function rulesWords(fact) {
+  if (!fact.judged && fact.rules === null) return `the rules have nothing to say of it${causesWords(fact.causes)}`;
   const does = `the rules, over the recorded samples, ${fact.agrees ? 'agree' : 'differ'}: they `;
-  if (fact.rules === null) return `${does}do not evict it${causesWords(fact.causes)}`;
+  const verb = data.kubelet.names ? 'name' : 'evict';
+  if (fact.rules === null) return `${does}do not ${verb} it${causesWords(fact.causes)}`;
   const apart = fact.rules - fact.at;
   const when = apart ? `, ${Math.abs(apart)} s ${apart > 0 ? 'after' : 'before'}` : '';
-  return `${does}evict it at ${moment(fact.rules)}${when}${causesWords(fact.causes)}`;
+  if (fact.named && fact.agrees) {
+    return `the rules name it too: ${fact.named.join(' ')}, at ${moment(fact.rules)}${when}`;
+  }
+  return `${does}${verb} it at ${moment(fact.rules)}${when}${causesWords(fact.causes)}`;
 }
 
 // What the kubelet did to a pod and what the rules do, as sentences; none where no trace says so.
 function kubeletWords(pod) {
-  if (pod.fact) return [`the kubelet evicted it at ${moment(pod.fact.at)}: ${pod.fact.why}`, rulesWords(pod.fact)];
+  if (pod.fact) {
+    const did = `the kubelet ${pod.fact.kind} it at ${moment(pod.fact.at)}: ${pod.fact.why}`;
+    return pod.fact.kind === 'evicted' || pod.fact.rules !== null ? [did, rulesWords(pod.fact)] : [did];
+  }
   const alone = data.kubelet && data.kubelet.alone.find((one) => one[0] === pod.number);
   if (!alone) return [];
-  return [`the kubelet did not evict it; the rules, over the recorded samples, evict it at ${moment(pod.eviction.at)}`
-    + causesWords(alone[1])];
+  const [at, times] = data.kubelet.named[pod.number] || [pod.eviction.at, 1];
+  const verb = data.kubelet.names ? 'name' : 'evict';
+  return [`the kubelet did not evict it; the rules, over the recorded samples, ${verb} it at `
+    + `${moment(at)}${times > 1 ? `, the first of ${times} times` : ''}${causesWords(alone[1])}`];
+}
+
+// The worst that happened to a pod, and its place among all.
+function worstWords(pod) {
+  const worst = pod.worst ? `${moment(pod.worst[0])} ${pod.worst[1]}` : 'nothing bad';
+  return `the worst: ${worst}; place ${pod.rank} of ${data.podList.length}`;
 }
 
 // Why an instance died, as far as it is known.
 function causeWords(event) {
-  return event.rest.length > 4 ? `: ${data.causes[event.rest[4]][0]}` : '';
+  const said = event.rest.length > 4 ? data.causes[event.rest[4]][0] : '';
+  return said && `: ${said}`;
 }
 
 // The one word of why it died, where a trace has it.
@@ -194,5 +217,6 @@ function toldOf(event) {
   const values = {why: causeWords(event)};
   fields.forEach((name, place) => { values[name] = event.rest[place]; });
   const filled = (words) => words.replace(/\{(\w+)\}/g, (_, name) => values[name]);
-  return filled(sentence) + ('attempt' in values ? filled(data.toldAttempt) : '');
+  const words = values.code === null ? data.toldGuessed : sentence;
+  return filled(words) + ('attempt' in values ? filled(data.toldAttempt) : '');
 }

@@ -62,7 +62,7 @@ const CLOCK = [1, 2, 5, 10, 15, 30, 60, 120, 300, 600, 900, 1800, 3600, 7200, 10
   604800];
 
 function axisStep(span, most) {
-  if (view.utc) {
+  if (view.clock !== 'seconds') {
     const step = CLOCK.find((one) => span / one <= most);
     if (step) return step;
   }

@@ -74,14 +74,17 @@ function metaOf(pod) {
   const bad = [];
   if (isEvicted(pod)) bad.push(`evicted ${shortMoment((pod.fact || pod.eviction).at, 1)}${evictedFor(pod)}`);
   else if (pod.eviction) bad.push(`evicted by the rules alone, by ${pod.eviction.signal}`);
+  else if (pod.fact) bad.push(`ended by the kubelet ${shortMoment(pod.fact.at, 1)}: ${pod.fact.why}`);
   else if (pod.phase === 'Failed') bad.push('failed');
+  else if (data.kubelet && data.kubelet.named[pod.number]) bad.push('named by the rules alone');
+  if (pod.deleted) bad.push(`deleted${pod.deleted[1]} ${shortMoment(pod.deleted[0], 1)}`);
   bad.push(...lastReasons(pod));
   if (pod.restarts) bad.push(`${pod.restarts} restart${pod.restarts > 1 ? 's' : ''}`);
   const gone = typeof pod.gone === 'number' ? `gone before ${shortMoment(pod.gone, 1)}` : '';
   const unready = pod.unready ? `not ready ${seconds(pod.unready)}` : '';
   const rest = [isEvicted(pod) || pod.eviction ? '' : pod.phase, pod.qos, gone, unready];
   meta.append(element('span', bad.join(' · '), 'bad'), `${bad.length ? ' · ' : ''}${rest.filter(Boolean).join(' · ')}`);
-  meta.title = meta.textContent;
+  meta.title = `${meta.textContent}\n${worstWords(pod)}`;
   return meta;
 }
 
@@ -285,9 +288,14 @@ function eventsAt(row, area, x, y) {
   const at = momentAt(area, x);
   const near = row.pod.list.filter((event) => Math.abs(event.at - at) <= reach);
   const lane = laneAt(row.pod, y);
-  const own = near.filter((event) => lane < 0 ? ['ready', 'unready', 'phase', 'evicted', 'kubelet'].includes(event.word)
-    : event.place === lane || event.word === 'evicted' || event.word === 'kubelet');
+  const own = near.filter((event) => lane < 0 ? ['ready', 'unready', 'phase'].includes(event.word) || isOfPod(event)
+    : event.place === lane || isOfPod(event));
   return own.length ? own : near;
+}
+
+// What was done to the whole pod.
+function isOfPod(event) {
+  return ['evicted', 'kubelet', 'ended', 'deleted', 'names'].includes(event.word);
 }
 
 function rowTip(row, area, x, y) {
@@ -317,5 +325,6 @@ function stateWords(pod, lane, span) {
   if (span[1] === 0) return 'waiting';
   if (span[1] === 1) return `running, attempt ${span[2]}`;
   const died = pod.list.find((one) => one.word === 'died' && one.place === lane && one.rest[0] === span[2]);
-  return `terminated with code ${span[3]}${died ? causeWords(died) : ''}, attempt ${span[2]}`;
+  const code = span[3] === null ? ', code unknown' : ` with code ${span[3]}`;
+  return `terminated${code}${died ? causeWords(died) : ''}, attempt ${span[2]}`;
 }

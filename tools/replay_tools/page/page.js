@@ -106,9 +106,16 @@ function setTheme(theme) {
   draw(true);
 }
 
-function setClock(utc) {
-  view.utc = utc;
-  byId('clock').textContent = utc ? 'seconds' : 'UTC';
+const CLOCKS = {seconds: 'seconds', utc: 'UTC', local: 'local'};
+
+function nextClock() {
+  const names = Object.keys(CLOCKS);
+  return names[(names.indexOf(view.clock) + 1) % names.length];
+}
+
+function setClock(clock) {
+  view.clock = clock;
+  byId('clock').textContent = CLOCKS[nextClock()];
   refilter();
 }
 
@@ -249,7 +256,7 @@ function click(plot, event) {
 
 function openEviction(eviction) {
   const pod = data.podList[eviction.pod];
-  openWhy(pod, pod.list.filter((event) => event.word === 'evicted' || event.word === 'kubelet'));
+  openWhy(pod, pod.list.filter((event) => ['evicted', 'kubelet', 'ended', 'names'].includes(event.word)));
 }
 
 function tell(event) {
@@ -272,7 +279,7 @@ const PRESSED = {
   '/': () => byId('filter').focus(), j: () => chooseByKey(1), k: () => chooseByKey(-1),
   n: () => step(1), p: () => step(-1), '+': () => zoomBy(0.5), '=': () => zoomBy(0.5), '-': () => zoomBy(2),
   0: () => zoom(0, Math.max(data.last, 1)), ArrowLeft: () => move(-0.25), ArrowRight: () => move(0.25),
-  u: () => setClock(!view.utc), t: () => byId('theme').click(), '?': openKeys,
+  u: () => setClock(nextClock()), t: () => byId('theme').click(), '?': openKeys,
   Enter: () => { if (rows.pods[rows.chosen]) openStory(rows.pods[rows.chosen]); },
 };
 
@@ -357,7 +364,7 @@ function begin() {
   const dark = window.matchMedia('(prefers-color-scheme: dark)');
   dark.addEventListener('change', () => setTheme(dark.matches ? 'dark' : 'light'));
   setTheme(dark.matches ? 'dark' : 'light');
-  setClock(data.utc);
+  setClock(data.clock);
 }
 
 begin();

@@ -61,13 +61,13 @@ function openStory(pod) {
   const ended = pod.end ? `, ended ${moment(pod.end[0])} as ${pod.end[1]}` : '';
   const gone = typeof pod.gone === 'number' ? `, gone before ${moment(pod.gone)}` : '';
   const first = pod.first === null ? 'no tick' : `first tick ${moment(pod.first)}`;
-  const byRules = data.kubelet && (pod.eviction || pod.fact) ? 'by the rules ' : '';
+  const byRules = data.kubelet && !data.kubelet.names && (pod.eviction || isEvicted(pod)) ? 'by the rules ' : '';
   const restarts = pod.containers.map((one) => [one.name, one.state, one.code === null ? '-' : one.code, one.restarts,
     one.ready, one.started]);
   const conditions = pod.conditions.map(([kind, value, since, reason]) =>
     [kind, value, since === null ? '-' : moment(since), reason || '-']);
   openPanel(pod.name, [
-    ...kubeletWords(pod).map((words) => element('p', words)),
+    ...kubeletWords(pod).map((words) => element('p', words)), element('p', worstWords(pod)),
     said(`${byRules}${pod.phase}${reasonWords(pod)}, ${pod.qos}, ${first}${ended}${gone}; `
       + `not ready ${seconds(pod.unready)} in all`),
     element('h2', containersTitle(pod)),
@@ -112,7 +112,7 @@ function eventList(pod, events, open) {
 }
 
 const DOTS = {started: 'running', died: 'failed', kill: 'kill', ready: 'ready', unready: 'unready', backoff: 'waiting',
-  restart: 'accent', evicted: 'failed', kubelet: 'failed'};
+  restart: 'accent', evicted: 'failed', kubelet: 'failed', ended: 'failed'};
 
 function eventItem(pod, event, open) {
   const [holder, button] = [element('div', undefined, 'event'), element('button')];
@@ -155,6 +155,8 @@ function whyParts(pod, event) {
     case 'backoff': case 'restart': return exitParts(pod, event);
     case 'evicted': return [...kubeletWords(pod).map(said), ...evictedParts(pod)];
     case 'kubelet': return [said(rulesWords(pod.fact))];
+    case 'ended': case 'names': return kubeletWords(pod).map(said);
+    case 'deleted': return [];
     case 'phase': return phaseParts(pod, event);
     default: return resultParts(pod, event);
   }
@@ -172,7 +174,8 @@ const LISTED = ['CONTAINER_CREATED', 'CONTAINER_RUNNING', 'CONTAINER_EXITED', 'C
 
 function listingWords(listing) {
   if (!listing || listing[1] < 0) return 'did not list it';
-  return `listed attempt ${listing[1]} as ${LISTED[listing[2]]}${listing[2] === 2 ? ` with code ${listing[3]}` : ''}`;
+  return `listed attempt ${listing[1]} as ${LISTED[listing[2]]}${listing[2] === 2 && listing[3] !== null
+    ? ` with code ${listing[3]}` : ''}`;
 }
 
 function listedParts(pod, event) {
@@ -192,7 +195,7 @@ function phaseParts(pod, event) {
     const place = placeBefore(listings.length, (of) => listings[of][0], event.at);
     if (place < 0 || listings[place][1] < 0) return [one.name, '-', 'not listed', '-'];
     const [, attempt, state, code] = listings[place];
-    return [one.name, attempt, LISTED[state], state === 2 ? code : '-'];
+    return [one.name, attempt, LISTED[state], state !== 2 ? '-' : code === null ? 'unknown' : code];
   }))];
 }
 
@@ -207,7 +210,8 @@ function exitParts(pod, event) {
   const columns = kept.some(reasonOf) ? 6 : 5;
   const parts = [said(`Exits that count${policy}; the delay goes by the last number:`),
     tableOf(['number', 'attempt', 'died', 'run', 'code', 'reason'].slice(0, columns),
-      kept.map((one) => [one.rest[2], one.rest[0], moment(one.at), `${one.rest[3]} s`, one.rest[1],
+      kept.map((one) => [one.rest[2], one.rest[0], moment(one.at), `${one.rest[3]} s`,
+        one.rest[1] === null ? 'unknown' : one.rest[1],
         reasonOf(one) || '-'].slice(0, columns)))];
   if (kept.length < counted.length) parts.push(said(`${counted.length - kept.length} earlier exits are left out.`));
   return parts;
@@ -291,7 +295,7 @@ function sampleParts(name, around, at) {
 
 const KEYS = [['/', 'filter by name'], ['j, k', 'next and previous pod'], ['Enter', "the chosen pod's story"],
   ['n, p', 'next and previous event of the chosen pod, with its why'], ['+, -', 'zoom in and out'],
-  ['←, →', 'move in time'], ['0', 'the whole span'], ['u', 'seconds or UTC times'], ['t', 'light or dark'],
+  ['←, →', 'move in time'], ['0', 'the whole span'], ['u', 'seconds, times of UTC or of your zone'], ['t', 'light or dark'],
   ['Esc', 'close, or clear the filter'], ['?', 'these keys']];
 
 function openKeys() {

@@ -10,7 +10,8 @@ from dataclasses import dataclass
 from typing import IO, NoReturn
 
 from replay_tools import entry, program as programs
-from replay_tools.plugin import failing, files, several, words
+from replay_tools.plugin import failing, files, several, words, workload
+from replay_tools.plugin.words import FOLLOW
 
 # beside the command that was called, which may be reached by a link
 TOOLS = os.path.dirname(os.path.realpath(sys.argv[0]))
@@ -51,6 +52,10 @@ def run(given: list[str], caller: Caller) -> int:
         return run_program(name, found, caller)
     if name == "explain":
         files.run_on(os.path.join(TOOLS, name), [*([found.file] if found.file else []), *found.plain, *found.rest])
+    if name == "story" and FOLLOW in found.rest:
+        files.run_on(os.path.join(TOOLS, name), [*found.rest, *(words.pods_meant(command, found) or [])])
+    if name == "story" and workload.is_meant(found):
+        return workload.run(found, caller.is_of_kubectl)
     if command.takes_several and several.is_meant(found):
         return several.run(name, command, found, os.path.join(TOOLS, name))
     return run_tool(name, command, found)
@@ -75,8 +80,10 @@ def named(text: str, name: str, typed: str) -> str:
     further = " " * (len(f"{typed} {name}") - len(f"tools/{name}"))
     lines = [line if not line.startswith("        ") else further + line for line in usage.split("\n")]
     commands = "|".join(words.COMMANDS)
-    return re.sub(rf"\btools/({commands})\b(?![-/])", rf"{typed} \1", "\n".join(lines) + blank + rest) \
-        .replace("./kubelet_replay", "kubelet_replay")
+    text = re.sub(rf"\btools/({commands})\b(?![-/])", rf"{typed} \1", "\n".join(lines) + blank + rest)
+    # the program stands behind the command that is typed
+    return text.replace("./kubelet_replay (KUBELET_REPLAY", "the program (KUBELET_REPLAY") \
+        .replace("names another program)", "names another one)").replace("./kubelet_replay", f"{typed} run")
 
 
 def run_program(name: str, found: words.Words, caller: Caller) -> int:

@@ -4,16 +4,16 @@ from __future__ import annotations
 
 from collections.abc import Iterable
 
-
-from replay_tools.plugin import files, words
+from replay_tools.plugin import files, words, workload
 
 # kubectl's directives: the shell offers no files, or its files
 NO_FILES, FILES = 4, 0
-MEASURES = ("restarts", "unready", "evicted")
+MEASURES = ("worst", "restarts", "unready", "evicted")
 FAILURES = ("evicted", "restarted", "unready")
 # words whose value is no file
 COUNTS = ("--workers", "--processes", "--scheduler", "--top", "--node", "--every", "--look", "--ticks", "--for",
-          "--kubelet", "--crictl", "--eviction-pause", "--each", "--keep", "--most", "--since", "--at", "--recorders")
+          "--kubelet", "--crictl", "--eviction-pause", "--each", "--keep", "--most", "--since", "--at", "--recorders",
+          "--year", "--zone", "--logs", "--ship", *words.SELECTOR)
 OF_CLUSTER = ("--context", "--recorders")
 # of the tools that ask a cluster, and take no file
 CLUSTER_WORDS = {"fetch": ("--all", "--at", "--into", "--most", "--since", *OF_CLUSTER), "nodes": OF_CLUSTER}
@@ -35,7 +35,8 @@ def candidates(given: list[str], is_of_kubectl: bool = True) -> tuple[list[str],
     if found.waiting == "--fail-on":
         return beginning(FAILURES, last), NO_FILES
     if found.waiting:
-        return [], FILES if found.waiting not in (*COUNTS, *words.CONTEXT) else NO_FILES
+        is_address = (before[0], found.waiting) == ("record", "--events")
+        return [], NO_FILES if is_address or found.waiting in (*COUNTS, *words.CONTEXT) else FILES
     if before[0] == "fleet":
         return fleet_words(before, last)
     if before[0] in CLUSTER_WORDS:
@@ -48,6 +49,8 @@ def candidates(given: list[str], is_of_kubectl: bool = True) -> tuple[list[str],
         return beginning((*own, *command.valued, *command.flags), last), NO_FILES
     if command.pods == "none" or command.pods == "one" and found.plain:
         return [], FILES if before[0] in ("run", "check", "explain", "page") else NO_FILES
+    if before[0] == "story" and not keys(found) and not found.files:
+        return beginning(workload.candidates(found, last), last), NO_FILES
     return beginning(pods(found, last), last), NO_FILES
 
 

@@ -8,6 +8,7 @@ from collections.abc import Callable
 from dataclasses import dataclass, field
 
 from replay_tools import entry
+from replay_tools.clock import Clock
 from replay_tools.joined import asked, files
 
 NAMESPACE, FILE = ("-n", "--namespace"), ("-f", "--filename")
@@ -33,24 +34,30 @@ class Command:
 
 
 RECORDERS = "--recorders"
+SELECTOR, FOLLOW = ("-l", "--selector"), "--follow"
+CLOCKS = tuple(f"--{clock.value}" for clock in Clock)
 SEVERAL = (asked.TRACES, *asked.VALUED, RECORDERS)
 RECORDER_VALUED = ("--node", "--every", "--look", "--ticks", "--for", "--kubelet", "--curl", "--node-line",
-                   "--crictl", "--eviction-pause", "--into", "--each", "--keep", "--most")
-RECORDER_FLAGS = ("--check", "--standard", "--extended")
+                   "--crictl", "--eviction-pause", "--into", "--each", "--keep", "--most", "--logs", "--metrics",
+                   "--events", "--ship")
+RECORDER_FLAGS = ("--check", "--standard", "--extended", "--simulate")
+IMPORTER_VALUED = ("--journal", "--pods", "--events", "--audit", "--node", "--into", "--each", "--year", "--zone",
+                   "--since", "--context")
 COMMANDS = {
     "record": Command("record a node", takes_file=False, valued=RECORDER_VALUED, flags=RECORDER_FLAGS),
     "run": Command("the report of a trace", valued=("--workers", "--fail-on"), flags=("--extended",)),
     "check": Command("whether a file is a trace", flags=("--extended",)),
     "explain": Command("what a refusal means", flags=("--extended", "--line")),
-    "story": Command("one pod's story", "one", valued=("--trace", *SEVERAL), flags=("--utc", "--without-why"),
-                     lists_pods=True, takes_several=True),
+    "story": Command("one pod's story", "one", valued=("--trace", *SEVERAL, *SELECTOR, FOLLOW),
+                     flags=(*CLOCKS, "--without-why"), lists_pods=True, takes_several=True),
     "why": Command("what the trace holds around each event of one pod", "one", valued=("--trace", *SEVERAL),
-                   flags=("--utc",), takes_several=True),
-    "page": Command("a page of a node", valued=SEVERAL, flags=("--utc",), takes_several=True),
-    "timeline": Command("a picture of pods", "any", valued=("--trace", *SEVERAL), flags=("--utc",), takes_several=True),
+                   flags=CLOCKS, takes_several=True),
+    "page": Command("a page of a node", valued=SEVERAL, flags=CLOCKS, takes_several=True),
+    "timeline": Command("a picture of pods", "any", valued=("--trace", *SEVERAL), flags=CLOCKS, takes_several=True),
     "json": Command("a report as JSON lines, or tables of SQLite", valued=("--sqlite", "--trace", *SEVERAL),
                     takes_several=True),
     "what-if": Command("a trace replayed with an edit"),
+    "import": Command("a trace out of a kubelet's journal", takes_file=False, valued=IMPORTER_VALUED),
     "fleet": Command("the traces of many nodes", takes_file=False),
     "fetch": Command("the traces of a cluster's nodes", takes_file=False),
     "nodes": Command("which nodes of a cluster record", takes_file=False),
@@ -132,7 +139,8 @@ def parts_of(word: str, command: Command) -> tuple[str | None, str | None]:
     name, equals, value = word.partition("=")
     if name in (*NAMESPACE, *FILE, *command.valued, *CONTEXT[: command.pods != "none"]):
         return name, value if equals else None
-    if word[:2] in (NAMESPACE[0], FILE[0]) and not word.startswith("--"):
+    short = (NAMESPACE[0], FILE[0], *SELECTOR[: SELECTOR[0] in command.valued])
+    if word[:2] in short and not word.startswith("--"):
         return word[:2], word[2:].removeprefix("=")
     return None, None
 

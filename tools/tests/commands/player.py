@@ -2,6 +2,7 @@
 
 import gzip
 import json
+import re
 import time
 from bisect import bisect
 
@@ -19,26 +20,36 @@ def moment_text(moment):
 
 def kind_of(words):
     """Which answer a command asks for, and of which container."""
+    if "logs" in words:
+        return "logs", words[-1]
     if words[0] == "crictl":
         return ("ps", None) if words[1] == "ps" else ("inspect", words[-1])
     text = " ".join(words)
-    kinds = [kind for kind in ("configz", "summary", "probes", "pods") if kind in text]
-    return kinds[0], None
+    if re.search("/api/v1/nodes/[^/]+$", text):
+        return "node", None
+    kinds = [kind for kind in ("events", "configz", "summary", "probes", "pods") if kind in text]
+    return kinds[0], text.rpartition("%3D")[2] if kinds[0] == "events" else None
 
 
 class Play:
     """A script: its moments are seconds from `begin` on. It has
     clock       what the clock says at each look, where it is no good one, and `true` the moments of these looks
-    pods        {key: {"from", "until", "spec", "annotations", "deleted", "evicted", "refused", "message", "condition",
-                "waits"}}; a key may have a list of them, one after the other; `condition` is the moment that an
-                evicted pod's status says, and `waits` a list of {"container", "from", "until", "count", "reason",
-                "message"}, of its status too, with its count of restarts
+    pods        {key: {"from", "until", "spec", "annotations", "deleted", "grace", "evicted", "refused", "failed",
+                "reason", "message", "condition", "waits"}}; a key may have a list of them, one after the other;
+                `grace` is that of its deletion, `failed` since when the kubelet has ended it, for `reason`, with its
+                containers as they are; `condition` the moment that an evicted pod's status says, and `waits` a list of
+                {"container", "from", "until", "count", "reason", "message"}, of its status too, with its count of
+                restarts; `says` is a list of {"from", "status"}: members that its status has from then on
     containers  {"id", "pod", "name", "attempt", "created", "started", "exited", "code", "removed", "lost", "told",
-                "reason", "message", "env", "told_reason", "told_message", "shown"}: `lost` is when `crictl inspect` no
-                longer knows it while a list still has it, and `told` when its pod's status has its exit, for
-                `told_reason` and with `told_message` where they are others; until then that has `shown` of it too
+                "reason", "message", "env", "told_reason", "told_message", "shown", "wrote"}: `lost` is when
+                `crictl inspect` no longer knows it while a list still has it, and `told` when its pod's status has its
+                exit, for `told_reason` and with `told_message` where they are others; until then that has `shown` of it
+                too; `wrote` are its lines
     probes      {"pod", "container", "probe", "result", "at": [moments that rise]}
-    samples     {moment: {signal: value}} of the node, as the kubelet takes them
+    samples     {moment: {signal: value}} of the node, as the kubelet takes them; `pods` has the memory of each uid, and
+                `containers` {uid: {name: [working set, usage, nanocores, moment]}}
+    events      [{"at"}]: Events of the API, as they are from a moment on
+    ready       [{"at", "status", "reason"}]: the condition Ready of the node's object
     fails       {"kind", "from", "until", "text"}: answers that do not come
     slow        {kind: seconds}: how long an answer takes, for which the clock goes on
     empty       [from, until]: when no probe is counted
@@ -59,6 +70,11 @@ class Play:
                 raise Failed(fault["text"])
         if kind == "inspect":
             return self.inspected(identity, moment)
+        if kind == "events":
+            return self.events(identity, moment)
+        if kind == "logs":
+            [each] = [each for each in self.script["containers"] if each["id"] == identity]
+            return "\n".join(each.get("wrote", [])[-int(words[-2]):])
         return getattr(self, kind)(moment)
 
     def seconds(self, words):
@@ -141,7 +157,8 @@ class Play:
         namespace, name = key.split("/")
         metadata = {"namespace": namespace, "name": name, "uid": life.get("uid", f"uid-{name}")}
         if life.get("deleted", float("inf")) <= moment:
-            metadata["deletionTimestamp"] = moment_text(self.begin + life["deleted"])
+            metadata["deletionTimestamp"] = moment_text(self.begin + life["deleted"] + life.get("grace", 0))
+            metadata |= {"deletionGracePeriodSeconds": life["grace"]} if "grace" in life else {}
         if "annotations" in life:
             metadata["annotations"] = life["annotations"]
         return {"metadata": metadata, "spec": life["spec"], "status": self.status(life, metadata["uid"], moment)}
@@ -160,7 +177,11 @@ class Play:
         listed += [{"name": each["container"], **({"restartCount": each["count"]} if "count" in each else {}),
                     "state": {"waiting": {"reason": each["reason"], "message": each.get("message", "")}}}
                    for each in life.get("waits", []) if each["from"] <= moment < each.get("until", float("inf"))]
-        return {"phase": "Running", **({"containerStatuses": listed} if listed else {})}
+        has_failed = life.get("failed", float("inf")) <= moment
+        phase = {"phase": "Failed", "reason": life["reason"], "message": life.get("message", "")} if has_failed else {
+            "phase": "Running"}
+        says = [each["status"] for each in life.get("says", []) if each["from"] <= moment]
+        return {**phase, **({"containerStatuses": listed} if listed else {}), **(says[-1] if says else {})}
 
     def told(self, each, moment):
         """What a pod's status says of an instance."""
@@ -177,9 +198,31 @@ class Play:
         newest = max(at for at in samples if at <= moment)
         sample, sampled = samples[newest], moment_text(self.begin + newest)
         node = {"memory": {"time": sampled, "availableBytes": sample["memory"], "workingSetBytes": 2 ** 30}}
-        pods = [{"podRef": {"uid": uid}, "memory": {"time": sampled, "workingSetBytes": used}}
-                for uid, used in sample.get("pods", {}).items()]
+        pods = [{"podRef": {"uid": uid}, "memory": {"time": sampled, "workingSetBytes": used},
+                 **self.stats(sample.get("containers", {}).get(uid))} for uid, used in sample.get("pods", {}).items()]
         return json.dumps({"node": node, "pods": pods})
+
+    def stats(self, containers):
+        """What a pod's containers used, where the script says it."""
+        if containers is None:
+            return {}
+        return {"containers": [{"name": name, "cpu": {"usageNanoCores": cores}, "memory": {
+            "time": moment_text(self.begin + at), "workingSetBytes": working_set, "usageBytes": usage}}
+            for name, (working_set, usage, cores, at) in containers.items()]}
+
+    def events(self, uid, moment):
+        """The Events of a pod, each as it was last."""
+        newest = {each["metadata"]["uid"]: each for each in self.script.get("events", [])
+                  if each["involvedObject"]["uid"] == uid and each["at"] <= moment}
+        return json.dumps({"kind": "EventList", "items": [
+            {**each, "lastTimestamp": moment_text(self.begin + each["at"])} for each in newest.values()]})
+
+    def node(self, moment):
+        """The node's object, with its condition Ready."""
+        conditions = [each for each in self.script.get("ready", []) if each["at"] <= moment]
+        return json.dumps({"kind": "Node", "status": {"conditions": [{
+            "type": "Ready", "lastTransitionTime": moment_text(self.begin + each["at"]),
+            **{name: each[name] for name in ("status", "reason") if name in each}} for each in conditions[-1:]]}})
 
     def configz(self, moment):
         return json.dumps({"kubeletconfig": self.script.get("configz", {})})

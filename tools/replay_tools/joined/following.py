@@ -1,0 +1,148 @@
+"""What happens on a node, told as it is recorded: the newest traces of a folder are read again as they grow."""
+
+from __future__ import annotations
+
+import os
+import signal
+import sys
+import time
+from collections.abc import Callable, Iterator
+from dataclasses import dataclass, field
+
+from replay_tools import decided, endings, entry, events, kubelet as kubelets, report as reports, telling, traces
+from replay_tools.joined import asked as asking_for, files, join
+
+# seconds between two looks; a replay takes a tenth of the time at most
+LOOK, SHARE = 1, 10
+# a recorder writes what it saw last at the end of a part, and may write it otherwise for some seconds
+HELD_BACK = 10
+# what is told may be of a trace that began so long before what was told last
+SECONDS_BEFORE = 600
+
+Row = tuple[int, str]
+
+
+@dataclass
+class Follower:
+    """What was told of a folder so far."""
+
+    folder: str
+    node: str | None
+    wanted: str | None
+    """a pod's key, a namespace with its slash, or None for all"""
+    since: int | None
+    """the moment from which on it is told; None for what is behind the end of the traces"""
+    until: int | None = None
+    """up to when it was told"""
+    facts: set[tuple[str, str, int]] = field(default_factory=set)
+    """the decisions that were told, some of which stand in a later tick"""
+    faults: set[str] = field(default_factory=set)
+
+    def news(self) -> list[Row]:
+        """What was recorded since this was asked last, by time."""
+        several = join.joined(asking_for.Asked([self.folder], self.node, self.begin(), is_utc=True, is_quiet=True))
+        trace, report = several.trace, several.report
+        if trace is None:
+            raise entry.Fault(f"{self.folder} has reports, and traces are followed")
+        endings.tell_left(trace, report)
+        certain = several.last if several.is_whole else several.last - HELD_BACK
+        rows = list(self.rows(trace, report, certain))
+        if self.until is None and self.since is None:
+            rows = []
+        self.until = max(certain, self.until or 0)
+        return sorted(rows, key=lambda row: row[0])
+
+    def begin(self) -> int | None:
+        """From when on traces are read: those of what was told last, and at first the newest."""
+        if self.until is not None:
+            return self.until - SECONDS_BEFORE
+        if self.since is not None:
+            return self.since
+        sources = files.sources_of(asking_for.Asked([self.folder], self.node))
+        return max((source.begun for source in sources if source.begun is not None), default=None)
+
+    def rows(self, trace: traces.Trace, report: reports.Report, certain: int) -> Iterator[Row]:
+        least = self.until if self.until is not None else -1 if self.since is None else self.since
+        kubelet = kubelets.beside(trace, report)
+        for event in report.events:
+            if least < event.at <= certain and not event.was_so and self.is_wanted(event.pod):
+                yield event.at, event_line(event, trace, kubelet is not None)
+        for pod in report.pods:
+            if self.is_wanted(pod.key):
+                yield from ((at, f"{pod.key} {what}") for at, what in asides(trace, pod) if least < at <= certain)
+        for decision in decided.decisions_with_endings(trace):
+            told = decision.kind, decision.pod, decision.at
+            if told not in self.facts and decision.at <= certain and self.is_wanted(decision.pod):
+                self.facts.add(told)
+                if decision.at > least or self.until is not None:
+                    yield decision.at, f"{decision.pod} {kubelets.event_words(decision)}"
+
+    def is_wanted(self, key: str | None) -> bool:
+        """Whether something of a pod, or of the node, is told."""
+        if self.wanted is None or key is None:
+            return self.wanted is None
+        if self.wanted.endswith("/"):
+            return key.startswith(self.wanted)
+        name = key if "/" in self.wanted else key.partition("/")[2]
+        return name == self.wanted or name.startswith(f"{self.wanted}-")
+
+
+def asides(trace: traces.Trace, pod: reports.Pod) -> Iterator[Row]:
+    """What the trace says of a pod's deletion and waits."""
+    deletion = trace.deletions.get(pod.number)
+    if deletion is not None:
+        yield deletion.at, f"is being deleted{deletion.words()}"
+    for container, wait in trace.reasons.waits_of(pod):
+        yield wait.since, f"{container} waits: {wait.words()}"
+
+
+def event_line(event: reports.Event, trace: traces.Trace, is_beside: bool) -> str:
+    attempt, what = telling.event_words(event, is_beside, trace)
+    subject = event.pod or "the node:"
+    return " ".join(filter(None, [subject, event.container, what])) + events.attempt_words(attempt)
+
+
+def follow(follower: Follower, show: Callable[[int], str]) -> None:
+    """Tells what is recorded, until it is interrupted or nobody reads it any more."""
+    before: list[tuple[str, int]] | None = None
+    pause: float = LOOK
+    while True:
+        seen = looked_at(follower.folder)
+        if seen != before:
+            began, before = time.monotonic(), seen
+            tell(follower, show)
+            pause = max(LOOK, SHARE * (time.monotonic() - began))
+        time.sleep(pause)
+
+
+def tell(follower: Follower, show: Callable[[int], str]) -> None:
+    is_first = follower.until is None
+    try:
+        rows = follower.news()
+    except entry.Fault as fault:
+        if fault.status == 127:
+            raise
+        # a folder may have no trace yet, and a part be cut in the middle of a line
+        if str(fault) not in follower.faults:
+            follower.faults.add(str(fault))
+            entry.say(f"{fault}; it goes on to look")
+        return
+    if is_first and follower.until is not None:
+        entry.say(f"what is recorded behind {show(follower.until)} is told as it comes; an interrupt ends it")
+    # an interrupt between what is written and what is known to be would have it written once more
+    signal.pthread_sigmask(signal.SIG_BLOCK, [signal.SIGINT])
+    try:
+        for at, said in rows:
+            sys.stdout.write(f"{show(at)}  {entry.visible(said)}\n")
+        sys.stdout.flush()
+    finally:
+        signal.pthread_sigmask(signal.SIG_UNBLOCK, [signal.SIGINT])
+
+
+def looked_at(folder: str) -> list[tuple[str, int]]:
+    """The traces of a folder with their sizes."""
+    try:
+        with os.scandir(folder) as found:
+            return sorted((each.name, each.stat().st_size) for each in found if each.name.endswith(files.ENDINGS))
+    except OSError as fault:
+        raise entry.Fault(f"{folder} can't be read: {fault.strerror}") from None

@@ -1,0 +1,238 @@
+"""What a pod came to: the worst that happened to it, its restarts and its seconds without readiness, and its rank among
+others. All tools have these from here, so that a pod stands at the same place in each."""
+
+from __future__ import annotations
+
+from dataclasses import dataclass
+from enum import Enum
+from typing import TYPE_CHECKING
+
+from replay_tools import endings, kubelet as kubelets, report as reports, telling
+
+if TYPE_CHECKING:
+    from replay_tools import decided, traces
+
+# a moment before all others
+NEVER = -1
+# for which a container waits as it starts
+STARTING = ("ContainerCreating", "PodInitializing")
+# the helps say it with these words
+ORDER = """\
+The worst pods come first: those that the node ended, as by an eviction or over a deadline, those that a probe killed,
+that crashed and are not ready, that crashed, failed, wait, were backed off, were started again, were not ready; then
+those that the rules alone evict or name, those that were deleted, those that exited, and all others. Of one kind those
+with more restarts come first, then those that were not ready for longer. What the node did comes before what the rules
+say, by which a pod is ended where no trace says what the node did.
+"""
+
+
+class Worst(Enum):
+    """The kinds of what happens to pods, the worst first."""
+
+    ENDED = "ended"
+    KILLED = "killed"
+    CRASHED_AND_NOT_READY = "crashed_and_not_ready"
+    CRASHED = "crashed"
+    FAILED = "failed"
+    WAITS = "waits"
+    BACKED_OFF = "backed_off"
+    RESTARTED = "restarted"
+    NOT_READY = "not_ready"
+    BY_RULES_ALONE = "by_rules_alone"
+    DELETED = "deleted"
+    EXITED = "exited"
+    NOTHING = None
+
+    @property
+    def place(self) -> int:
+        return list(Worst).index(self)
+
+
+@dataclass(frozen=True)
+class Found:
+    """The worst that happened to a pod: the moment of the first of its kind, that in words, and how often it was."""
+
+    worst: Worst
+    at: int | None = None
+    what: str = ""
+    times: int = 1
+
+    @property
+    def words(self) -> str:
+        return self.what if self.times == 1 else f"{self.what} (first of {self.times})"
+
+
+@dataclass(frozen=True)
+class Summary:
+    """What a pod came to since a moment, or since its first tick."""
+
+    number: int
+    found: Found
+    restarts: int
+    unready_seconds: int
+    all_restarts: int
+    """since the pod was made"""
+
+    @property
+    def rank(self) -> tuple[int, int, int, int]:
+        """What is less is worse."""
+        return self.found.worst.place, -self.restarts, -self.unready_seconds, self.number
+
+
+def summaries(report: reports.Report, trace: traces.Trace | None = None, kubelet: kubelets.Kubelet | None = None,
+              last: int | None = None, since: int = NEVER) -> list[Summary]:
+    """The summary of each pod, the worst first; `last` is where that is not the last moment that is known."""
+    last = last_moment(report, trace) if last is None else last
+    return sorted((summary_of(report, pod, trace, kubelet, last or 0, since) for pod in report.pods),
+                  key=lambda summary: summary.rank)
+
+
+def summary_of(report: reports.Report, pod: reports.Pod, trace: traces.Trace | None,
+               kubelet: kubelets.Kubelet | None, last: int, since: int = NEVER) -> Summary:
+    whole = sum(int(container.restarts) for container in pod.containers)
+    restarts = whole if since == NEVER else sum(came_again(pod, one.name, since) for one in pod.containers)
+    unready = unready_seconds(pod, last, since) if has_ticks(report, pod, trace) else 0
+    return Summary(pod.number, worst_of(report, pod, trace, kubelet, since), restarts, unready, whole)
+
+
+# --- the worst ---
+
+
+def worst_of(report: reports.Report, pod: reports.Pod, trace: traces.Trace | None,
+             kubelet: kubelets.Kubelet | None, since: int = NEVER) -> Found:
+    """The worst that happened to a pod behind a moment."""
+    ended = ended_by_node(report, pod, kubelet)
+    if ended is not None and ended.at > since:
+        return ended
+    deletion = trace.deletions.get(pod.number) if trace else None
+    until = deletion.at if deletion else None
+    end = reports.end_of(pod)
+    events = [event for event in pod.events if event.at > since and (until is None or event.at < until)
+              and not (event.word == "unready" and end is not None and end == (event.at, "Succeeded"))]
+    is_ended = until is not None or any(eviction.number == pod.number for eviction in report.evictions)
+    is_unready_now = not is_ended and is_unready(report, pod, trace)
+    exits = [event for event in pod.events if event.at > since and event.word == "died"]
+    return (of_events(pod, events, trace, is_unready_now) or by_rules_alone(pod, kubelet, since)
+            or of_deletion(deletion, since) or first_of(Worst.EXITED, exits, trace) or Found(Worst.NOTHING))
+
+
+def ended_by_node(report: reports.Report, pod: reports.Pod, kubelet: kubelets.Kubelet | None) -> Found | None:
+    """That the kubelet evicted or ended a pod; or that the rules evict it, where no trace says what the kubelet did."""
+    fact = kubelet.fact(pod.number) if kubelet else None
+    if fact is not None:
+        return Found(Worst.ENDED, fact.decision.at, kubelets.event_words(fact.decision))
+    if kubelet is not None:
+        return None
+    evicted = first_of(Worst.ENDED, [event for event in pod.events if event.word == "evicted"], None)
+    by_kubelet = endings.ended_by_kubelet(report, pod)
+    if evicted is None and by_kubelet is not None:
+        at, reason = by_kubelet
+        return Found(Worst.ENDED, at, kubelets.ended_words(reason))
+    return evicted
+
+
+def of_events(pod: reports.Pod, events: list[reports.Event], trace: traces.Trace | None,
+              is_unready_now: bool) -> Found | None:
+    """The worst of what was recorded of its containers; None where nothing of it is bad."""
+    crashed = [event for event in events if event.word == "died" and event.rest[1] != "0"]
+    kind = Worst.CRASHED_AND_NOT_READY if is_unready_now else Worst.CRASHED
+    failed = [event for event in events if event.word == "phase" and event.rest[0] == "Failed"]
+
+    def of_word(worst: Worst, word: str) -> Found | None:
+        return first_of(worst, [event for event in events if event.word == word], trace)
+
+    return (of_word(Worst.KILLED, "kill") or first_of(kind, crashed, trace) or first_of(Worst.FAILED, failed, trace)
+            or last_wait(pod, trace) or of_word(Worst.BACKED_OFF, "backoff") or of_word(Worst.RESTARTED, "restart")
+            or of_word(Worst.NOT_READY, "unready") or (never_ready(pod) if is_unready_now else None)
+            or closed_gate(pod, trace))
+
+
+def first_of(worst: Worst, events: list[reports.Event], trace: traces.Trace | None) -> Found | None:
+    if not events:
+        return None
+    event = events[0]
+    said = " ".join(filter(None, [event.container, telling.event_words(event, True, trace, False)[1]]))
+    return Found(worst, event.at, said, len(events))
+
+
+def last_wait(pod: reports.Pod, trace: traces.Trace | None) -> Found | None:
+    """Why a container still waits at the end."""
+    waits = trace.reasons.waits_of(pod) if trace else []
+    return next((Found(Worst.WAITS, wait.since, f"{name} waits: {wait.reason}") for name, wait in waits
+                 if wait.until is None and wait.reason not in STARTING), None)
+
+
+def never_ready(pod: reports.Pod) -> Found:
+    return Found(Worst.NOT_READY, pod.condition("Ready").at, "not ready")
+
+
+def closed_gate(pod: reports.Pod, trace: traces.Trace | None) -> Found | None:
+    """That a readiness gate is not true at the end, which the rules know nothing of."""
+    gates = trace.reasons.gates_of(pod) if trace and pod.left is None else []
+    return next((Found(Worst.NOT_READY, wait.since, f"not ready, since its readiness gate {gate} is false")
+                 for gate, wait in gates if wait.until is None), None)
+
+
+def is_unready(report: reports.Report, pod: reports.Pod, trace: traces.Trace | None) -> bool:
+    """Whether a pod is there at the end, and is not ready."""
+    is_there = pod.left is None and has_ticks(report, pod, trace)
+    return is_there and pod.condition("Ready").value == "False" and pod.phase != "Succeeded"
+
+
+def by_rules_alone(pod: reports.Pod, kubelet: kubelets.Kubelet | None, since: int) -> Found | None:
+    if kubelet is None:
+        named = [event for event in pod.events if event.word == "names" and event.at > since]
+        return first_of(Worst.BY_RULES_ALONE, named, None)
+    alone = kubelet.by_rules_alone(pod.number)
+    if alone is None or alone.eviction.at <= since:
+        return None
+    does = f"the rules {kubelets.verb(alone.eviction)} it: {alone.eviction.signal} {alone.eviction.kind}"
+    return Found(Worst.BY_RULES_ALONE, alone.eviction.at, f"{does}, the kubelet did not evict it", alone.times)
+
+
+def of_deletion(deletion: decided.Deletion | None, since: int) -> Found | None:
+    if deletion is None or deletion.at <= since:
+        return None
+    return Found(Worst.DELETED, deletion.at, f"deleted{deletion.words()}")
+
+
+# --- counts ---
+
+
+def last_moment(report: reports.Report, trace: traces.Trace | None = None) -> int | None:
+    """That of the trace's last tick; without a trace the last moment that the report names, which is no later. None
+    without a tick."""
+    if trace is not None and trace.ticks:
+        return trace.ticks[-1].at
+    return max(reports.moments(report)) if report.tick_count else None
+
+
+def has_ticks(report: reports.Report, pod: reports.Pod, trace: traces.Trace | None) -> bool:
+    """Whether some tick came behind a pod's line, as the trace says it or, without one, as far as the report tells."""
+    if trace is None:
+        return reports.has_ticks(report, pod)
+    ours = trace.pods[pod.number]
+    return ours.first < (len(trace.ticks) if ours.gone is None else ours.gone)
+
+
+def unready_seconds(pod: reports.Pod, last: int, since: int = NEVER) -> int:
+    """For how long the pod was not Ready behind a moment, from its first tick until its end, or until it was gone, or
+    else until the last moment."""
+    end = reports.end_of_spans(pod)
+    spans = [span for span in reports.ready_spans(pod) if span.value == "False"]
+    return seconds_of(spans, last if end is None else end, since)
+
+
+def seconds_of(spans: list[reports.Span], last: int, since: int) -> int:
+    """The seconds of spans behind a moment, of those that are open to the last one."""
+    ends = [(span, last if span.until is None else min(span.until, last)) for span in spans]
+    return sum(max(end - max(span.since, since), 0) for span, end in ends)
+
+
+def came_again(pod: reports.Pod, name: str, since: int = NEVER) -> int:
+    """How many instances of a container came after another one, as far as they were recorded, behind a moment."""
+    first: dict[str, int] = {}
+    for event in pod.events:
+        if event.container == name and event.word in ("started", "died"):
+            first.setdefault(event.rest[0], event.at)
+    return sum(at > since for at in list(first.values())[1:])

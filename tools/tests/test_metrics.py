@@ -1,0 +1,123 @@
+"""The tests of record --metrics: what the file has of a play, and that its readers take it."""
+
+import json
+import os
+import re
+import shutil
+import subprocess
+
+from checks import TOP, expect, read
+from into_plays import Into
+
+from replay_tools.record.metrics import Metrics, fault_of
+
+BEGIN = 1767225600
+PARSE = """
+import sys
+from prometheus_client.openmetrics.parser import text_string_to_metric_families
+print(sum(len(family.samples) for family in text_string_to_metric_families(sys.stdin.read())))
+"""
+RULES = f"{TOP}/docs/recorder.rules.yml"
+DASHBOARD = f"{TOP}/docs/recorder.dashboard.json"
+
+
+def play():
+    """A pod that crashes, one whose probe kills it, one that is evicted, one that ends well, and one that goes."""
+    probe = {"periodSeconds": 1, "failureThreshold": 2}
+    probes = {"livenessProbe": probe, "readinessProbe": probe}
+    specs = {"crash": {}, "probed": probes, "hog": {}, "done": {}, "goes": {}}
+    pods = {f"shop/{name}": {"spec": {"containers": [{"name": "app", **more}]}} for name, more in specs.items()}
+    pods["shop/done"]["spec"]["restartPolicy"] = "Never"
+    pods["shop/hog"]["evicted"] = 12.4
+    pods["shop/goes"]["until"] = 9
+    lives = {"crash": [(-2, 4.2, 1), (5.2, 9.4, 137), (9.6, 20.2, 3)], "probed": [(-2, 8.4, 143), (8.6, None, None)],
+             "hog": [(-2, 13, 137)], "done": [(-2, 6.2, 0)], "goes": [(-2, 8.4, 0)]}
+    made = [{"id": f"{name}{attempt}", "pod": f"shop/{name}", "name": "app", "attempt": attempt, "reason": "Error",
+             "created": started - 0.1, "started": started, **({"exited": exited, "code": code} if exited else {})}
+            for name, life in lives.items() for attempt, (started, exited, code) in enumerate(life)]
+    found = [{"pod": "shop/probed", "container": "app", "probe": kind, "result": result, "at": at}
+             for kind, result, at in (("liveness", "failure", [6.5, 7.5]), ("readiness", "success", [1.5, 2.5, 12.5]))]
+    low = {"memory": 2 ** 26, "pods": {}}
+    return {"begin": BEGIN, "pods": pods, "containers": made, "probes": found,
+            "samples": {"0": {"memory": 2 ** 32, "pods": {}}, "12": low, "14": low},
+            "configz": {"evictionHard": {"memory.available": "100Mi"}}}
+
+
+def series_of(text, *names):
+    """What a text has of some families: {labels: value}."""
+    found = {}
+    for line in text.splitlines():
+        parts = re.fullmatch(r"kubelet_recorder_([a-z_]+)(?:\{(.*)\})? (\S+)", line)
+        if parts and parts[1] in names:
+            labels = re.findall(r'([a-z]+)="([^"]*)"', parts[2] or "")
+            kept = [value for label, value in labels if label not in ("namespace", "container")]
+            found[(parts[1], *kept)] = int(parts[3])
+    return found
+
+
+def recorded():
+    place = Into(play())
+    path = f"{place.run}/it.prom"
+    status, trace, said = place.record("--extended", "--metrics", path, "--for", "40")
+    text = read(path)
+    left = [name for name in os.listdir(place.run) if name.startswith("it.prom") and name != "it.prom"]
+    place.clean()
+    return text, (status, left), trace, said
+
+
+def test_metrics():
+    """By hand: two restarts of the one that crashes, and its last exit; a kill; an eviction; no series of what has
+    gone."""
+    text, answer, _, _ = recorded()
+    expect("metrics: the recording", answer, (0, []))
+    expect("metrics: restarts and kills", series_of(text, "restarts", "kills"), {
+        ("restarts", "crash"): 2, ("restarts", "probed"): 1, ("kills", "probed", "liveness"): 1})
+    expect("metrics: deaths", series_of(text, "deaths"), {
+        ("deaths", "crash", "Error", "1"): 1, ("deaths", "crash", "Error", "137"): 1,
+        ("deaths", "crash", "Error", "3"): 1, ("deaths", "probed", "Error", "143"): 1,
+        ("deaths", "done", "Error", "0"): 1})
+    expect("metrics: what is so now", series_of(text, "ready", "pressure", "available", "evictions", "ended"), {
+        ("ready", "crash"): 0, ("ready", "done"): 0, ("ready", "probed"): 1,
+        ("pressure", "MemoryPressure"): 1, ("pressure", "DiskPressure"): 0, ("pressure", "PIDPressure"): 0,
+        ("available", "memory.available"): 2 ** 26, ("evictions",): 1, ("ended", "Evicted"): 1})
+    unready = series_of(text, "unready_seconds")
+    expect("metrics: seconds that were not ready", (unready["unready_seconds", "probed"],
+                                                    ("unready_seconds", "done") in unready), (6, False))
+
+
+def test_readers():
+    """The parser of OpenMetrics takes it, and Debian's promtool finds nothing wrong with it and with the rules of
+    docs/, which ask for what is there."""
+    text = recorded()[0]
+    done = subprocess.run(["/usr/bin/python3", "-c", PARSE], input=text, capture_output=True, text=True, check=False)
+    if "No module" not in done.stderr:
+        samples = sum(not line.startswith("#") for line in text.splitlines())
+        expect("metrics: the parser of OpenMetrics", (done.stdout, done.stderr), (f"{samples}\n", ""))
+    there = set(re.findall(r"# TYPE kubelet_recorder_([a-z_]+) gauge", text))
+    for name in (RULES, DASHBOARD):
+        asked = set(re.findall(r"kubelet_recorder_([a-z_]+)", read(name)))
+        expect(f"metrics: what {os.path.basename(name)} asks for", (asked - there, asked != set()), (set(), True))
+    expect("metrics: the panels", len(json.loads(read(DASHBOARD))["panels"]), 10)
+    if shutil.which("promtool") is None:
+        return
+    for name, words, given in (("metrics", ["check", "metrics"], text), ("rules", ["check", "rules", RULES], "")):
+        done = subprocess.run(["promtool", *words], input=given, capture_output=True, text=True, check=False)
+        expect(f"metrics: promtool, {name}", (done.returncode, done.stderr), (0, ""))
+
+
+def test_files_that_cannot_be():
+    """A file that can't be written is said once, and the recording goes on; another one is not replaced."""
+    place = Into(play())
+    said = []
+    metrics = Metrics(f"{place.run}/nowhere/it", lambda text, _: said.append(text))
+    metrics.write()
+    expect("metrics: a file that can't be written", said, [
+        f"--metrics: '{place.run}/nowhere/it' can't be written: No such file or directory"])
+    paths = {name: f"{place.run}/{name}" for name in ("new", "empty", "ours", "other", "link")}
+    for name, text in (("empty", ""), ("ours", metrics.text()), ("other", "# TYPE x gauge\n")):
+        with open(paths[name], "w", encoding="utf-8") as file:
+            file.write(text)
+    os.symlink(paths["ours"], paths["link"])
+    expect("metrics: files that are not replaced", [name for name, path in paths.items() if fault_of(path)],
+           ["other", "link"])
+    place.clean()

@@ -1,0 +1,139 @@
+"""The tests of the rounds of a kubelet's eviction manager: which samples are rounds, and what a recording says of
+them."""
+
+import json
+
+from checks import HERE, expect, read
+from into_plays import Into
+
+from replay_tools.record.node import node_line_of
+from replay_tools.record import lines, node
+from replay_tools.record.rounds import Rounds
+from replay_tools.record.standing import Standing
+from replay_tools.record.summary import Sample, Summary
+
+BEGIN = 1767225600
+MEMORY, DISK, IMAGES, PIDS = "memory.available", "nodefs.available", "imagefs.available", "pid.available"
+
+
+def sampled(**moments):
+    names = {"memory": MEMORY, "disk": DISK, "images": IMAGES, "pids": PIDS}
+    return {names[name]: Sample(1, moment) for name, moment in moments.items()}
+
+
+def rounds_of(*answers, evicted_at=None):
+    """The rounds that answers show, one behind the other, each with the signals that are below a threshold."""
+    found = Rounds()
+    return [list(found.of(samples, frozenset(below), evicted_at)) for below, samples in answers]
+
+
+def test_rounds():
+    """A new moment of the memory, but where a signal is below its threshold, and has a moment: then of that."""
+    for name, answers, wanted in (
+        ("of the memory", (((), sampled(memory=10, disk=10, images=4)), ((), sampled(memory=10, disk=10, images=14)),
+                           ((), sampled(memory=20, disk=20, images=14))), [[10], [], [20]]),
+        ("of what is below", (((IMAGES,), sampled(memory=10, images=4)), ((IMAGES,), sampled(memory=20, images=4)),
+                              ((IMAGES,), sampled(memory=20, images=14))), [[4], [], [14]]),
+        ("of two that are below", (((MEMORY, IMAGES), sampled(memory=10, images=4)),
+                                   ((MEMORY, IMAGES), sampled(memory=20, images=14))), [[4, 10], [14, 20]]),
+        ("of what has no moment", (((PIDS,), sampled(memory=10, pids=None)), ((PIDS,), sampled(memory=10, pids=None)),
+                                   ((PIDS,), sampled(memory=20, pids=None))), [[10], [], [20]]),
+        ("without any moment", (((), sampled(memory=None)), ((), {})), [[], []]),
+    ):
+        expect(f"rounds {name}", rounds_of(*answers), wanted)
+
+
+def test_rounds_behind_an_eviction():
+    """For as long as the kubelet waits for the pod a sample is a round if the next one follows soon."""
+    answers = [((), sampled(memory=moment)) for moment in (100, 103, 110, 120, 131, 135)]
+    expect("rounds behind an eviction", rounds_of(*answers, evicted_at=101), [[100], [], [103], [], [], [131, 135]])
+    waits = Rounds()
+    list(waits.of(sampled(memory=103), frozenset(), 101))
+    expect("rounds: what waits for the next sample", [waits.open_since(moment) for moment in (104, 115, 116)],
+           [103, 103, 116])
+
+
+def judged_in(trace):
+    ticks = [json.loads(line) for line in trace.splitlines() if '"kind":"tick"' in line]
+    return [tick["at"] - BEGIN for tick in ticks if tick.get("judged") is not False], len(ticks)
+
+
+def test_rounds_of_a_play():
+    """Of a play in which the kubelet evicts two pods, each by a sample of its own: the first tick, and each sample."""
+    trace = read(f"{HERE}/recordings/kubelet_evicts_extended/trace")
+    expect("judged ticks of a play", judged_in(trace)[0], [0, 7, 10, 13, 15])
+    expect("judged: none is said in the standard format",
+           "judged" in read(f"{HERE}/recordings/kubelet_evicts/trace"), False)
+
+
+def test_rounds_over_a_border():
+    """The first ticks of a trace that follows are none of its rounds."""
+    standing = Standing()
+    for line in read(f"{HERE}/recordings/kubelet_evicts_extended/trace").splitlines()[:-1]:
+        standing.take(json.loads(line))
+    for follows, wanted in (({"at": BEGIN + 60}, [False]), (None, [standing.judged])):
+        ticks = [json.loads(line) for line in standing.beginning(BEGIN + 60, follows) if '"kind":"tick"' in line]
+        expect(f"judged, over a border: {follows}", [tick.get("judged") for tick in ticks], wanted)
+
+
+def test_samples_in_a_wait():
+    """Behind an eviction a sample that is low enough for one is a round only if another follows soon; one that is not
+    is a round in any case, a reclaim included."""
+    reclaim = {"evictionMinimumReclaim": {"memory.available": "60Mi"}}
+    for more, wanted in (({}, [0, 20, 29, 50]), (reclaim, [0, 20, 50])):
+        samples = {"-1": 2 ** 32, "20": 90 * 2 ** 20, "29": 150 * 2 ** 20, "38": 90 * 2 ** 20, "50": 2 ** 32}
+        play = low_play(samples={at: {"memory": value, "pods": {}} for at, value in samples.items()},
+                        configz={"evictionHard": {"memory.available": "100Mi"}, **more})
+        play["pods"]["shop/hog"] = {"evicted": 21, "spec": {"containers": [{"name": "app"}]}}
+        play["containers"].append({"id": "b0", "pod": "shop/hog", "name": "app", "attempt": 0, "created": -3,
+                                   "started": -2, "exited": 22, "code": 137})
+        place = Into(play)
+        status, trace, _ = place.record("--extended", "--for", "70")
+        place.clean()
+        expect(f"rounds within the wait {more}", (status, judged_in(trace)[0]), (0, wanted))
+
+
+def low_play(**more):
+    """A node whose memory is below a threshold from 20 s on, with a sample each second that has one."""
+    samples = {str(at): {"memory": 2 ** 32 if at < 20 else 90 * 2 ** 20, "pods": {"uid-web": 2 ** 20}}
+               for at in (-1, 9, 20, 23, 26, 29, 33)}
+    return {"begin": BEGIN, "pods": {"shop/web": {"spec": {"containers": [{"name": "app"}]}}},
+            "containers": [{"id": "a0", "pod": "shop/web", "name": "app", "attempt": 0, "created": -3, "started": -2}],
+            "samples": samples, "configz": {"evictionHard": {"memory.available": "100Mi"}}, **more}
+
+
+def test_summary_between_looks():
+    """Near a threshold the summary is asked each second, though a look comes each ten."""
+    for look, wanted in (("10", [0, 9, 20, 23, 26, 29, 33]), ("1", [0, 9, 20, 23, 26, 29, 33])):
+        place = Into(low_play())
+        status, trace, said = place.record("--extended", "--look", look, "--for", "50")
+        place.clean()
+        expect(f"rounds where a look comes each {look} s", (status, said, judged_in(trace)[0]), (0, "", wanted))
+
+
+def test_pause_and_rounds():
+    """Once the program heeds rounds, no pause is written beside them."""
+    summary = Summary({}, False, sampled(memory=10), {})
+    answer = json.dumps({"kubeletconfig": {}})
+    without = Summary({}, False, sampled(memory=None), {})
+    before = node.HEEDS_ROUNDS
+    for heeds, of, wanted in ((False, summary, 30), (True, summary, None), (True, without, 30)):
+        node.HEEDS_ROUNDS = heeds
+        made = node_line_of(answer, "n1", of, lines.extended()).fields
+        expect(f"a pause beside rounds, heeded: {heeds}", made.get("evictionPauseSeconds"), wanted)
+    node.HEEDS_ROUNDS = before
+
+
+def test_evictions_recorded():
+    """The node line of the extended format says that the ticks end whom the kubelet evicted, but with --simulate; one
+    that is given has what it says itself."""
+    for words, wanted in (((), None), (("--extended",), True), (("--extended", "--simulate"), None),
+                          (("--extended", "--eviction-pause", "5", "--simulate"), None)):
+        place = Into(low_play())
+        status, trace, said = place.record(*words, "--for", "2")
+        place.clean()
+        line = json.loads(trace.split("\n", 1)[0])
+        expect(f"evictions are recorded: {' '.join(words)}", (status, line.get("evictionsRecorded")), (0, wanted))
+    for given, wanted in (({"name": "n1"}, True), ({"name": "n1", "evictionsRecorded": False}, False)):
+        made = node.own_node_line(given, lines.extended(), Summary({}, False, sampled(memory=10), {})).fields
+        expect(f"evictions are recorded: {given}", made["evictionsRecorded"], wanted)

@@ -1,0 +1,244 @@
+"""The tests of the story of a workload of a cluster: from its name to its nodes, and one story over all of them, by a
+stand-in of kubectl with three nodes. Two nodes have traces by hand, the third one the recording of a real kubelet."""
+
+import gzip
+import json
+import os
+import shutil
+import tempfile
+import time
+
+from checks import HERE, TOOLS, TOP, expect, expect_refused, run
+
+COMMANDS = f"{HERE}/kubectl/commands"
+BEGIN = 1767236400
+RECORDED = f"{TOP}/examples/recorded/out_of_memory.trace"
+SINCE = ("--since", "2026-01-01T03:00Z")
+NODES = (("worker-1", "recorder-a"), ("worker-2", "recorder-b"), ("node-a", "recorder-c"))
+OLD, NEW = "web-5f6d8", "web-7d4b9c"
+
+
+def line(value):
+    return json.dumps(value, separators=(",", ":")) + "\n"
+
+
+def trace(node, pods, ticks):
+    """A trace of version 3 of a node: pods by their names with the members of their containers, ticks by the second."""
+    made = line({"kind": "node", "name": node, "version": 3, "recordsKubelet": True})
+    for name, container in pods.items():
+        made += line({"kind": "pod", "pod": {"metadata": {"name": name, "namespace": "shop"},
+                                            "spec": {"containers": [{"name": "app", **container}]}}})
+    for at, entries in ticks:
+        if isinstance(entries, str):
+            made += line({"kind": "gone", "pod": f"shop/{entries}"})
+        else:
+            named = [{"pod": f"shop/{name}", **entry} for name, entry in entries.items()]
+            made += line({"kind": "tick", "at": BEGIN + at, "pods": named})
+    return made
+
+
+def listed(attempt=0, code=None, reason=None, **more):
+    found = {"name": "app", "attempt": attempt, "state": "CONTAINER_RUNNING"}
+    found.update({} if code is None else {"state": "CONTAINER_EXITED", "exitCode": code})
+    return {"containers": [{**found, **({"reason": reason} if reason else {})}], **more}
+
+
+def result(said):
+    return {"probes": [{"container": "app", "probe": "readiness", "result": said}]}
+
+
+def traces():
+    """What the recorders hold: a kill for memory, a pod that was deleted, and one whose readiness probe fails."""
+    limit = {"resources": {"limits": {"memory": "64Mi"}}}
+    first = trace("worker-1", {f"{NEW}-aaaaa": limit}, [
+        (0, {f"{NEW}-aaaaa": listed()}), (600, {f"{NEW}-aaaaa": listed(0, 137, "OOMKilled")}),
+        (611, {f"{NEW}-aaaaa": listed(1)}), (900, {f"{NEW}-aaaaa": listed(1)})])
+    probe = {"readinessProbe": {"periodSeconds": 10, "failureThreshold": 1}}
+    second = trace("worker-2", {f"{OLD}-bbbbb": {}, f"{NEW}-ccccc": probe, "other": {}}, [
+        (0, {f"{OLD}-bbbbb": listed(), f"{NEW}-ccccc": listed(**result("success")), "other": listed()}),
+        (300, {f"{OLD}-bbbbb": listed(deleting=True), f"{NEW}-ccccc": listed(), "other": listed()}),
+        (302, f"{OLD}-bbbbb"),
+        (302, {f"{NEW}-ccccc": listed(), "other": listed(0, 1, "Error")}),
+        (720, {f"{NEW}-ccccc": listed(**result("failure")), "other": listed(0, 1)})])
+    with open(RECORDED, encoding="utf-8") as file:
+        return {"recorder-a/worker-1.2026-01-01T03-00-00Z.trace.gz": first,
+                "recorder-b/worker-2.2026-01-01T03-00-00Z.trace.gz": second,
+                "recorder-c/node-a.2026-11-27T05-04-11Z.trace.gz": file.read()}
+
+
+def pod(name, node, owner=None):
+    owners = {"ownerReferences": [{"kind": "ReplicaSet", "name": owner, "uid": f"uid-{owner}"}]} if owner else {}
+    return {"metadata": {"name": name, "namespace": "shop", **owners}, "spec": {"nodeName": node}}
+
+
+def event(name, reason, message, at, host=None, **more):
+    stamp = time.strftime("%Y-%m-%dT%H:%M:%SZ", time.gmtime(BEGIN + at))
+    about = {"kind": "Pod", "name": name, "namespace": "shop", "fieldPath": "spec.containers{app}"}
+    return {"involvedObject": about, "reason": reason, "message": message, "lastTimestamp": stamp,
+            "source": {"host": host} if host else {}, **more}
+
+
+def objects():
+    """What the API server knows: one pod of the Deployment has gone, and its node stands in its events."""
+    sets = [{"metadata": {"name": name, "uid": f"uid-{name}",
+                          "ownerReferences": [{"kind": "Deployment", "uid": owner}]}}
+            for name, owner in ((NEW, "uid-web"), (OLD, "uid-web"), ("webhook-11111", "uid-webhook"))]
+    pods = [pod(f"{NEW}-aaaaa", "worker-1", NEW), pod(f"{NEW}-ccccc", "worker-2", NEW),
+            pod(f"{NEW}-ddddd", "worker-4", NEW), pod("webhook-11111-eeeee", "worker-9", "webhook-11111"),
+            pod("other", "worker-2"), pod("oom", "node-a"), pod(f"{NEW}-fffff", None, NEW)]
+    events = [event(f"{OLD}-bbbbb", "Scheduled", f"Successfully assigned shop/{OLD}-bbbbb to worker-2", -60),
+              event(f"{NEW}-ccccc", "Unhealthy", "Readiness probe failed: HTTP probe failed with statuscode: 503", 720,
+                    "worker-2", count=3),
+              event("other", "BackOff", "Back-off restarting failed container", 310, "worker-2"),
+              {"involvedObject": {"kind": "Node", "name": "worker-8"}, "reason": "Rebooted"}, {"reason": 5}, "odd"]
+    return {"deployment.web": {"metadata": {"name": "web", "uid": "uid-web"}}, "replicasets": {"items": sets},
+            "pods": {"items": pods}, "events": {"items": events}, "pods@app=web": {"items": [pods[0], pods[1]]}}
+
+
+class Cluster:
+    """Three nodes that record, and the API server of a namespace."""
+
+    def __init__(self):
+        self.path = tempfile.mkdtemp()
+        for name, text in traces().items():
+            os.makedirs(os.path.dirname(f"{self.path}/{name}"), exist_ok=True)
+            with gzip.open(f"{self.path}/{name}", "wt", encoding="utf-8") as file:
+                file.write(text)
+        os.makedirs(f"{self.path}/api/shop")
+        os.mkdir(f"{self.path}/kept")
+        for name, found in objects().items():
+            self.put(f"api/shop/{name}.json", json.dumps(found))
+        self.put("api/shop/deployment.names", "deployment.apps/web\ndeployment.apps/webhook\ndeployment.apps/$(x)\n")
+        self.put("pods.json", json.dumps({"items": [
+            {"metadata": {"name": name}, "spec": {"nodeName": node},
+             "status": {"phase": "Running", "containerStatuses": [{"ready": True}]}} for node, name in NODES]}))
+
+    def __enter__(self):
+        return self
+
+    def __exit__(self, *_):
+        shutil.rmtree(self.path)
+
+    def put(self, name, text):
+        with open(f"{self.path}/{name}", "w", encoding="utf-8") as file:
+            file.write(text)
+
+    def run(self, *words, tool="kubectl-replay", **settings):
+        return run([f"{TOOLS}/{tool}", *words], CLUSTER=self.path, PATH=f"{COMMANDS}:{os.environ['PATH']}",
+                   TMPDIR=f"{self.path}/kept", CONTEXT_NAMESPACE="shop", **settings)
+
+    def asked(self):
+        """The recorders' files that were copied since this was asked last."""
+        if not os.path.exists(f"{self.path}/asked"):
+            return []
+        with open(f"{self.path}/asked", encoding="utf-8") as file:
+            names = sorted(os.path.basename(each).split(".")[0] for each in file.read().split("\n")[:-1])
+        os.remove(f"{self.path}/asked")
+        return names
+
+
+STORY = """\
+deployment/web in shop, 2026-01-01 03:00:00Z to 2026-01-01 03:15:00Z: 3 pods on 2 nodes
+
+Pods, the worst first
+  pod               node      phase    restarts  in all  unready s  moment                worst event
+  web-7d4b9c-aaaaa  worker-1  Running         1       1         11  2026-01-01 03:10:00Z  app died with code 137: \
+OOMKilled, its memory limit is 64Mi
+  web-7d4b9c-ccccc  worker-2  Running         0       0          0             03:12:00Z  app unready
+  web-5f6d8-bbbbb   worker-2  Running         0       0          0             03:05:00Z  deleted
+
+What happened
+  moment                node      pod               container  event
+  2026-01-01 03:05:00Z  worker-2  web-5f6d8-bbbbb   -          being deleted from here on: nothing of it is restarted
+             03:10:00Z  worker-1  web-7d4b9c-aaaaa  app        died with code 137: OOMKilled, its memory limit is 64Mi \
+(attempt 0)
+             03:10:00Z  worker-1  web-7d4b9c-aaaaa  app        unready
+             03:10:00Z  worker-1  web-7d4b9c-aaaaa  app        restart (attempt 0)
+             03:10:11Z  worker-1  web-7d4b9c-aaaaa  app        started (attempt 1)
+             03:10:11Z  worker-1  web-7d4b9c-aaaaa  app        ready
+             03:12:00Z  worker-2  web-7d4b9c-ccccc  app        unready
+             03:12:00Z  worker-2  web-7d4b9c-ccccc  app        the API's event Unhealthy: Readiness probe failed: HTTP \
+probe failed with statuscode: 503 (3 times, last then)
+"""
+
+
+def test_story_of_a_deployment():
+    """Its nodes alone are asked, with the one that a pod had that has gone; one of them has no recorder."""
+    with Cluster() as cluster:
+        status, told, said = cluster.run("story", "deploy/web", *SINCE)
+        expect("story deploy/web", (status, told, said),
+               (0, STORY, "kubectl-replay: no recorder on worker-4: nothing is told of it\n"))
+        expect("story deploy/web: who is asked", cluster.asked(), ["worker-1", "worker-2"])
+        expect("story deploy/web leaves no folder", os.listdir(f"{cluster.path}/kept"), [])
+        for words in (("story", "deployment.apps/web", "-n", "shop", *SINCE),
+                      ("story", *SINCE, "-nshop", "deployments/web")):
+            expect(" ".join(words), cluster.run(*words)[1], told)
+        answer = cluster.run("story", "deploy/web", "-n", "shop", *SINCE, tool="kubelet-replay")
+        expect("by the other command", answer[1], told)
+
+
+def test_story_of_a_label_and_a_pod():
+    with Cluster() as cluster:
+        status, told, said = cluster.run("story", "-l", "app=web", *SINCE)
+        expect("story -l", (status, said, told.split("\n")[0]),
+               (0, "", "-l app=web in shop, 2026-01-01 03:00:00Z to 2026-01-01 03:15:00Z: 2 pods on 2 nodes"))
+        expect("story -lapp=web", cluster.run("story", "-lapp=web", *SINCE)[1], told)
+        cluster.asked()
+        status, told, said = cluster.run("story", "pod/oom", *SINCE)
+        expect("story pod/oom: of a real kubelet", (status, said, told.count("OOMKilled, its memory limit is 32Mi")),
+               (0, "", 5))
+        expect("story pod/oom: who is asked", cluster.asked(), ["node-a"])
+        expect("story oom --since", cluster.run("story", "oom", *SINCE)[1], told)
+        expect("story shop/oom --since", cluster.run("story", "shop/oom", *SINCE)[1], told)
+
+
+def test_worst_of_a_namespace():
+    with Cluster() as cluster:
+        status, told, said = cluster.run("story", "-n", "shop", *SINCE)
+        rows = [row.split()[:2] for row in told.split("\n")[4:-1]]
+        expect("story -n shop: the worst", (status, rows[:3], "What happened" in told, said), (0, [
+            ["live", "node-a"], ["crash", "node-a"], ["oom", "node-a"]], False,
+            "kubectl-replay: no recorder on worker-4, worker-9: nothing is told of them\n"))
+
+
+def test_around_a_moment():
+    with Cluster() as cluster:
+        status, told, _ = cluster.run("story", "deploy/web", "--at", "2026-01-01T03:12Z")
+        rows = [row.split()[-1] for row in told.partition("What happened")[2].split("\n")[2:-1]]
+        expect("story deploy/web --at", (status, "being deleted" in told, len(rows)), (0, True, 8))
+        status, told, said = cluster.run("story", "deploy/web", "--at", "2026-01-01T05:12Z")
+        expect("story deploy/web --at another moment", (status, told, said.split("\n")[-2]), (
+            1, "", "kubectl-replay: deployment/web in shop: nothing of it was recorded then on worker-1, worker-2, "
+            "worker-4"))
+
+
+def test_refused():
+    with Cluster() as cluster:
+        for words, status, said in (
+            (("story", "deploy/wab"), 1, "deployment/wab in shop is not found: Error from server (NotFound)"),
+            (("story", "deploy/"), 2, "deploy/ names none: deploy/NAME"),
+            (("story", "deploy/web", "sts/db"), 2, "it takes one workload, pod or label"),
+            (("story", "deploy/web", "-l", "a=b"), 2, "it takes one workload, pod or label"),
+            (("story", "-A", *SINCE), 2, "-A is for traces that are here: a workload is of one namespace"),
+            (("story", "deploy/web", "-n", "far"), 1, "the pods of far can't be listed: Error from server"),
+            (("story", "pod/none", *SINCE), 1, "pod/none in shop: no pod of it is known, and no event of one says a"),
+            (("story", "deploy/web", "--since", "soon"), 2, "--since takes a time"),
+        ):
+            expect_refused(" ".join(words), cluster.run(*words), status, said)
+        answer = cluster.run("story", *SINCE, tool="kubelet-replay")
+        expect_refused("kubelet-replay story of no namespace", answer, 2,
+                       "for those of a node of a cluster, or -n NAMESPACE for those of a namespace")
+        cluster.put("api/shop/pods.json", "[]")
+        expect_refused("pods that are none", cluster.run("story", "deploy/web"), 1,
+                       "the pods of shop can't be listed: kubectl's answer is no list")
+
+
+def test_completion():
+    """Where no file is named the cluster is asked for the names of a kind; what no name may be is none."""
+    with Cluster() as cluster:
+        for words, wanted in ((("story", ""), "cj/ deploy/ ds/ job/ po/ rs/ sts/ :4"),
+                              (("story", "d"), "deploy/ ds/ :4"), (("story", "deploy/"), "deploy/web deploy/webhook :4"),
+                              (("story", "sts/"), ":4"), (("story", "nothing/"), ":4"),
+                              (("why", "deploy/"), ":4"), (("story", "-l", ""), ":4")):
+            status, told, said = cluster.run(*words, tool="kubectl_complete-replay")
+            expect(f"completion of {' '.join(words)}", (status, " ".join(told.split()), said), (0, wanted, ""))
