@@ -6,6 +6,7 @@ that have them all, from what their helps say.
 import os
 import re
 import subprocess
+from concurrent.futures import ThreadPoolExecutor
 
 import script
 from manual import escaped
@@ -84,8 +85,11 @@ def main(words):
         raise script.Usage("tool_manual.py TOP FOLDER VERSION DATE")
     top, folder, version, date = words
     helps = {name: (about, help_of(top, name)) for name, about in ABOUT.items()}
-    for command, says in commands_of(helps["kubelet-replay"][1]).items():
-        helps[f"kubelet-replay-{command}"] = says, help_of(top, "kubelet-replay", command)
+    commands = commands_of(helps["kubelet-replay"][1])
+    # a help is a process of its own, and most of its time is Python's start
+    with ThreadPoolExecutor(os.cpu_count()) as pool:
+        texts = pool.map(lambda command: help_of(top, "kubelet-replay", command), commands)
+        helps |= {f"kubelet-replay-{command}": it for command, *it in zip(commands, commands.values(), texts)}
     for name, (about, text) in helps.items():
         with open(os.path.join(folder, f"{name}.1"), "w", encoding="utf-8") as file:
             file.write(page(name, about, text, version, date))

@@ -15,8 +15,8 @@ SMALL = os.path.join(TESTS, "theorem/small")
 # stand-ins
 COMMANDS = os.path.join(TESTS, "commands")
 PATH_WITH_COMMANDS = f"{COMMANDS}:{os.environ['PATH']}"
-# a script that goes on by mistake ends all the same
-LONGEST = 60
+# seconds; a script that goes on by mistake ends all the same, and one on a machine that does much else comes to its end
+LONGEST = 900
 
 
 def run(script, *words, **settings):

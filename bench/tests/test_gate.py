@@ -11,7 +11,7 @@ import sys
 import tempfile
 import time
 
-from common import SMALL, TESTS, TOP, Case, commands_in, lay_over, read, run, write
+from common import LONGEST, SMALL, TESTS, TOP, Case, commands_in, lay_over, read, run, wait_until, write
 import crates
 import gate_figures
 import gate_page
@@ -95,7 +95,7 @@ def settings_of(top, settings):
 
 
 def gate(top, *words, **settings):
-    done = subprocess.run([f"{top}/bench/gate", *words], capture_output=True, text=True, check=False, timeout=60,
+    done = subprocess.run([f"{top}/bench/gate", *words], capture_output=True, text=True, check=False, timeout=LONGEST,
                           env=settings_of(top, settings))
     return done.returncode, done.stdout, done.stderr
 
@@ -313,11 +313,11 @@ class Whole(Case):
                 while not os.path.exists(f"{self.top}/out/waits") and gate_.poll() is None:
                     time.sleep(0.01)
                 gate_.send_signal(number)
-                _, said = gate_.communicate(timeout=60)
+                _, said = gate_.communicate(timeout=LONGEST)
             self.assertEqual((gate_.returncode, said), (ends, b""))
             self.assertEqual((self.ran()[-1], self.new(), self.page()), ("ci text", ["marks"], False))
-            with self.assertRaises(ProcessLookupError):
-                os.kill(int(read(self.top, "out/waits")), 0)
+            waited = int(read(self.top, "out/waits"))
+            wait_until(lambda: not os.path.exists(f"/proc/{waited}"))
             os.remove(f"{self.top}/out/waits")
 
     def test_some_crates_and_those_below_them(self):

@@ -136,13 +136,13 @@ class Whole(Case):
                                r"check was compared in 1; 0 failed\n$")
 
     def test_a_program_that_does_not(self):
-        status, said, fault = run("hostile", "/bin/false", "20", "5")
-        kept = re.search(r"its trace is (\S+)$", said)[1]
-        self.addCleanup(os.remove, kept)
+        with tempfile.TemporaryDirectory() as room:
+            status, said, fault = run("hostile", "/bin/false", "20", "5", TMPDIR=room)
+            kept = glob.glob(f"{room}/*.trace")
         self.assertEqual((status, fault), (1, ""))
         self.assertIn("!status 1, b'', with workers=", said)
         self.assertIn("; 19 failed\nthe first failure is run 0: status 1, b'', with workers=", said)
-        self.assertEqual(glob.glob(kept.replace("-0.trace", "-*.trace")), [kept])
+        self.assertEqual(kept, [re.search(r"its trace is (\S+)$", said)[1]])
 
     def test_words(self):
         self.assertEqual(run("hostile", "/nowhere", "3"), (1, "", "bench/hostile: there is no program /nowhere\n"))

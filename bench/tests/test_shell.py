@@ -5,7 +5,7 @@ import shutil
 import subprocess
 import tempfile
 
-from common import TOP, Case, commands_in, run, write
+from common import LONGEST, TOP, Case, commands_in, run, write
 
 CONSTANT = 'const NAME: &str = "kubelet_replay";\n/// that of the file\npub const VERSION: &str = "1.2.3";\n'
 
@@ -13,7 +13,7 @@ CONSTANT = 'const NAME: &str = "kubelet_replay";\n/// that of the file\npub cons
 def gate(*words, **settings):
     """The status, the output and the errors of ./test, which ends before it proves anything."""
     done = subprocess.run([f"{TOP}/test", *words], stdin=subprocess.DEVNULL, capture_output=True, text=True,
-                          check=False, timeout=60, env={**os.environ, **settings})
+                          check=False, timeout=LONGEST, env={**os.environ, **settings})
     return done.returncode, done.stdout, done.stderr
 
 

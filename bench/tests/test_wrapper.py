@@ -5,7 +5,7 @@ import shutil
 import subprocess
 import tempfile
 
-from common import TOP, Case, write
+from common import LONGEST, TOP, Case, write
 
 # it says its words, then what it reads of standard input, then many lines; that it can't write is a line, as of Rust
 PROGRAM = """#!/usr/bin/env python3
@@ -40,7 +40,7 @@ class Wrapper(Case):
     def said(self, command, **settings):
         """The status, the output and the errors of a line of shell in the folder."""
         done = subprocess.run(["bash", "-c", command], cwd=self.top, input=b"a trace\n", capture_output=True, check=False,
-                              timeout=60, env={**os.environ, **settings})
+                              timeout=LONGEST, env={**os.environ, **settings})
         return done.returncode, done.stdout.decode(), done.stderr.decode()
 
     def test_words_are_handed_on(self):

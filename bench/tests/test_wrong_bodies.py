@@ -6,7 +6,7 @@ import shutil
 import subprocess
 import tempfile
 
-from common import SMALL, TESTS, TOP, Case, commands_in, lay_over, read, run, write
+from common import LONGEST, SMALL, TESTS, TOP, Case, commands_in, lay_over, read, run, write
 import edits
 import shelf
 
@@ -89,7 +89,7 @@ class Whole(Case):
 
     def tried(self, *words):
         done = subprocess.run([f"{self.top}/bench/wrong_bodies", *words], capture_output=True, text=True, check=False,
-                              timeout=60, env={**os.environ, "PATH": f"{HERE}:{os.environ['PATH']}",
+                              timeout=LONGEST, env={**os.environ, "PATH": f"{HERE}:{os.environ['PATH']}",
                                                "RT_WAS_CALLED": f"{self.top}/called"})
         return done.returncode, done.stdout, done.stderr
 
