@@ -107,7 +107,7 @@ const POD_EVENTS: [(usize, Option<usize>, PodEventKind, &str); 11] = [
     (2, Some(1), PodEventKind::Ready, "event 7   ready\n"),
 ];
 
-const OTHER_EVENTS: [(EventKind, &str); 6] = [
+const OTHER_EVENTS: [(EventKind, &str); 7] = [
     (
         EventKind::Node(NodeEvent::Threshold {
             key: KEY,
@@ -143,6 +143,10 @@ const OTHER_EVENTS: [(EventKind, &str); 6] = [
     (
         EventKind::Evicted(EVICTION),
         "event 7 node evicted default/p1 nodefs.inodesFree soft 30\n",
+    ),
+    (
+        EventKind::Named(EVICTION),
+        "event 7 node names default/p1 nodefs.inodesFree soft\n",
     ),
 ];
 

@@ -1,11 +1,10 @@
--- Ticks with their evictions have a list of events.
-use Rattle.std.proofs.Common.{◌≡◌, ◌∙◌, ℕ, ◌<◌, List, [], ◌∷◌, ◌++◌, length, Option, Some, None, refl, sym, subst}
-use Rattle.std.proofs.Common.{append_assoc, append-nil, arith}
+-- Ticks have a list of events, whatever the evictions are.
+use Rattle.std.proofs.Common.{◌≡◌, ◌∙◌, ℕ, ◌<◌, List, [], ◌++◌, length, Option, Some, None, refl, sym, subst}
+use Rattle.std.proofs.Common.{arith, take}
 use Rattle.std.specs.Prelude.{All, slice_get}
-use Rattle.std.proofs.lemmas.List.Elements.{All-head, All-tail}
+use Rattle.std.specs.List.{flat_map}
 use Rattle.std.proofs.lemmas.Option.{get_or_from_slice_get, same_Some, slice_get_within}
 use Rattle.histories.proofs.Found.{list_of}
-use Rattle.histories.proofs.Places.{length-more}
 use Rattle.histories.proofs.Lists.{given_at}
 use Rattle.manifest.specs.declared.pod.PodSpec.{PodSpec}
 use Rattle.node_config.specs.declared.node.NodeConfig.{NodeConfig}
@@ -20,10 +19,10 @@ use Rattle.pod_state.proofs.EventFoundLemmas.{some_list_of_events as some_of_pod
 use Rattle.pod_piece.specs.rule.Piece.{place_of}
 use Rattle.eviction.specs.declared.eviction.Eviction.{Eviction}
 use Rattle.eviction.specs.rule.Replay.{pod_ticks, own_eviction}
+use Rattle.eviction.proofs.Exists.{some_choice}
 use Rattle.event_list.specs.declared.event.Event.{Event}
-use Rattle.event_list.specs.rule.Events.{ArePodEvents, of_pods, of_node, of_eviction, AreTickEvents, AreEvents}
+use Rattle.event_list.specs.rule.Events.{ArePodEvents, of_pods, of_node, of_choice, AreTickEvents}
 use Rattle.event_list.specs.state.Laws.{ShowsKnownPods, HaveProbesInRange, HasProbesInRange, SomeListOfEvents}
-use Rattle.event_list.proofs.More.{no_events, events_more}
 
 -- what holds of all items holds of the one at a place
 all_at : {A : Type 0} (P : A → Type 0) (xs : List A) (n : ℕ) (x : A) → All P xs → slice_get xs n ≡ Some x → P x
@@ -92,46 +91,56 @@ some_pod_events config pods before tick es range known =
 
 -- of a tick
 some_tick_events : (config : NodeConfig) (pods : List PodSpec) (before : List TickObs) (tick : TickObs)
-    (es : List (Option Eviction)) (e : Option Eviction)
+    (es : List (Option Eviction))
     → HaveProbesInRange pods → ShowsKnownPods pods tick
-    → (events : List Event) × AreTickEvents config pods before tick es e events
-some_tick_events config pods before tick es e range known =
+    → (events : List Event) × AreTickEvents config pods before tick es events
+some_tick_events config pods before tick es range known =
     let made = some_pod_events config pods before tick es range known in
     let node_events =
-    some_list_of_node_events config.eviction config.eviction_pressure_transition_period before tick in (
-      of_pods tick.at 0 made.0 ++ (of_node tick.at node_events.0 ++ of_eviction tick.at e),
+    some_list_of_node_events config.eviction config.eviction_pressure_transition_period before tick in
+    let choice = some_choice config pods before tick es in
+    let named = of_choice config.evictions_recorded tick.at choice.0 in (
+      of_pods tick.at 0 made.0 ++ (of_node tick.at node_events.0 ++ named),
       record {
         made = made.0;
         are_made = made.1;
         node_events = node_events.0;
         are_node_events = node_events.1;
+        choice = choice.0;
+        is_choice = choice.1;
         in_order = refl;
       },
     )
 
--- of the ticks that follow
-events_from : (config : NodeConfig) (pods : List PodSpec) (later before : List TickObs)
-    (later_es es : List (Option Eviction)) (events : List Event)
-    → HaveProbesInRange pods → All (ShowsKnownPods pods) later
-    → length later_es ≡ length later → length es ≡ length before → AreEvents config pods before es events
-    → (all : List Event) × AreEvents config pods (before ++ later) (es ++ later_es) all
-events_from config pods [] before [] es events range known left many are =
-    let Of : List TickObs → List (Option Eviction) → Type 0 = λ h g. AreEvents config pods h g events in
-    (events, subst (Of (before ++ [])) (sym (append-nil es)) (subst (λ h. Of h es) (sym (append-nil before)) are))
-events_from config pods [] before (e ∷ later_es) es events range known left many are = absurd (omega arith)
-events_from config pods (tick ∷ later) before [] es events range known left many are = absurd (omega arith)
-events_from config pods (tick ∷ later) before (e ∷ later_es) es events range known left many are =
-    let part = some_tick_events config pods before tick es e range
-    (All-head (ShowsKnownPods pods) tick later known) in
-    let next = events_more config pods before es events part.0 tick e many are part.1 in
-    let Some_of : List TickObs → List (Option Eviction) → Type 0 =
-    λ h g. (all : List Event) × AreEvents config pods h g all in
-    subst (Some_of (before ++ tick ∷ later)) (append_assoc es (e ∷ []) later_es)
-    (subst (λ h. Some_of h ((es ++ e ∷ []) ++ later_es)) (append_assoc before (tick ∷ []) later)
-    (events_from config pods later (before ++ tick ∷ []) later_es (es ++ e ∷ []) (events ++ part.0) range
-    (All-tail (ShowsKnownPods pods) tick later known) (omega arith)
-    (omega (arith, length-more es e, length-more before tick)) next))
-
 pub some_list_of_events : SomeListOfEvents
-some_list_of_events config pods ticks es many known range =
-    events_from config pods ticks [] es [] [] range known many refl (no_events config pods)
+some_list_of_events config pods ticks es known range =
+    let parts = list_of Of (length ticks) each in
+    let many : length parts.0 ≡ length ticks = parts.1 in (
+      flat_map (λ (part : List Event). part) parts.0,
+      record {
+        parts = parts.0;
+        as_many = parts.1;
+        each = λ t tick part at here.
+            let lt : t < length parts.0 = slice_get_within parts.0 t part here in
+            subst (Of t) (get_or_from_slice_get parts.0 t part part here) (parts.2 t part (omega (arith, lt, many)))
+            tick at;
+        whole = refl;
+      },
+    )
+  where
+    -- of the tick at the place
+    Of : ℕ → List Event → Type 0
+    Of t part =
+        (tick : TickObs) → slice_get ticks t ≡ Some tick
+        → AreTickEvents config pods (take t ticks) tick (take t es) part
+
+    each : (t : ℕ) → t < length ticks → (part : List Event) × Of t part
+    each t lt =
+        let tick = given_at ticks t lt in
+        let part = some_tick_events config pods (take t ticks) tick.0 (take t es) range
+        (all_at (ShowsKnownPods pods) ticks t tick.0 known tick.1) in (
+          part.0,
+          λ other at.
+              subst (λ (x : TickObs). AreTickEvents config pods (take t ticks) x (take t es) part.0)
+              (same_Some tick.0 other (sym tick.1 ∙ at)) part.1,
+        )

@@ -1,6 +1,6 @@
 -- Events and totals after one more tick, and one more pod.
 use Rattle.std.proofs.Common.{◌≡◌, ◌∙◌, inl, inr, ℕ, zero, suc, ◌+◌, ◌<◌, ◌≤◌, List, [], ◌∷◌, ◌++◌, length, map, take}
-use Rattle.std.proofs.Common.{Option, Some, None, refl, ap, sym, subst, arith, append-nil}
+use Rattle.std.proofs.Common.{Bool, true, false, Option, Some, None, refl, ap, sym, subst, arith, append-nil}
 use Rattle.std.specs.Prelude.{slice_get}
 use Rattle.std.specs.Option.{option_flatten}
 use Rattle.std.specs.List.{filter, filter_map, flat_map, sum_by}
@@ -19,13 +19,14 @@ use Rattle.observations.specs.rule.Observations.{all_shown}
 use Rattle.node_signals.specs.declared.event.NodeEvent.{NodeEvent}
 use Rattle.pod_state.specs.declared.events.PodEvent.{PodEvent}
 use Rattle.eviction.specs.declared.eviction.Eviction.{Eviction}
+use Rattle.eviction.proofs.Arrived.{choice_arrived}
 use Rattle.totals.specs.declared.totals.Totals.{Totals}
 use Rattle.totals.specs.declared.totals.Entry.{Entry}
 use Rattle.totals.specs.rule.Totals.{is_order}
 use Rattle.totals.specs.state.Totals.{entry_of, sums_of, plus}
 use Rattle.event_list.specs.declared.event.Event.{Event}
 use Rattle.event_list.specs.declared.event.EventKind.TheVariants.{Pod}
-use Rattle.event_list.specs.rule.Events.{event, of_pods, of_node, of_eviction, AreTickEvents, AreEvents}
+use Rattle.event_list.specs.rule.Events.{event, of_pods, of_node, of_choice, AreTickEvents, AreEvents}
 use Rattle.event_list.specs.rule.Totals.{pod_events, totals_of}
 
 -- no ticks
@@ -33,7 +34,7 @@ pub no_events : (config : NodeConfig) (pods : List PodSpec) → AreEvents config
 no_events config pods = record {
   parts = [];
   as_many = refl;
-  each = λ t tick eviction part at is here. absurd (cc);
+  each = λ t tick part at here. absurd (cc);
   whole = refl;
 }
 
@@ -46,56 +47,45 @@ flat_more parts part =
 -- one tick more
 pub events_more : (config : NodeConfig) (pods : List PodSpec) (ticks : List TickObs) (es : List (Option Eviction))
     (evs part : List Event) (x : TickObs) (e : Option Eviction)
-    → length es ≡ length ticks → AreEvents config pods ticks es evs → AreTickEvents config pods ticks x es e part
+    → length es ≡ length ticks → AreEvents config pods ticks es evs → AreTickEvents config pods ticks x es part
     → AreEvents config pods (ticks ++ x ∷ []) (es ++ e ∷ []) (evs ++ part)
 events_more config pods ticks es evs part x e many are now = record {
   parts = are.parts ++ part ∷ [];
   as_many =
       let count : length are.parts ≡ length ticks = are.as_many in
       omega (arith, length-more are.parts part, length-more ticks x);
-  each = λ t tick eviction p at is here. elim (place_split ticks x tick t at) [
+  each = λ t tick p at here. elim (place_split ticks x tick t at) [
     | inl old ↦
         let lt : t < length ticks = slice_get_within ticks t tick old in
         let count : length are.parts ≡ length ticks = are.as_many in
-        elim (place_split es e eviction t is) [
-          | inl older ↦ elim (place_split are.parts part p t here) [
-            | inl oldest ↦
-                let P : List TickObs → Type 0 = λ h. AreTickEvents config pods h tick (take t (es ++ e ∷ [])) eviction
-                p in
-                let Q : List (Option Eviction) → Type 0 = λ g. AreTickEvents config pods (take t ticks) tick g
-                eviction p in
-                subst P (sym (take-append-le t ticks (x ∷ []) (omega arith)))
-                (subst Q (sym (take-append-le t es (e ∷ []) (omega arith)))
-                (are.each t tick eviction p old older oldest))
-            | inr w ↦ let same : t ≡ length are.parts = w.0 in absurd (omega arith)
-          ]
-          | inr w ↦ let same : t ≡ length es = w.0 in absurd (omega arith)
+        elim (place_split are.parts part p t here) [
+          | inl oldest ↦
+              let P : List TickObs → Type 0 = λ h. AreTickEvents config pods h tick (take t (es ++ e ∷ [])) p in
+              let Q : List (Option Eviction) → Type 0 = λ g. AreTickEvents config pods (take t ticks) tick g p in
+              subst P (sym (take-append-le t ticks (x ∷ []) (omega arith)))
+              (subst Q (sym (take-append-le t es (e ∷ []) (omega arith))) (are.each t tick p old oldest))
+          | inr w ↦ let same : t ≡ length are.parts = w.0 in absurd (omega arith)
         ]
     | inr v ↦
         let last : t ≡ length ticks = v.0 in
         let count : length are.parts ≡ length ticks = are.as_many in
-        elim (place_split es e eviction t is) [
-          | inl older ↦ let lt : t < length es = slice_get_within es t eviction older in absurd (omega arith)
-          | inr w ↦ elim (place_split are.parts part p t here) [
-            | inl oldest ↦ let lt : t < length are.parts = slice_get_within are.parts t p oldest in absurd (omega arith)
-            | inr u ↦ this t tick eviction p last w.0 v.1 w.1 u.1
-          ]
+        elim (place_split are.parts part p t here) [
+          | inl oldest ↦ let lt : t < length are.parts = slice_get_within are.parts t p oldest in absurd (omega arith)
+          | inr u ↦ this t tick p last (omega arith) v.1 u.1
         ]
   ];
   whole = ap (λ (xs : List Event). xs ++ part) are.whole ∙ sym (flat_more are.parts part);
 }
   where
-    this : (t : ℕ) (tick : TickObs) (eviction : Option Eviction) (p : List Event) → t ≡ length ticks
-        → t ≡ length es → x ≡ tick → e ≡ eviction → part ≡ p
-        → AreTickEvents config pods (take t (ticks ++ x ∷ [])) tick (take t (es ++ e ∷ [])) eviction p
-    this t tick eviction p last evicted same same' same'' =
-        let P : List TickObs → Type 0 = λ h. AreTickEvents config pods h tick (take t (es ++ e ∷ [])) eviction p in
-        let Q : List (Option Eviction) → Type 0 = λ g. AreTickEvents config pods ticks tick g eviction p in
-        let R : TickObs → Type 0 = λ y. AreTickEvents config pods ticks y es eviction p in
-        let S : Option Eviction → Type 0 = λ f. AreTickEvents config pods ticks x es f p in
-        let T : List Event → Type 0 = λ q. AreTickEvents config pods ticks x es e q in
+    this : (t : ℕ) (tick : TickObs) (p : List Event) → t ≡ length ticks → t ≡ length es → x ≡ tick → part ≡ p
+        → AreTickEvents config pods (take t (ticks ++ x ∷ [])) tick (take t (es ++ e ∷ [])) p
+    this t tick p last evicted same same' =
+        let P : List TickObs → Type 0 = λ h. AreTickEvents config pods h tick (take t (es ++ e ∷ [])) p in
+        let Q : List (Option Eviction) → Type 0 = λ g. AreTickEvents config pods ticks tick g p in
+        let R : TickObs → Type 0 = λ y. AreTickEvents config pods ticks y es p in
+        let S : List Event → Type 0 = λ q. AreTickEvents config pods ticks x es q in
         subst P (sym (take_old ticks x t last)) (subst Q (sym (take_old es e t evicted))
-        (subst R same (subst S same' (subst T same'' now))))
+        (subst R same (subst S same' now)))
 
 -- what is shown of a pod stands at its number
 shown_within : (shown : List (Option PodObs)) (n : ℕ) (observed : PodObs)
@@ -111,8 +101,9 @@ pub events_arrived : (config : NodeConfig) (pods : List PodSpec) (pod : PodSpec)
 events_arrived config pods pod ticks es evs are = record {
   parts = are.parts;
   as_many = are.as_many;
-  each = λ t tick eviction part at is here.
-      let now = are.each t tick eviction part at is here in record {
+  each = λ t tick part at here.
+      let now = are.each t tick part at here in
+      let few : length tick.pods ≤ length pods = now.are_made.known in record {
         made = now.made;
         are_made = record {
           known =
@@ -130,6 +121,8 @@ events_arrived config pods pod ticks es evs are = record {
         };
         node_events = now.node_events;
         are_node_events = now.are_node_events;
+        choice = now.choice;
+        is_choice = choice_arrived config pods pod (take t ticks) tick (take t es) now.choice few now.is_choice;
         in_order = now.in_order;
       };
   whole = are.whole;
@@ -157,21 +150,23 @@ none_of_node : (at : ℕ) (node_events : List NodeEvent) → pod_events (of_node
 none_of_node at [] = refl
 none_of_node at (e ∷ node_events) = none_of_node at node_events
 
-none_of_eviction : (at : ℕ) (e : Option Eviction) → pod_events (of_eviction at e) ≡ []
-none_of_eviction at None = refl
-none_of_eviction at (Some e) = refl
+pub none_of_choice : (recorded : Bool) (at : ℕ) (e : Option Eviction) → pod_events (of_choice recorded at e) ≡ []
+none_of_choice recorded at None = refl
+none_of_choice true at (Some e) = refl
+none_of_choice false at (Some e) = refl
 
 -- the events of pods in a tick
-pub pods_alone : (at : ℕ) (made : List (List PodEvent)) (node_events : List NodeEvent) (e : Option Eviction)
-    → pod_events (of_pods at 0 made ++ (of_node at node_events ++ of_eviction at e))
+pub pods_alone : (at : ℕ) (made : List (List PodEvent)) (node_events : List NodeEvent) (recorded : Bool)
+    (e : Option Eviction)
+    → pod_events (of_pods at 0 made ++ (of_node at node_events ++ of_choice recorded at e))
     ≡ flat_map (λ (events : List PodEvent). events) made
-pods_alone at made node_events e =
-    let rest : pod_events (of_node at node_events ++ of_eviction at e) ≡ [] =
-    pod_events-append (of_node at node_events) (of_eviction at e)
-    ∙ (ap (λ (es : List PodEvent). es ++ pod_events (of_eviction at e)) (none_of_node at node_events)
-    ∙ none_of_eviction at
+pods_alone at made node_events recorded e =
+    let rest : pod_events (of_node at node_events ++ of_choice recorded at e) ≡ [] =
+    pod_events-append (of_node at node_events) (of_choice recorded at e)
+    ∙ (ap (λ (es : List PodEvent). es ++ pod_events (of_choice recorded at e)) (none_of_node at node_events)
+    ∙ none_of_choice recorded at
     e) in
-    pod_events-append (of_pods at 0 made) (of_node at node_events ++ of_eviction at e)
+    pod_events-append (of_pods at 0 made) (of_node at node_events ++ of_choice recorded at e)
     ∙ (ap (λ (es : List PodEvent). pod_events (of_pods at 0 made) ++ es) rest
     ∙ (append-nil (pod_events (of_pods at 0 made)) ∙ of_all at 0 made))
 
@@ -238,16 +233,17 @@ same_totals a b c d e f ab be cf = cc
 
 -- the totals after one more tick, whose pods made these events
 pub totals_more : (ticks : List TickObs) (x : TickObs) (evs : List Event) (at : ℕ) (made : List (List PodEvent))
-    (node_events : List NodeEvent) (e : Option Eviction) (entries : List Entry)
+    (node_events : List NodeEvent) (recorded : Bool) (e : Option Eviction) (entries : List Entry)
     → AreEnteredFor x.pods made entries
-    → totals_of (ticks ++ x ∷ []) (evs ++ (of_pods at 0 made ++ (of_node at node_events ++ of_eviction at e)))
+    → totals_of (ticks ++ x ∷ []) (evs ++ (of_pods at 0 made ++ (of_node at node_events ++ of_choice recorded at e)))
     ≡ plus (totals_of ticks evs) (sums_of entries)
-totals_more ticks x evs at made node_events e entries are =
+totals_more ticks x evs at made node_events recorded e entries are =
     let f : TickObs → ℕ = λ (tick : TickObs). length (all_shown tick) in
-    let part = of_pods at 0 made ++ (of_node at node_events ++ of_eviction at e) in
+    let part = of_pods at 0 made ++ (of_node at node_events ++ of_choice recorded at e) in
     let flat = flat_map (λ (es : List PodEvent). es) made in
     let split : pod_events (evs ++ part) ≡ pod_events evs ++ flat =
-    pod_events-append evs part ∙ ap (λ (es : List PodEvent). pod_events evs ++ es) (pods_alone at made node_events e) in
+    pod_events-append evs part
+    ∙ ap (λ (es : List PodEvent). pod_events evs ++ es) (pods_alone at made node_events recorded e) in
     let count = counts x.pods made entries are in
     let one : sum_by f (x ∷ []) ≡ f x + 0 = sum_by-cons f x [] in
     let many : length entries ≡ f x = count.updates in

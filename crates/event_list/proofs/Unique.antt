@@ -18,8 +18,9 @@ use Rattle.pod_state.proofs.PodEventLemmas.{one_list_of_pod_events}
 use Rattle.pod_piece.specs.rule.Piece.{place_of}
 use Rattle.eviction.specs.declared.eviction.Eviction.{Eviction}
 use Rattle.eviction.specs.rule.Replay.{pod_ticks, own_eviction}
+use Rattle.eviction.proofs.Unique.{one_choice}
 use Rattle.event_list.specs.declared.event.Event.{Event}
-use Rattle.event_list.specs.rule.Events.{ArePodEvents, of_pods, of_node, of_eviction, AreTickEvents}
+use Rattle.event_list.specs.rule.Events.{ArePodEvents, of_pods, of_node, of_choice, AreTickEvents}
 use Rattle.event_list.specs.state.Laws.{OneListOfEvents}
 
 -- of the pods
@@ -43,33 +44,34 @@ pods_one config pods before tick es made others are were =
 
 -- of a tick
 tick_one : (config : NodeConfig) (pods : List PodSpec) (before : List TickObs) (tick : TickObs)
-    (es : List (Option Eviction)) (e : Option Eviction) (events others : List Event)
-    → AreTickEvents config pods before tick es e events → AreTickEvents config pods before tick es e others
+    (es : List (Option Eviction)) (events others : List Event)
+    → AreTickEvents config pods before tick es events → AreTickEvents config pods before tick es others
     → events ≡ others
-tick_one config pods before tick es e events others are were =
+tick_one config pods before tick es events others are were =
     let made : are.made ≡ were.made =
     pods_one config pods before tick es are.made were.made are.are_made were.are_made in
     let node_events : are.node_events ≡ were.node_events =
     one_list_of_node_events config.eviction config.eviction_pressure_transition_period before tick
     are.node_events were.node_events are.are_node_events were.are_node_events in
+    let choice : are.choice ≡ were.choice =
+    one_choice config pods before tick es are.choice were.choice are.is_choice were.is_choice in
+    let chosen = of_choice config.evictions_recorded tick.at in
     are.in_order
-    ∙ (ap (λ (m : List (List PodEvent)). of_pods tick.at 0 m
-    ++ (of_node tick.at are.node_events ++ of_eviction tick.at e))
+    ∙ (ap (λ (m : List (List PodEvent)). of_pods tick.at 0 m ++ (of_node tick.at are.node_events ++ chosen are.choice))
     made
-    ∙ (ap (λ (n : List NodeEvent). of_pods tick.at 0 were.made
-    ++ (of_node tick.at n ++ of_eviction tick.at e)) node_events
-    ∙ sym were.in_order))
+    ∙ (ap (λ (n : List NodeEvent). of_pods tick.at 0 were.made ++ (of_node tick.at n ++ chosen are.choice)) node_events
+    ∙ (ap (λ (o : Option Eviction). of_pods tick.at 0 were.made ++ (of_node tick.at were.node_events ++ chosen o))
+    choice
+    ∙ sym were.in_order)))
 
 -- of all ticks
 pub one_list_of_events : OneListOfEvents
-one_list_of_events config pods ticks es events others many are were =
+one_list_of_events config pods ticks es events others are were =
     let parts : are.parts ≡ were.parts =
     same_places are.parts were.parts (are.as_many ∙ sym were.as_many) (λ t x y here there.
     let lt : t < length are.parts = slice_get_within are.parts t x here in
     let count : length are.parts ≡ length ticks = are.as_many in
     let tick = given_at ticks t (omega arith) in
-    let eviction = given_at es t (omega arith) in
-    tick_one config pods (take t ticks) tick.0 (take t es) eviction.0 x y
-    (are.each t tick.0 eviction.0 x tick.1 eviction.1 here) (were.each t tick.0 eviction.0 y tick.1 eviction.1 there))
-    in
+    tick_one config pods (take t ticks) tick.0 (take t es) x y (are.each t tick.0 x tick.1 here)
+    (were.each t tick.0 y tick.1 there)) in
     are.whole ∙ (ap (λ (ps : List (List Event)). flat_map (λ (p : List Event). p) ps) parts ∙ sym were.whole)

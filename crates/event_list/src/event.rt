@@ -22,4 +22,6 @@ pub enum EventKind {
     Node(NodeEvent),
     /// A pod was evicted. (Kubernetes, "Node-pressure Eviction".)
     Evicted(Eviction),
+    /// The rules would evict a pod, on a node whose trace says itself whom it evicted.
+    Named(Eviction),
 }

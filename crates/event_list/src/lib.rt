@@ -6,14 +6,14 @@
 //! ```text
 //! of each pod, by number:   its containers' events, by number; then its phase
 //! of the node:              thresholds; then conditions
-//! of the eviction:          one, if a pod was evicted
+//! of the choice:            one, if the rules chose a pod: it is evicted, or named alone
 //! ```
 //!
 //! The module `Events` of `specs/` defines the events of a list of ticks and its evictions over the whole history
 //! (`AreEvents`): the parts of the ticks, one behind the other, each made by the definitions of `pod_state`,
 //! `node_signals` and `eviction`. By [`laws`] ticks with their evictions have one such list and no other.
-//! [`add_events`] adds the events of more ticks to a list, from the pieces that took them, and [`add_eviction`] that of
-//! an eviction; the module `Text` says what an event reads like, and [`event_text`] writes it.
+//! [`add_events`] adds the events of more ticks to a list, from the pieces that took them, and [`add_choice`] that of
+//! whom the rules chose; the module `Text` says what an event reads like, and [`event_text`] writes it.
 #![tactic(auto)]
 
 mod event;
@@ -28,5 +28,5 @@ pub use event::{Event, EventKind};
 pub use names::Names;
 pub use phrases::add_with_number;
 pub use text::{add_event_text, add_eviction_words, event_text};
-pub use tick::{TickEvents, add_events, add_eviction};
+pub use tick::{TickEvents, add_choice, add_events};
 pub use words::{eviction_words, phase_word, truth_word};

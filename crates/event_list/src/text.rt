@@ -2,9 +2,9 @@
 
 ghost use Rattle.std.specs.Prelude.{◌≡◌, ◌++◌, IfOk, OnOk, OnErr, string_bytes, Option, codes};
 ghost use Rattle.event_list.specs.rule.Text.{container_of, kind_words, pod_event_words, node_event_words};
-ghost use Rattle.event_list.specs.rule.Text.{event_words, event_line};
+ghost use Rattle.event_list.specs.rule.Text.{named_words, event_words, event_line};
 ghost use Rattle.event_list.specs.state.Text.{Extends};
-ghost use Rattle.event_list.specs.declared.event.EventKind.TheVariants.{Evicted};
+ghost use Rattle.event_list.specs.declared.event.EventKind.TheVariants.{Evicted, Named};
 ghost use Rattle.node_signals.specs.declared.event.NodeEvent.TheVariants.{Reclaim};
 ghost use Rattle.pod_piece.specs.state.Piece.{pods_in};
 ghost use Rattle.event_list.specs.state.Names.{pod_in, words_of};
@@ -152,6 +152,31 @@ fn add_evicted(text: &mut String, eviction: Eviction, names: Names<'_>) -> Resul
     add_key_and_order(text, eviction, names)
 }
 
+#[tactic(auto, unfolding(crate::specs::rule::Text::named_words))]
+fn add_key_and_threshold(
+    text: &mut String,
+    choice: Eviction,
+    names: Names<'_>,
+) -> Result<(), AllocError>
+    ensures ok { OnOk result (string_bytes text.new
+        ≡ string_bytes text.old ++ named_words (pods_in names.entry.pods.now) choice) }
+    ensures more { Extends (string_bytes text.old) (string_bytes text.new) }
+{
+    names.add_key(text, choice.pod)?;
+    add(text, " ")?;
+    add_threshold(text, choice.order.signal, choice.order.kind)
+}
+
+#[tactic(auto, unfolding(crate::specs::rule::Text::event_words))]
+fn add_named(text: &mut String, choice: Eviction, names: Names<'_>) -> Result<(), AllocError>
+    ensures ok { OnOk result (string_bytes text.new
+        ≡ string_bytes text.old ++ event_words (pods_in names.entry.pods.now) (Named choice)) }
+    ensures more { Extends (string_bytes text.old) (string_bytes text.new) }
+{
+    add(text, "node names ")?;
+    add_key_and_threshold(text, choice, names)
+}
+
 /// Appends the words of an event.
 #[tactic(auto, unfolding(crate::specs::rule::Text::event_words))]
 fn add_words(text: &mut String, event: EventKind, names: Names<'_>) -> Result<(), AllocError>
@@ -163,6 +188,7 @@ fn add_words(text: &mut String, event: EventKind, names: Names<'_>) -> Result<()
         EventKind::Pod { number, event } => add_pod_event(text, names, number, event),
         EventKind::Node(event) => add_node_event(text, event),
         EventKind::Evicted(eviction) => add_evicted(text, eviction, names),
+        EventKind::Named(choice) => add_named(text, choice, names),
     }
 }
 

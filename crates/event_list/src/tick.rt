@@ -4,7 +4,7 @@ ghost use Rattle.std.specs.Prelude.{◌≡◌, ◌<◌, ◌≤◌, ◌++◌, Lis
 ghost use Rattle.pod_piece.specs.state.Made.{MadeEvent, made_of, AreRoundEvents};
 ghost use Rattle.event_list.specs.declared.event.Event.{Event as AnEvent};
 ghost use Rattle.event_list.specs.declared.event.EventKind.TheVariants.{Pod};
-ghost use Rattle.event_list.specs.rule.Events.{event, of_node, of_eviction};
+ghost use Rattle.event_list.specs.rule.Events.{event, of_node, kind_of_choice, of_choice};
 ghost use Rattle.event_list.specs.state.Tick.{AreMadeBy, AddsEvents, AreOfTicks, MomentsRise};
 ghost use Rattle.event_list.specs.state.Tick.{events_of, events_by_pod, events_of_node, IsInOrder};
 
@@ -155,19 +155,31 @@ pub fn add_events(
     Ok(())
 }
 
-/// Adds the event of the eviction at the moment, in seconds, if there is one. An `Err` says that memory was refused,
-/// and nothing of the list.
-pub fn add_eviction(
-    events: &mut Vec<Event>,
-    at: u64,
-    eviction: Option<Eviction>,
-) -> Result<(), AllocError>
-    ensures { OnOk result (events.new.items ≡ events.old.items ++ of_eviction at eviction) }
+/// What a choice of the rules is: an eviction, or, where the trace says whom the node evicted, a name alone.
+fn kind_of_choice(recorded: bool, choice: Eviction) -> EventKind
+    ensures { result ≡ kind_of_choice recorded choice }
 {
-    if let Some(eviction) = eviction {
+    if recorded {
+        EventKind::Named(choice)
+    } else {
+        EventKind::Evicted(choice)
+    }
+}
+
+/// Adds the event of the choice at the moment, in seconds, if there is one: an eviction, or, where the trace says
+/// whom the node evicted, a name alone. An `Err` says that memory was refused, and nothing of the list.
+pub fn add_choice(
+    events: &mut Vec<Event>,
+    recorded: bool,
+    at: u64,
+    choice: Option<Eviction>,
+) -> Result<(), AllocError>
+    ensures { OnOk result (events.new.items ≡ events.old.items ++ of_choice recorded at choice) }
+{
+    if let Some(choice) = choice {
         events.push(Event {
             at,
-            kind: EventKind::Evicted(eviction),
+            kind: kind_of_choice(recorded, choice),
         })?;
     }
     Ok(())

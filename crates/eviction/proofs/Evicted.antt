@@ -27,9 +27,25 @@ use Rattle.ranking.specs.rule.Order.{IsVictim}
 use Rattle.eviction.specs.declared.eviction.Eviction.{Eviction}
 use Rattle.eviction.specs.rule.Replay.{pod_ticks, EvictedAt, evicted_at, own_eviction, IsCandidate, order_of}
 use Rattle.eviction.specs.rule.Replay.{IsOfVictim}
-use Rattle.eviction.specs.rule.Replay.{IsEvictionFor, is_paused, unless_paused, IsEvictionOfTick, IsReplay}
+use Rattle.eviction.specs.rule.Replay.{IsEvictionFor, is_paused, unless_paused, IsChoiceOfTick}
+use Rattle.eviction.specs.rule.Replay.{unless_recorded, IsEvictionOfTick, IsReplay}
 use Rattle.eviction.specs.state.Laws.{EvictedOnce, EvictedPodLived, ServedAlone}
 use Rattle.eviction.proofs.Own.{pod_ticks-more, of_pod, evicted_unless, own_eviction-longer}
+
+-- who is evicted was chosen
+pub chosen : (config : NodeConfig) (pods : List PodSpec) (before : List TickObs) (tick : TickObs)
+    (evictions : List (Option Eviction)) (eviction : Eviction)
+    → IsEvictionOfTick config pods before tick evictions (Some eviction)
+    → IsChoiceOfTick config pods before tick evictions (Some eviction)
+chosen config pods before tick evictions eviction round =
+    by config.evictions_recorded round.choice round.is_choice round.is_carried
+  where
+    by : (recorded : Bool) (choice : Option Eviction) → IsChoiceOfTick config pods before tick evictions choice
+        → Some eviction ≡ unless_recorded recorded choice
+        → IsChoiceOfTick config pods before tick evictions (Some eviction)
+    by true choice is carried = absurd (cc)
+    by false choice is carried =
+        subst (λ (o : Option Eviction). IsChoiceOfTick config pods before tick evictions o) (sym carried) is
 
 -- the threshold for which a tick evicts a pod, and the pod's status
 record Reason (config : NodeConfig) (pods : List PodSpec) (before : List TickObs) (tick : TickObs)
@@ -46,7 +62,8 @@ reason_of : (config : NodeConfig) (pods : List PodSpec) (before : List TickObs) 
     → IsEvictionOfTick config pods before tick evictions (Some eviction)
     → Reason config pods before tick evictions eviction
 reason_of config pods before tick evictions eviction round =
-    unpaused (is_paused config tick.at (before ++ tick ∷ []) evictions) round.served round.is_served round.is_for
+    let choice = chosen config pods before tick evictions eviction round in
+    unpaused (is_paused config tick.at (before ++ tick ∷ []) evictions) choice.served choice.is_served choice.is_for
   where
     of : (key : ThresholdKey) → IsServed config.eviction before tick (Some key) → (victim : Option ℕ)
         → IsVictim key.signal config.has_dedicated_imagefs (IsCandidate pods before tick evictions) victim

@@ -1,12 +1,12 @@
 -- Every list of ticks has its evictions.
 use Rattle.std.proofs.Common.{◌≡◌, ◌⊎◌, inl, inr, ℕ, ◌<◌, ◌≤◌, List, [], ◌∷◌, ◌++◌, length, Option, Some}
-use Rattle.std.proofs.Common.{None}
-use Rattle.std.proofs.Common.{refl, sym, subst, ◌∙◌, arith, append_assoc, append-nil}
+use Rattle.std.proofs.Common.{None, Bool}
+use Rattle.std.proofs.Common.{refl, sym, ap, subst, ◌∙◌, arith, append_assoc, append-nil}
 use Rattle.std.specs.Prelude.{◌^◌, slice_get, is_some, IsSome, option_and_then}
 use Rattle.std.proofs.lemmas.Option.{slice_get_within}
 use Rattle.histories.proofs.Decide.{OrNot, negated, both, true_or_not, less_or_not, given_or_not}
 use Rattle.histories.proofs.Found.{first_place}
-use Rattle.histories.proofs.Lists.{within_and}
+use Rattle.histories.proofs.Lists.{within_and, given_at}
 use Rattle.manifest.specs.declared.pod.PodSpec.{PodSpec}
 use Rattle.observations.specs.declared.tick.TickObs.{TickObs}
 use Rattle.observations.specs.rule.Observations.{shown_of}
@@ -28,8 +28,8 @@ use Rattle.ranking.proofs.LawLemmas.{RankAlike}
 use Rattle.ranking.proofs.Victims.{AreCandidates, victim_among}
 use Rattle.eviction.specs.declared.eviction.Eviction.{Eviction}
 use Rattle.eviction.specs.rule.Replay.{pod_ticks, own_eviction, IsCandidate, order_of, IsEvictionFor, is_paused}
-use Rattle.eviction.specs.rule.Replay.{unless_paused, IsEvictionOfTick, IsReplay}
-use Rattle.eviction.specs.state.Laws.{SomeReplay}
+use Rattle.eviction.specs.rule.Replay.{unless_paused, unless_recorded, IsEvictionOfTick, IsReplay}
+use Rattle.eviction.specs.state.Laws.{SomeChoice, SomeReplay, RecordedAlone}
 use Rattle.eviction.proofs.More.{no_replay, replay_more}
 use Rattle.eviction.proofs.Statuses.{some_status}
 
@@ -140,11 +140,8 @@ candidates pods before tick evictions = record {
       status_alike n c.pod eviction h p q c.is_status other;
 }
 
--- a tick has its eviction, or none
-some_round : (config : NodeConfig) (pods : List PodSpec) (before : List TickObs) (tick : TickObs)
-    (evictions : List (Option Eviction))
-    → (e : Option Eviction) × IsEvictionOfTick config pods before tick evictions e
-some_round config pods before tick evictions =
+pub some_choice : SomeChoice
+some_choice config pods before tick evictions =
     let served = some_served config.eviction before tick in
     let found = some_eviction (unless_paused (is_paused config tick.at (before ++ tick ∷ []) evictions) served.0) in
     (found.0, record { served = served.0; is_served = served.1; is_for = found.1 })
@@ -170,6 +167,16 @@ some_round config pods before tick evictions =
         let all = candidates pods before tick evictions in
         for_key key (victim_among key.signal config.has_dedicated_imagefs Candidate (length pods) all)
 
+-- a tick has its eviction, or none
+some_round : (config : NodeConfig) (pods : List PodSpec) (before : List TickObs) (tick : TickObs)
+    (evictions : List (Option Eviction))
+    → (e : Option Eviction) × IsEvictionOfTick config pods before tick evictions e
+some_round config pods before tick evictions =
+    let choice = some_choice config pods before tick evictions in (
+      unless_recorded config.evictions_recorded choice.0,
+      record { choice = choice.0; is_choice = choice.1; is_carried = refl },
+    )
+
 replay_from : (config : NodeConfig) (pods : List PodSpec) (later before : List TickObs)
     (evictions : List (Option Eviction))
     → IsReplay config pods before evictions
@@ -186,3 +193,11 @@ replay_from config pods (tick ∷ later) before evictions replay =
 
 pub some_replay : SomeReplay
 some_replay config pods ticks = replay_from config pods ticks [] [] (no_replay config pods)
+
+pub recorded_alone : RecordedAlone
+recorded_alone config pods ticks evictions t eviction recorded replay is =
+    let lt : t < length evictions = slice_get_within evictions t eviction is in
+    let many : length evictions ≡ length ticks = replay.as_many in
+    let tick = given_at ticks t (omega arith) in
+    let round = replay.each t tick.0 eviction tick.1 is in
+    round.is_carried ∙ ap (λ (b : Bool). unless_recorded b round.choice) recorded

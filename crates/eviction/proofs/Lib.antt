@@ -1,5 +1,6 @@
 pub mod Unique
 pub mod Own
+pub mod Arrived
 pub mod More
 pub mod Evicted
 pub mod Statuses

@@ -15,7 +15,7 @@ use Rattle.node_signals.specs.declared.key.ThresholdKey.{ThresholdKey}
 use Rattle.eviction.specs.declared.eviction.Eviction.{Eviction}
 use Rattle.eviction.specs.rule.Replay.{IsEvictionFor, is_over_in, pauses, is_paused, pause_in, unless_paused}
 use Rattle.eviction.specs.state.Laws.{PausedBetween}
-use Rattle.eviction.proofs.Evicted.{taken, moment_of}
+use Rattle.eviction.proofs.Evicted.{taken, chosen, moment_of}
 
 -- an item that passes a test
 some_passes : {A : Type 0} (test : A → Bool) (xs : List A) → list_any test xs ≡ true
@@ -116,8 +116,9 @@ paused_between config pods ticks evictions t u one other replay lt here there =
     let round = replay.each u tick.0 (Some other) tick.1 there in
     let es = take u evictions in
     let up_to = take u ticks ++ tick.0 ∷ [] in
-    let free = evicts_unpaused config pods (take u ticks) tick.0 es (is_paused config tick.0.at up_to es) round.served
-    other round.is_for in
+    let choice = chosen config pods (take u ticks) tick.0 es other round in
+    let free = evicts_unpaused config pods (take u ticks) tick.0 es (is_paused config tick.0.at up_to es) choice.served
+    other choice.is_for in
     let moment : other.order.at ≡ tick.0.at = moment_of config pods (take u ticks) tick.0 es other round in
     elim (passed config tick.0.at up_to es t one free (as_many evictions ticks u tick.0 many)
     (taken evictions t u (Some one) lt here)) [

@@ -16,8 +16,8 @@ use Rattle.pod_piece.specs.declared.status.PodStatus.{PodStatus}
 use Rattle.ranking.proofs.LawLemmas.{victim_unique}
 use Rattle.eviction.specs.declared.eviction.Eviction.{Eviction}
 use Rattle.eviction.specs.rule.Replay.{IsCandidate, order_of, Evicts, IsOfVictim, IsEvictionFor, is_paused}
-use Rattle.eviction.specs.rule.Replay.{unless_paused, IsEvictionOfTick}
-use Rattle.eviction.specs.state.Laws.{OneReplay}
+use Rattle.eviction.specs.rule.Replay.{unless_paused, unless_recorded, IsEvictionOfTick}
+use Rattle.eviction.specs.state.Laws.{OneChoice, OneReplay}
 
 -- two lists of which each place is determined by the places before it are one
 same_lists : {A : Type 0} (xs ys : List A) → length xs ≡ length ys
@@ -73,17 +73,22 @@ eviction_unique config pods before tick evictions (Some key) one other (a, is, e
     let P : Option ℕ → Type 0 = λ v. IsOfVictim config pods tick.at key v other in
     of_victim_unique config pods tick.at key a one other e (subst P same f)
 
-pub round_unique : (config : NodeConfig) (pods : List PodSpec) (before : List TickObs) (tick : TickObs)
-    (evictions : List (Option Eviction)) (one other : Option Eviction)
-    → IsEvictionOfTick config pods before tick evictions one → IsEvictionOfTick config pods before tick evictions other
-    → one ≡ other
-round_unique config pods before tick evictions one other v w =
+pub one_choice : OneChoice
+one_choice config pods before tick evictions one other v w =
     let P : Option ThresholdKey → Type 0 = λ served. IsEvictionFor config pods before tick evictions
     (unless_paused (is_paused config tick.at (before ++ tick ∷ []) evictions) served) other in
     let same : w.served ≡ v.served = served_unique config before tick w.served v.served w.is_served v.is_served in
     let paused = is_paused config tick.at (before ++ tick ∷ []) evictions in
     eviction_unique config pods before tick evictions (unless_paused paused v.served) one other v.is_for
     (subst P same w.is_for)
+
+round_unique : (config : NodeConfig) (pods : List PodSpec) (before : List TickObs) (tick : TickObs)
+    (evictions : List (Option Eviction)) (one other : Option Eviction)
+    → IsEvictionOfTick config pods before tick evictions one → IsEvictionOfTick config pods before tick evictions other
+    → one ≡ other
+round_unique config pods before tick evictions one other v w =
+    let same = one_choice config pods before tick evictions v.choice w.choice v.is_choice w.is_choice in
+    v.is_carried ∙ ap (λ (o : Option Eviction). unless_recorded config.evictions_recorded o) same ∙ sym w.is_carried
 
 pub one_replay : OneReplay
 one_replay config pods ticks one other v w = same_lists one other (v.as_many ∙ sym w.as_many) (λ t before x y e f.

@@ -1,7 +1,7 @@
 //! One eviction.
 
 ghost use Rattle.std.specs.Prelude.{◌≡◌};
-ghost use Rattle.eviction.specs.rule.Replay.{order_of};
+ghost use Rattle.eviction.specs.rule.Replay.{order_of, unless_recorded};
 
 use manifest::PodSpec;
 use node_config::NodeConfig;
@@ -36,5 +36,16 @@ pub fn order_for(config: &NodeConfig, pod: &PodSpec, at: u64, key: ThresholdKey)
         signal: key.signal,
         kind: key.kind,
         grace,
+    }
+}
+
+/// The eviction that a choice of the rules leads to: it is carried out, unless the trace says whom the node evicted.
+pub fn unless_recorded(config: &NodeConfig, choice: Option<Eviction>) -> Option<Eviction>
+    ensures { result ≡ unless_recorded config.now.evictions_recorded choice }
+{
+    if config.evictions_recorded {
+        None
+    } else {
+        choice
     }
 }

@@ -19,6 +19,21 @@ pub fn one_replay()
     ensures { laws.OneReplay }
 {}
 
+/// In each tick the rules choose a pod, or none.
+pub fn some_choice()
+    ensures { laws.SomeChoice }
+{}
+
+/// In a tick the rules have one choice at most.
+pub fn one_choice()
+    ensures { laws.OneChoice }
+{}
+
+/// Where the trace says whom the node evicted, the rules evict nobody.
+pub fn recorded_alone()
+    ensures { laws.RecordedAlone }
+{}
+
 /// No pod is evicted by two ticks.
 pub fn evicted_once()
     ensures { laws.EvictedOnce }

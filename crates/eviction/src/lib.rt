@@ -10,6 +10,9 @@
 //!                                   that are present and have not ended ──> its order: moment, signal, grace
 //! ```
 //!
+//! That is the choice of a tick. It is carried out, unless the trace says itself whom the node evicted: then the rules
+//! evict nobody, and the choice is an event alone.
+//!
 //! What is promised of the rule itself stands in the module `Laws` of `specs/`: each list of ticks has one list of
 //! evictions and no other; no pod is evicted twice, and who is evicted had not ended; each eviction has the threshold
 //! that asked for it; and between two the node's pause passes, or it ends with the first one's pod.
@@ -25,5 +28,5 @@ mod evictions;
 pub mod laws;
 mod over;
 
-pub use eviction::{Eviction, order_for};
+pub use eviction::{Eviction, order_for, unless_recorded};
 pub use evictions::Evictions;

@@ -50,6 +50,9 @@ pub struct NodeConfig {
     pub eviction_pause: u32,
     /// `evictionPauseUntilGone`: the pause is over once the evicted pod has ended or gone. False in versions 1 and 2.
     pub pauses_until_gone: bool,
+    /// `evictionsRecorded`: the trace says whom the node evicted, so the rules evict nobody, and name whom they would.
+    /// False in versions 1 and 2.
+    pub evictions_recorded: bool,
 }
 
 impl NodeConfig {

@@ -29,7 +29,7 @@ use Rattle.node_lines.specs.rule.Maps.{map_of, or_config, duration_from, duratio
 use Rattle.json_fields.specs.declared.scope.Scope.TheVariants.{Node}
 use Rattle.json_fields.proofs.SignalMapRefused.{each_only, map_only, each_err}
 use Rattle.node_lines.specs.rule.Node.{whole_number, version_named, version_of, name_from, restart_delay_of, flag_of}
-use Rattle.node_lines.specs.rule.Node.{few_seconds, seconds_of, pause_of, until_gone_of, settings_in, node_of}
+use Rattle.node_lines.specs.rule.Node.{few_seconds, seconds_of, pause_of, flag_of_three, settings_in, node_of}
 use Rattle.node_lines.specs.rule.Thresholds.{soft_threshold, written_over, written_in, soft_thresholds, eviction_from}
 use Rattle.node_lines.proofs.LawLemmas.{IsWritten, limit_read, in_read, soft_limit_of, grace_of}
 
@@ -131,10 +131,10 @@ pause_only One found = only_ok IsConfig 0
 pause_only Two found = only_ok IsConfig 0
 pause_only Three found = seconds_only found
 
-until_gone_only : (version : Version) (found : Option Data) → Only IsConfig (until_gone_of version found)
-until_gone_only One found = only_ok IsConfig false
-until_gone_only Two found = only_ok IsConfig false
-until_gone_only Three found = flag_only found
+three_only : (version : Version) (found : Option Data) → Only IsConfig (flag_of_three version found)
+three_only One found = only_ok IsConfig false
+three_only Two found = only_ok IsConfig false
+three_only Three found = flag_only found
 
 settings_only : (d : Data) → Only IsConfig (settings_in d)
 unfolding settings_in
@@ -146,7 +146,8 @@ settings_only d =
     only_bind P _ _ (seconds_only (field_at (codes "evictionMaxPodGracePeriod") d)) (λ f.
     only_bind P _ _ (duration_only (field_at (codes "evictionPressureTransitionPeriod") d)) (λ g.
     only_bind P _ _ (pause_only a (field_at (codes "evictionPauseSeconds") d)) (λ h.
-    only_bind P _ _ (until_gone_only a (field_at (codes "evictionPauseUntilGone") d)) (λ i. only_ok P _)))))))
+    only_bind P _ _ (three_only a (field_at (codes "evictionPauseUntilGone") d)) (λ i.
+    only_bind P _ _ (three_only a (field_at (codes "evictionsRecorded") d)) (λ j. only_ok P _))))))))
 
 -- so a missing grace was answered after them
 passed : {A B : Type 0} (r : Result A NodeFault) (f : A → Result B NodeFault) → Only IsConfig r

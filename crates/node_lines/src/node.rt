@@ -5,7 +5,7 @@ ghost use Rattle.serde_json.specs.View.{view};
 ghost use Rattle.json_fields.specs.state.Reading.{GivesExactly, GivesUnless};
 ghost use Rattle.node_lines.specs.state.Memory.{is_memory};
 ghost use Rattle.node_lines.specs.rule.Node.{version_of, name_from, restart_delay_of, flag_of, seconds_of};
-ghost use Rattle.node_lines.specs.rule.Node.{or_default, pause_of, until_gone_of, settings_in, node_of};
+ghost use Rattle.node_lines.specs.rule.Node.{or_default, pause_of, flag_of_three, settings_in, node_of};
 
 use crate::eviction::{eviction_from, written_in};
 use crate::fault::NodeFault;
@@ -26,6 +26,7 @@ pub(crate) struct Settings {
     transition_period: u64,
     eviction_pause: u32,
     pauses_until_gone: bool,
+    evictions_recorded: bool,
 }
 
 /// How long a condition of the node stays where nothing else is written, in seconds.
@@ -108,9 +109,9 @@ fn pause(version: Version, found: Option<&Value>) -> Result<u32, NodeFault>
     }
 }
 
-/// Whether a pause ends with the pod that was evicted, in a version that says so.
-fn until_gone(version: Version, found: Option<&Value>) -> Result<bool, NodeFault>
-    ensures { result ≡ until_gone_of version (option_map (λ v. view v.now) found.entry) }
+/// True or false in a field that version 3 alone has.
+fn flag_of_three(version: Version, found: Option<&Value>) -> Result<bool, NodeFault>
+    ensures { result ≡ flag_of_three version (option_map (λ v. view v.now) found.entry) }
 {
     match version {
         Version::One | Version::Two => Ok(false),
@@ -128,7 +129,8 @@ fn settings_in(node: &Value) -> Result<Settings, NodeFault>
     let max_pod_grace_period = seconds(field(node, "evictionMaxPodGracePeriod"))?;
     let transition_period = duration_at(field(node, "evictionPressureTransitionPeriod"))?;
     let eviction_pause = pause(version, field(node, "evictionPauseSeconds"))?;
-    let pauses_until_gone = until_gone(version, field(node, "evictionPauseUntilGone"))?;
+    let pauses_until_gone = flag_of_three(version, field(node, "evictionPauseUntilGone"))?;
+    let evictions_recorded = flag_of_three(version, field(node, "evictionsRecorded"))?;
     Ok(Settings {
         version,
         max_restart_delay,
@@ -137,6 +139,7 @@ fn settings_in(node: &Value) -> Result<Settings, NodeFault>
         transition_period: or_default(transition_period),
         eviction_pause,
         pauses_until_gone,
+        evictions_recorded,
     })
 }
 
@@ -166,5 +169,6 @@ pub fn node_of(alloc: Global, node: &Value) -> Result<NodeConfig, NodeFault>
         eviction_pressure_transition_period: settings.transition_period,
         eviction_pause: settings.eviction_pause,
         pauses_until_gone: settings.pauses_until_gone,
+        evictions_recorded: settings.evictions_recorded,
     })
 }

@@ -109,7 +109,7 @@ some_conditions config ticks =
 pub some_report : SomeReport
 some_report config ticks pods known range =
     let evictions = some_replay config pods ticks in
-    let events = some_list_of_events config pods ticks evictions.0 evictions.1.as_many known range in
+    let events = some_list_of_events config pods ticks evictions.0 known range in
     let pod_lines = some_lines ticks evictions.0 pods in
     let statuses = some_conditions config ticks in (
       report_lines config.name pods (length ticks) events.0 pod_lines.0 statuses.0 evictions.0

@@ -105,7 +105,7 @@ one_report config ticks pods a b x y =
     let same : y.evictions ≡ x.evictions =
     one_replay config pods ticks y.evictions x.evictions y.are_evictions x.are_evictions in
     let events : x.events ≡ y.events =
-    one_list_of_events config pods ticks x.evictions x.events y.events x.are_evictions.as_many x.are_events
+    one_list_of_events config pods ticks x.evictions x.events y.events x.are_events
     (subst (λ (es : List (Option Eviction)). AreEvents config pods ticks es y.events) same y.are_events) in
     let lines : x.pod_lines ≡ y.pod_lines =
     all_lines_one ticks x.evictions pods x.pod_lines y.pod_lines x.are_pod_lines

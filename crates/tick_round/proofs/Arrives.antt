@@ -1,9 +1,9 @@
 -- A node with one more pod.
 use Rattle.std.proofs.Common.{◌≡◌, inl, inr, ℕ, zero, suc, ◌<◌, ◌≤◌, List, [], ◌∷◌, ◌++◌, length, map}
-use Rattle.std.proofs.Common.{take, true, false, Option, Some, None, refl, sym, ap, subst, ◌∙◌, arith}
+use Rattle.std.proofs.Common.{take, Option, Some, None, refl, sym, ap, subst, ◌∙◌, arith}
 use Rattle.std.specs.List.{cons_option}
 use Rattle.std.specs.Option.{option_flatten}
-use Rattle.std.specs.Prelude.{◌↔◌, slice_get, IsSome, option_map}
+use Rattle.std.specs.Prelude.{slice_get, option_map}
 use Rattle.std.proofs.lemmas.Option.{slice_get_within, slice_get_past}
 use Rattle.histories.proofs.Places.{length-more}
 use Rattle.histories.proofs.Lists.{place_split, given_at, slice_get-new}
@@ -17,14 +17,14 @@ use Rattle.observations.specs.rule.Limits.{most_pods}
 use Rattle.node_signals.specs.declared.key.ThresholdKey.{ThresholdKey}
 use Rattle.pod_state.specs.rule.Pods.{PodTick, pod_tick}
 use Rattle.pod_piece.specs.declared.piece.EvictionRecord.{EvictionRecord}
-use Rattle.pod_piece.specs.declared.status.PodStatus.{PodStatus}
 use Rattle.pod_piece.specs.rule.Piece.{Piece}
 use Rattle.pod_piece.specs.state.Piece.{new_piece, pods_in}
-use Rattle.ranking.proofs.LawLemmas.{same_victim}
 use Rattle.eviction.specs.declared.eviction.Eviction.{Eviction}
-use Rattle.eviction.specs.rule.Replay.{EvictedAt, pod_ticks, own_eviction, IsCandidate}
+use Rattle.eviction.specs.rule.Replay.{EvictedAt, pod_ticks, own_eviction}
 use Rattle.eviction.specs.state.Pausing.{kept}
-use Rattle.eviction.specs.rule.Replay.{IsOfVictim, IsEvictionFor, is_paused, unless_paused, IsEvictionOfTick}
+use Rattle.eviction.specs.rule.Replay.{IsEvictionFor, is_paused, unless_paused, IsEvictionOfTick}
+use Rattle.eviction.proofs.Arrived.{choice_arrived}
+use Rattle.eviction.proofs.Evicted.{chosen}
 use Rattle.eviction.proofs.Own.{evicted_none}
 use Rattle.node_pods.specs.state.Pods.{Pods, with_pod}
 use Rattle.event_list.proofs.More.{events_arrived}
@@ -38,11 +38,6 @@ get_left : {A : Type 0} (xs : List A) (y : A) (n : ℕ) (x : A) → slice_get xs
 get_left [] y n x e = absurd (cc)
 get_left (z ∷ xs) y zero x e = e
 get_left (z ∷ xs) y (suc n) x e = get_left xs y n x e
-
-present_below : (xs : List (Option PodObs)) (n : ℕ) → IsSome (option_flatten (slice_get xs n)) → n < length xs
-present_below [] n e = let f : false ≡ true = e in absurd (cc)
-present_below (x ∷ xs) zero e = omega arith
-present_below (x ∷ xs) (suc n) e = let lt : n < length xs = present_below xs n e in omega arith
 
 -- a pod that no tick shows has no ticks
 unshown : (ticks : List TickObs) (n : ℕ)
@@ -58,60 +53,19 @@ same_round : (config : NodeConfig) (pods : List PodSpec) (pod : PodSpec) (before
     (es : List (Option Eviction)) (eviction : Option Eviction)
     → length tick.pods ≤ length pods → IsEvictionOfTick config pods before tick es eviction
     → IsEvictionOfTick config (pods ++ pod ∷ []) before tick es eviction
-same_round config pods pod before tick es eviction fewer r =
-    record {
-      served = r.served;
-      is_served = r.is_served;
-      is_for = for (unless_paused (is_paused config tick.at (before ++ tick ∷ []) es) r.served) r.is_for;
-    }
-  where
-    same : (n : ℕ) (p : PodStatus)
-        → (IsCandidate pods before tick es n p ↔ IsCandidate (pods ++ pod ∷ []) before tick es n p)
-    same n p = (
-      (λ c. record {
-        pod = c.pod;
-        at = get_left pods pod n c.pod c.at;
-        present = c.present;
-        is_status = c.is_status;
-        may = c.may;
-      }),
-      (λ c.
-          let lt : n < length tick.pods = present_below tick.pods n c.present in
-          elim (place_split pods pod c.pod n c.at) [
-            | inl old ↦ record {
-              pod = c.pod;
-              at = old;
-              present = c.present;
-              is_status = c.is_status;
-              may = c.may;
-            }
-            | inr w ↦ let here : n ≡ length pods = w.0 in absurd (omega arith)
-          ]),
-    )
-
-    of : (key : ThresholdKey) (victim : Option ℕ) (e : Option Eviction) → IsOfVictim config pods tick.at key victim e
-        → IsOfVictim config (pods ++ pod ∷ []) tick.at key victim e
-    of key None e v = v
-    of key (Some n) None v = v
-    of key (Some n) (Some e) v =
-        record { pod = v.pod; is_pod = get_left pods pod n v.pod v.is_pod; number = v.number; order = v.order }
-
-    for : (served : Option ThresholdKey) → IsEvictionFor config pods before tick es served eviction
-        → IsEvictionFor config (pods ++ pod ∷ []) before tick es served eviction
-    for None by = by
-    for (Some key) (victim, is, v) = (
-      victim,
-      same_victim key.signal config.has_dedicated_imagefs (IsCandidate pods before tick es)
-          (IsCandidate (pods ++ pod ∷ []) before tick es) same victim is,
-      of key victim eviction v,
-    )
+same_round config pods pod before tick es eviction fewer r = record {
+  choice = r.choice;
+  is_choice = choice_arrived config pods pod before tick es r.choice fewer r.is_choice;
+  is_carried = r.is_carried;
+}
 
 -- who is evicted is one of the pods
 evicted_below : (config : NodeConfig) (pods : List PodSpec) (before : List TickObs) (tick : TickObs)
     (es : List (Option Eviction)) (e : Eviction)
     → IsEvictionOfTick config pods before tick es (Some e) → e.pod < length pods
 evicted_below config pods before tick es e r =
-    by (unless_paused (is_paused config tick.at (before ++ tick ∷ []) es) r.served) r.is_for
+    let choice = chosen config pods before tick es e r in
+    by (unless_paused (is_paused config tick.at (before ++ tick ∷ []) es) choice.served) choice.is_for
   where
     by : (served : Option ThresholdKey) → IsEvictionFor config pods before tick es served (Some e)
         → e.pod < length pods

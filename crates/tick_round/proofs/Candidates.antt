@@ -1,7 +1,7 @@
 -- The candidates and the eviction of a tick, by a node's pieces and by its history.
-use Rattle.std.proofs.Common.{◌≡◌, ℕ, List, [], ◌∷◌, ◌++◌}
+use Rattle.std.proofs.Common.{◌≡◌, ℕ, Bool, true, false, List, [], ◌∷◌, ◌++◌}
 use Rattle.std.proofs.Common.{Option, Some, None, refl, sym, ap, subst, ◌∙◌}
-use Rattle.std.specs.Prelude.{◌↔◌, IsSome, slice_get, option_map}
+use Rattle.std.specs.Prelude.{◌↔◌, IsSome, IfSome, slice_get, option_map}
 use Rattle.std.proofs.lemmas.Option.{slice_get-map}
 use Rattle.std.proofs.lemmas.List.{length-map}
 use Rattle.histories.specs.rule.Histories.{last_moment}
@@ -21,10 +21,10 @@ use Rattle.pod_piece.specs.state.Status.{IsStatusOf}
 use Rattle.ranking.proofs.LawLemmas.{same_victim}
 use Rattle.eviction.specs.declared.eviction.Eviction.{Eviction}
 use Rattle.eviction.specs.rule.Replay.{IsCandidate as IsCandidateIn, IsOfVictim, IsEvictionFor, is_paused}
-use Rattle.eviction.specs.rule.Replay.{unless_paused, IsEvictionOfTick}
+use Rattle.eviction.specs.rule.Replay.{unless_paused, unless_recorded, IsChoiceOfTick}
 use Rattle.node_pods.specs.state.Pods.{IsCandidate, MayBeHanded, AreAfter}
 use Rattle.node_pods.proofs.Kept.{present_shown, shown_present}
-use Rattle.tick_round.specs.state.Evict.{IsEvictionAt, MayBeCarriedOut}
+use Rattle.tick_round.specs.state.Evict.{IsChoiceAt, MayBeCarriedOut}
 use Rattle.tick_round.specs.state.Node.{piece_after, ArePieces}
 use Rattle.tick_round.proofs.Pieces.{pod_at}
 
@@ -80,33 +80,45 @@ pods_are config pods ticks es pieces are =
     sym here ∙ (slice_get-map pod_of pieces n ∙ ap (option_map pod_of) (are.each n y there)) in
     cc)
 
--- the eviction by the node's pieces is that of the round
+-- the choice by the node's pieces is that of the round
 pub round_of : (config : NodeConfig) (pods : List PodSpec) (before : List TickObs) (tick : TickObs)
     (es : List (Option Eviction)) (pieces : List Piece)
-    (served : Option ThresholdKey) (eviction : Option Eviction)
+    (served : Option ThresholdKey) (choice : Option Eviction)
     → ArePresent pieces tick → ArePieces config pods (before ++ tick ∷ []) es pieces
     → IsServed config.eviction before tick served
-    → IsEvictionAt config pieces tick.at
-    (unless_paused (is_paused config tick.at (before ++ tick ∷ []) es) served) eviction
-    → IsEvictionOfTick config pods before tick es eviction
-round_of config pods before tick es pieces served eviction present are is by =
+    → IsChoiceAt config pieces tick.at
+    (unless_paused (is_paused config tick.at (before ++ tick ∷ []) es) served) choice
+    → IsChoiceOfTick config pods before tick es choice
+round_of config pods before tick es pieces served choice present are is by =
     let paused = is_paused config tick.at (before ++ tick ∷ []) es in
     record { served = served; is_served = is; is_for = for (unless_paused paused served) by }
   where
-    for : (served : Option ThresholdKey) → IsEvictionAt config pieces tick.at served eviction
-        → IsEvictionFor config pods before tick es served eviction
+    for : (served : Option ThresholdKey) → IsChoiceAt config pieces tick.at served choice
+        → IsEvictionFor config pods before tick es served choice
     for None by = by
     for (Some key) (victim, first, of) = (
       victim,
       same_victim key.signal config.has_dedicated_imagefs (IsCandidate pieces tick.at)
           (IsCandidateIn pods before tick es) (candidates config pods before tick es pieces present are) victim first,
-      subst (λ (ps : List PodSpec). IsOfVictim config ps tick.at key victim eviction)
+      subst (λ (ps : List PodSpec). IsOfVictim config ps tick.at key victim choice)
           (pods_are config pods (before ++ tick ∷ []) es pieces are) of,
     )
 
+-- who is evicted was chosen
+abbrev pub IsChosenAt : NodeConfig → List Piece → ℕ → Option ThresholdKey → Option Eviction → Type 0
+IsChosenAt config pieces at served eviction = IfSome eviction (λ e. IsChoiceAt config pieces at served (Some e))
+
+pub is_chosen : (config : NodeConfig) (pieces : List Piece) (at : ℕ) (served : Option ThresholdKey) (recorded : Bool)
+    (choice eviction : Option Eviction) → IsChoiceAt config pieces at served choice
+    → eviction ≡ unless_recorded recorded choice → IsChosenAt config pieces at served eviction
+is_chosen config pieces at served recorded choice None by carried = tt
+is_chosen config pieces at served true choice (Some e) by carried = absurd (cc)
+is_chosen config pieces at served false choice (Some e) by carried =
+    subst (λ (o : Option Eviction). IsChoiceAt config pieces at served o) (sym carried) by
+
 -- the eviction may be carried out
 pub may_be_carried_out : (config : NodeConfig) (pieces : List Piece) (at : ℕ) (served : Option ThresholdKey)
-    (eviction : Option Eviction) → IsEvictionAt config pieces at served eviction → MayBeCarriedOut pieces eviction
+    (eviction : Option Eviction) → IsChosenAt config pieces at served eviction → MayBeCarriedOut pieces eviction
 may_be_carried_out config pieces at served None by = tt
 may_be_carried_out config pieces at None (Some e) by = absurd (cc)
 may_be_carried_out config pieces at (Some key) (Some e) (None, is, of) = absurd (cc)
@@ -120,7 +132,7 @@ may_be_carried_out config pieces at (Some key) (Some e) (Some n, (status, candid
 
 -- its moment is that of the tick
 pub evicts_now : (config : NodeConfig) (pieces : List Piece) (at : ℕ) (served : Option ThresholdKey) (e : Eviction)
-    → IsEvictionAt config pieces at served (Some e) → e.order.at ≡ at
+    → IsChoiceAt config pieces at served (Some e) → e.order.at ≡ at
 evicts_now config pieces at None e by = absurd (cc)
 evicts_now config pieces at (Some key) e (None, is, of) = absurd (cc)
 evicts_now config pieces at (Some key) e (Some n, first, of) = ap (λ (o : EvictOrder). o.at) of.order

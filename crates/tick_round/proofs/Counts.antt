@@ -22,9 +22,10 @@ use Rattle.totals.specs.state.Rounds.{is_made_order, addition_of, sums_of_additi
 use Rattle.event_list.specs.declared.event.Event.{Event}
 use Rattle.event_list.specs.declared.event.EventKind.TheVariants.{Pod}
 use Rattle.event_list.specs.declared.tick.TickEvents.{TickEvents}
-use Rattle.event_list.specs.rule.Events.{event, of_pods, of_node, of_eviction}
+use Rattle.event_list.specs.rule.Events.{event, of_pods, of_node, of_choice}
 use Rattle.event_list.specs.state.Tick.{events_at, of_ticks}
 use Rattle.event_list.specs.rule.Totals.{pod_events, totals_of}
+use Rattle.event_list.proofs.More.{none_of_choice}
 use Rattle.tick_round.proofs.Told.{weight_of}
 
 -- a count is a sum of ones, and so is one of those that pass a test
@@ -115,10 +116,9 @@ weight_of_node : (f : PodEvent → ℕ) (at : ℕ) (node_events : List NodeEvent
 weight_of_node f at [] = refl
 weight_of_node f at (e ∷ node_events) = weight_of_node f at node_events
 
-weight_of_eviction : (f : PodEvent → ℕ) (at : ℕ) (eviction : Option Eviction)
-    → sum_by f (pod_events (of_eviction at eviction)) ≡ 0
-weight_of_eviction f at None = refl
-weight_of_eviction f at (Some eviction) = refl
+weight_of_choice : (f : PodEvent → ℕ) (recorded : Bool) (at : ℕ) (choice : Option Eviction)
+    → sum_by f (pod_events (of_choice recorded at choice)) ≡ 0
+weight_of_choice f recorded at choice = ap (sum_by f) (none_of_choice recorded at choice)
 
 -- each row is that of its tick, by its moment
 abbrev pub AreRows : List TickEvents → List TickObs → Type 0
@@ -272,32 +272,32 @@ totals updates events orders = record { updates = updates; events = events; orde
 same_totals : (u e o u' e' o' : ℕ) → u ≡ u' → e ≡ e' → o ≡ o' → totals u e o ≡ totals u' e' o'
 same_totals u e o u' e' o' p q r = λ i. totals (p i) (q i) (r i)
 
-of_part : (f : PodEvent → ℕ) (evs : List Event) (rows : List TickEvents) (owns : List (List MadeEvent)) (at : ℕ)
-    (eviction : Option Eviction)
-    → sum_by f (pod_events (evs ++ (of_ticks rows owns ++ of_eviction at eviction)))
+of_part : (f : PodEvent → ℕ) (evs : List Event) (rows : List TickEvents) (owns : List (List MadeEvent))
+    (recorded : Bool) (at : ℕ) (choice : Option Eviction)
+    → sum_by f (pod_events (evs ++ (of_ticks rows owns ++ of_choice recorded at choice)))
     ≡ sum_by f (pod_events evs) + sum_by f (pod_events (of_ticks rows owns))
-of_part f evs rows owns at eviction =
-    let more = of_ticks rows owns ++ of_eviction at eviction in
+of_part f evs rows owns recorded at choice =
+    let more = of_ticks rows owns ++ of_choice recorded at choice in
     let split : sum_by f (pod_events more) ≡ sum_by f (pod_events (of_ticks rows owns)) =
-    ap (sum_by f) (pod_events-append (of_ticks rows owns) (of_eviction at eviction))
-    ∙ sum_by-append f (pod_events (of_ticks rows owns)) (pod_events (of_eviction at eviction))
-    ∙ ap (λ n. sum_by f (pod_events (of_ticks rows owns)) + n) (weight_of_eviction f at eviction) ∙ omega arith in
+    ap (sum_by f) (pod_events-append (of_ticks rows owns) (of_choice recorded at choice))
+    ∙ sum_by-append f (pod_events (of_ticks rows owns)) (pod_events (of_choice recorded at choice))
+    ∙ ap (λ n. sum_by f (pod_events (of_ticks rows owns)) + n) (weight_of_choice f recorded at choice) ∙ omega arith in
     ap (sum_by f) (pod_events-append evs more) ∙ sum_by-append f (pod_events evs) (pod_events more)
     ∙ ap (λ n. sum_by f (pod_events evs) + n) split
 
 -- the totals of all ticks, once these are added
 pub totals_added : (before ticks : List TickObs) (evs : List Event) (rows : List TickEvents)
-    (owns : List (List MadeEvent)) (at : ℕ) (eviction : Option Eviction) (additions : List Totals)
+    (owns : List (List MadeEvent)) (recorded : Bool) (at : ℕ) (choice : Option Eviction) (additions : List Totals)
     → AreRows rows ticks
     → ((t : ℕ) (x : TickObs) → slice_get ticks t ≡ Some x → length x.pods ≤ length owns)
     → ((f : PodEvent → ℕ) (n : ℕ) (own : List MadeEvent) → slice_get owns n ≡ Some own
     → weight_of f own ≡ sum_by (λ (x : TickObs). sum_by f (events_at x.at own)) ticks)
     → AreFor (λ n. length (pod_ticks ticks n)) owns additions
-    → totals_of (before ++ ticks) (evs ++ (of_ticks rows owns ++ of_eviction at eviction))
+    → totals_of (before ++ ticks) (evs ++ (of_ticks rows owns ++ of_choice recorded at choice))
     ≡ plus (totals_of before evs) (sums_of_additions additions)
-totals_added before ticks evs rows owns at eviction additions are few weighs for =
+totals_added before ticks evs rows owns recorded at choice additions are few weighs for =
     let count : TickObs → ℕ = λ x. length (all_shown x) in
-    let all = evs ++ (of_ticks rows owns ++ of_eviction at eviction) in
+    let all = evs ++ (of_ticks rows owns ++ of_choice recorded at choice) in
     let events = pod_events all in
     same_totals (sum_by count (before ++ ticks)) (length events) (length (filter is_order events))
     (sum_by count before + sum_by (λ (t : Totals). t.updates) additions)
@@ -306,12 +306,12 @@ totals_added before ticks evs rows owns at eviction additions are few weighs for
     (sum_by-append count before ticks
     ∙ ap (λ n. sum_by count before + n) (all_updates ticks (length owns) few
     ∙ sym (added_updates (λ n. length (pod_ticks ticks n)) owns additions for)))
-    (length_as_sum events ∙ of_part one_each evs rows owns at eviction
+    (length_as_sum events ∙ of_part one_each evs rows owns recorded at choice
     ∙ ap (λ n. n + sum_by one_each (pod_events (of_ticks rows owns))) (sym (length_as_sum (pod_events evs)))
     ∙ ap (λ n. length (pod_events evs) + n) (all_weights one_each rows ticks owns are (weighs one_each)
     ∙ sym (added_weights one_each (λ t. t.events) (λ n own. length_as_sum own) (λ n. length (pod_ticks ticks n)) owns
     additions for)))
-    (filter_as_sum is_order events ∙ of_part (one_if is_order) evs rows owns at eviction
+    (filter_as_sum is_order events ∙ of_part (one_if is_order) evs rows owns recorded at choice
     ∙ ap (λ n. n + sum_by (one_if is_order) (pod_events (of_ticks rows owns)))
     (sym (filter_as_sum is_order (pod_events evs)))
     ∙ ap (λ n. length (filter is_order (pod_events evs)) + n)

@@ -15,16 +15,16 @@ use Rattle.pod_piece.specs.state.Piece.{evicted_at}
 use Rattle.pod_piece.specs.state.Made.{MadeEvent}
 use Rattle.eviction.specs.declared.eviction.Eviction.{Eviction}
 use Rattle.eviction.specs.state.Pausing.{Kept, kept, still}
-use Rattle.eviction.specs.rule.Replay.{is_paused, unless_paused}
+use Rattle.eviction.specs.rule.Replay.{is_paused, unless_paused, unless_recorded}
 use Rattle.totals.specs.declared.totals.Totals.{Totals}
 use Rattle.event_list.specs.declared.event.Event.{Event}
 use Rattle.event_list.specs.declared.tick.TickEvents.{TickEvents}
-use Rattle.event_list.specs.rule.Events.{of_pods, of_node, of_eviction}
+use Rattle.event_list.specs.rule.Events.{of_pods, of_node, of_choice}
 use Rattle.event_list.specs.state.Tick.{events_at, of_ticks}
 use Rattle.event_list.specs.rule.Totals.{totals_of}
 use Rattle.node_pods.specs.state.Pods.{Pods, after_each}
 use Rattle.node_pods.proofs.Steps.{after_is}
-use Rattle.tick_round.specs.state.Evict.{IsEvictionAt, AreWithout}
+use Rattle.tick_round.specs.state.Evict.{IsChoiceAt, AreWithout}
 use Rattle.tick_round.specs.declared.stretch.Begun.{Begun}
 use Rattle.tick_round.specs.state.Node.{State, state, HasTaken, FitAll}
 use Rattle.tick_round.specs.state.Stretch.{no_evictions, HasBegun}
@@ -77,17 +77,17 @@ of_ticks-more (r ∷ rows) row owns =
     ∙ ap (λ (k : List Event). A ++ k) (sym (append_assoc B C D))
     ∙ sym (append_assoc A (B ++ C) D)
 
--- with those of the last tick, and its eviction
-last_part : (old : List Event) (rows : List TickEvents) (row : TickEvents) (x : TickObs) (pieces : List Piece)
-    (owns : List (List MadeEvent)) (eviction : Option Eviction) → row.at ≡ x.at → length owns ≡ length pieces
-    → TellAllOf pieces x owns
-    → (old ++ of_ticks rows owns) ++ part_of x (made_in x owns) row.node_events.items eviction
-    ≡ (old ++ of_ticks (rows ++ row ∷ []) owns) ++ of_eviction x.at eviction
-last_part old rows row x pieces owns eviction at many tell =
+-- with those of the last tick, and its choice
+last_part : (config : NodeConfig) (old : List Event) (rows : List TickEvents) (row : TickEvents) (x : TickObs)
+    (pieces : List Piece) (owns : List (List MadeEvent)) (choice : Option Eviction) → row.at ≡ x.at
+    → length owns ≡ length pieces → TellAllOf pieces x owns
+    → (old ++ of_ticks rows owns) ++ part_of config x (made_in x owns) row.node_events.items choice
+    ≡ (old ++ of_ticks (rows ++ row ∷ []) owns) ++ of_choice config.evictions_recorded x.at choice
+last_part config old rows row x pieces owns choice at many tell =
     let T = of_ticks rows owns in
     let A = of_pods x.at 0 (map (events_at x.at) owns) in
     let B = of_node x.at row.node_events.items in
-    let E = of_eviction x.at eviction in
+    let E = of_choice config.evictions_recorded x.at choice in
     ap (λ (k : List Event). (old ++ T) ++ (k ++ (B ++ E))) (all_told x pieces owns many tell)
     ∙ append_assoc old T (A ++ (B ++ E))
     ∙ ap (λ (k : List Event). old ++ (T ++ (A ++ k))) (ap (λ (k : List Event). k ++ E) (sym (append-nil B)))
@@ -100,20 +100,23 @@ last_part old rows row x pieces owns eviction at many tell =
 
 -- the node that has ended the round
 pub closes : (pods : List PodSpec) (before : List TickObs) (s : State) (calm : List TickObs) (x : TickObs)
-    (begun : Begun) (owns : List (List MadeEvent)) (eviction : Option Eviction) (new : Pods) (totals : Totals)
+    (begun : Begun) (owns : List (List MadeEvent)) (choice eviction : Option Eviction) (new : Pods) (totals : Totals)
     (evs : List Event) (es : Kept) → HasTaken pods before s → FitAll s (calm ++ x ∷ []) → HasBegun s calm x begun
     → length owns ≡ length s.pods.pieces → TellAll s.pods.pieces (calm ++ x ∷ []) owns
-    → IsEvictionAt begun.config (after_all s.pods.pieces (calm ++ x ∷ [])) begun.at begun.heeded eviction
+    → IsChoiceAt begun.config (after_all s.pods.pieces (calm ++ x ∷ [])) begun.at begun.heeded choice
+    → eviction ≡ unless_recorded begun.config.evictions_recorded choice
     → AreWithout (after_all s.pods.pieces (calm ++ x ∷ [])) eviction new.pieces
     → new.max_restart_delay ≡ s.pods.max_restart_delay → new.has_dedicated_imagefs ≡ s.pods.has_dedicated_imagefs
-    → evs ≡ (begun.events.items ++ of_ticks begun.ticks.items owns) ++ of_eviction begun.at eviction
+    → evs ≡ (begun.events.items ++ of_ticks begun.ticks.items owns)
+    ++ of_choice begun.config.evictions_recorded begun.at choice
     → es ≡ kept (begun.evictions.each ++ eviction ∷ []) (option_or eviction begun.evictions.pausing)
     → totals ≡ totals_of (before ++ (calm ++ x ∷ [])) ((s.events ++ of_ticks begun.ticks.items owns)
-    ++ of_eviction x.at eviction)
+    ++ of_choice s.config.evictions_recorded x.at choice)
     → HasTaken pods (before ++ (calm ++ x ∷ []))
     (state begun.config begun.signals new es evs totals (Some begun.at))
-closes pods before s calm x begun owns eviction new totals evs es taken fits has many tell by gone delay dedicated
-    events evictions count =
+closes pods before s calm x begun owns choice eviction new totals evs es taken fits has many tell by carried gone
+    delay dedicated events evictions count =
+    let recorded = s.config.evictions_recorded in
     let pieces = s.pods.pieces in
     let front = tell_front pieces calm (x ∷ []) owns tell in
     let last = tell_last pieces calm x owns tell in
@@ -133,31 +136,38 @@ closes pods before s calm x begun owns eviction new totals evs es taken fits has
     let owned : length owns ≡ length (after_all pieces calm) = many ∙ sym (after_all-length pieces calm) in
     let heeds : begun.heeded ≡ unless_paused (is_paused s.config x.at all one.evictions) has.served =
     has.heeded ∙ heeded_now pods (before ++ calm) one x has.served fold.1 may.1 in
-    let by_now : IsEvictionAt s.config mid x.at (unless_paused (is_paused s.config x.at all one.evictions) has.served)
-    eviction = subst (λ (k : Option ThresholdKey). IsEvictionAt s.config mid x.at k eviction) heeds
-    (subst (λ (m : ℕ). IsEvictionAt s.config mid m begun.heeded eviction) has.at
-    (subst (λ (c : NodeConfig). IsEvictionAt c mid begun.at begun.heeded eviction) has.config
-    (subst (λ (ps : List Piece). IsEvictionAt begun.config ps begun.at begun.heeded eviction) same_pieces by))) in
-    let shape : (s.events ++ of_ticks has.rows owns) ++ part_of x made ne eviction
-    ≡ (s.events ++ of_ticks begun.ticks.items owns) ++ of_eviction x.at eviction =
-    last_part s.events has.rows has.row x (after_all pieces calm) owns eviction has.row_at owned last
-    ∙ ap (λ (rs : List TickEvents). (s.events ++ of_ticks rs owns) ++ of_eviction x.at eviction) (sym has.ticks) in
-    let shape_evs : evs ≡ (s.events ++ of_ticks has.rows owns) ++ part_of x made ne eviction = events
-    ∙ ap (λ (l : List Event). (l ++ of_ticks begun.ticks.items owns) ++ of_eviction begun.at eviction) has.events
-    ∙ ap (λ (m : ℕ). (s.events ++ of_ticks begun.ticks.items owns) ++ of_eviction m eviction) has.at ∙ sym shape in
+    let by_now : IsChoiceAt s.config mid x.at (unless_paused (is_paused s.config x.at all one.evictions) has.served)
+    choice = subst (λ (k : Option ThresholdKey). IsChoiceAt s.config mid x.at k choice) heeds
+    (subst (λ (m : ℕ). IsChoiceAt s.config mid m begun.heeded choice) has.at
+    (subst (λ (c : NodeConfig). IsChoiceAt c mid begun.at begun.heeded choice) has.config
+    (subst (λ (ps : List Piece). IsChoiceAt begun.config ps begun.at begun.heeded choice) same_pieces by))) in
+    let carried_now : eviction ≡ unless_recorded recorded choice =
+    carried ∙ ap (λ (c : NodeConfig). unless_recorded c.evictions_recorded choice) has.config in
+    let shape : (s.events ++ of_ticks has.rows owns) ++ part_of s.config x made ne choice
+    ≡ (s.events ++ of_ticks begun.ticks.items owns) ++ of_choice recorded x.at choice =
+    last_part s.config s.events has.rows has.row x (after_all pieces calm) owns choice has.row_at owned last
+    ∙ ap (λ (rs : List TickEvents). (s.events ++ of_ticks rs owns) ++ of_choice recorded x.at choice)
+    (sym has.ticks) in
+    let shape_evs : evs ≡ (s.events ++ of_ticks has.rows owns) ++ part_of s.config x made ne choice = events
+    ∙ ap (λ (c : NodeConfig). (begun.events.items ++ of_ticks begun.ticks.items owns)
+    ++ of_choice c.evictions_recorded begun.at choice) has.config
+    ∙ ap (λ (l : List Event). (l ++ of_ticks begun.ticks.items owns) ++ of_choice recorded begun.at choice) has.events
+    ∙ ap (λ (m : ℕ). (s.events ++ of_ticks begun.ticks.items owns) ++ of_choice recorded m choice) has.at
+    ∙ sym shape in
     let shape_es : es ≡ kept ((s.evictions ++ no_evictions calm) ++ eviction ∷ [])
     (option_or eviction (still s.config x has.pausing)) = evictions
     ∙ ap (λ (k : Kept). kept (k.each ++ eviction ∷ []) (option_or eviction k.pausing)) has.evictions in
     let assoc : all ≡ before ++ (calm ++ x ∷ []) = append_assoc before calm (x ∷ []) in
     let now : HasTaken pods all (state s.config begun.signals new
     (kept ((s.evictions ++ no_evictions calm) ++ eviction ∷ []) (option_or eviction (still s.config x has.pausing)))
-    ((s.events ++ of_ticks has.rows owns) ++ part_of x made ne eviction) totals (Some x.at)) =
-    goes_on pods (before ++ calm) one x begun.signals ne has.served made totals mid new eviction fold.1
+    ((s.events ++ of_ticks has.rows owns) ++ part_of s.config x made ne choice) totals (Some x.at)) =
+    goes_on pods (before ++ calm) one x begun.signals ne has.served made totals mid new choice eviction fold.1
     (omega (arith, fits.few, long, length_of)) may.1 may.0 has.sampled (after_is (after_all pieces calm) x.pods) by_now
+    carried_now
     (made_told s.config pods (before ++ calm) one.evictions x (after_all pieces calm) owns fold.1.replay
     may.0.next.within owned fold.1.pieces last)
     (count ∙ ap (λ (h : List TickObs). totals_of h ((s.events ++ of_ticks begun.ticks.items owns)
-    ++ of_eviction x.at eviction)) (sym assoc) ∙ ap (λ (l : List Event). totals_of all l) (sym shape))
+    ++ of_choice recorded x.at choice)) (sym assoc) ∙ ap (λ (l : List Event). totals_of all l) (sym shape))
     (subst (λ (ps : List Piece). AreWithout ps eviction new.pieces) same_pieces gone) delay dedicated in
     subst (λ (h : List TickObs). HasTaken pods h (state begun.config begun.signals new es evs totals (Some begun.at)))
     assoc

@@ -11,7 +11,7 @@ use Rattle.pod_piece.specs.state.Piece.{pods_in}
 use Rattle.ranking.specs.rule.Order.{IsVictim}
 use Rattle.eviction.specs.rule.Replay.{order_of}
 use Rattle.node_pods.specs.state.Pods.{IsCandidate}
-use Rattle.tick_round.specs.state.Evict.{IsEvictionAt}
+use Rattle.tick_round.specs.state.Evict.{IsChoiceAt}
 
 -- the specification of a pod stands where its piece does
 pub get_pod : (pieces : List Piece) (n : ℕ) (piece : Piece) → slice_get pieces n ≡ Some piece
@@ -25,7 +25,7 @@ pub evicts_first : (config : NodeConfig) (pieces : List Piece) (at : ℕ) (key :
     (n : ℕ) (piece : Piece) (order : EvictOrder)
     → IsVictim key.signal config.has_dedicated_imagefs (IsCandidate pieces at) victim → victim ≡ Some n
     → slice_get pieces n ≡ Some piece → order ≡ order_of config piece.pod at key
-    → IsEvictionAt config pieces at (Some key) (Some (record { pod = n; order = order }))
+    → IsChoiceAt config pieces at (Some key) (Some (record { pod = n; order = order }))
 evicts_first config pieces at key victim n piece order first is found by = (
   Some n,
   subst (λ (v : Option ℕ). IsVictim key.signal config.has_dedicated_imagefs (IsCandidate pieces at) v) is first,
@@ -35,7 +35,7 @@ evicts_first config pieces at key victim n piece order first is found by = (
 -- without candidates nobody is
 pub evicts_none : (config : NodeConfig) (pieces : List Piece) (at : ℕ) (key : ThresholdKey) (victim : Option ℕ)
     → IsVictim key.signal config.has_dedicated_imagefs (IsCandidate pieces at) victim → victim ≡ None
-    → IsEvictionAt config pieces at (Some key) None
+    → IsChoiceAt config pieces at (Some key) None
 evicts_none config pieces at key victim first is = (
   None,
   subst (λ (v : Option ℕ). IsVictim key.signal config.has_dedicated_imagefs (IsCandidate pieces at) v) is first,

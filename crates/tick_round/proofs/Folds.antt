@@ -1,11 +1,12 @@
 -- A node after ticks in which no threshold is heeded, one after the other: states that no code makes.
 use Rattle.std.proofs.Common.{◌≡◌, ◌∙◌, ℕ, ◌+◌, ◌<◌, ◌≤◌, List, [], ◌∷◌, ◌++◌, length, map, Option, Some, None}
-use Rattle.std.proofs.Common.{refl, ap, sym, subst, arith, append_assoc, append-nil}
+use Rattle.std.proofs.Common.{Bool, true, false, refl, ap, sym, subst, arith, append_assoc, append-nil}
 use Rattle.std.specs.Prelude.{slice_get, IfSome}
 use Rattle.std.proofs.lemmas.Option.{slice_get_within}
 use Rattle.histories.proofs.Places.{length-more}
 use Rattle.histories.proofs.Lists.{given_at}
 use Rattle.manifest.specs.declared.pod.PodSpec.{PodSpec}
+use Rattle.node_config.specs.declared.node.NodeConfig.{NodeConfig}
 use Rattle.observations.specs.rule.Pods.{PodObs}
 use Rattle.observations.specs.declared.tick.TickObs.{TickObs}
 use Rattle.observations.specs.rule.Observations.{shown_of}
@@ -17,7 +18,7 @@ use Rattle.pod_piece.specs.rule.Piece.{Piece}
 use Rattle.pod_piece.specs.state.Piece.{evicted_at}
 use Rattle.eviction.specs.declared.eviction.Eviction.{Eviction}
 use Rattle.eviction.specs.state.Pausing.{kept, still}
-use Rattle.eviction.specs.rule.Replay.{is_paused, unless_paused}
+use Rattle.eviction.specs.rule.Replay.{is_paused, unless_paused, unless_recorded}
 use Rattle.eviction.proofs.Pausing.{paused_now}
 use Rattle.totals.specs.declared.totals.Totals.{Totals}
 use Rattle.event_list.specs.declared.event.Event.{Event}
@@ -28,7 +29,7 @@ use Rattle.event_list.specs.rule.Totals.{totals_of}
 use Rattle.node_pods.specs.state.Pods.{pods_of, after_one, after_each}
 use Rattle.node_pods.proofs.Steps.{after_is, with_shown_at, with_shown_length}
 use Rattle.node_pods.proofs.Candidates.{same_piece}
-use Rattle.tick_round.specs.state.Evict.{IsEvictionAt}
+use Rattle.tick_round.specs.state.Evict.{IsChoiceAt}
 use Rattle.tick_round.specs.state.Node.{State, state, HasTaken, MayBeHandedAll}
 use Rattle.tick_round.specs.state.Stretch.{heeded_in, AreCalm, no_evictions}
 use Rattle.tick_round.proofs.GoesOn.{goes_on, part_of}
@@ -82,11 +83,16 @@ folded s ticks now paused rows owns totals =
     (pods_of (after_all s.pods.pieces ticks) s.pods.max_restart_delay s.pods.has_dedicated_imagefs)
     (kept (s.evictions ++ no_evictions ticks) paused) (s.events ++ of_ticks rows owns) totals (last_with s.last ticks)
 
+-- where nobody is chosen nobody is evicted
+none_evicted : (recorded : Bool) → None ≡ unless_recorded recorded None
+none_evicted true = refl
+none_evicted false = refl
+
 -- what one of them adds to the events
-pub part_first : (x : TickObs) (row : TickEvents) (rest : List TickEvents) (pieces : List Piece)
+pub part_first : (config : NodeConfig) (x : TickObs) (row : TickEvents) (rest : List TickEvents) (pieces : List Piece)
     (owns : List (List MadeEvent)) → row.at ≡ x.at → length owns ≡ length pieces → TellAllOf pieces x owns
-    → part_of x (made_in x owns) row.node_events.items None ++ of_ticks rest owns ≡ of_ticks (row ∷ rest) owns
-part_first x row rest pieces owns at many tell =
+    → part_of config x (made_in x owns) row.node_events.items None ++ of_ticks rest owns ≡ of_ticks (row ∷ rest) owns
+part_first config x row rest pieces owns at many tell =
     let A = of_pods x.at 0 (made_in x owns) in
     let B = of_node x.at row.node_events.items in
     let C = of_ticks rest owns in
@@ -127,16 +133,17 @@ folds (x ∷ ticks) pods before s rows now paused owns taken many few may calm t
     let ne = row.node_events.items in
     let mid = after_each s.pods.pieces x.pods in
     let p = pods_of mid s.pods.max_restart_delay s.pods.has_dedicated_imagefs in
-    let total = totals_of (before ++ x ∷ []) (s.events ++ part_of x made ne None) in
+    let total = totals_of (before ++ x ∷ []) (s.events ++ part_of s.config x made ne None) in
     let one = state s.config calm.2 p (kept (s.evictions ++ None ∷ []) (still s.config x s.pausing))
-    (s.events ++ part_of x made ne None) total (Some x.at) in
+    (s.events ++ part_of s.config x made ne None) total (Some x.at) in
     let first = tell_first s.pods.pieces x ticks owns tell in
     let none : unless_paused (is_paused s.config x.at (before ++ x ∷ []) s.evictions) here.served ≡ None =
     sym (heeded_now pods before s x here.served taken may.1) ∙ here.calm in
     let next : HasTaken pods (before ++ x ∷ []) one =
-    goes_on pods before s x calm.2 ne here.served made total mid p None taken (omega (arith, few)) may.1 may.0
+    goes_on pods before s x calm.2 ne here.served made total mid p None None taken (omega (arith, few)) may.1 may.0
     here.sampled (after_is s.pods.pieces x.pods)
-    (subst (λ (k : Option ThresholdKey). IsEvictionAt s.config mid x.at k None) (sym none) refl)
+    (subst (λ (k : Option ThresholdKey). IsChoiceAt s.config mid x.at k None) (sym none) refl)
+    (none_evicted s.config.evictions_recorded)
     (made_told s.config pods before s.evictions x s.pods.pieces owns taken.replay may.0.next.within many taken.pieces
     first)
     refl refl refl refl in
@@ -146,15 +153,16 @@ folds (x ∷ ticks) pods before s rows now paused owns taken many few may calm t
     (tell_others s.pods.pieces x ticks owns tell) in
     let after = pods_of (after_all mid ticks) s.pods.max_restart_delay s.pods.has_dedicated_imagefs in
     let moment = last_with (Some x.at) ticks in
-    let evs : (s.events ++ part_of x made ne None) ++ of_ticks calm.1 owns ≡ s.events ++ of_ticks rows owns =
-    append_assoc s.events (part_of x made ne None) (of_ticks calm.1 owns)
-    ∙ ap (λ (k : List Event). s.events ++ k) (part_first x row calm.1 s.pods.pieces owns here.at many first)
+    let evs : (s.events ++ part_of s.config x made ne None) ++ of_ticks calm.1 owns ≡ s.events ++ of_ticks rows owns =
+    append_assoc s.events (part_of s.config x made ne None) (of_ticks calm.1 owns)
+    ∙ ap (λ (k : List Event). s.events ++ k) (part_first s.config x row calm.1 s.pods.pieces owns here.at many first)
     ∙ ap (λ (rs : List TickEvents). s.events ++ of_ticks rs owns) (sym calm.5) in (
       rest.0,
       subst (λ (l : List Event). HasTaken pods (before ++ x ∷ ticks)
           (state s.config now after (kept (s.evictions ++ None ∷ no_evictions ticks) paused) l rest.0 moment)) evs
           (subst (λ (es : List (Option Eviction)). HasTaken pods (before ++ x ∷ ticks)
-          (state s.config now after (kept es paused) ((s.events ++ part_of x made ne None) ++ of_ticks calm.1 owns)
+          (state s.config now after (kept es paused)
+          ((s.events ++ part_of s.config x made ne None) ++ of_ticks calm.1 owns)
           rest.0 moment)) (append_assoc s.evictions (None ∷ []) (no_evictions ticks))
           (subst (λ (h : List TickObs). HasTaken pods h
           (folded one ticks now paused calm.1 owns rest.0)) (append_assoc before (x ∷ []) ticks) rest.1)),

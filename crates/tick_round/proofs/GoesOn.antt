@@ -21,23 +21,24 @@ use Rattle.pod_piece.specs.rule.Piece.{Piece}
 use Rattle.pod_piece.specs.state.Piece.{pods_in}
 use Rattle.eviction.specs.declared.eviction.Eviction.{Eviction}
 use Rattle.eviction.specs.state.Pausing.{Kept, kept, still}
-use Rattle.eviction.specs.rule.Replay.{is_paused, pauses, unless_paused}
+use Rattle.eviction.specs.rule.Replay.{is_paused, pauses, unless_paused, unless_recorded, IsChoiceOfTick}
 use Rattle.eviction.proofs.More.{no_replay, replay_more}
 use Rattle.eviction.proofs.Pausing.{none_pausing, paused_now, pausing_more}
 use Rattle.totals.specs.declared.totals.Totals.{Totals}
 use Rattle.totals.specs.state.Totals.{nothing}
 use Rattle.node_pods.specs.state.Pods.{Pods, pods_of, IsCandidate, MayBeHanded, AreAfter}
 use Rattle.event_list.specs.declared.event.Event.{Event}
-use Rattle.event_list.specs.rule.Events.{of_pods, of_node, of_eviction, ArePodEvents}
+use Rattle.event_list.specs.rule.Events.{of_pods, of_node, of_choice, ArePodEvents}
 use Rattle.event_list.specs.rule.Totals.{totals_of}
 use Rattle.event_list.proofs.More.{no_events, events_more}
-use Rattle.tick_round.specs.state.Evict.{IsEvictionAt, AreWithout}
+use Rattle.tick_round.specs.state.Evict.{IsChoiceAt, AreWithout}
 use Rattle.tick_round.specs.rule.Gated.{AreUpdatesGated}
 use Rattle.tick_round.specs.state.Node.{State, state, ArePieces, HasTaken, last_of, IsAfter, IsNextBy, AreNextGated}
 use Rattle.tick_round.specs.state.Round.{AreFew, AreFewEvents, IsKept}
 use Rattle.tick_round.specs.state.Stretch.{IsSampled}
 use Rattle.tick_round.proofs.Pieces.{pieces_updated, pieces_evicted, pieces_spared}
-use Rattle.tick_round.proofs.Candidates.{ArePresent, are_present, round_of, may_be_carried_out, evicts_now, pods_are}
+use Rattle.tick_round.proofs.Candidates.{ArePresent, are_present, round_of, IsChosenAt, is_chosen, may_be_carried_out}
+use Rattle.tick_round.proofs.Candidates.{evicts_now, pods_are}
 
 pub last_more : (ticks : List TickObs) (x : TickObs) → last_of (ticks ++ x ∷ []) ≡ Some x.at
 last_more [] x = refl
@@ -106,7 +107,7 @@ starts_kept s taken none =
 without : (config : NodeConfig) (pods : List PodSpec) (ticks : List TickObs) (es : List (Option Eviction))
     (x : TickObs) (served : Option ThresholdKey) (eviction : Option Eviction) (old new : List Piece)
     → length es ≡ length ticks → ArePresent old x → ArePieces config pods (ticks ++ x ∷ []) es old
-    → IsEvictionAt config old x.at served eviction → AreWithout old eviction new
+    → IsChosenAt config old x.at served eviction → AreWithout old eviction new
     → ArePieces config pods (ticks ++ x ∷ []) (es ++ eviction ∷ []) new
 without config pods ticks es x served None old new len present are by same =
     subst (λ (pieces : List Piece). ArePieces config pods (ticks ++ x ∷ []) (es ++ None ∷ []) pieces) (sym same)
@@ -119,51 +120,54 @@ without config pods ticks es x served (Some e) old new len present are by evicte
 
 -- while evictions pause nobody is evicted
 evicts_unpaused : (config : NodeConfig) (pieces : List Piece) (at : ℕ) (paused : Bool) (served : Option ThresholdKey)
-    (eviction : Option Eviction) → IsEvictionAt config pieces at (unless_paused paused served) eviction
+    (eviction : Option Eviction) → IsChosenAt config pieces at (unless_paused paused served) eviction
     → IfSome eviction (λ e. paused ≡ false)
 evicts_unpaused config pieces at paused served None by = tt
 evicts_unpaused config pieces at true served (Some e) by = absurd (let none : Some e ≡ None = by in cc)
 evicts_unpaused config pieces at false served (Some e) by = refl
 
 -- what a tick adds to the events
-abbrev pub part_of : TickObs → List (List PodEvent) → List NodeEvent → Option Eviction → List Event
-part_of x made node_events eviction =
-    of_pods x.at 0 made ++ (of_node x.at node_events ++ of_eviction x.at eviction)
+abbrev pub part_of : NodeConfig → TickObs → List (List PodEvent) → List NodeEvent → Option Eviction → List Event
+part_of config x made node_events choice =
+    of_pods x.at 0 made ++ (of_node x.at node_events ++ of_choice config.evictions_recorded x.at choice)
 
 -- the pieces at hand are those that some tick leads to, with these events
 pub goes_on : (pods : List PodSpec) (ticks : List TickObs) (s : State) (x : TickObs) (signals : NodeSignals)
     (node_events : List NodeEvent) (served : Option ThresholdKey) (made : List (List PodEvent)) (totals : Totals)
-    (mid : List Piece) (new : Pods) (eviction : Option Eviction) → HasTaken pods ticks s
+    (mid : List Piece) (new : Pods) (choice eviction : Option Eviction) → HasTaken pods ticks s
     → length s.evictions < most_ticks → IfSome s.last (λ moment. moment < x.at) → MayBeHanded s.pods.pieces x
     → IsSampled s.config s.signals x signals node_events served → AreAfter s.pods.pieces x.pods mid
-    → IsEvictionAt s.config mid x.at
-    (unless_paused (is_paused s.config x.at (ticks ++ x ∷ []) s.evictions) served) eviction
+    → IsChoiceAt s.config mid x.at
+    (unless_paused (is_paused s.config x.at (ticks ++ x ∷ []) s.evictions) served) choice
+    → eviction ≡ unless_recorded s.config.evictions_recorded choice
     → ArePodEvents s.config pods ticks x s.evictions made
-    → totals ≡ totals_of (ticks ++ x ∷ []) (s.events ++ part_of x made node_events eviction)
+    → totals ≡ totals_of (ticks ++ x ∷ []) (s.events ++ part_of s.config x made node_events choice)
     → AreWithout mid eviction new.pieces
     → new.max_restart_delay ≡ s.pods.max_restart_delay → new.has_dedicated_imagefs ≡ s.pods.has_dedicated_imagefs
     → HasTaken pods (ticks ++ x ∷ [])
     (state s.config signals new
     (kept (s.evictions ++ eviction ∷ []) (option_or eviction (still s.config x s.pausing)))
-    (s.events ++ part_of x made node_events eviction) totals (Some x.at))
-goes_on pods ticks s x signals node_events served made totals mid new eviction taken few later may sampled after by
-    are_made count gone max_restart_delay dedicated = record {
+    (s.events ++ part_of s.config x made node_events choice) totals (Some x.at))
+goes_on pods ticks s x signals node_events served made totals mid new choice eviction taken few later may sampled
+    after by carried are_made count gone max_restart_delay dedicated = record {
       replay = replay_more s.config pods ticks s.evictions x eviction taken.replay
-          (round_of s.config pods ticks x s.evictions mid served eviction present now_pieces is_served by);
+          (record { choice = choice; is_choice = is_choice; is_carried = carried });
       pieces = without s.config pods ticks s.evictions x
-          (unless_paused paused served) eviction mid new.pieces len present now_pieces by gone;
-      events = events_more s.config pods ticks s.evictions s.events (part_of x made node_events eviction) x eviction len
-          taken.events (record {
+          (unless_paused paused served) eviction mid new.pieces len present now_pieces chosen gone;
+      events = events_more s.config pods ticks s.evictions s.events (part_of s.config x made node_events choice) x
+          eviction len taken.events (record {
             made = made;
             are_made = are_made;
             node_events = node_events;
             are_node_events = sampled.node_events_are ticks taken.signals;
+            choice = choice;
+            is_choice = is_choice;
             in_order = refl;
           });
       totals = count;
       signals = now;
       pausing = pausing_more s.config ticks s.evictions s.last s.pausing x eviction len taken.pausing later
-          (free eviction (evicts_unpaused s.config mid x.at paused served eviction by));
+          (free eviction (evicts_unpaused s.config mid x.at paused served eviction chosen));
       max_restart_delay = max_restart_delay ∙ taken.max_restart_delay;
       dedicated = dedicated ∙ taken.dedicated;
       shown = λ t tick at. elim (place_split ticks x tick t at) [
@@ -201,6 +205,13 @@ goes_on pods ticks s x signals node_events served made totals mid new eviction t
 
     now_pieces : ArePieces s.config pods (ticks ++ x ∷ []) s.evictions mid
     now_pieces = pieces_updated s.config pods ticks s.evictions x s.pods.pieces mid len taken.pieces after
+
+    is_choice : IsChoiceOfTick s.config pods ticks x s.evictions choice
+    is_choice = round_of s.config pods ticks x s.evictions mid served choice present now_pieces is_served by
+
+    chosen : IsChosenAt s.config mid x.at (unless_paused paused served) eviction
+    chosen = is_chosen s.config mid x.at (unless_paused paused served) s.config.evictions_recorded choice eviction by
+        carried
 
 pub of_some : (config : NodeConfig) (pods : List PodSpec) (ticks : List TickObs) (before : Option State) (s : State)
     → before ≡ Some s → IsAfter config pods ticks before

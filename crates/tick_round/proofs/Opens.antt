@@ -15,13 +15,13 @@ use Rattle.pod_piece.specs.state.Piece.{all_updated, at_rest, pods_in}
 use Rattle.pod_piece.specs.state.Made.{MadeEvent, round_length}
 use Rattle.eviction.specs.declared.eviction.Eviction.{Eviction}
 use Rattle.eviction.specs.state.Pausing.{Kept, kept, still}
-use Rattle.eviction.specs.rule.Replay.{pod_ticks}
+use Rattle.eviction.specs.rule.Replay.{pod_ticks, unless_recorded}
 use Rattle.totals.specs.declared.totals.Totals.{Totals}
 use Rattle.totals.specs.state.Totals.{plus}
 use Rattle.totals.specs.state.Rounds.{AreAdditionsOf, sums_of_additions}
 use Rattle.event_list.specs.declared.event.Event.{Event}
 use Rattle.event_list.specs.declared.tick.TickEvents.{TickEvents}
-use Rattle.event_list.specs.rule.Events.{of_eviction}
+use Rattle.event_list.specs.rule.Events.{of_choice}
 use Rattle.event_list.specs.state.Tick.{of_ticks, AddsEvents, AreMadeBy, AreOfTicks, MomentsRise}
 use Rattle.event_list.specs.rule.Totals.{totals_of}
 use Rattle.node_pods.specs.state.Pods.{Pods, pods_of, AreNumbered, AreNext, handed_each, after_each, closed}
@@ -29,7 +29,7 @@ use Rattle.node_pods.specs.state.Pods.{sent_from, staying, Awaited, awaited, joi
 use Rattle.node_pods.specs.state.Steps.{AreFree}
 use Rattle.node_pods.proofs.Steps.{is_closed, are_closed, joined_updated, after_is}
 use Rattle.node_pods.proofs.Candidates.{same_piece}
-use Rattle.tick_round.specs.state.Evict.{IsEvictionAt, AreWithout}
+use Rattle.tick_round.specs.state.Evict.{IsChoiceAt, AreWithout}
 use Rattle.tick_round.specs.declared.stretch.Begun.{Begun}
 use Rattle.tick_round.specs.declared.stretch.Stretch.{Stretch}
 use Rattle.tick_round.specs.declared.stretch.Round.{Round}
@@ -334,17 +334,19 @@ shown_few pieces last (y ∷ xs) may (suc t) x at =
 
 -- the node that has closed its round
 pub has_closed : (pods : List PodSpec) (before : List TickObs) (s : State) (calm : List TickObs) (x : TickObs)
-    (begun : Begun) (back : Pods) (totals : Totals) (eviction : Option Eviction) (new : Pods) (added evs : List Event)
-    (es : Kept) → HasTaken pods before s → MayClose s calm x begun back totals
+    (begun : Begun) (back : Pods) (totals : Totals) (choice eviction : Option Eviction) (new : Pods)
+    (added evs : List Event) (es : Kept) → HasTaken pods before s → MayClose s calm x begun back totals
     → AddsEvents begun.ticks.items back.pieces begun.events.items added
-    → IsEvictionAt begun.config (map at_rest back.pieces) begun.at begun.heeded eviction
+    → IsChoiceAt begun.config (map at_rest back.pieces) begun.at begun.heeded choice
+    → eviction ≡ unless_recorded begun.config.evictions_recorded choice
     → AreWithout (map at_rest back.pieces) eviction new.pieces
     → new.max_restart_delay ≡ back.max_restart_delay → new.has_dedicated_imagefs ≡ back.has_dedicated_imagefs
-    → evs ≡ added ++ of_eviction begun.at eviction
+    → evs ≡ added ++ of_choice begun.config.evictions_recorded begun.at choice
     → es ≡ kept (begun.evictions.each ++ eviction ∷ []) (option_or eviction begun.evictions.pausing)
     → HasTaken pods (before ++ (calm ++ x ∷ [])) (state begun.config begun.signals new es evs totals (Some begun.at))
-has_closed pods before s calm x begun back totals eviction new added evs es taken may adds by gone delay dedicated
-    events evictions =
+has_closed pods before s calm x begun back totals choice eviction new added evs es taken may adds by carried gone
+    delay dedicated events evictions =
+    let recorded = s.config.evictions_recorded in
     let xs = calm ++ x ∷ [] in
     let all = map all_updated (handed_all s.pods.pieces xs) in
     let has = may.has_begun in
@@ -364,7 +366,7 @@ has_closed pods before s calm x begun back totals eviction new added evs es take
     (there : slice_get owns n ≡ Some own).
     told_by s.pods.pieces s.last xs owns n p own rest may.fits.handed made at there in
     let same = rested_back s xs back rest may.pods_are in
-    let count = totals_added before xs s.events begun.ticks.items owns x.at eviction may.added.additions
+    let count = totals_added before xs s.events begun.ticks.items owns recorded x.at choice may.added.additions
     (rows_all s calm x begun has)
     (λ t y at. let le = shown_few s.pods.pieces s.last xs may.fits.handed t y at in omega (arith, le, many))
     (λ f n own at.
@@ -372,17 +374,18 @@ has_closed pods before s calm x begun back totals eviction new added evs es take
     let p = given_at s.pods.pieces n (omega (arith, lt, many)) in
     (told n p.0 own p.1 at).weighs f)
     (additions_for s.pods.pieces xs owns may.added.additions rest made may.added.are_additions) in
-    closes pods before s calm x begun owns eviction new totals evs es taken may.fits has many
+    closes pods before s calm x begun owns choice eviction new totals evs es taken may.fits has many
     (λ n p own at there. (told n p own at there).tells)
-    (subst (λ (ps : List Piece). IsEvictionAt begun.config ps begun.at begun.heeded eviction) same by)
+    (subst (λ (ps : List Piece). IsChoiceAt begun.config ps begun.at begun.heeded choice) same by) carried
     (subst (λ (ps : List Piece). AreWithout ps eviction new.pieces) same gone)
     (delay ∙ ap (λ (p : Pods). p.max_restart_delay) may.pods_are)
     (dedicated ∙ ap (λ (p : Pods). p.has_dedicated_imagefs) may.pods_are)
-    (events ∙ ap (λ (l : List Event). l ++ of_eviction begun.at eviction) adds.added)
+    (events ∙ ap (λ (l : List Event). l ++ of_choice begun.config.evictions_recorded begun.at choice)
+    adds.added)
     evictions
     (may.added.totals ∙ ap (λ (t : Totals). plus t (sums_of_additions may.added.additions)) taken.totals ∙ sym count
     ∙ ap (λ (l : List Event). totals_of (before ++ xs) l)
-    (sym (append_assoc s.events (of_ticks begun.ticks.items owns) (of_eviction x.at eviction))))
+    (sym (append_assoc s.events (of_ticks begun.ticks.items owns) (of_choice recorded x.at choice))))
 
 -- what it keeps then
 pub closed_kept : (s : State) (calm : List TickObs) (x : TickObs) (begun : Begun) (back : Pods) (totals : Totals)
@@ -400,23 +403,24 @@ closed_kept s calm x begun back totals next kept may taken same =
 -- as the code has it
 pub closes_as : (pods : List PodSpec) (before : List TickObs) (s : State) (calm : List TickObs) (x : TickObs)
     (begun : Begun) (back shut new : Pods) (totals : Totals) (rows : List TickEvents) (pieces : List Piece)
-    (eviction : Option Eviction) (added evs : List Event) (es : Kept) → HasTaken pods before s
+    (choice eviction : Option Eviction) (added evs : List Event) (es : Kept) → HasTaken pods before s
     → MayClose s calm x begun back totals → rows ≡ begun.ticks.items → pieces ≡ back.pieces
     → AddsEvents rows pieces begun.events.items added
     → shut ≡ pods_of (map at_rest back.pieces) back.max_restart_delay back.has_dedicated_imagefs
-    → IsEvictionAt begun.config shut.pieces begun.at begun.heeded eviction
+    → IsChoiceAt begun.config shut.pieces begun.at begun.heeded choice
+    → eviction ≡ unless_recorded begun.config.evictions_recorded choice
     → AreWithout shut.pieces eviction new.pieces
     → new.max_restart_delay ≡ shut.max_restart_delay → new.has_dedicated_imagefs ≡ shut.has_dedicated_imagefs
-    → evs ≡ added ++ of_eviction begun.at eviction
+    → evs ≡ added ++ of_choice begun.config.evictions_recorded begun.at choice
     → es ≡ kept (begun.evictions.each ++ eviction ∷ []) (option_or eviction begun.evictions.pausing)
     → HasTaken pods (before ++ (calm ++ x ∷ [])) (state begun.config begun.signals new es evs totals (Some begun.at))
-closes_as pods before s calm x begun back shut new totals rows pieces eviction added evs es taken may rows_are
-    pieces_are adds is by gone delay dedicated events evictions =
+closes_as pods before s calm x begun back shut new totals rows pieces choice eviction added evs es taken may rows_are
+    pieces_are adds is by carried gone delay dedicated events evictions =
     let ps : shut.pieces ≡ map at_rest back.pieces = ap (λ (p : Pods). p.pieces) is in
-    has_closed pods before s calm x begun back totals eviction new added evs es taken may
+    has_closed pods before s calm x begun back totals choice eviction new added evs es taken may
     (subst (λ (rs : List TickEvents). AddsEvents rs back.pieces begun.events.items added) rows_are
     (subst (λ (qs : List Piece). AddsEvents rows qs begun.events.items added) pieces_are adds))
-    (subst (λ (qs : List Piece). IsEvictionAt begun.config qs begun.at begun.heeded eviction) ps by)
+    (subst (λ (qs : List Piece). IsChoiceAt begun.config qs begun.at begun.heeded choice) ps by) carried
     (subst (λ (qs : List Piece). AreWithout qs eviction new.pieces) ps gone)
     (delay ∙ ap (λ (p : Pods). p.max_restart_delay) is) (dedicated ∙ ap (λ (p : Pods). p.has_dedicated_imagefs) is)
     events evictions

@@ -1,9 +1,9 @@
-//! The eviction of one tick.
+//! The choice of one tick, and its eviction.
 
 ghost use Rattle.std.specs.Prelude.{◌≡◌, Some, IfOk};
 ghost use Rattle.node_pods.specs.state.Pods.{IsCandidate};
 ghost use Rattle.ranking.specs.rule.Order.{IsVictim};
-ghost use Rattle.tick_round.specs.state.Evict.{IsEvictionAt, MayBeCarriedOut, AreWithout};
+ghost use Rattle.tick_round.specs.state.Evict.{IsChoiceAt, MayBeCarriedOut, AreWithout};
 
 use eviction::{Eviction, order_for};
 use node_config::NodeConfig;
@@ -12,8 +12,8 @@ use node_signals::ThresholdKey;
 use pod_piece::PodPiece;
 use std::alloc::AllocError;
 
-/// The eviction of the victim, if there is one, at this moment, in seconds, for the threshold.
-fn eviction_of(
+/// The choice of the victim, if there is one, at this moment, in seconds, for the threshold.
+fn choice_of(
     config: &NodeConfig,
     pieces: &[PodPiece],
     at: u64,
@@ -21,7 +21,7 @@ fn eviction_of(
     victim: Option<usize>,
 ) -> Option<Eviction>
     requires { IsVictim key.signal config.now.has_dedicated_imagefs (IsCandidate pieces.now at) victim }
-    ensures { IsEvictionAt config.now pieces.now at (Some key) result }
+    ensures { IsChoiceAt config.now pieces.now at (Some key) result }
 {
     let number = victim?;
     let piece = pieces.get(number)?;
@@ -31,22 +31,21 @@ fn eviction_of(
     })
 }
 
-/// The eviction at this moment, in seconds, for the threshold that is served. An `Err` says that memory was
-/// refused.
-pub fn eviction_for(
+/// The choice at this moment, in seconds, for the threshold that is served. An `Err` says that memory was refused.
+pub fn choice_for(
     config: &NodeConfig,
     pods: &NodePods,
     at: u64,
     served: Option<ThresholdKey>,
 ) -> Result<Option<Eviction>, AllocError>
     requires { pods.now.has_dedicated_imagefs ≡ config.now.has_dedicated_imagefs }
-    ensures { IfOk result (IsEvictionAt config.now pods.now.pieces at served) }
+    ensures { IfOk result (IsChoiceAt config.now pods.now.pieces at served) }
 {
     let Some(key) = served else {
         return Ok(None);
     };
     let victim = pods.first(key.signal, at)?;
-    Ok(eviction_of(config, pods.pieces(), at, key, victim))
+    Ok(choice_of(config, pods.pieces(), at, key, victim))
 }
 
 /// Carries the eviction out, if there is one.

@@ -35,7 +35,7 @@ mod summary;
 mod workers;
 
 pub use alone::update_alone;
-pub use evict::{carry_out, eviction_for};
+pub use evict::{carry_out, choice_for};
 pub use fault::TickFault;
 pub use node::Node;
 pub use played_round::Played;

@@ -3,19 +3,20 @@
 ghost use Rattle.std.specs.Prelude.{◌≡◌, ◌↔◌, ◌∷◌, ◌++◌, [], List, map, None, IsTrue, IfOk, OnOk, OnErr};
 ghost use Rattle.std.specs.Option.{option_or};
 ghost use Rattle.observations.specs.declared.tick.TickObs.{TickObs as ATick};
+ghost use Rattle.eviction.specs.rule.Replay.{unless_recorded};
 ghost use Rattle.eviction.specs.state.Pausing.{kept};
-ghost use Rattle.event_list.specs.rule.Events.{of_eviction};
+ghost use Rattle.event_list.specs.rule.Events.{of_choice};
 ghost use Rattle.pod_piece.specs.state.Piece.{all_updated};
 ghost use Rattle.node_pods.specs.state.Pods.{AreNext, AreNumbered, sent_from, staying, awaited, joined};
 ghost use Rattle.tick_round.specs.state.Node.{State, IsNextBy};
 ghost use Rattle.tick_round.specs.state.Stretch.{IsOpen, MayGoOn, GoesOnWith, Takes, IsPassed, CanClose, MayClose};
 ghost use Rattle.tick_round.specs.state.Stretch.{CanEnd, MayEnd, HasRoom, IsRefusedIn};
 
-use crate::evict::{carry_out, eviction_for};
+use crate::evict::{carry_out, choice_for};
 use crate::running::Running;
 use event_book::WholeBook;
-use event_list::{Event, TickEvents, add_events, add_eviction};
-use eviction::{Eviction, Evictions};
+use event_list::{Event, TickEvents, add_choice, add_events};
+use eviction::{Eviction, Evictions, unless_recorded};
 use node_config::NodeConfig;
 use node_pods::{AwaitedPods, OpenPods};
 use node_signals::{NodeSignals, ThresholdKey};
@@ -162,19 +163,22 @@ impl Stretch {
     }
 }
 
-/// Adds the eviction of the last tick, if there is one.
+/// Adds the choice of the last tick to the events, and the eviction that it leads to, or none, to the evictions.
 fn add_last(
     events: &mut Vec<Event>,
     evictions: &mut Evictions,
+    config: &NodeConfig,
     at: u64,
-    eviction: Option<Eviction>,
+    choice: Option<Eviction>,
 ) -> Result<(), AllocError>
-    ensures events { OnOk result (events.new.items ≡ events.old.items ++ of_eviction at eviction) }
+    ensures events { OnOk result (events.new.items
+        ≡ events.old.items ++ of_choice config.now.evictions_recorded at choice) }
     ensures evictions { OnOk result (evictions.new
-        ≡ kept (evictions.old.each ++ eviction ∷ []) (option_or eviction evictions.old.pausing)) }
+        ≡ kept (evictions.old.each ++ unless_recorded config.now.evictions_recorded choice ∷ [])
+        (option_or (unless_recorded config.now.evictions_recorded choice) evictions.old.pausing)) }
 {
-    add_eviction(events, at, eviction)?;
-    evictions.push(eviction)?;
+    add_choice(events, config.evictions_recorded, at, choice)?;
+    evictions.push(unless_recorded(config, choice))?;
     Ok(())
 }
 
@@ -205,15 +209,15 @@ fn close<U: Ledger, E: Ledger, O: Ledger>(
         return Err(fault);
     }
     let mut pods = pods.close();
-    let eviction = match eviction_for(&config, &pods, at, heeded) {
-        Ok(eviction) => eviction,
+    let choice = match choice_for(&config, &pods, at, heeded) {
+        Ok(choice) => choice,
         Err(fault) => {
             drop((config, signals, evictions, events, pods, book));
             return Err(fault);
         }
     };
-    let added = add_last(&mut events, &mut evictions, at, eviction);
-    carry_out(&mut pods, eviction);
+    let added = add_last(&mut events, &mut evictions, &config, at, choice);
+    carry_out(&mut pods, unless_recorded(&config, choice));
     match added {
         Ok(()) => Ok(Running {
             alloc,

@@ -20,7 +20,7 @@ use Rattle.pod_piece.specs.declared.order.EvictOrder.{EvictOrder}
 use Rattle.eviction.specs.declared.eviction.Eviction.{Eviction}
 use Rattle.event_list.specs.declared.event.Event.{Event}
 use Rattle.event_list.specs.declared.event.EventKind.{EventKind}
-use Rattle.event_list.specs.declared.event.EventKind.TheVariants.{Pod, Node, Evicted}
+use Rattle.event_list.specs.declared.event.EventKind.TheVariants.{Pod, Node, Evicted, Named}
 
 -- the parts one after the other
 abbrev pub joined : List (List ℕ) → List ℕ
@@ -109,12 +109,19 @@ eviction_words key order =
 abbrev pub words_among : List PodSpec → Eviction → List ℕ
 words_among pods eviction = eviction_words (key_of (slice_get pods eviction.pod)) eviction.order
 
+-- a pod that is named for a threshold, on a node with these pods
+unfoldable pub named_words : List PodSpec → Eviction → List ℕ
+named_words pods choice =
+    joined (key_of (slice_get pods choice.pod) ∷ codes " "
+    ∷ threshold_words (record { signal = choice.order.signal; kind = choice.order.kind }) ∷ [])
+
 -- the words of an event on a node with these pods
 unfoldable pub event_words : List PodSpec → EventKind → List ℕ
 event_words pods (Pod n event) = pod_event_words (slice_get pods n) event
 event_words pods (Node event) = node_event_words event
 event_words pods (Evicted eviction) =
     joined (codes "node evicted " ∷ words_among pods eviction ∷ [])
+event_words pods (Named choice) = joined (codes "node names " ∷ named_words pods choice ∷ [])
 
 -- the line of an event
 unfoldable pub event_line : List PodSpec → Event → List ℕ

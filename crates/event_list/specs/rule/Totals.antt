@@ -8,13 +8,14 @@ use Rattle.totals.specs.declared.totals.Totals.{Totals}
 use Rattle.totals.specs.rule.Totals.{is_order}
 use Rattle.event_list.specs.declared.event.Event.{Event}
 use Rattle.event_list.specs.declared.event.EventKind.{EventKind}
-use Rattle.event_list.specs.declared.event.EventKind.TheVariants.{Pod, Node, Evicted}
+use Rattle.event_list.specs.declared.event.EventKind.TheVariants.{Pod, Node, Evicted, Named}
 
 -- the event of a pod that an event is
 abbrev pub pod_event_in : EventKind → Option PodEvent
 pod_event_in (Pod n e) = Some e
 pod_event_in (Node e) = None
 pod_event_in (Evicted eviction) = None
+pod_event_in (Named choice) = None
 
 -- the events of pods and containers among these
 abbrev pub pod_events : List Event → List PodEvent

@@ -20,19 +20,18 @@ HasProbesInRange pod = All (λ spec. AreInRange spec.probes) pod.containers
 abbrev pub HaveProbesInRange : List PodSpec → Type 0
 HaveProbesInRange pods = All HasProbesInRange pods
 
--- ticks with an eviction or none for each have a list of events, where each shows none but the pods that
--- there are, and the numbers of the probes of each container are in their ranges
+-- ticks have a list of events, whatever the evictions are, where each shows none but the pods that there are, and the
+-- numbers of the probes of each container are in their ranges
 abbrev pub SomeListOfEvents : Type 0
 SomeListOfEvents =
     (config : NodeConfig) (pods : List PodSpec) (ticks : List TickObs) (evictions : List (Option Eviction))
-    → length evictions ≡ length ticks → All (ShowsKnownPods pods) ticks → HaveProbesInRange pods
+    → All (ShowsKnownPods pods) ticks → HaveProbesInRange pods
     → (events : List Event) × AreEvents config pods ticks evictions events
 
--- ticks with an eviction or none for each have at most one list of events
+-- ticks with these evictions have at most one list of events
 abbrev pub OneListOfEvents : Type 0
 OneListOfEvents =
     (config : NodeConfig) (pods : List PodSpec) (ticks : List TickObs) (evictions : List (Option Eviction))
     (events others : List Event)
-    → length evictions ≡ length ticks
     → AreEvents config pods ticks evictions events → AreEvents config pods ticks evictions others
     → events ≡ others

@@ -1,7 +1,8 @@
 -- Which pod is evicted in each tick (Kubernetes, "Node-pressure Eviction"). The evictions of a list of
 -- ticks are a list as long: of each tick its eviction, or none. Each is determined by the ticks up to
 -- its own and by the evictions before it; that one pod at most is evicted in a tick is this profile's
--- rule. A tick is named by its place, a pod by its number.
+-- rule. Where the trace says itself whom the node evicted, the rules choose and evict nobody. A tick is named by its
+-- place, a pod by its number.
 use Rattle.std.specs.Prelude.{◌≡◌, ◌==◌, ℕ, suc, List, [], ◌∷◌, ◌++◌, length, map, take, slice_get, Option, Some, None}
 use Rattle.std.specs.Prelude.{Bool, true, false, ◌-◌, ◌&&◌, ◌||◌, not, nat_lt, option_map, IsSome, if◌then◌else◌, min}
 use Rattle.std.specs.List.{list_all, list_any}
@@ -152,13 +153,25 @@ abbrev pub unless_paused : Bool → Option ThresholdKey → Option ThresholdKey
 unless_paused true served = None
 unless_paused false served = served
 
--- the eviction of a tick that comes after these ticks with these evictions
-pub record IsEvictionOfTick (config : NodeConfig) (pods : List PodSpec) (before : List TickObs) (tick : TickObs)
-    (evictions : List (Option Eviction)) (eviction : Option Eviction) : Type 0 where
+-- whom the rules choose in a tick that comes after these ticks with these evictions, and for what
+pub record IsChoiceOfTick (config : NodeConfig) (pods : List PodSpec) (before : List TickObs) (tick : TickObs)
+    (evictions : List (Option Eviction)) (choice : Option Eviction) : Type 0 where
   pub served : Option ThresholdKey
   pub is_served : IsServed config.eviction before tick served
   pub is_for : IsEvictionFor config pods before tick evictions
-      (unless_paused (is_paused config tick.at (before ++ tick ∷ []) evictions) served) eviction
+      (unless_paused (is_paused config tick.at (before ++ tick ∷ []) evictions) served) choice
+
+-- a choice is carried out, unless the trace says whom the node evicted (this project's extended format)
+abbrev pub unless_recorded : Bool → Option Eviction → Option Eviction
+unless_recorded true choice = None
+unless_recorded false choice = choice
+
+-- the eviction of a tick that comes after these ticks with these evictions
+pub record IsEvictionOfTick (config : NodeConfig) (pods : List PodSpec) (before : List TickObs) (tick : TickObs)
+    (evictions : List (Option Eviction)) (eviction : Option Eviction) : Type 0 where
+  pub choice : Option Eviction
+  pub is_choice : IsChoiceOfTick config pods before tick evictions choice
+  pub is_carried : eviction ≡ unless_recorded config.evictions_recorded choice
 
 -- these are the evictions of these ticks, one or none for each
 pub record IsReplay (config : NodeConfig) (pods : List PodSpec) (ticks : List TickObs)

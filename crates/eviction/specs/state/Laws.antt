@@ -14,7 +14,7 @@ use Rattle.pod_piece.specs.declared.status.PodStatus.{PodStatus}
 use Rattle.pod_piece.specs.rule.Piece.{place_of}
 use Rattle.pod_piece.specs.rule.Status.{IsStatusAfter, failure_at}
 use Rattle.eviction.specs.declared.eviction.Eviction.{Eviction}
-use Rattle.eviction.specs.rule.Replay.{pod_ticks, own_eviction, pause_in, is_over_in, IsReplay}
+use Rattle.eviction.specs.rule.Replay.{pod_ticks, own_eviction, pause_in, is_over_in, IsChoiceOfTick, IsReplay}
 
 -- a pod of as many containers as a status can show has a status, whenever it is evicted and whatever
 -- its ticks are
@@ -35,6 +35,29 @@ abbrev pub OneReplay : Type 0
 OneReplay =
     (config : NodeConfig) (pods : List PodSpec) (ticks : List TickObs) (one other : List (Option Eviction))
     → IsReplay config pods ticks one → IsReplay config pods ticks other → one ≡ other
+
+-- in a tick the rules choose a pod, or none, whatever came before it
+abbrev pub SomeChoice : Type 0
+SomeChoice =
+    (config : NodeConfig) (pods : List PodSpec) (before : List TickObs) (tick : TickObs)
+    (evictions : List (Option Eviction))
+    → (choice : Option Eviction) × IsChoiceOfTick config pods before tick evictions choice
+
+-- in a tick the rules have one choice at most
+abbrev pub OneChoice : Type 0
+OneChoice =
+    (config : NodeConfig) (pods : List PodSpec) (before : List TickObs) (tick : TickObs)
+    (evictions : List (Option Eviction)) (one other : Option Eviction)
+    → IsChoiceOfTick config pods before tick evictions one → IsChoiceOfTick config pods before tick evictions other
+    → one ≡ other
+
+-- where the trace says whom the node evicted, the rules evict nobody
+abbrev pub RecordedAlone : Type 0
+RecordedAlone =
+    (config : NodeConfig) (pods : List PodSpec) (ticks : List TickObs) (evictions : List (Option Eviction))
+    (t : ℕ) (eviction : Option Eviction)
+    → config.evictions_recorded ≡ true → IsReplay config pods ticks evictions
+    → slice_get evictions t ≡ Some eviction → eviction ≡ None
 
 -- no pod is evicted by two ticks
 abbrev pub EvictedOnce : Type 0

@@ -72,11 +72,12 @@ pause_of One found = Ok 0
 pause_of Two found = Ok 0
 pause_of Three found = seconds_of found
 
--- whether the pause is over once the evicted pod has ended or gone; versions 1 and 2 have no such field
-abbrev pub until_gone_of : Version → Option Data → Result Bool NodeFault
-until_gone_of One found = Ok false
-until_gone_of Two found = Ok false
-until_gone_of Three found = flag_of found
+-- true or false in a field that versions 1 and 2 do not have: whether the pause is over once the evicted pod has ended
+-- or gone, and whether the trace says whom the node evicted
+abbrev pub flag_of_three : Version → Option Data → Result Bool NodeFault
+flag_of_three One found = Ok false
+flag_of_three Two found = Ok false
+flag_of_three Three found = flag_of found
 
 -- what a node line says besides its thresholds, one line for each field
 unfoldable pub settings_in : Data → Result Settings NodeFault
@@ -87,7 +88,8 @@ settings_in d = do
   max_pod_grace_period ← seconds_of (field_at (codes "evictionMaxPodGracePeriod") d)
   transition_period ← duration_at (field_at (codes "evictionPressureTransitionPeriod") d)
   eviction_pause ← pause_of version (field_at (codes "evictionPauseSeconds") d)
-  pauses_until_gone ← until_gone_of version (field_at (codes "evictionPauseUntilGone") d)
+  pauses_until_gone ← flag_of_three version (field_at (codes "evictionPauseUntilGone") d)
+  evictions_recorded ← flag_of_three version (field_at (codes "evictionsRecorded") d)
   Ok (record {
     version = version;
     max_restart_delay = max_restart_delay;
@@ -96,6 +98,7 @@ settings_in d = do
     transition_period = or_default transition_period;
     eviction_pause = eviction_pause;
     pauses_until_gone = pauses_until_gone;
+    evictions_recorded = evictions_recorded;
   })
 
 -- every field is read before a soft threshold without its grace is looked for
@@ -115,4 +118,5 @@ node_of d = do
     eviction_pressure_transition_period = settings.transition_period;
     eviction_pause = settings.eviction_pause;
     pauses_until_gone = settings.pauses_until_gone;
+    evictions_recorded = settings.evictions_recorded;
   })

@@ -9,12 +9,12 @@ use Rattle.eviction.specs.declared.eviction.Eviction.{Eviction}
 use Rattle.eviction.specs.rule.Replay.{IsOfVictim}
 use Rattle.node_pods.specs.state.Pods.{IsCandidate, IsEvictable, AreEvicted}
 
--- the eviction at a moment for the threshold that is served, of these pods
-abbrev pub IsEvictionAt : NodeConfig → List Piece → ℕ → Option ThresholdKey → Option Eviction → Type 0
-IsEvictionAt config pieces at None eviction = eviction ≡ None
-IsEvictionAt config pieces at (Some key) eviction =
+-- the choice at a moment for the threshold that is served, of these pods
+abbrev pub IsChoiceAt : NodeConfig → List Piece → ℕ → Option ThresholdKey → Option Eviction → Type 0
+IsChoiceAt config pieces at None choice = choice ≡ None
+IsChoiceAt config pieces at (Some key) choice =
     (victim : Option ℕ) × IsVictim key.signal config.has_dedicated_imagefs (IsCandidate pieces at) victim
-    × IsOfVictim config (pods_in pieces) at key victim eviction
+    × IsOfVictim config (pods_in pieces) at key victim choice
 
 -- the eviction may be carried out
 abbrev pub MayBeCarriedOut : List Piece → Option Eviction → Type 0

@@ -1,10 +1,13 @@
-use Rattle.std.proofs.Common.{List, [], ◌∷◌, ◌++◌, Some, refl, sym, subst}
+use Rattle.std.proofs.Common.{List, [], ◌∷◌, ◌++◌, Option, Some, refl, sym, subst}
 use Rattle.pod_piece.specs.rule.Piece.{Piece}
 use Rattle.pod_piece.specs.state.Piece.{pods_in}
 use Rattle.event_list.specs.declared.tick.TickEvents.{TickEvents}
 use Rattle.event_list.specs.state.Tick.{AreOfTicks, MomentsRise}
+use Rattle.eviction.specs.declared.eviction.Eviction.{Eviction}
+use Rattle.eviction.specs.rule.Replay.{unless_recorded}
+use Rattle.tick_round.specs.state.Evict.{AreWithout}
 use Rattle.tick_round.specs.state.Node.{state}
-use Rattle.tick_round.proofs.Candidates.{may_be_carried_out}
+use Rattle.tick_round.proofs.Candidates.{is_chosen, may_be_carried_out}
 use Rattle.tick_round.proofs.Opens.{moments_rise, are_of_ticks, free_back, closes_as, closed_kept}
 use Rattle.tick_round.proofs.stretch.close.Goals as goal
 
@@ -28,8 +31,11 @@ close-pods-requires g c =
 
 pub carry_out-requires : goal.carry_out-requires
 carry_out-requires g c =
-    may_be_carried_out c.args.begun.config c.close-pods.result.pieces c.args.begun.at c.args.begun.heeded
-    c.in-Ok.eviction c.in-Ok.ensures
+    let b = c.args.begun in
+    let pieces = c.close-pods.result.pieces in
+    may_be_carried_out b.config pieces b.at b.heeded c.unless_recorded.result
+    (is_chosen b.config pieces b.at b.heeded b.config.evictions_recorded c.in-Ok.choice c.unless_recorded.result
+    c.in-Ok.ensures c.unless_recorded.ensures)
 
 pub invariant_of-result : goal.invariant_of-result
 invariant_of-result g c =
@@ -40,9 +46,12 @@ invariant_of-result g c =
     closed_kept by.node by.calm by.tick b c.args.pods c.args.book
     (state b.config b.signals c.carry_out.new.pods es evs c.args.book (Some b.at)) by.kept by.may
     (closes_as (pods_in by.node.pods.pieces) by.kept.ticks by.node by.calm by.tick b c.args.pods c.close-pods.result
-    c.carry_out.new.pods c.args.book c.deref.result.now c.pieces.result.now c.in-Ok.eviction
-    c.add_events-added.new.events.items evs es by.kept.taken by.may c.deref.ensures.value c.pieces.ensures
-    c.in_default.ensures c.close-pods.ensures c.in-Ok.ensures c.carry_out.ensures.pieces
+    c.carry_out.new.pods c.args.book c.deref.result.now c.pieces.result.now c.in-Ok.choice
+    (unless_recorded b.config.evictions_recorded c.in-Ok.choice) c.add_events-added.new.events.items evs es
+    by.kept.taken by.may c.deref.ensures.value c.pieces.ensures
+    c.in_default.ensures c.close-pods.ensures c.in-Ok.ensures refl
+    (subst (λ (o : Option Eviction). AreWithout c.close-pods.result.pieces o c.carry_out.new.pods.pieces)
+    c.unless_recorded.ensures c.carry_out.ensures.pieces)
     c.carry_out.ensures.max_restart_delay c.carry_out.ensures.dedicated c.in-Ok-added.ensures.events
     c.in-Ok-added.ensures.evictions) refl
 
@@ -51,9 +60,12 @@ returns-in-Ok-added g c s calm tick may = record {
   config = may.has_begun.config;
   taken = λ pods before taken.
       closes_as pods before s calm tick c.args.begun c.args.pods c.close-pods.result c.carry_out.new.pods c.args.book
-      c.deref.result.now c.pieces.result.now c.in-Ok.eviction c.add_events-added.new.events.items
+      c.deref.result.now c.pieces.result.now c.in-Ok.choice
+      (unless_recorded c.args.begun.config.evictions_recorded c.in-Ok.choice) c.add_events-added.new.events.items
       c.add_last-added.new.events.items c.add_last-added.new.evictions taken may c.deref.ensures.value c.pieces.ensures
-      c.in_default.ensures c.close-pods.ensures c.in-Ok.ensures c.carry_out.ensures.pieces
+      c.in_default.ensures c.close-pods.ensures c.in-Ok.ensures refl
+      (subst (λ (o : Option Eviction). AreWithout c.close-pods.result.pieces o c.carry_out.new.pods.pieces)
+      c.unless_recorded.ensures c.carry_out.ensures.pieces)
       c.carry_out.ensures.max_restart_delay c.carry_out.ensures.dedicated c.in-Ok-added.ensures.events
       c.in-Ok-added.ensures.evictions;
 }

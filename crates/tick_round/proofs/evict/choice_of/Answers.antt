@@ -2,7 +2,7 @@ use Rattle.std.proofs.Common.{ap, ◌∙◌, refl}
 use Rattle.manifest.specs.declared.pod.PodSpec.{PodSpec}
 use Rattle.eviction.specs.rule.Replay.{order_of}
 use Rattle.tick_round.proofs.Evicts.{evicts_first, get_here}
-use Rattle.tick_round.proofs.evict.eviction_of.Goals as goal
+use Rattle.tick_round.proofs.evict.choice_of.Goals as goal
 
 pub returns : goal.returns
 returns c =
