@@ -172,7 +172,115 @@ def test_import_of_a_kubelet_that_is_started_anew():
     first = next(line for line in lines if line["kind"] == "tick")
     running = {entry["pod"]: entry["containers"][0]["attempt"] for entry in first["pods"]}
     expect("a trace behind a gap has what runs", running, {"shop/web": 2, "shop/hog": 0})
+    alone = imported(given=text[:at] + begin + rest)[1]
+    gaps = [line["gap"] for line in map(json.loads, alone.splitlines()) if "gap" in line]
+    expect("a trace alone of a kubelet that is started anew", gaps, [{"since": 1772359250, "until": 1772359252}])
     shutil.rmtree(folder)
+
+
+def traces_of(given, *words):
+    """The lines of each trace that is written into a folder, and what is said."""
+    with tempfile.TemporaryDirectory() as folder:
+        status, _, said = imported("--into", folder, *words, given=given)
+        expect("import --into of a journal with a gap", status, 0)
+        traces = []
+        for name in sorted(os.listdir(folder)):
+            with gzip.open(f"{folder}/{name}", "rt", encoding="utf-8") as file:
+                text = file.read()
+            expect(f"import of a journal with a gap: {name}", checked(text), 0)
+            traces.append([json.loads(line) for line in text.splitlines()])
+        return traces, said
+
+
+def ticks_of(lines):
+    return [line for line in lines if line["kind"] == "tick"]
+
+
+def attempts_of(tick):
+    return {entry["pod"]: entry["containers"][0]["attempt"] for entry in tick["pods"]}
+
+
+def test_import_of_a_clock_that_went_back():
+    """The trace ends there, and the next one has the moments that the clock says from there on; what ran goes on. In a
+    trace alone they go on. The first tick behind it is marked in both."""
+    text = read(f"{FOLDER}/keyed.log")
+    at = text.index("I0301 10:00:54")
+    given = text[:at] + text[at:].replace("I0301 10:", "I0301 09:")
+    status, trace, said = imported(given=given)
+    expect("import of a clock that went back", (status, "the clock went back by" in said, checked(trace)), (0, True, 0))
+    ticks = ticks_of(map(json.loads, trace.splitlines()))
+    moments = [tick["at"] for tick in ticks]
+    expect("import of a clock that went back: moments rise", moments, sorted(set(moments)))
+    [marked] = [tick for tick in ticks if "gap" in tick]
+    expect("import of a clock that went back: the mark", marked["gap"], {
+        "since": 1772359250, "until": 1772359251, "clockBack": 3597})
+    wanted = [row[1:] for row in listings_of(read(f"{FOLDER}/keyed.trace"))]
+    expect("import of a clock that went back: what happened", [row[1:] for row in listings_of(trace)], wanted)
+    traces, _ = traces_of(given)
+    expect("import of a clock that went back: its traces", len(traces), 2)
+    behind, before = map(ticks_of, traces)
+    expect("a trace behind a clock that went back follows none", "follows" in traces[0][0], False)
+    expect("a trace behind a clock that went back has its moments", (behind[0]["at"], behind[-1]["at"]),
+           (1772355654, 1772355683))
+    expect("a trace behind a clock that went back has what runs", attempts_of(behind[0]), {
+        "shop/web": 2, "shop/hog": 0})
+    expect("a trace before a clock that went back", (before[0]["at"], before[-1]["at"]), (1772359200, 1772359250))
+    expect("a moment a little before is none", "gap" in imported(given=text[:at] + text[at:].replace(
+        "I0301 10:00:54", "I0301 10:00:30"))[1], False)
+
+
+def records(text, hole, has_others, sequence="a1", step=1):
+    """The records of a journal whose lines have numbers, of which one is missing before a line; behind each may be one
+    of another program."""
+    made, number = [], 4094
+    for line, second, fraction, process, *_ in lines_of(text):
+        number += hole is not None and hole in line
+        for program, said in [("kubelet", line), ("sshd", "hello")][:1 + has_others]:
+            number += step
+            made.append({
+                "__CURSOR": f"s={sequence};i={number:x};b=b0;m=1;t={int(f'{second}{fraction}'):x};x=1",
+                "__REALTIME_TIMESTAMP": f"{second}{fraction}", "_HOSTNAME": "worker-3",
+                "SYSLOG_IDENTIFIER": program, "_PID": process if program == "kubelet" else "7", "MESSAGE": said})
+    return made
+
+
+def by_number(made):
+    """Records as another export has them, with their numbers beside their cursors."""
+    return [{**{name: value for name, value in record.items() if name != "__CURSOR"},
+             "__SEQNUM": str(int(record["__CURSOR"].split(";")[1][2:], 16))} for record in made]
+
+
+def as_lines(made):
+    return "".join(json.dumps(record, separators=(",", ":")) + "\n" for record in made)
+
+
+def as_export(made):
+    return "".join("".join(f"{name}={value}\n" for name, value in record.items()) + "\n" for record in made)
+
+
+def test_import_of_a_journal_with_a_hole():
+    """Numbers that are missing in the journal of all programs end a trace; in that of some they are missing all along,
+    which tells nothing."""
+    text, wanted = read(f"{FOLDER}/keyed.log"), read(f"{FOLDER}/keyed.trace")
+    hole = "I0301 10:01:20.000"
+    for name, form, made in (("json", as_lines, lambda made: made), ("export", as_export, lambda made: made),
+                             ("json with numbers", as_lines, by_number), ("export with numbers", as_export, by_number)):
+        traces, said = traces_of(form(made(records(text, hole, True))))
+        expect(f"import of a hole of {name}", (len(traces), "1 place where numbers of the journal's lines" in said),
+               (2, True))
+        expect(f"import of a hole of {name}: the next one follows none", "follows" in traces[-1][0], False)
+        alone = imported(given=form(made(records(text, hole, True))))[1]
+        gaps = [tick["gap"] for tick in ticks_of(map(json.loads, alone.splitlines())) if "gap" in tick]
+        expect(f"import of a hole of {name}: the mark", gaps, [{"since": 1772359263, "until": 1772359280}])
+        for what, given in (("no hole", records(text, None, True)), ("one program", records(text, hole, False)),
+                            ("the lines of some programs", records(text, None, True, step=3)),
+                            ("a hole at its begin", records(text, "I0301 10:00:54", True))):
+            status, trace, said = imported(given=form(made(given)))
+            expect(f"import of {what} of {name}", (status, trace == wanted, "numbers" in said), (0, True, False))
+    at = text.index(hole)
+    anew = as_lines(records(text[:at], None, False) + records(text[at:], None, False, "b2"))
+    traces, said = traces_of(anew)
+    expect("import of a journal that begins anew", (len(traces), "numbers" in said), (2, True))
 
 
 # --- what a runtime writes ---

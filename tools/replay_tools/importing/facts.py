@@ -44,6 +44,12 @@ class Missing(Fact):
 
 
 @dataclass(frozen=True)
+class TurnedBack(Fact):
+    """The node's clock went back by so many seconds. Moments behind that are so much later than it says."""
+    seconds: int
+
+
+@dataclass(frozen=True)
 class Added(Fact):
     pod: Reference
     source: str = ""

@@ -53,7 +53,9 @@ class Importer:
         self.node: Optional[str] = None
         self.kinds: Counter[str] = Counter()
         self.begun: Optional[float] = None
+        # the newest moment, and the one before the fact that is taken
         self.now = 0.0
+        self.before = 0.0
         self.has_turned = False
         self.settled_at = 0.0
         self.process: Optional[int] = None
@@ -66,6 +68,7 @@ class Importer:
         self.probed: dict[tuple[str, str, str], tuple[str, Optional[str]]] = {}
         self.handlers: dict[type, Callable[[Any], None]] = {
             facts.Process: self.on_process, facts.NodeName: self.on_node, facts.Missing: self.on_missing,
+            facts.TurnedBack: self.on_turned_back,
             facts.Added: self.on_added, facts.Deleted: self.on_deleted, facts.Removed: self.on_removed,
             facts.Turned: self.on_turned, facts.Known: self.on_known, facts.Created: self.on_created,
             facts.Probed: self.on_probed, facts.Turnover: self.on_turnover, facts.Killing: self.on_killing,
@@ -79,7 +82,7 @@ class Importer:
         """The lines of all that is settled, as they are."""
         for fact in found:
             self.begun = fact.at if self.begun is None else self.begun
-            self.now = max(self.now, fact.at)
+            self.before, self.now = self.now or fact.at, max(self.now, fact.at)
             if self.placing.written_at is None:
                 self.placing.timeline.place_look(fact.at)
                 self.placing.written_at = int(fact.at)
@@ -305,7 +308,7 @@ class Importer:
             self.node = fact.node
         if self.process is not None and fact.process != self.process:
             self.placing.count("processes of the kubelet")
-            self.placing.gap(self.now, fact.at)
+            self.placing.gap(self.before, fact.at)
             self.say(f"{int(fact.at)}: the kubelet was started anew; what happened shortly before is not known")
             self.started_at = fact.at
         self.process = fact.process
@@ -315,7 +318,7 @@ class Importer:
         if self.started_at is None or fact.at - self.started_at > AGAIN_SECONDS:
             if self.has_turned:
                 self.placing.count("processes of the kubelet")
-                self.placing.gap(self.now, fact.at)
+                self.placing.gap(self.before, fact.at)
         self.started_at = fact.at
 
     def on_node(self, fact: facts.NodeName) -> None:
@@ -323,7 +326,11 @@ class Importer:
 
     def on_missing(self, fact: facts.Missing) -> None:
         self.placing.count("places where lines are missing")
-        self.placing.gap(self.now, fact.at)
+        self.placing.gap(self.before, fact.at)
+
+    def on_turned_back(self, fact: facts.TurnedBack) -> None:
+        self.placing.gap(self.before, fact.at, fact.seconds)
+        self.say(f"{int(fact.at) - fact.seconds}: the clock went back by {fact.seconds} s")
 
     def on_observed(self, fact: facts.Observed) -> None:
         self.placing.judge(fact.at)

@@ -17,6 +17,7 @@ from typing import Any, BinaryIO, Optional
 
 from replay_tools import entry, outside, packed
 
+from .holes import Numbers
 from .moments import Klog, moment_of_iso
 
 PIECE = 1 << 20
@@ -35,6 +36,11 @@ SYSLOG = re.compile(rb"([A-Z][a-z]{2}) +(\d{1,2}) (\d\d):(\d\d):(\d\d)(?:\.(\d{1
                     rb"(?:\[(\d+)\])?: ")
 MONTHS = {name: place + 1 for place, name in enumerate(
     (b"Jan", b"Feb", b"Mar", b"Apr", b"May", b"Jun", b"Jul", b"Aug", b"Sep", b"Oct", b"Nov", b"Dec"))}
+# klog's header as it stands in a line of a form
+HEADER = rb"[IWEF]\d{4} [\d:.]{8,18} +\d+ [^\]\s\"\\]{1,200}:\d+\] "
+HEADERS = {form: re.compile(before + HEADER + behind) for form, before, behind in (
+    ("json", rb'"MESSAGE" ?: ?"', rb'\\?'), ("short-iso", rb"\]: ", b""), ("syslog", rb"\]: ", b""),
+    ("container", rb" F ", b""))}
 EXPORTED = re.compile(rb"__(?:CURSOR|REALTIME_TIMESTAMP|SEQNUM)=")
 
 
@@ -49,8 +55,21 @@ class Line:
     node: str = ""
 
 
+class Hole(Line):
+    """Stands for lines that a journal lacks, with the moment, the node and the process of the line behind them."""
+
+
 # stands for messages that are not read
 SKIPPED = Line(None, b"")
+
+
+@dataclass
+class Skipping:
+    """Which messages are not read: whether a line is one of these, whether one is whose words stand at a place, and
+    many lines with None in place of these."""
+    is_skipped: Callable[[bytes], bool]
+    is_unwanted: Callable[[bytes, int], bool]
+    left_out: Callable[[Iterator[bytes]], Iterator[Optional[bytes]]]
 
 
 @dataclass
@@ -63,6 +82,8 @@ class Counts:
     foreign: int = 0
     suppressed: int = 0
     back: int = 0
+    holes: int = 0
+    turns: int = 0
     faults: list = field(default_factory=list)
 
 
@@ -92,14 +113,25 @@ def blocks_of(file: BinaryIO, counts: Counts) -> Iterator[list[bytes]]:
 # --- forms ---
 
 
-def of_json(lines: Iterator[bytes], counts: Counts) -> Iterator[Line]:
-    """`journalctl -o json`. A message that is no text is a list of bytes."""
+def of_json(lines: Iterator[bytes], counts: Counts, skipping: Skipping) -> Iterator[Line]:
+    """`journalctl -o json`. A message that is no text is a list of bytes. Each record's number is read."""
+    numbers, header = Numbers(), HEADERS["json"]
     for text in lines:
+        is_behind_hole, found = numbers.lack_before_json(text), header.search(text)
+        if found is not None and not is_behind_hole and skipping.is_unwanted(text, found.end()):
+            yield SKIPPED
+            continue
         record = outside.json_of(text)
         if not isinstance(record, dict):
             counts.foreign += bool(text.strip())
             continue
-        yield from line_of(record.get, counts)
+        for line in line_of(record.get, counts):
+            yield from behind_hole(line) if is_behind_hole else (line,)
+
+
+def behind_hole(line: Line) -> Iterator[Line]:
+    yield Hole(line.moment, b"", line.unit, line.process, line.node)
+    yield line
 
 
 def line_of(member: Callable[[str], Any], counts: Counts) -> Iterator[Line]:
@@ -121,6 +153,7 @@ def of_export(file: BinaryIO, counts: Counts) -> Iterator[Line]:
     """`journalctl -o export`: a record's members line by line, and an empty one behind them. One that is no plain text
     has its name alone, and its length in eight bytes before it."""
     record: dict[str, Any] = {}
+    numbers = Numbers()
     while text := file.readline(LONGEST_LINE):
         counts.size += len(text)
         name, equals, value = text.rstrip(b"\n").partition(b"=")
@@ -134,15 +167,24 @@ def of_export(file: BinaryIO, counts: Counts) -> Iterator[Line]:
                               value if name == b"MESSAGE" else value.decode("utf-8", "replace"))
         elif record:
             counts.lines += 1
-            yield from line_of(record.get, counts)
+            yield from of_record(record, counts, numbers)
             record = {}
     if record:
-        yield from line_of(record.get, counts)
+        yield from of_record(record, counts, numbers)
 
 
-def of_short_iso(lines: Iterator[bytes], counts: Counts) -> Iterator[Line]:
+def of_record(record: dict[str, Any], counts: Counts, numbers: Numbers) -> Iterator[Line]:
+    is_behind_hole = numbers.lack_before_record(record)
+    for line in line_of(record.get, counts):
+        yield from behind_hole(line) if is_behind_hole else (line,)
+
+
+def of_short_iso(lines: Iterator[Optional[bytes]], counts: Counts) -> Iterator[Line]:
     """`journalctl -o short-iso` and `-o short-iso-precise`."""
     for text in lines:
+        if text is None:
+            yield SKIPPED
+            continue
         found = SHORT_ISO.match(text)
         moment = None if found is None else moment_of_iso(found[1].decode())
         if found is None or moment is None:
@@ -154,9 +196,12 @@ def of_short_iso(lines: Iterator[bytes], counts: Counts) -> Iterator[Line]:
                    found[2].decode("utf-8", "replace"))
 
 
-def of_syslog(lines: Iterator[bytes], counts: Counts, klog: Klog) -> Iterator[Line]:
+def of_syslog(lines: Iterator[Optional[bytes]], counts: Counts, klog: Klog) -> Iterator[Line]:
     """`journalctl` without a word, with -o short-precise, and syslog: moments without a year and a zone."""
     for text in lines:
+        if text is None:
+            yield SKIPPED
+            continue
         found = SYSLOG.match(text)
         if found is None or found[1] not in MONTHS:
             counts.foreign += bool(text.strip()) and not text.startswith((b"-- ", b" ", b"\t"))
@@ -168,27 +213,40 @@ def of_syslog(lines: Iterator[bytes], counts: Counts, klog: Klog) -> Iterator[Li
                    found[7].decode("utf-8", "replace"))
 
 
-def of_container(lines: Iterator[bytes], _counts: Counts) -> Iterator[Line]:
+def of_container(lines: Iterator[Optional[bytes]], _counts: Counts) -> Iterator[Line]:
     """What a runtime keeps of a kubelet in a container, or `kubectl logs --timestamps` gives."""
     for text in lines:
+        if text is None:
+            yield SKIPPED
+            continue
         found = CONTAINER.match(text) or STAMPED.match(text)
         yield Line(None if found is None else moment_of_iso(found[1].decode()),
                    text if found is None else text[found.end():])
 
 
-def of_plain(blocks: Iterator[list[bytes]], is_skipped: Callable[[bytes], bool]) -> Iterator[Line]:
+def of_plain(lines: Iterator[bytes], skipping: Skipping) -> Iterator[Line]:
     """A log as the process writes it, whose messages have their moments. In place of messages that are not read, which
     most are, there is one line."""
-    has_skipped = False
-    for lines in blocks:
-        for text in lines:
-            if is_skipped(text):
-                has_skipped = True
-                continue
-            if has_skipped:
-                has_skipped = False
-                yield SKIPPED
-            yield Line(None, text)
+    for text in skipping.left_out(lines):
+        yield SKIPPED if text is None else Line(None, text)
+
+
+def without_skipped(lines: Iterator[bytes], header: re.Pattern[bytes],
+                    skipping: Skipping) -> Iterator[Optional[bytes]]:
+    """The lines of a form in which klog's header stands somewhere in a line, with None for one or more that are not
+    read; these are told before more of them is read."""
+    is_behind_skipped = False
+    for text in lines:
+        found = header.search(text)
+        if found is not None and skipping.is_unwanted(text, found.end()):
+            is_behind_skipped = True
+            continue
+        if is_behind_skipped:
+            is_behind_skipped = False
+            yield None
+        yield text
+    if is_behind_skipped:
+        yield None
 
 
 def form_of(head: bytes) -> str:
@@ -243,23 +301,28 @@ class Journal:
         except packed.DAMAGES as fault:
             raise entry.Fault(f"{self.name} can't be read: {why(fault)}") from None
 
-    def lines(self, klog: Klog, is_skipped: Callable[[bytes], bool]) -> Iterator[Line]:
-        """Its lines; one behind which the file can't be read further ends it, which is kept."""
+    def lines(self, klog: Klog, skipping: Skipping) -> Iterator[Line]:
+        """Its lines, with one for messages that are not read; one behind which the file can't be read further ends it,
+        which is kept."""
         try:
-            yield from self.read(klog, is_skipped)
+            if self.form == "plain":
+                yield from of_plain(itertools.chain.from_iterable(blocks_of(self.file, self.counts)), skipping)
+                return
+            for line in self.read(klog, skipping):
+                yield SKIPPED if skipping.is_skipped(line.text) else line
         except packed.DAMAGES as fault:
             self.counts.faults.append(f"{self.name} can't be read to its end: {why(fault)}")
 
-    def read(self, klog: Klog, is_skipped: Callable[[bytes], bool]) -> Iterator[Line]:
+    def read(self, klog: Klog, skipping: Skipping) -> Iterator[Line]:
         if self.form == "export":
             return of_export(self.file, self.counts)
-        blocks = blocks_of(self.file, self.counts)
-        if self.form == "plain":
-            return of_plain(blocks, is_skipped)
-        lines = itertools.chain.from_iterable(blocks)
+        all_lines = itertools.chain.from_iterable(blocks_of(self.file, self.counts))
+        if self.form == "json":
+            return of_json(all_lines, self.counts, skipping)
+        lines = without_skipped(all_lines, HEADERS[self.form], skipping)
         if self.form == "syslog":
             return of_syslog(lines, self.counts, klog)
-        readers = {"json": of_json, "short-iso": of_short_iso, "container": of_container}
+        readers = {"short-iso": of_short_iso, "container": of_container}
         return readers[self.form](lines, self.counts)
 
 

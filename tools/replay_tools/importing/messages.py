@@ -4,20 +4,20 @@ from __future__ import annotations
 
 import math
 import re
-from collections.abc import Callable, Iterator
+from collections.abc import Iterator
 from dataclasses import dataclass, field
 from typing import Any
 
 from replay_tools import outside
 
-from .journals import SKIPPED, Line
+from .journals import SKIPPED, Hole, Line
 from .moments import Klog
 
-HEADER = re.compile(rb"([IWEF])(\d\d)(\d\d) (\d\d):(\d\d):(\d\d)\.(\d{1,9}) +(\d+) [^\]\s]{1,200}:\d+\] ")
+HEADER = re.compile(rb"[IWEF](\d{4} \d\d:\d\d:\d\d)(\.\d{1,9}) +(\d+) [^\]\s]{1,200}:\d+\] ")
 # key="value" or key=value behind a quoted message; a value may have blanks in brackets
-KEY = re.compile(r' ([A-Za-z][\w./-]*)=("(?:[^"\\]|\\.)*"|\{[^\n]*?\}(?= [A-Za-z][\w./-]*=|$)|\[[^\]\n]*\]'
+KEY = re.compile(r' ([A-Za-z][\w./-]*)=("[^"\\]*(?:\\.[^"\\]*)*"|\{[^\n]*?\}(?= [A-Za-z][\w./-]*=|$)|\[[^\]\n]*\]'
                  r"|&?\{[^}\n]*\}|<\n(?:\t[^\n]*\n)* *>|[^\s]*)")
-QUOTED = re.compile(r'"((?:[^"\\]|\\.)*)"')
+QUOTED = re.compile(r'"([^"\\]*(?:\\.[^"\\]*)*)"')
 ESCAPE = re.compile(r"\\(u[0-9a-fA-F]{4}|x[0-9a-fA-F]{2}|.)")
 ESCAPED = {"n": "\n", "t": "\t", "r": "\r", '"': '"', "\\": "\\"}
 # a message goes on for so many lines, of which the others are not read
@@ -79,25 +79,28 @@ def text_message(text: bytes, line: Line, klog: Klog) -> Message | None:
     found = HEADER.match(text)
     if found is None:
         return None
-    month, day, hour, minute, second = map(int, found.groups()[1:6])
-    own = klog.moment(month, day, hour, minute, second, float(b"0." + found[7]))
-    moment = own if line.moment is None else line.moment
+    moment = line.moment
     if moment is None:
-        return None
+        second = klog.second_of(found[1])
+        if second is None:
+            return None
+        moment = second + float(found[2])
     said = text[found.end():].decode("utf-8", "replace")
-    return Message(moment, int(found[8]), said, {}, line.node, False, line.moment is None)
+    return Message(moment, int(found[3]), said, {}, line.node, False, line.moment is None)
 
 
-def messages_of(lines: Iterator[Line], klog: Klog, is_skipped: Callable[[bytes], bool]) -> Iterator[Message | Line]:
+def messages_of(lines: Iterator[Line], klog: Klog) -> Iterator[Message | Line]:
     """The messages of a journal that are wanted, and the lines that are no kubelet's, as they are."""
     held: Message | None = None
     continued = 0
     for line in lines:
         text = line.text
-        if line is SKIPPED or is_skipped(text):
+        if line is SKIPPED or isinstance(line, Hole):
             if held is not None:
                 yield finished(held)
                 held = None
+            if line is not SKIPPED:
+                yield line
             continue
         made: Any = json_message(text, line) if text.startswith(b"{") else text_message(text, line, klog)
         if made is None and held is not None and is_continuation(line, held):

@@ -61,6 +61,16 @@ class Klog:
         self.newest: Optional[float] = None
         self.day = (0, 0)
         self.midnight: Optional[int] = None
+        # the text of a second that was read last, since many lines are of one
+        self.text = b""
+        self.second: Optional[int] = None
+
+    def second_of(self, text: bytes) -> Optional[int]:
+        """The second of a line as klog writes it, as 1129 03:58:22."""
+        if text != self.text:
+            found = self.moment(int(text[:2]), int(text[2:4]), int(text[5:7]), int(text[8:10]), int(text[11:13]), 0)
+            self.text, self.second = text, None if found is None else int(found)
+        return self.second
 
     def moment(self, month: int, day: int, hour: int, minute: int, second: int, fraction: float) -> Optional[float]:
         """The moment of a line. Behind the end of a year comes the next one."""

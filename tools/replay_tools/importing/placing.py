@@ -10,11 +10,10 @@ from typing import Any, Optional, TYPE_CHECKING
 
 from replay_tools.record.formats import MOST_PODS, shown
 from replay_tools.record.lines import Format, extended, line_of
-from replay_tools.record.timeline import Timeline
 from replay_tools.traces import SIGNALS
 
 from . import marks
-from .marks import ImportedAsides
+from .steady import ImportedTimeline
 
 if TYPE_CHECKING:
     from replay_tools.record.pods import Pod
@@ -27,7 +26,10 @@ EVERY = 10
 LATE_SECONDS = 60
 # a member of a pod's entry: what the kubelet said
 SAID, FAILED = "said", "failed"
+# of a gap: by how many seconds the clock went back there
+CLOCK_BACK = "clockBack"
 MOST_SAID = 20
+NOT_JUDGED = ',"judged":false}'
 POD_LINE = '{"kind":"pod"'
 TICK_AT = re.compile(r'\{"kind":"tick","at":(\d+),')
 
@@ -38,8 +40,7 @@ class Placing:
     def __init__(self, every: int = EVERY, most_pods_at_once: bool = False) -> None:
         self.format: Format = extended()
         self.is_at_once = most_pods_at_once
-        self.timeline = Timeline(self.format)
-        self.timeline.asides = ImportedAsides()
+        self.timeline = ImportedTimeline(self.format, self.with_rows_of)
         self.every = every
         # which of the probes have their successes in the journal
         self.told_probes: set[str] = set()
@@ -67,11 +68,7 @@ class Placing:
 
     def mark(self, life: Life, name: str, attempt: int, *found: list[str]) -> None:
         """Notes what of an instance was guessed."""
-        guessed = self.timeline.asides.guessed  # type: ignore[attr-defined]
-        place = str(life.pod and life.pod.uid), name, attempt
-        new = tuple(mark for mark in dict.fromkeys([*guessed.get(place, ()), *(one for each in found for one in each)]))
-        if new:
-            guessed[place] = new
+        self.timeline.mark(str(life.pod and life.pod.uid), name, attempt, tuple(one for each in found for one in each))
 
     def has_room(self, life: Life) -> bool:
         """Whether a trace can have one more pod; of traces one behind the other each has those that are there."""
@@ -113,10 +110,11 @@ class Placing:
     def judge(self, at: float) -> None:
         self.rounds.add(int(at))
 
-    def gap(self, since: float, until: float) -> None:
-        """Nothing is known of the time between; a tick stands at its end."""
+    def gap(self, since: float, until: float, clock_back: int = 0) -> None:
+        """Nothing is known of the time between; a tick stands at its end. A clock may have gone back there."""
         self.timeline.place_look(until)
-        self.gaps.append((int(until), {"since": int(since), "until": int(until)}))
+        turned = {CLOCK_BACK: clock_back} if clock_back else {}
+        self.gaps.append((int(until), {"since": int(since), "until": int(until), **turned}))
 
     # --- what is written ---
 
@@ -156,25 +154,44 @@ class Placing:
 
     def tick_with_members(self, line: str, at: int) -> str:
         """A tick's line; it is read anew only where something was said of a pod."""
-        more: dict[str, Any] = {} if at in self.rounds else {"judged": False}
+        is_round = at in self.rounds
         self.rounds.discard(at)
+        more: dict[str, Any] = {} if is_round else {"judged": False}
         gaps = [gap for second, gap in self.gaps if second <= at]
         if gaps:
-            more["gap"] = gaps[-1]
+            back = sum(gap.get(CLOCK_BACK, 0) for gap in gaps)
+            more["gap"] = {**gaps[-1], "since": gaps[0]["since"], **({CLOCK_BACK: back} if back else {})}
             self.gaps = [each for each in self.gaps if each[0] > at]
         due = [key for key, rows in self.beside.items() if any(row[0] <= at for row in rows)]
         if due:
             return line_of({**self.with_rows(json.loads(line), due, at), **more})
-        return f"{line[:-1]},{shown(more)[1:]}" if more else line
+        if "gap" in more:
+            return f"{line[:-1]},{shown(more)[1:]}"
+        return line if is_round else line[:-1] + NOT_JUDGED
+
+    def with_rows_of(self, entry: dict[str, Any], at: int) -> dict[str, Any]:
+        """A pod's entry of a tick with what was said of it by then."""
+        rows = self.beside.get(entry["pod"])
+        if rows is None or all(row[0] > at for row in rows):
+            return entry
+        self.keep_rows(entry["pod"], at)
+        taken = dict(entry)
+        self.take_rows(taken, [row for row in rows if row[0] <= at])
+        return taken
+
+    def keep_rows(self, key: str, at: int) -> None:
+        """What was said of a pod up to a second is taken."""
+        self.beside[key] = [row for row in self.beside[key] if row[0] > at]
+        if not self.beside[key]:
+            del self.beside[key]
 
     def with_rows(self, fields: dict[str, Any], due: list[str], at: int) -> dict[str, Any]:
+        """A tick with what was said of pods that have no entry in it."""
         entries = {each["pod"]: each for each in fields["pods"]}
         present = {pod.key for pod in self.timeline.present}
         for key in due:
             rows = self.beside[key]
-            self.beside[key] = [row for row in rows if row[0] > at]
-            if not self.beside[key]:
-                del self.beside[key]
+            self.keep_rows(key, at)
             if key in present or key in entries:
                 entry = entries.setdefault(key, {"pod": key, "containers": []})
                 self.take_rows(entry, [row for row in rows if row[0] <= at])

@@ -2,6 +2,7 @@
 
 from __future__ import annotations
 
+import json
 import re
 from collections.abc import Callable, Iterator
 
@@ -19,9 +20,10 @@ PROBE = re.compile(r'(Readiness|Liveness|Startup) probe for "([^"]*\)):([^"]*)" 
                    r"(?:(succeeded)|failed \((\w+)\): ?(.*))", re.S)
 KILLING = re.compile(r'Killing container "\w+://(\w+)" with a (\d{1,9}) second grace period')
 RESTARTED = re.compile(r'Container "([^"]*)" \(\{"\w+" "(\w+)"\}\) of pod (\S+): (.*)', re.S)
+WAITS = 'failed to "StartContainer" for "'
 WAITING = re.compile(r'failed to "(\w+)" for "([^"]*)" with (\w+): "((?:[^"\\]|\\.)*)"')
 MADE = re.compile(r"container: ([a-z0-9][-a-z0-9]{0,62})/([-.a-z0-9]{1,253})/([a-z0-9][-a-z0-9]{0,62}) podIPs: ")
-PATCH = re.compile(r'Patch status for pod "([^"]*)" with ("(?:[^"\\]|\\.)*")')
+PATCH = re.compile(r'Patch status for pod "([^"]*)" with (?=")')
 OBSERVED = re.compile(r"observations: signal=([\w.]+), available: ([^,\s]+), capacity: ([^,\s]+)")
 RESOURCE = re.compile(r"attempting to reclaim ([-\w]+)")
 REFUSED = re.compile(r"Failed to admit pod (\S+) - node has conditions: \[([A-Za-z, ]{0,200})\]")
@@ -31,6 +33,7 @@ NODE = re.compile(r'FLAG: --hostname-override="([^"]+)"'
                   r"|(?:Attempting to register|Successfully registered) node ([-.a-z0-9]+)")
 NAMED = re.compile(r'(?:killContainer|failed to remove pod init container) "([^"]*)".{0,300}?'
                    r'(?:\{"\w+" |container )"([0-9a-f]{12,64})"')
+DECODER = json.JSONDecoder()
 TYPES = {"ContainerStarted": facts.STARTED, "ContainerDied": facts.DIED}
 WHERE = {"ADD": facts.Added, "DELETE": facts.Deleted, "REMOVE": facts.Removed}
 
@@ -80,8 +83,8 @@ def of_made(message: Message) -> Iterator[facts.Fact]:
 
 
 def of_error(message: Message) -> Iterator[facts.Fact]:
-    pod = placed_in(message.text)
-    yield from waits_in(message.at, pod, message.text)
+    if WAITS in message.text:
+        yield from waits_in(message.at, placed_in(message.text), message.text)
 
 
 def waits_in(at: float, pod: facts.Reference | None, text: str) -> Iterator[facts.Fact]:
@@ -101,8 +104,16 @@ def of_patch(message: Message) -> Iterator[facts.Fact]:
     pod = None if found is None else placed_in(found[1])
     if found is None or pod is None:
         return
-    status = patched(outside.json_of(found[2]))
+    status = patched(value_at(message.text, found.end()))
     yield from of_status(message.at, pod, status)
+
+
+def value_at(text: str, place: int) -> object:
+    """The JSON value that begins at a place; None where none does."""
+    try:
+        return DECODER.raw_decode(text, place)[0]
+    except (ValueError, RecursionError):
+        return None
 
 
 def patched(text: object) -> object:

@@ -10,7 +10,6 @@ from argparse import Namespace
 from replay_tools import entry, outside
 from replay_tools.joined import asked
 from replay_tools.record.formats import name_fault
-from replay_tools.record.program import Ended
 
 from . import cluster, events, manifests, moments, reading, summary
 from .importer import Importer, refuse_strangers
@@ -18,7 +17,7 @@ from .journals import STANDARD_INPUT, Counts, Journal, merged
 from .moments import Klog
 from .placing import Placing
 from .progress import Progress
-from .writing import Folded, Plain, Writer
+from .writing import Ended, Plain, Writer
 
 
 MOST_NOTES = 100
@@ -59,7 +58,7 @@ def imported(words: Namespace) -> int:
         raise entry.Fault(f"--node takes a node's name, not '{words.node}'")
     known = manifests_of(words)
     journals = journals_of(words)
-    writer: Writer = Plain(sys.stdout) if words.into is None else Folded(words.into, words.each, entry.say)
+    writer = writer_of(words)
     placing = Placing(most_pods_at_once=words.into is not None)
     notes = Notes()
     importer = Importer(known, placing, notes)
@@ -87,6 +86,14 @@ def imported(words: Namespace) -> int:
     for line in summary.lines_of(importer, readers, reading.all_counts(journals), words):
         entry.say(line)
     return 0
+
+
+def writer_of(words: Namespace) -> Writer:
+    if words.into is None:
+        return Plain(sys.stdout)
+    # the recorder is as much to read as all the rest, which one trace does not need
+    from .folding import Folded
+    return Folded(words.into, words.each, entry.say)
 
 
 class Notes:

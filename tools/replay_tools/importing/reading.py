@@ -3,15 +3,16 @@
 from __future__ import annotations
 
 from collections.abc import Callable, Iterator
+from dataclasses import replace
 from typing import Any
 
 from replay_tools import entry
 
 from . import facts, keyed, printed
-from .journals import Counts, Journal, Line, merged
+from .journals import Counts, Hole, Journal, Line, Skipping, merged
 from .messages import Message, messages_of
 from .moments import Klog
-from .runtimes import Runtime
+from .runtimes import Runtime, moment_in
 
 WANTED = {word.encode() for word in (*printed.FORMS, *(f'"{word}' for word in keyed.FIRST_WORDS))}
 WANTED |= {b'"' + word.encode() + b'"' for word in keyed.FIRST_WORDS}
@@ -20,7 +21,18 @@ FLAG, NODE_FLAG = b"FLAG:", b"FLAG: --hostname-override="
 # where a header ends, at the earliest and at the latest, and how long a first word may be
 SHORTEST, LONGEST_HEADER, LONGEST_WORD = 24, 260, 64
 LETTERS = b"IWEF"
+# the first bytes of a word tell of most that they are none of these
+BEGIN = 3
+BEGINS = {word[:BEGIN] for word in WANTED}
+# how messages begin that begin as others do, and say nothing; and where klog's header has the process
+SILENT = (b"SyncLoop (RECONCILE", b"SyncLoop (SYNC)", b"SyncLoop (housekeeping", b"Error getting ",
+          b"Container runtime ", b"eviction manager: thresholds -", b"eviction manager: node conditions -",
+          b"eviction manager: no resources", b"Failed to remove container", b"Created an OOM event")
+PROCESS = slice(22, 29)
 SUPPRESSED = "Suppressed "
+# a clock that goes back by less stands still until its time comes again, and so often at most it goes back
+BACK_SECONDS = 60
+MOST_TURNS = 100
 # how often a process may say something again behind another one
 MOST_RETURNS = 4
 
@@ -28,10 +40,35 @@ MOST_RETURNS = 4
 def is_skipped(text: bytes) -> bool:
     """Whether a line is a message of klog's that is of no form that is read, by its first word."""
     place = text.find(b"] ", SHORTEST, LONGEST_HEADER) + 2
-    if place < SHORTEST or text[0] not in LETTERS:
-        return False
+    return place >= SHORTEST and text[0] in LETTERS and is_unwanted(text, place)
+
+
+def is_unwanted(text: bytes, place: int) -> bool:
+    """Whether the message whose words stand at a place is of no form that is read."""
     word = text[place:place + LONGEST_WORD].partition(b" ")[0]
     return word not in WANTED or (word == FLAG and not text.startswith(NODE_FLAG, place))
+
+
+def left_out(lines: Iterator[bytes]) -> Iterator[bytes | None]:
+    """Lines as a process writes them, with None for one or more that are skipped: most are, so each is looked at by as
+    little as tells that. A silent one is skipped where its process is that of the line before it that is not."""
+    is_behind_skipped, process = False, b""
+    for text in lines:
+        place = text.find(b"] ", SHORTEST, LONGEST_HEADER) + 2
+        if (place > 1 and text[place:place + BEGIN] not in BEGINS and text[0] in LETTERS) or is_skipped(text) or (
+                text.startswith(SILENT, place) and text[PROCESS] == process):
+            is_behind_skipped = True
+            continue
+        if is_behind_skipped:
+            is_behind_skipped = False
+            yield None
+        process = text[PROCESS]
+        yield text
+    if is_behind_skipped:
+        yield None
+
+
+SKIPPING = Skipping(is_skipped, is_unwanted, left_out)
 
 
 class Processes:
@@ -66,10 +103,17 @@ class Processes:
         return not node or self.node is None or node == self.node or node.partition(".")[0] == self.node
 
 
+class Clock:
+    """How much later moments are taken behind each time at which a node's clock went back."""
+
+    def __init__(self) -> None:
+        self.shifts: list[int] = []
+
+
 class Reader:
     """Reads one journal."""
 
-    def __init__(self, journal: Journal, klog: Klog, processes: Processes) -> None:
+    def __init__(self, journal: Journal, klog: Klog, processes: Processes, clock: Clock) -> None:
         self.journal = journal
         self.klog = klog
         self.processes = processes
@@ -77,18 +121,64 @@ class Reader:
         self.process = -1
         self.node = ""
         self.now = 0.0
+        # by how much later moments are taken since the clock went back, from which moment on, and how often it did
+        self.clock = clock
+        self.shift = 0
+        self.turned_at = 0.0
+        self.turns = 0
+        self.newest = 0.0
         # whether moments are klog's own
         self.uses_klog = False
 
     def all_facts(self) -> Iterator[facts.Fact]:
-        """Its facts. A line whose moment is a little before that of the one before it is put behind that one."""
-        for item in messages_of(self.journal.lines(self.klog, is_skipped), self.klog, is_skipped):
-            if not self.processes.is_ours(item.node):
+        """Its facts. A line whose moment is a little before that of the one before it is put behind that one; behind a
+        clock that went back all moments are as if it had not."""
+        for item in messages_of(self.journal.lines(self.klog, SKIPPING), self.klog):
+            if item.node and not self.processes.is_ours(item.node):
                 continue
-            if isinstance(item, Message):
-                yield from self.of_message(item)
+            read: Callable[[Any], Iterator[facts.Fact]] = self.of_message
+            if isinstance(item, Line):
+                item.moment = moment_in(item.text) if item.moment is None else item.moment
+                moment, read = item.moment, self.of_line
             else:
-                yield from self.of_line(item)
+                moment = item.at
+            if moment is not None and moment + self.shift < self.newest:
+                if moment + self.shift < self.newest - BACK_SECONDS and self.turns < MOST_TURNS:
+                    yield from self.turn_clock(moment)
+            elif moment is not None:
+                self.newest = moment + self.shift
+            yield from read(item) if self.shift == 0 else self.shifted(item, read)
+
+    def turn_clock(self, moment: float) -> Iterator[facts.Fact]:
+        """The clock went back to a moment. From here on that is at the second behind the newest one, or where another
+        journal of the node put it, which told it then."""
+        self.turns += 1
+        self.turned_at = moment
+        known = self.clock.shifts[self.turns - 1] if self.turns <= len(self.clock.shifts) else 0
+        if known > self.shift and moment + known >= self.newest - BACK_SECONDS:
+            self.shift = known
+            return
+        before, self.shift = self.shift, int(self.newest) + 1 - int(moment)
+        self.clock.shifts.append(self.shift)
+        self.journal.counts.turns += 1
+        yield facts.TurnedBack(moment + self.shift, self.shift - before)
+
+    def shifted(self, item: Any, read: Callable[[Any], Iterator[facts.Fact]]) -> Iterator[facts.Fact]:
+        """The facts of a message or a line, with all moments as if the clock had not gone back; an exact one of before
+        that is so already."""
+        place = "at" if isinstance(item, Message) else "moment"
+        moment = getattr(item, place)
+        if moment is not None:
+            setattr(item, place, moment + self.shift)
+        for fact in read(item):
+            if isinstance(fact, facts.Known):
+                started, finished = (self.exact(each, fact.at) for each in (fact.started, fact.finished))
+                fact = replace(fact, started=started, finished=finished)
+            yield fact
+
+    def exact(self, moment: float | None, at: float) -> float | None:
+        is_behind = moment is not None and self.turned_at - 1 <= moment <= at - self.shift + 1
+        return moment + self.shift if is_behind else moment
 
     def of_message(self, message: Message) -> Iterator[facts.Fact]:
         if message.at < self.now:
@@ -117,6 +207,10 @@ class Reader:
             self.journal.counts.suppressed += 1
             yield facts.Missing(self.moment_of(line), "journald left out messages")
             return
+        if isinstance(line, Hole):
+            self.journal.counts.holes += 1
+            yield facts.Missing(self.moment_of(line), "numbers of lines are missing")
+            return
         yield from self.runtime.facts_of(line)
 
     def moment_of(self, line: Line) -> float:
@@ -126,8 +220,8 @@ class Reader:
 def read_all(journals: list[Journal], klog_of: Callable[[Journal], Klog], node: str | None) -> tuple[
         Iterator[facts.Fact], list[Reader]]:
     """The facts of several journals by their moments."""
-    processes = Processes(node, len(journals))
-    readers = [Reader(journal, klog_of(journal), processes) for journal in journals]
+    processes, clock = Processes(node, len(journals)), Clock()
+    readers = [Reader(journal, klog_of(journal), processes, clock) for journal in journals]
     return merged([reader.all_facts() for reader in readers]), readers
 
 
@@ -135,7 +229,7 @@ def all_counts(journals: list[Journal]) -> Counts:
     """What was read of all of them."""
     total: Any = Counts()
     for journal in journals:
-        for name in ("size", "lines", "cut", "foreign", "suppressed", "back"):
+        for name in ("size", "lines", "cut", "foreign", "suppressed", "back", "holes", "turns"):
             setattr(total, name, getattr(total, name) + getattr(journal.counts, name))
         total.faults += journal.counts.faults
     return total

@@ -11,7 +11,9 @@ from replay_tools import outside
 from .facts import Reference
 
 # n_ns(uid), as printf messages name a pod; a name has no underscore
-PLACED = re.compile(r"([a-z0-9][-.a-z0-9]{0,252})_([a-z0-9][-a-z0-9]{0,62})\(([-0-9A-Za-z]{1,64})\)")
+LONGEST_NAME = 253
+NAMED = "-.abcdefghijklmnopqrstuvwxyz0123456789"
+BEHIND_NAME = re.compile(r"_([a-z0-9][-a-z0-9]{0,62})\(([-0-9A-Za-z]{1,64})\)")
 UID = re.compile(r"[-0-9A-Za-z]{1,64}")
 KEYED = re.compile(r"[a-z0-9][-a-z0-9]{0,62}/[a-z0-9][-.a-z0-9]{0,252}")
 ID = re.compile(r"[0-9a-f]{12,64}")
@@ -26,17 +28,23 @@ def key_of(namespace: Any, name: Any) -> str | None:
 
 def placed(text: str) -> Iterator[Reference]:
     """The pods of a text that names them as n_ns(uid)."""
-    for name, namespace, uid in PLACED.findall(text):
-        key = key_of(namespace, name)
-        if key is not None:
-            yield Reference(key, uid)
+    return (found for found in all_placed(text) if found is not None)
 
 
 def placed_in(text: str) -> Reference | None:
     """The first pod of a text."""
-    found = PLACED.search(text)
-    key = None if found is None else key_of(found[2], found[1])
-    return None if found is None or key is None else Reference(key, found[3])
+    return next(all_placed(text), None)
+
+
+def all_placed(text: str) -> Iterator[Reference | None]:
+    """The pods of a text, None where the names of one are none. It looks for the end of a name, and from there back: a
+    name may begin at nearly each letter of a text."""
+    for found in BEHIND_NAME.finditer(text):
+        before = text[max(found.start() - LONGEST_NAME, 0):found.start()]
+        name = before[len(before.rstrip(NAMED)):].lstrip("-.")
+        if name:
+            key = key_of(found[1], name)
+            yield None if key is None else Reference(key, found[2])
 
 
 def reference_of(value: Any, uid: Any = None) -> Reference | None:

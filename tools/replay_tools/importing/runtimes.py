@@ -49,7 +49,7 @@ class Runtime:
         """What a line says; nothing of one that is no runtime's."""
         if not any(sign in line.text for sign in SIGNS):
             return
-        moment = line.moment if line.moment is not None else stamp_of(line.text)
+        moment = line.moment
         if moment is None:
             return
         text = line.text.decode("utf-8", "replace").replace('\\"', '"')
@@ -118,9 +118,9 @@ class Runtime:
             yield facts.Turned(at, facts.Reference(key_of(found[2], found[3])), found[1], facts.DIED, True)
 
 
-def stamp_of(text: bytes) -> float | None:
-    """The moment that containerd writes into its line."""
-    found = STAMP.search(text)
+def moment_in(text: bytes) -> float | None:
+    """The moment that containerd writes into its line, where that is of interest."""
+    found = STAMP.search(text) if any(sign in text for sign in SIGNS) else None
     return None if found is None else moment_of_iso(found[1].decode("ascii", "replace"))
 
 

@@ -81,5 +81,8 @@ def of_counts(counts: Counts) -> list[str]:
     told = ((counts.cut, "line", "longer than 256 KiB, of which the rest was not read"),
             (counts.foreign, "line", "not of the form of the journal, and left out"),
             (counts.suppressed, "place", "where journald left out messages"),
+            (counts.holes, "place", "where numbers of the journal's lines are missing"),
+            (counts.turns, "time", "the clock went back: with --into the next trace has the moments that it said from "
+             "there on; in a trace alone they go on"),
             (counts.back, "line", "whose moment is behind that of the one before, which it is given"))
     return [f"{entry.counted(count, what)} {means}" for count, what, means in told if count] + counts.faults

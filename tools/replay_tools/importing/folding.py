@@ -1,0 +1,100 @@
+"""Traces in a folder, as the recorder writes them. What the recorder has is read for these alone."""
+
+from __future__ import annotations
+
+import json
+import os
+from collections.abc import Callable
+from typing import Any, Optional
+
+from replay_tools import entry
+from replay_tools.record.folder import Folder, Refused
+from replay_tools.record.formats import MOST_TICKS, shown
+from replay_tools.record.into import Traces
+
+from .placing import CLOCK_BACK
+from .writing import Ended, Writer
+
+# what is imported is not taken away for its age or its size
+KEPT_SECONDS, KEPT_BYTES = 1 << 36, 1 << 60
+# a tick behind a gap has this member
+GAP = '"gap":{'
+MOMENTS = ("at", "since", "until")
+
+
+def set_back(value: Any, seconds: int) -> Any:
+    """A record of a trace with moments that are so much earlier."""
+    if isinstance(value, list):
+        return [set_back(each, seconds) for each in value]
+    if not isinstance(value, dict) or value.get("kind") == "pod":
+        return value
+    return {name: inner - seconds if name in MOMENTS and isinstance(inner, int) else set_back(inner, seconds)
+            for name, inner in value.items()}
+
+
+class Folded(Writer):
+    """Traces in a folder, each whole by itself. Nothing is made there before there is something to write."""
+
+    def __init__(self, path: str, each: int, say: Callable[..., None]) -> None:
+        if not os.path.isdir(path):
+            raise entry.Fault(f"--into: '{path}' is no folder")
+        self.path = path
+        self.each = each
+        self.say = say
+        self.traces: Optional[Traces] = None
+        # by how much moments are earlier than they are given, since the clock went back
+        self.back = 0
+
+    def begin(self, node: dict[str, Any]) -> None:
+        try:
+            folder = Folder(self.path, node["name"], KEPT_SECONDS, KEPT_BYTES, self.say)
+        except Refused as refused:
+            raise entry.Fault(str(refused), 1) from None
+        if folder.traces():
+            raise entry.Fault(f"--into: '{self.path}' has traces of {node['name']} already: take an empty folder", 1)
+        self.traces = Traces(folder, self.each, MOST_TICKS, self.say)
+        self.traces.write([shown(node)])
+        self.is_begun = True
+
+    def write(self, lines: list[str], has_tick: bool) -> None:
+        assert self.traces is not None
+        if any(GAP in line for line in lines):
+            lines = self.begin_anew(lines)
+        elif self.back:
+            lines = self.by_the_clock(lines)
+        if lines:
+            self.traces.write_due(iter([(lines, has_tick)]))
+        if self.traces.is_lost:
+            raise Ended(1, f"--into: '{self.path}' takes no more")
+
+    def by_the_clock(self, lines: list[str]) -> list[str]:
+        """Lines with the moments that the clock said."""
+        return [shown(set_back(json.loads(line), self.back)) for line in lines] if self.back else lines
+
+    def begin_anew(self, lines: list[str]) -> list[str]:
+        """Ends the trace before a gap, and begins one behind it that follows none; the lines that are left."""
+        assert self.traces is not None
+        records = [json.loads(line) for line in lines]
+        place = next(place for place, record in enumerate(records) if record["kind"] == "tick")
+        gap = records[place].get("gap")
+        if gap is None:
+            return self.by_the_clock(lines)
+        before, self.back = self.back, self.back + gap.get(CLOCK_BACK, 0)
+        records = [set_back(record, self.back) for record in records]
+        records[place]["gap"]["since"] = gap["since"] - before
+        if self.traces.standing.at is None:
+            return [shown(record) for record in records]
+        self.traces.end()
+        for record in records[:place + 1]:
+            self.traces.standing.take(record)
+        self.traces.last = self.traces.until = None
+        self.traces.begin(records[place]["at"])
+        for record in records[place + 1:]:
+            self.traces.take_next([record], f"{shown(record)}\n".encode())
+        return []
+
+    def end(self) -> None:
+        if self.traces is not None:
+            self.traces.end()
+            self.traces.pack()
+            self.traces.folder.ahead.drop()
