@@ -17,6 +17,17 @@ def by_rules(report: reports.Report) -> list[reports.Eviction]:
     return [*report.evictions, *named]
 
 
+def heeds_rounds(trace: traces.Trace, report: reports.Report) -> bool:
+    """Whether the report's program heeds which ticks are judged and which pods are spared: then the rules name pods,
+    none of them in a tick that is not judged, and none that is spared."""
+    if report.heeds_rounds is None:
+        spared = {pod.number for pod in trace.pods if pod.is_spared}
+        report.heeds_rounds = report.names_pods and all(
+            event.number not in spared and trace.ticks[trace.places[event.at]].is_judged
+            for event in report.events if event.word == "names")
+    return report.heeds_rounds
+
+
 def ended_by_kubelet(report: reports.Report, pod: reports.Pod) -> tuple[int, str] | None:
     """When the kubelet ended a pod, and why, as the report says it: with a reason, and not by the rules."""
     end = reports.end_of(pod)

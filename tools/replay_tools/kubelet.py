@@ -98,7 +98,7 @@ def beside(trace: traces.Trace, report: reports.Report) -> Kubelet | None:
     if not trace.tells():
         return None
     rules = endings.by_rules(report)
-    found = Kubelet(names=report.heeds_rounds)
+    found = Kubelet(names=report.names_pods)
     for decision in decided.decisions_with_endings(trace):
         if decision.kind == "refused":
             found.refused.append(decision)
@@ -192,7 +192,7 @@ def causes_of(trace: traces.Trace, report: reports.Report, decision: traces.Deci
 
 def ticks_near(trace: traces.Trace, report: reports.Report, at: int) -> list[traces.Tick]:
     """The ticks near a moment at which the node decides, or the last one before it, or the first."""
-    judged = why.judged(report, trace.ticks)
+    judged = why.judged(trace, report, trace.ticks)
     near = [tick for tick in judged if abs(tick.at - at) <= NEAR]
     return near or [tick for tick in judged if tick.at < at][-1:] or judged[:1] or trace.ticks[:1]
 

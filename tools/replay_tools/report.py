@@ -126,6 +126,8 @@ class Report:
     """updates, events, orders"""
     borders: list[Border] = field(default_factory=list)
     """of one that is joined of several"""
+    heeds_rounds: bool | None = None
+    """what endings.heeds_rounds says of it, once it was asked"""
 
     @property
     def gaps(self) -> list[tuple[int, int]]:
@@ -133,8 +135,8 @@ class Report:
         return [(border.since, border.at) for border in self.borders if border.is_gap]
 
     @functools.cached_property
-    def heeds_rounds(self) -> bool:
-        """Whether its program heeds which ticks are judged and which pods are spared: one that does names pods."""
+    def names_pods(self) -> bool:
+        """Whether the rules name pods in it and evict none: its trace says whom the node evicted."""
         return any(event.word == "names" for event in self.events)
 
 

@@ -202,8 +202,8 @@ def test_unjudged_samples():
 
 
 def test_words_that_a_program_passes_over():
-    """A report that names no pod is of a program that heeds neither which pods are spared nor which ticks are judged:
-    its rules evict a pod that is spared, at a tick that is not judged, and it stands in the table."""
+    """A program that heeds neither which pods are spared nor which ticks are judged names a pod that is spared, at a
+    tick that is not judged, and the pod stands in the table."""
     trace = ('{"kind":"node","name":"n1","version":3,"evictionHard":{"memory.available":"100Mi"},'
              '"recordsKubelet":true,"evictionsRecorded":true}\n'
              '{"kind":"pod","spared":true,"pod":{"metadata":{"name":"a"},"spec":{"containers":[{"name":"c"}]}}}\n'
@@ -211,8 +211,8 @@ def test_words_that_a_program_passes_over():
              '"state":"CONTAINER_RUNNING"}],"usage":{"memory":"300Mi"}}],"signals":{"memory.available":"50Mi"}}\n')
     told = [line.split() for line in story_of(trace, replayed(trace)[1], "default/a").splitlines()]
     expect("spared and not judged, passed over", [line in told for line in (
-        ["5", "50Mi"], ["1", "default/a", "300Mi", "0", "300Mi", "0", "BestEffort", "evicted"],
-        "default/a on n1: by the rules Failed (Evicted), BestEffort".split())], [True] * 3)
+        ["5", "50Mi"], ["1", "default/a", "300Mi", "0", "300Mi", "0", "BestEffort", "named"],
+        "default/a on n1: by the rules Running, BestEffort".split())], [True] * 3)
 
 
 def test_a_code_that_was_guessed():

@@ -8,7 +8,7 @@ import time
 from dataclasses import dataclass
 
 from beside import NEAR, Fact, at, instance_facts, kill_facts, ready_facts, statuses_of
-from replay_tools import report as reports, traces
+from replay_tools import endings, report as reports, traces
 
 # what is further apart is another thing, in seconds
 FAR = 30
@@ -126,8 +126,17 @@ def said_facts(report, trace):
         if gone is not None:
             # the last tick with it: its line stands behind that
             facts.append(Fact(pod.key, "-", "gone", trace.ticks[gone - 1].at))
-    facts += [Fact(eviction.pod, "-", "evicted", eviction.at) for eviction in report.evictions]
+    facts += [Fact(eviction.pod, "-", "evicted", eviction.at) for eviction in by_rules(report, trace)]
     return facts + [Fact(each.pod, "-", "told", each.at) for each in trace.decisions if each.kind == "evicted"]
+
+
+def by_rules(report, trace):
+    """Whom the rules evict, or name: each pod once, where they do it nearest to its eviction by the kubelet."""
+    told = {each.number: each.at for each in trace.decisions if each.kind == "evicted"}
+    found = {}
+    for each in sorted(endings.by_rules(report), key=lambda each: abs(each.at - told.get(each.number, 0))):
+        found.setdefault(each.number, each)
+    return found.values()
 
 
 def pod_facts(pod):
