@@ -2,7 +2,20 @@
 
 from __future__ import annotations
 
+from dataclasses import dataclass
 from typing import Any
+
+from replay_tools import amounts
+
+
+@dataclass(frozen=True)
+class Bounds:
+    """What resources set for a container: thousandths of a byte and of a core, None where they set nothing."""
+
+    memory_request: int | None = None
+    memory_limit: int | None = None
+    cpu_request: int | None = None
+    cpu_limit: int | None = None
 
 
 def value_at(found: dict[str, Any], name: str, otherwise: Any = None) -> Any:
@@ -42,3 +55,19 @@ def text_at(found: dict[str, Any], name: str, otherwise: str | None = None) -> s
     if not isinstance(value, str):
         raise ValueError(name)
     return value
+
+
+def bounds_of(resources: Any) -> Bounds:
+    """The bounds of an object of resources, in which a limit stands for a request that is not there. The formats do not
+    read each of these objects, so what has another shape sets nothing."""
+    return Bounds(*(next(filter(None, (amount_in(resources, kind, name) for kind in kinds)), None)
+                    for name in ("memory", "cpu") for kinds in (("requests", "limits"), ("limits",))))
+
+
+def amount_in(resources: Any, kind: str, name: str) -> int | None:
+    of_kind = resources.get(kind) if isinstance(resources, dict) else None
+    value = of_kind.get(name) if isinstance(of_kind, dict) else None
+    try:
+        return None if value is None else amounts.quantity(value)
+    except ValueError:
+        return None

@@ -15,9 +15,10 @@ def text(report: reports.Report, namespace: str | None, show: Callable[[int], st
          trace: traces.Trace | None = None, kubelet: kubelets.Kubelet | None = None,
          since: int = summing.NEVER) -> str:
     """The table of the pods of a namespace, or of all without one; of what came behind a moment, where one is given,
-    with all restarts of a pod beside those."""
+    with all restarts of a pod beside those; above it what happened to the node meanwhile."""
     ranked = [summary for summary in summing.summaries(report, trace, kubelet, since=since)
               if namespace is None or report.pods[summary.number].key.startswith(f"{namespace}/")]
+    pods = [report.pods[summary.number] for summary in ranked]
     if namespace is not None and not ranked:
         raise entry.Fault(f"the report has no pod in the namespace {namespace}")
     is_part = since != summing.NEVER
@@ -25,7 +26,8 @@ def text(report: reports.Report, namespace: str | None, show: Callable[[int], st
     rows = [row_of(report, summary, show, is_part) for summary in ranked]
     where, of_time = "" if namespace is None else f" in {namespace}", f" since {show(since)}" if is_part else ""
     title = f"{report.node}: {entry.counted(len(rows), 'pod')}{where}, the worst{of_time} first"
-    return "\n".join(telling.table(title, heads, rows)[:-1]) + "\n"
+    of_node = telling.node_lines(trace, report, pods, show, since) if trace is not None else []
+    return "\n".join([*of_node, *telling.table(title, heads, rows)[:-1]]) + "\n"
 
 
 def row_of(report: reports.Report, summary: summing.Summary, show: Callable[[int], str], is_part: bool) -> list[str]:

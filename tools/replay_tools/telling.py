@@ -1,18 +1,22 @@
-"""How tables and events are told in words."""
+"""How tables and events are told in words, and what a trace says of its node beside them."""
 
 from __future__ import annotations
 
 import re
+from bisect import bisect_left
 from collections.abc import Callable
+from dataclasses import dataclass
 from typing import TYPE_CHECKING
 
-from replay_tools import events, reasons
+from replay_tools import entry, events, outside, reasons, traces
 
 if TYPE_CHECKING:
-    from replay_tools import report as reports, traces
+    from replay_tools import report as reports
 
 ZONE = r"(?:Z|[+-]\d\d:\d\d)"
 DATE = re.compile(rf"\d{{4}}-\d\d-\d\d (?=\d\d:\d\d:\d\d{ZONE})")
+# a code that no tick says
+UNKNOWN = "unknown"
 # a cell that is a moment, or several of them
 MOMENTS = re.compile(rf"({DATE.pattern})[\d:]{{8}}{ZONE}(?:, .*)?", re.ASCII)
 
@@ -80,3 +84,148 @@ def containers_title(pod: reports.Pod, ended: tuple[int, str] | None) -> str:
     if is_over and any(container.state == "Running" for container in pod.containers):
         return "Containers, each in the last state that was recorded"
     return "Containers"
+
+
+# --- the node ---
+
+
+@dataclass(frozen=True)
+class Exited:
+    """That a container exited: the number of its pod, its name, and its code as a text."""
+
+    pod: int
+    name: str
+    code: str
+
+    def words(self) -> str:
+        return "with an unknown code" if self.code == UNKNOWN else self.code
+
+
+@dataclass(frozen=True)
+class Reboot:
+    """That the node was started anew, and what exited between the last tick before that and the first one behind it."""
+
+    at: int
+    before: int
+    """the place of that last tick"""
+    exits: list[Exited]
+
+    def words(self, when: str = "") -> str:
+        return f"the node was rebooted{when}{': ' if self.exits else ''}{exits_words(self.exits)}"
+
+    def is_of(self, pod: traces.Pod) -> bool:
+        return pod.is_present(self.before) or bool(self.exits_of(pod))
+
+    def exits_of(self, pod: traces.Pod) -> list[Exited]:
+        return [one for one in self.exits if one.pod == pod.number]
+
+
+@dataclass
+class NotReady:
+    """A time in which the node was not Ready: until the first tick that does not say so, or None."""
+
+    since: int
+    until: int | None
+    reason: str | None
+
+    def holds(self, at: int) -> bool:
+        return self.since <= at and (self.until is None or at <= self.until)
+
+    def end_words(self, show: Callable[[int], str]) -> str:
+        until = "the end of the trace" if self.until is None else show(self.until)
+        return f"{until}: {self.reason}" if self.reason else until
+
+
+def reboots(trace: traces.Trace, report: reports.Report) -> list[Reboot]:
+    """The starts of the node's system before which it was recorded too. Each trace says the newest one."""
+    found, moments = [], [tick.at for tick in trace.ticks]
+    for at in dict.fromkeys(tick.lines.booted_at for tick in trace.ticks):
+        place = 0 if at is None else bisect_left(moments, at)
+        if 0 < place < len(trace.ticks):
+            exits = [Exited(event.number, event.container, code_of(event, trace)) for event in report.events
+                     if event.word == "died" and moments[place - 1] < event.at <= moments[place]]
+            found.append(Reboot(at, place - 1, exits + exits_unseen(trace, place, exits)))
+    return found
+
+
+def exits_unseen(trace: traces.Trace, place: int, seen: list[Exited]) -> list[Exited]:
+    """The exits that no tick has, of containers that ran before a tick and of which that lists a later instance: a
+    recorder that starts behind a reboot may come too late for them."""
+    before, behind = listings_at(trace, place - 1), listings_at(trace, place)
+    known = {(one.pod, one.name) for one in seen}
+    return [Exited(*of, UNKNOWN) for of, listing in before.items() if of not in known and of in behind
+            and listing.state == traces.STATES[1] and listing.attempt < behind[of].attempt]
+
+
+def listings_at(trace: traces.Trace, place: int) -> dict[tuple[int, str], traces.Listing]:
+    """What a tick lists, by the number of the pod and the container."""
+    try:
+        found = {(pod.number, container.name): trace.listing(pod, container.name, place)
+                 for pod in trace.pods for container in pod.containers}
+    except ValueError:
+        return {}
+    return {of: listing for of, listing in found.items() if listing is not None}
+
+
+def code_of(event: reports.Event, trace: traces.Trace) -> str:
+    return event.rest[1] if reasons.is_known(event, trace) else UNKNOWN
+
+
+def exits_words(exits: list[Exited]) -> str:
+    """How many containers exited, by their codes."""
+    by_code: dict[str, set[tuple[int, str]]] = {}
+    for one in exits:
+        by_code.setdefault(one.words(), set()).add((one.pod, one.name))
+    return ", ".join(f"{entry.counted(len(found), 'container')} exited {words}" for words, found in by_code.items())
+
+
+def times_not_ready(trace: traces.Trace) -> list[NotReady]:
+    """The times in which the node was not Ready, since the moment that its condition says. One lasts over a gap where
+    the condition says so behind it."""
+    found: list[NotReady] = []
+    last = None
+    for tick in trace.ticks:
+        said = tick.not_ready
+        since = None if said is None else outside.whole(said.get("since"), 0, tick.at)
+        if last is not None and (since is None or since > last):
+            gap = gap_between(trace, last, tick.at)
+            if said is None or gap is not None:
+                found[-1].until, last = tick.at if gap is None else gap, None
+        if said is not None and last is None:
+            found.append(NotReady(tick.at if since is None else since, None, outside.text_of(said.get("reason"))))
+        last = None if said is None else tick.at
+    return found
+
+
+def gap_between(trace: traces.Trace, since: int, until: int) -> int | None:
+    """Where a gap begins between two ticks, if one does."""
+    return next((begin for begin, end in trace.gaps if since <= begin and end <= until), None)
+
+
+def not_ready_with(trace: traces.Trace, pods: list[reports.Pod]) -> list[NotReady]:
+    """Those in which one of some pods became unready, or one of its readiness gates false."""
+    times = times_not_ready(trace)
+    moments = [event.at for pod in pods for event in pod.events if event.word == "unready"] if times else []
+    moments += [wait.since for pod in pods for _, wait in trace.reasons.gates_of(pod)] if times else []
+    return [one for one in times if any(map(one.holds, moments))]
+
+
+def node_rows(trace: traces.Trace, report: reports.Report, pod: reports.Pod,
+              show: Callable[[int], str]) -> list[tuple[int, str, list[str]]]:
+    """What happened to the node while a pod was there: a moment, what happened, and what of it was of the pod."""
+    ours = trace.pods[pod.number]
+    rows = [(one.at, one.words(), [f"of this pod {each.name} exited {each.words()}" for each in one.exits_of(ours)])
+            for one in reboots(trace, report) if one.is_of(ours)]
+    return rows + [(one.since, f"the node was NotReady until {one.end_words(show)}", [])
+                   for one in not_ready_with(trace, [pod])]
+
+
+def node_lines(trace: traces.Trace, report: reports.Report, pods: list[reports.Pod], show: Callable[[int], str],
+               since: int) -> list[str]:
+    """The same of several pods, as far as it was behind a moment, in a line each."""
+    booted = [one for one in reboots(trace, report) if one.at > since]
+    lines = [(one.at, one.words(f" at {show(one.at)}")) for one in booted
+             if any(one.is_of(trace.pods[pod.number]) for pod in pods)]
+    lines += [(one.since, f"the node was NotReady from {show(one.since)} to {one.end_words(show)}")
+              for one in not_ready_with(trace, pods) if one.until is None or one.until > since]
+    return [words for _, words in sorted(lines)]

@@ -10,7 +10,7 @@ from typing import Any, TYPE_CHECKING
 
 from replay_tools import amounts, first_bytes, outside, packed
 from replay_tools.decided import Decision, Deletion, decisions_of, take_words
-from replay_tools.fields import dict_at, list_at, number_at, text_at, value_at
+from replay_tools.fields import Bounds, bounds_of, dict_at, list_at, number_at, text_at, value_at
 from replay_tools.limits import memory_in
 from replay_tools.reasons import Reasons, guesses_code
 
@@ -53,6 +53,8 @@ class Container:
     """thousandths by resource; a limit without a request stands for it"""
     memory_limit: int | None = None
     """thousandths of a byte"""
+    bounds: Bounds = Bounds()
+    """as its manifest sets them"""
 
 
 @dataclass
@@ -99,6 +101,8 @@ class Lines:
     def __init__(self, text: bytes) -> None:
         self.text = text
         self.newest: tuple[int | None, dict[str, dict[str, Any]]] = None, {}
+        self.booted_at: int | None = None
+        """the second at which the node's system was started, where the node line says it"""
 
     def __iter__(self) -> Iterator[tuple[int, int, int] | None]:
         """Where each line begins and ends, with its number."""
@@ -143,6 +147,13 @@ class Tick:
     def may_have(self, name: bytes) -> bool:
         """Whether a member of this name may be in its line, where it may be written with escapes."""
         return any(self.lines.text.find(sign, self.begin, self.end) >= 0 for sign in (name, b"\\u"))
+
+    @property
+    def not_ready(self) -> dict[str, Any] | None:
+        """What it says of a node that is not Ready, as it is written."""
+        line = outside.json_of(self.lines.text[self.begin : self.end]) if self.may_have(b"nodeReady") else None
+        said = line.get("nodeReady") if isinstance(line, dict) else None
+        return said if isinstance(said, dict) and said.get("status") in ("False", "Unknown") else None
 
 
 @dataclass
@@ -331,6 +342,7 @@ def trace_with(trace: Trace | None, present: dict[str, Pod], lines: Lines, begin
     if (trace is None) != (kind == "node"):
         raise ValueError("kind")
     if kind == "node":
+        lines.booted_at = outside.moment(found.get("bootedAt"))
         return Trace(text_at(found, "name"), found, thresholds_of(found))
     if kind == "pod":
         pod = pod_of(len(trace.pods), found["pod"], len(trace.ticks))
@@ -394,7 +406,7 @@ def container_of(found: dict[str, Any], role: str) -> Container:
                 if resource in ("memory", "ephemeral-storage") and value is not None and amounts.quantity(value)}
     memory_limit = value_at(dict_at(resources, "limits"), "memory")
     return Container(text_at(found, "name"), role, probes, requests,
-                     None if memory_limit is None else amounts.quantity(memory_limit))
+                     None if memory_limit is None else amounts.quantity(memory_limit), bounds_of(resources))
 
 
 def probe_of(found: dict[str, Any]) -> Probe:

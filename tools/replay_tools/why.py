@@ -10,7 +10,8 @@ from collections.abc import Iterable
 from dataclasses import dataclass, field
 from typing import Any
 
-from replay_tools import endings, report as reports, traces
+from replay_tools import endings, outside, report as reports, traces
+from replay_tools.fields import Bounds, bounds_of
 
 # an exit behind a run this long, in seconds, begins the count of exits anew
 LONG_RUN = 600
@@ -20,6 +21,10 @@ OF_RULES = ("evicted", "names")
 NAMED_AGAIN = 60
 # the member by which an entry says that its pod has no sample
 UNSAMPLED = "unsampled"
+# for how many seconds before an event it is told that a processor was throttled, and how old a sample may be for that
+THROTTLED_SECONDS = 60
+# a tick line without one of them says nothing of what containers use
+SIGNS_OF_USE = (b"used", b"resources")
 
 
 @dataclass
@@ -96,6 +101,73 @@ class Evicted:
         return bool(self.candidates) and self.candidates[0].victim
 
 
+@dataclass(frozen=True)
+class Use:
+    """What an instance used at a moment, as far as it was recorded."""
+
+    at: int
+    attempt: int
+    memory: int | None
+    """its working set, in bytes"""
+    cpu: int | None
+    """thousandths of a core"""
+    throttled: int | None
+    """for how long its processor was throttled since the instance began, in thousandths of a second"""
+
+
+@dataclass(frozen=True)
+class Throttled:
+    """For how long the processor of an instance was throttled, in thousandths of a second."""
+
+    lately: int
+    since: int
+    until: int
+    whole: int
+    """since the instance began"""
+
+
+@dataclass
+class UseOverTime:
+    """What a container used, and when its bounds were changed in place: to those of its manifest where None."""
+
+    uses: list[Use] = field(default_factory=list)
+    changes: list[tuple[int, Bounds | None]] = field(default_factory=list)
+
+    def take(self, at: int, listed: dict[str, Any]) -> None:
+        """What a tick lists of it: the sample of the instance before, whose exit it says too, comes first."""
+        for said in (listed.get("ended"), listed):
+            use = use_in(at, said) if isinstance(said, dict) else None
+            # an exit tells the last sample once more
+            if use is not None and (not self.uses or (self.uses[-1].at, self.uses[-1].attempt) < (use.at, use.attempt)):
+                self.uses.append(use)
+        bounds = None if listed.get("resources") is None else bounds_of(listed["resources"])
+        if bounds != (self.changes[-1][1] if self.changes else None):
+            self.changes.append((at, bounds))
+
+    def of(self, attempt: int, at: int) -> list[Use]:
+        """What an instance used up to a moment."""
+        return [use for use in self.uses if use.attempt == attempt and use.at <= at]
+
+    def throttled(self, attempt: int, at: int) -> Throttled | None:
+        """For how long an instance was throttled up to a moment; None where it was not, or nothing says it."""
+        told = [use for use in self.of(attempt, at) if use.throttled is not None]
+        if not told or not told[-1].throttled or told[-1].at < at - THROTTLED_SECONDS:
+            return None
+        first = next(use for use in told if use.at >= told[-1].at - THROTTLED_SECONDS)
+        return Throttled(max(told[-1].throttled - first.throttled, 0), first.at, told[-1].at, told[-1].throttled)
+
+
+def use_in(at: int, listed: dict[str, Any]) -> Use | None:
+    """What a listing says that its instance used. The formats do not read that, so what has another shape says
+    nothing."""
+    used, attempt = listed.get("used"), outside.whole(listed.get("attempt", 0), 0, outside.MOST_OF_CODE)
+    age = outside.whole(used.get("age", 0), 0, at) if isinstance(used, dict) else None
+    if age is None or attempt is None:
+        return None
+    found = [outside.whole(used.get(name)) for name in ("workingSet", "cpu", "throttled")]
+    return None if found == [None] * 3 else Use(at - age, attempt, *found)
+
+
 @dataclass
 class Around:
     """What the trace holds around one event."""
@@ -107,6 +179,9 @@ class Around:
     evicted: Evicted | None = None
     died: bool = False
     """the container died in the same tick"""
+    throttled: Throttled | None = None
+    uses: list[Use] = field(default_factory=list)
+    """what the instance that died had used"""
 
 
 class PodTicks:
@@ -121,6 +196,13 @@ class PodTicks:
         """the moments at which what is listed changed, and what it was from then on, by container"""
         self.written = None
         """what was listed last, as it is written"""
+        self.used = {container.name: UseOverTime() for container in pod.containers}
+
+    def take_used(self, at: int, entry: dict[str, Any]) -> None:
+        """What a tick says that its containers use."""
+        for found in traces.list_at(entry, "containers"):
+            if found.get("name") in self.used:
+                self.used[found["name"]].take(at, found)
 
     def take(self, at: int, entry: dict[str, Any]) -> None:
         """One more tick, with what it has of the pod."""
@@ -181,12 +263,14 @@ class Ticks:
         return self.found[pod.number]
 
     def take(self, trace: traces.Trace, tick: traces.Tick, present: dict[str, traces.Pod]) -> None:
-        now = {}
+        now, tells_use = {}, any(map(tick.may_have, SIGNS_OF_USE))
         for key, entry in tick.entries.items():
             pod = present[key]
             if self.wanted is None or pod.number in self.wanted:
                 self.of(trace, pod).take(tick.at, entry)
                 now[pod.number] = pod
+                if tells_use:
+                    self.of(trace, pod).take_used(tick.at, entry)
         for number, pod in self.listed.items():
             if number not in now and present.get(pod.key) is pod:
                 self.found[number].take(tick.at, {})
@@ -243,6 +327,10 @@ def around_events(trace: traces.Trace, report: reports.Report, pod: reports.Pod)
             around.exits = counted(exits.get(name, []))
         elif event.word not in OF_RULES:
             around.results = results_of(ticks, specs[name], event, starts.get(name), around.died)
+        if event.word in ("kill", "unready", "died"):
+            attempt = next(iter(event.rest), starts.get(name, ("0",))[0])
+            around.throttled = ticks.used[name].throttled(int(attempt), event.at)
+            around.uses = ticks.used[name].of(int(attempt), event.at) if event.word == "died" else []
         found.append(around)
     add_evictions(trace, report, found)
     return found
@@ -309,12 +397,13 @@ def gather_evictions(trace: traces.Trace, report: reports.Report, moments: set[i
 
 
 def spared_at(trace: traces.Trace, report: reports.Report, place: int) -> list[str]:
-    return [pod.key for pod in trace.pods if report.heeds_rounds and pod.is_spared and pod.is_present(place)]
+    spared = [pod for pod in trace.pods if pod.is_spared and pod.is_present(place)]
+    return [pod.key for pod in spared if endings.heeds_rounds(trace, report)]
 
 
-def judged(report: reports.Report, ticks: list[traces.Tick]) -> list[traces.Tick]:
+def judged(trace: traces.Trace, report: reports.Report, ticks: list[traces.Tick]) -> list[traces.Tick]:
     """Those of some ticks at which the node decides."""
-    return [tick for tick in ticks if tick.is_judged or not report.heeds_rounds]
+    return [tick for tick in ticks if tick.is_judged or not endings.heeds_rounds(trace, report)]
 
 
 def samples_of(trace: traces.Trace, report: reports.Report, at: int, signal: str,
@@ -323,7 +412,7 @@ def samples_of(trace: traces.Trace, report: reports.Report, at: int, signal: str
     is no sample of its own."""
     last = trace.places[at]
     found: list[tuple[int, int | None, int | None]] = []
-    for tick in judged(report, trace.ticks[trace.places.get(since, last) : last + 1]):
+    for tick in judged(trace, report, trace.ticks[trace.places.get(since, last) : last + 1]):
         sample = tick.signals.get(signal), tick.after_reclaim.get(signal)
         if not found or found[-1][1:] != sample:
             found.append((tick.at, *sample))
@@ -370,7 +459,7 @@ def candidates_of(trace: traces.Trace, report: reports.Report, place: int, signa
     signal; one of a number was evicted."""
     found, at = [], trace.ticks[place].at
     for pod, status in zip(trace.pods, report.pods):
-        is_spared = report.heeds_rounds and pod.is_spared
+        is_spared = endings.heeds_rounds(trace, report) and pod.is_spared
         if not pod.is_present(place) or is_spared or endings.had_ended(status, at):
             continue
         usage = usages.get(pod.number, {})

@@ -7,7 +7,7 @@ from typing import Any, TYPE_CHECKING
 
 from replay_tools import entry, events, kubelet as kubelets, reasons, traces, why
 from replay_tools.amounts import amount_text
-from replay_tools.telling import beside_words, event_words, table
+from replay_tools.telling import beside_words, event_words, node_rows, table
 
 if TYPE_CHECKING:
     from replay_tools import report as reports
@@ -28,9 +28,11 @@ def whole_text(trace: traces.Trace, report: reports.Report, pod: reports.Pod, sh
     """The lines for each event of a pod of the report, and for what the kubelet did to it, of moments that are near;
     show writes a moment."""
     parts = [(around.event.at, [heading(around.event, show, kubelet, trace) + beside_words(pod, around.event, show),
-                                *beside(pod, around, show, kubelet),
-                                *told(trace, pod, around, show)]) for around in why.around_events(trace, report, pod)]
+                                *beside(pod, around, show, kubelet), *told(trace, pod, around, show),
+                                *throttled_lines(around, show)])
+             for around in why.around_events(trace, report, pod)]
     parts += kubelet_parts(trace, report, pod, show, kubelet) + wait_parts(trace, pod, show)
+    parts += [(at, [f"{show(at)}  {what}", *lines]) for at, what, lines in node_rows(trace, report, pod, show)]
     lines, kept = [], [part for part in parts if is_near(part[0])]
     for _, (head, *rest) in sorted(kept, key=lambda part: part[0]):
         lines += [head, *(f"  {line}".rstrip() for line in rest), ""]
@@ -88,7 +90,7 @@ def told(trace: traces.Trace, pod: reports.Pod, around: why.Around, show: Callab
     word = around.event.word
     if word in ("started", "died"):
         because = reasons.because_lines(around.event, trace) if word == "died" else []
-        return because + listed_lines(around.listed[0][1], show)
+        return because + listed_lines(around.listed[0][1], show) + use_lines(trace, around, show)
     if word == "phase":
         return table("the tick lists:", ["container", "attempt", "state", "code"],
                      [[name, *listing_cells(listed.now)] for name, listed in around.listed])[:-1]
@@ -103,6 +105,33 @@ def told(trace: traces.Trace, pod: reports.Pod, around: why.Around, show: Callab
     if not around.results:
         return ["it has no startup and no readiness probe"]
     return [line for results in around.results for line in result_lines(results, show)]
+
+
+def use_lines(trace: traces.Trace, around: why.Around, show: Callable[[int], str]) -> list[str]:
+    """What an instance that ran out of memory had used: the first sample and the last ones."""
+    end = trace.reasons.end_of(around.event) if around.uses else None
+    if end is None or end.reason != reasons.OUT_OF_MEMORY:
+        return []
+    uses = around.uses
+    kept = uses if len(uses) <= MOST_ROWS else [uses[0], *uses[1 - MOST_ROWS :]]
+    rows = [[show(use.at), amount_text(None if use.memory is None else 1000 * use.memory, True),
+             "-" if use.cpu is None else f"{use.cpu / 1000:g}"] for use in kept]
+    lines = table("what it used:", ["moment", "memory", "cores"], rows)[:-1]
+    return lines + left_out(len(uses) - len(kept), "samples behind the first")
+
+
+def throttled_lines(around: why.Around, show: Callable[[int], str]) -> list[str]:
+    """For how long the processor of the instance was throttled up to an event, where the trace says it."""
+    found = around.throttled
+    if found is None or around.died:
+        return []
+    lately = f" for {seconds_text(found.lately)} s of the {found.until - found.since} s to {show(found.until)}, and" \
+        if found.since < found.until else ""
+    return [f"its processor was throttled{lately} for {seconds_text(found.whole)} s since it began"]
+
+
+def seconds_text(thousandths: int) -> str:
+    return f"{thousandths / 1000:.1f}".removesuffix(".0")
 
 
 def listing_cells(listing: traces.Listing | None) -> list[str]:

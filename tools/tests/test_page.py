@@ -17,6 +17,8 @@ NODE = f"{HERE}/whys/file_system"
 PROBES = f"{HERE}/whys/probes"
 KUBELET = f"{HERE}/whys/kubelet"
 REASONS = f"{HERE}/recordings/reasons"
+REBOOTED = f"{HERE}/whys/rebooted"
+BEGIN = 1795730000
 ENDS = f"{HERE}/summaries"
 AGAIN = f"{TOP}/crates/case_runner/data/traces/extended"
 PODS, TICKS = 256, 20000
@@ -133,6 +135,79 @@ def test_refused_pages():
     expect_refused("page of a trace with a strange tick", page_of(report, f"{folder}/trace"), 2,
                    "is no line of a trace there")
     shutil.rmtree(folder)
+
+
+def test_page_of_use():
+    """What containers used, with the moments of the samples, once each, beside their bounds; nothing of a pod or a
+    trace that does not say it."""
+    pods = {pod["key"]: pod for pod in data_in(page_of(read(f"{REBOOTED}/report"), f"{REBOOTED}/trace")[1])["podList"]}
+    app, proxy = pods["shop/web"]["used"]
+    expect("page: samples", (app["columns"], app["uses"]), (5, [
+        0, 0, 20 << 20, 80, 0, 9, 0, 40 << 20, 450, 2500, 11, 0, 61 << 20, 500, 9300, 16, 1, 30 << 20, 120, 100,
+        69, 2, 22 << 20, 90, 0]))
+    expect("page: bounds", app["bounds"], [[None, 32 << 20, 64 << 20, 100, 500, False]])
+    expect("page: a container without a sample", proxy, None)
+    [db] = pods["shop/db"]["used"]
+    expect("page: samples without throttling", (db["columns"], db["uses"]),
+           (4, [10, 0, 8 << 20, 3, 26, 0, 9 << 20, 4]))
+    expect("page: a pod without a sample", "used" in pods["shop/job"], False)
+    for words in ([f"{NODE}/trace"], []):
+        found = data_in(page_of(read(f"{NODE}/report"), *words)[1])["podList"]
+        expect("page: a trace without a sample", [pod["key"] for pod in found if "used" in pod], [])
+
+
+def drawn_of(path, *words):
+    """What node draws and says of a page's story of a pod."""
+    done = subprocess.run(["node", f"{HERE}/drawn.js", path, *words], capture_output=True, text=True, check=False,
+                          timeout=60)
+    expect(f"node draws {' '.join(words)[:40]}", (done.returncode, done.stderr), (0, ""))
+    return json.loads(done.stdout)
+
+
+def test_page_draws_use():
+    """Beside the story of a pod, in both themes, the lines of its memory and processor time with request and limit,
+    and what is said where one points at them."""
+    if shutil.which("node") is None:
+        print("left out: what a page draws of memory and processor time, since node is missing")
+        return
+    with tempfile.TemporaryDirectory() as folder:
+        path = f"{folder}/page.html"
+        with open(path, "w", encoding="utf-8") as file:
+            file.write(page_of(read(f"{REBOOTED}/report"), "--seconds", f"{REBOOTED}/trace")[1])
+        for theme in ("light", "dark"):
+            found = drawn_of(path, "shop/web", theme, str(BEGIN + 8), str(BEGIN + 21), str(BEGIN + 70))
+            expect_use_drawn(theme, found)
+        expect("a page draws nothing without a sample", drawn_of(path, "shop/job", "light", "0")["charts"], [])
+
+
+def expect_use_drawn(theme, found):
+    expect(f"{theme}: what is said of a container", found["said"], [
+        f"app: memory at most 61Mi at {BEGIN + 20}, 95% of its limit 64Mi, request 32Mi; processor at most 0.5 cores "
+        f"at {BEGIN + 20}, 100% of its limit 0.5 cores, request 0.1 cores; throttled for 9.4 s in all (shaded)"])
+    memory, processor = found["charts"]
+    expect(f"{theme}: where one points at it", memory["tips"], [
+        f"{BEGIN + 9}\napp, attempt 0\nmemory 40Mi, 63% of its limit 64Mi, request 32Mi\n"
+        f"processor 0.45 cores, 90% of its limit 0.5 cores, request 0.1 cores\nthrottled for 2.5 s since {BEGIN}",
+        f"{BEGIN + 20}\napp, attempt 0\nmemory 61Mi, 95% of its limit 64Mi, request 32Mi\n"
+        f"processor 0.5 cores, 100% of its limit 0.5 cores, request 0.1 cores\nthrottled for 6.8 s since {BEGIN + 9}",
+        f"{BEGIN + 36}\napp, attempt 1\nmemory 30Mi, 47% of its limit 64Mi, request 32Mi\n"
+        "processor 0.12 cores, 24% of its limit 0.5 cores, request 0.1 cores"])
+    signal, hard, soft, shade = (found["colours"][name] for name in ("signal", "hard", "soft", "shade"))
+    names = [each[1:] for each in memory["drawn"] if each[0] == "text"]
+    expect(f"{theme}: names", ([words for _, words in names[:2]], names[2:]),
+           (["memory of app", "0 to 64Mi"], [[hard, "limit 64Mi"], [soft, "request 32Mi"]]))
+    line = next(each[2] for each in memory["drawn"] if each[:2] == ["stroke", signal])
+    expect(f"{theme}: a line for each instance", [what for what, _, _ in line],
+           ["move", "line", "line", "move", "move"])
+    # of 88 pixels 4 are below and 6 above, and 0 to 64Mi with a little more have the others
+    expect(f"{theme}: its heights", [round(88 - 4 - amount / 64 / 1.06 * 78, 3) for amount in (20, 40, 61, 30, 22)],
+           [round(y, 3) for _, _, y in line])
+    tops = [next(each[2][0][2] for each in memory["drawn"] if each[:2] == ["stroke", colour] and len(each[2]) == 2
+                 and each[2][0][2] == each[2][1][2]) for colour in (hard, soft)]
+    expect(f"{theme}: limit and request", tops, [10.5, 47.5])
+    boxes = [each[2] for each in processor["drawn"] if each[:2] == ["box", shade]]
+    expect(f"{theme}: the share of throttling", [round(box[3] / 72, 3) for box in boxes],
+           [round(2.5 / 9, 3), round(6.8 / 11, 3)])
 
 
 def selenium_python():

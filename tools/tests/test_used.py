@@ -6,6 +6,7 @@ import json
 from checks import expect
 from into_plays import Into
 
+from replay_tools import fields, traces, why
 from replay_tools.record import summary
 from replay_tools.record.sources import Failed
 from replay_tools.record.standing import Standing
@@ -13,13 +14,19 @@ from replay_tools.record.standing import Standing
 BEGIN = 1767225600
 
 
-def ticks_of(play, *words):
-    """The ticks of a recording of a play, and its answer."""
+def recorded(play, *words):
+    """A recording of a play, and its answer."""
     place = Into(play)
     status, trace, said = place.record(*words)
     place.clean()
+    return trace, (status, said)
+
+
+def ticks_of(play, *words):
+    """The ticks of a recording of a play, and its answer."""
+    trace, answer = recorded(play, *words)
     lines = [json.loads(line) for line in trace.splitlines()]
-    return [line for line in lines if line["kind"] == "tick"], (status, said)
+    return [line for line in lines if line["kind"] == "tick"], answer
 
 
 def used_in(ticks, name="app"):
@@ -75,6 +82,57 @@ def test_used_over_a_border():
         standing.take(line)
     begun = [json.loads(line) for line in standing.beginning(BEGIN + 60, None)]
     expect("used, over a border", used_in(line for line in begun if line["kind"] == "tick"), [])
+
+
+def test_use_is_read():
+    """The tools read each sample of a recording once, at its own moment."""
+    trace = traces.trace_of(recorded(LEAK, "--extended", "--for", "60")[0].encode(), "it")
+    ticks = why.Ticks()
+    ticks.take_all(trace)
+    [used] = ticks.of(trace, trace.pods[0]).used.values()
+    expect("used, as it is read", [(use.at - BEGIN, use.attempt, use.memory, use.cpu) for use in used.uses],
+           [(-1, 0, 10, 2), (8, 0, 20, 0), (19, 0, 60, 1000), (28, 1, 11, 0), (38, 2, 12, 0)])
+
+
+def test_use_over_time():
+    """What the tools read of it: each sample once, at its own moment, of its own instance; and bounds that were changed
+    in place."""
+    grown = {"requests": {"memory": "32Mi"}, "limits": {"memory": "128Mi", "cpu": "0.5"}}
+    found = why.UseOverTime()
+    for at, listed in (
+        (10, {"attempt": 0, "used": {"workingSet": 10, "usage": 12, "cpu": 2, "age": 1}}),
+        (19, {"attempt": 0, "used": {"workingSet": 60, "cpu": 999}, "resources": grown}),
+        (23, {"attempt": 0, "used": {"workingSet": 60, "cpu": 999, "age": 4}, "resources": grown}),
+        (24, {"attempt": 1, "ended": {"attempt": 0, "used": {"workingSet": 61, "cpu": 1, "age": 2}}}),
+        (33, {"attempt": 1, "used": {"workingSet": 5}}),
+    ):
+        found.take(at, listed)
+    expect("use over time", [(use.at, use.attempt, use.memory, use.cpu) for use in found.uses],
+           [(9, 0, 10, 2), (19, 0, 60, 999), (22, 0, 61, 1), (33, 1, 5, None)])
+    expect("bounds over time", found.changes,
+           [(19, fields.Bounds(32000 << 20, 128000 << 20, 500, 500)), (24, None)])
+    odd = why.UseOverTime()
+    for value in (None, [], {}, "x", 5, {"workingSet": -1}, {"cpu": True}, {"workingSet": 5, "age": -1},
+                  {"workingSet": 5, "age": 99}, {"throttled": 1.5}):
+        odd.take(9, {"used": value, "ended": value})
+        odd.take(9, {"attempt": value, "ended": {"attempt": -1, "used": {"cpu": 1}}})
+        expect(f"odd bounds {value}", fields.bounds_of({"limits": value, "requests": {"cpu": value}}), fields.Bounds(
+            None, None, 5000 if value == 5 else None, None))
+    expect("odd use", (odd.uses, odd.changes), ([], []))
+
+
+def test_throttled():
+    """For how long the processor of an instance was throttled in the minute before, and since it began."""
+    found = why.UseOverTime()
+    for at, attempt, throttled in ((0, 0, 0), (30, 0, 9000), (60, 0, 21500), (95, 0, 30000), (100, 1, 100)):
+        found.take(at, {"attempt": attempt, "used": {"workingSet": 1, "throttled": throttled}})
+    for name, attempt, at, wanted in (
+        ("in the minute before", 0, 97, why.Throttled(8500, 60, 95, 30000)),
+        ("by then", 0, 60, why.Throttled(21500, 0, 60, 21500)), ("of another instance", 1, 100,
+                                                                  why.Throttled(0, 100, 100, 100)),
+        ("not at all", 0, 29, None), ("long before", 0, 156, None), ("of none", 2, 100, None),
+    ):
+        expect(f"throttled {name}", found.throttled(attempt, at), wanted)
 
 
 def test_odd_samples():

@@ -1,6 +1,7 @@
 """The tests of tools/why, and of tools/story with a trace: traces with their reports and what is told of a pod."""
 
 import glob
+import json
 import os
 import re
 import shutil
@@ -105,6 +106,114 @@ def test_why_with_story():
     expect("story with a trace", both, (0, f"{story}\n{why}", ""))
     utc = run([f"{TOOLS}/why", "--utc", "shop/web", f"--trace={trace}"], read(report))[1].split("\n")
     expect("why --utc", utc[3], "1970-01-01 00:00:05Z  app started (attempt 0)")
+
+
+REBOOTED = f"{WHYS}/rebooted"
+BEGIN = 1795730000
+BOOTED = f"the node was rebooted at {BEGIN + 70}: 3 containers exited 255, 1 container exited 137"
+NOT_READY = f"the node was NotReady from {BEGIN + 12} to {BEGIN + 24}: NodeStatusUnknown"
+
+
+def told_of(tool, *words, folder=None):
+    """The lines that a tool tells of the trace of a node that was rebooted, or of those of a folder."""
+    given = ["--traces", folder] if folder else ["--trace", f"{REBOOTED}/trace"]
+    status, told, said = run([f"{TOOLS}/{tool}", "--seconds", *words, *given], "" if folder else
+                             read(f"{REBOOTED}/report"))
+    expect(f"{tool} {' '.join(words)} of a node that was rebooted", (status, said), (0, ""))
+    return told.splitlines()
+
+
+def of_node(lines):
+    return [line.strip() for line in lines if line.startswith("the node was")]
+
+
+def test_node_is_told():
+    """A reboot with the exits of before and behind it, and when the node was not Ready where a pod of it became
+    unready then."""
+    story = told_of("story", "web", "--without-why")
+    expect("story: the node", of_node(story), [NOT_READY, BOOTED])
+    rows = [line.split(maxsplit=3)[0::3] for line in story if "  the node was" in line]
+    expect("story: its rows", rows, [
+        [str(BEGIN + 12), f"the node was NotReady until {BEGIN + 24}: NodeStatusUnknown"],
+        [str(BEGIN + 70), BOOTED.replace(f" at {BEGIN + 70}", "")]])
+    expect("story: a pod that stayed ready", of_node(told_of("story", "job", "--without-why")), [BOOTED])
+    expect("story: the list of pods", of_node(told_of("story")), [NOT_READY, BOOTED])
+    why_told = told_of("why", "web")
+    place = why_told.index(f"{BEGIN + 70}  {BOOTED.replace(f' at {BEGIN + 70}', '')}")
+    expect("why: of which of its containers", why_told[place + 1 : place + 4],
+           ["  of this pod app exited 255", "  of this pod proxy exited 255", ""])
+    not_ready = f"{BEGIN + 12}  the node was NotReady until {BEGIN + 24}: NodeStatusUnknown"
+    expect("why: the node was not Ready", not_ready in why_told, True)
+
+
+def test_throttling_is_told():
+    """Where the trace has it, with a kill and a death."""
+    parts = [part.split("\n") for part in "\n".join(told_of("why", "web")).split("\n\n")]
+    throttled = [(lines[0].split("  ")[0], lines[-1].strip()) for lines in parts if "throttled" in lines[-1]]
+    expect("why: throttling", throttled, [
+        (str(BEGIN + 24), f"its processor was throttled for 9.3 s of the 20 s to {BEGIN + 20}, and for 9.3 s since it "
+         "began"), *[(str(BEGIN + at), "its processor was throttled for 0.1 s since it began") for at in (40, 90)]])
+
+
+def test_odd_words_of_a_node():
+    """What has another shape says nothing, since the formats do not read it; a moment that is none is that of the
+    tick."""
+    text, report = read(f"{REBOOTED}/trace"), reports.read_report(read(f"{REBOOTED}/report"))
+    said = f'{{"status":"Unknown","reason":"NodeStatusUnknown","since":{BEGIN + 12}}}'
+    for odd, wanted in (("null", []), ("5", []), ("[]", []), ("{}", []), ('"x"', []), ('{"status":"True"}', []),
+                        ('{"status":["False"]}', []), ('{"status":"False"}', [(15, None)]),
+                        ('{"status":"False","since":-1,"reason":7}', [(15, None)]),
+                        ('{"status":"Unknown","since":1e9,"reason":"\\u001b"}', [(15, "\\x1b")])):
+        trace = traces.trace_of(text.replace(said, odd).encode(), "it")
+        expect(f"not ready: {odd}", [(one.since - BEGIN, one.reason) for one in telling.times_not_ready(trace)], wanted)
+    for odd in ("null", "-5", "[]", '"x"', "true", "1e9", str(BEGIN), str(BEGIN - 1), str(BEGIN + 999)):
+        trace = traces.trace_of(text.replace(f'"bootedAt":{BEGIN + 70}', f'"bootedAt":{odd}').encode(), "it")
+        expect(f"booted: {odd}", telling.reboots(trace, report), [])
+
+
+def test_not_ready_over_a_gap():
+    """It lasts over a gap where the condition says so behind it; else it is known up to the gap."""
+    for since, wanted in ((5, [(5, 60)]), (45, [(5, 20), (45, 60)]), (None, [(5, 20)])):
+        said = [(10, 5), (20, 5), (50, since), (60, None)]
+        ticks = [{"kind": "tick", "at": at, "pods": [], **({} if begun is None else {
+            "nodeReady": {"status": "False", "since": begun}})} for at, begun in said]
+        lines = [{"kind": "node", "name": "n1"}, *ticks]
+        trace = traces.trace_of("\n".join(map(json.dumps, lines)).encode(), "it")
+        trace.gaps = [(20, 50)]
+        found = [(one.since, one.until) for one in telling.times_not_ready(trace)]
+        expect(f"not ready over a gap, since {since}", found, wanted)
+
+
+def test_use_is_told():
+    """What an instance had used that ran out of memory, and of no other death."""
+    told = told_of("why", "web")
+    place = told.index("  what it used:")
+    expect("why: what it used", [line.split() for line in told[place + 1 : place + 5]], [
+        ["moment", "memory", "cores"], [str(BEGIN), "20Mi", "0.08"], [str(BEGIN + 9), "40Mi", "0.45"],
+        [str(BEGIN + 20), "61Mi", "0.5"]])
+    expect("why: what it used is told once", told.count("  what it used:"), 1)
+    head = next(line for line in told if "OOMKilled" in line and line.startswith(str(BEGIN + 24)))
+    expect("why: the last value before an OOM kill", head.partition(": ")[2],
+           "OOMKilled, its memory limit is 64Mi, it used 61Mi 4 s before (attempt 0)")
+
+
+def test_node_over_two_traces():
+    """A reboot ends a recorder, so it lies in the gap between two traces, each of which says its own boot."""
+    lines = read(f"{REBOOTED}/trace").splitlines(keepends=True)
+    before = lines[0].replace(str(BEGIN + 70), str(BEGIN - 500))
+    behind = [place for place, line in enumerate(lines) if f'"at":{BEGIN + 90},' in line][0]
+    with tempfile.TemporaryDirectory() as folder:
+        for name, text in (("a", [before, *lines[1:behind]]), ("b", lines[:4] + lines[behind:])):
+            with open(f"{folder}/{name}.trace", "w") as file:
+                file.writelines(text)
+        expect("story over a reboot", of_node(told_of("story", folder=folder)), [NOT_READY, BOOTED])
+        expect("story of a pod over a reboot", of_node(told_of("story", "db", folder=folder)), [BOOTED])
+        with open(f"{folder}/b.trace", "w") as file:
+            file.writelines(lines[:4] + lines[behind + 1 :])
+        late = BOOTED.partition(": ")[0] + ": 1 container exited 137, 3 containers exited with an unknown code"
+        expect("story over a reboot, recorded late", of_node(told_of("story", folder=folder)), [NOT_READY, late])
+        os.remove(f"{folder}/b.trace")
+        expect("story before a reboot", of_node(told_of("story", folder=folder)), [NOT_READY])
 
 
 def test_dates_once():

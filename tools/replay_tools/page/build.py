@@ -14,7 +14,7 @@ if TYPE_CHECKING:
     from replay_tools.clock import Clock
 
 HERE = os.path.dirname(os.path.realpath(__file__))
-SCRIPTS = ("decode.js", "draw.js", "lanes.js", "panel.js", "page.js")
+SCRIPTS = ("decode.js", "draw.js", "lanes.js", "used.js", "panel.js", "page.js")
 
 
 def page_of(report: reports.Report, trace: traces.Trace | None, ticks: why.Ticks, clock: Clock,

@@ -8,6 +8,7 @@ from typing import Any
 from replay_tools import (events, kubelet as kubelets, reasons, records, report as reports, summary as summing, telling,
                           traces, why, why_text)
 from replay_tools.clock import Clock
+from replay_tools.page import used
 
 STATES = ("Waiting", "Running", "Terminated")
 RESULTS = ("success", "failure", "unknown")
@@ -47,7 +48,7 @@ def data_of(report: reports.Report, trace: traces.Trace | None, ticks: why.Ticks
     ranked = summing.summaries(report, trace, kubelet, since=since)
     ranks = {summary.number: (rank, summary) for rank, summary in enumerate(ranked, 1)}
     left = [] if trace else list(WITHOUT_TRACE)
-    budget, words = Budget(MOST_RUNS), Words(trace)
+    budget, samples, words = Budget(MOST_RUNS), Budget(used.MOST_SAMPLES), Words(trace)
     data: dict[str, Any] = {
         "node": report.node, "clock": clock.value, "first": span.first, "last": span.of(span.last),
         "hasTrace": bool(trace),
@@ -59,7 +60,8 @@ def data_of(report: reports.Report, trace: traces.Trace | None, ticks: why.Ticks
         "reclaims": [[span.of(event.at), *event.rest] for event in report.events if event.word == "reclaim"],
         "evictions": evictions_of(report, trace, ticks, span, left), "kubelet": kubelet_of(kubelet, span),
         "podList": [pod_of(report, trace, span, pod, ticks, budget, words) | notes_of(pod, clock)
-                    | summary_of(*ranks[pod.number], span) | deletion_of(trace, pod, span) for pod in report.pods],
+                    | summary_of(*ranks[pod.number], span) | deletion_of(trace, pod, span)
+                    | used_of(trace, pod, span, ticks, samples) for pod in report.pods],
         "causes": words.causes, "waits": words.waits,
     }
     refused = sorted({one["key"] for one in data["kubelet"]["refused"]} if data["kubelet"] else ())
@@ -68,6 +70,8 @@ def data_of(report: reports.Report, trace: traces.Trace | None, ticks: why.Ticks
     left += not_known(report, clock)
     if budget.refused:
         left.append(f"the results of the probes of {budget.refused} containers, behind the first {MOST_RUNS} runs")
+    if samples.refused:
+        left.append(f"what {samples.refused} containers used, behind the first {used.MOST_SAMPLES} samples")
     if trace:
         left.append("the pods' usage but at evictions")
     return data | {"left": left}
@@ -95,7 +99,7 @@ def table_of_words(trace: traces.Trace | None) -> dict[str, Any]:
 
 
 class Budget:
-    """How many runs of results still go into the page, and how often there was no room."""
+    """How many runs of results, or samples, still go into the page, and how often there was no room."""
 
     def __init__(self, most: int) -> None:
         self.room, self.refused = most, 0
@@ -239,6 +243,13 @@ def deletion_of(trace: traces.Trace | None, pod: reports.Pod, span: Span) -> dic
     """Since when a pod is being deleted, and by whom; nothing of one that is not."""
     deletion = trace.deletions.get(pod.number) if trace else None
     return {"deleted": [span.of(deletion.at), deletion.words()]} if deletion else {}
+
+
+def used_of(trace: traces.Trace | None, pod: reports.Pod, span: Span, ticks: why.Ticks,
+            budget: Budget) -> dict[str, Any]:
+    """What its containers used, where the trace says it."""
+    ours = trace.pods[pod.number] if trace else None
+    return used.used_of(span, ours, ticks.of(trace, ours), budget) if ours else {}
 
 
 def decision_of(decision: traces.Decision, span: Span) -> dict[str, int | str | None]:

@@ -84,6 +84,7 @@ data.podList.forEach((pod, number) => {
   pod.kills = pod.events.filter((event) => data.words[event[2]] === 'kill').length;
   lazily(pod, 'list', () => eventsOf(pod));
   pod.containers.forEach((container) => lazily(container, 'spans', () => entries(container.states, 4)));
+  lazily(pod, 'uses', () => pod.used.map((one) => one ? entries(one.uses, one.columns) : []));
 });
 data.signals.forEach((signal) => { signal.values = spread(signal.samples); });
 

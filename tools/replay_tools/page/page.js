@@ -35,6 +35,7 @@ function draw(all) {
       document.documentElement.style.setProperty('--head', `${document.querySelector('header').offsetHeight}px`);
       drawAxis();
       drawCharts();
+      drawUsed();
       drawLegend();
       describe();
     }
@@ -165,7 +166,7 @@ function plotOf(target) {
   const width = target.clientWidth;
   const area = {left: margin(width), right: width - 10, width};
   const row = [...rows.made.values()].find((one) => one.canvas === target);
-  return {canvas: target, area, row, chart: charts.find((one) => one.canvas === target)};
+  return {canvas: target, area, row, chart: [...charts, ...usedCharts].find((one) => one.canvas === target)};
 }
 
 let drag = null, pinch = null;

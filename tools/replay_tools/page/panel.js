@@ -13,6 +13,7 @@ function openPanel(title, parts, before) {
   document.getElementById('tip').hidden = true;
   panel.scrollTop = 0;
   standBeside(true);
+  draw(true);
   panel.focus({preventScroll: true});
 }
 
@@ -72,6 +73,7 @@ function openStory(pod) {
       + `not ready ${seconds(pod.unready)} in all`),
     element('h2', containersTitle(pod)),
     tableOf(['container', 'state', 'code', 'restarts', 'ready', 'started'], restarts),
+    ...usedParts(pod),
     element('h2', 'Conditions'), tableOf(['condition', 'value', 'since', 'reason'], conditions),
     ...waitParts(pod),
     element('h2', 'Events'), ...eventList(pod, pod.list, false),
