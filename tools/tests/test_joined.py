@@ -155,15 +155,17 @@ def test_joined_belongs():
     did = [[line for line in lines if line["record"] == "decision"] for lines in (one, several)]
     facts = [[(line["pod"], line["at"]) for line in lines] for lines in did]
     expect("joined traces of real_evictions: what the kubelet did", facts[1], facts[0])
-    # the rules evict h-bulk before a border and the kubelet behind it: there they begin anew, and evict h-above later
-    rules = [[(line["pod"], line["rules_at"], line["agrees"]) for line in lines if line["pod"] != "shop/h-above"]
-             for lines in did]
-    expect("joined traces of real_evictions: whom the rules evict", rules[1], rules[0])
-    told = run([f"{TOOLS}/story", "--traces", into.folder, "shop/h-bulk", "--without-why"])[1]
+    rules = [[(line["pod"], line["rules_at"], line["agrees"]) for line in lines] for lines in did]
+    expect("joined traces of real_evictions: whom the rules name", rules[1], rules[0])
     near = run([f"{TOOLS}/story", "--traces", into.folder, "shop/h-bulk", "--at", "2026-11-27T14:28Z"])[1]
     expect("a pod that the kubelet evicted near a moment", near.split("\n")[1],
            "no restart within 600 s of 2026-11-27 14:28:00Z; nearest to it, at 2026-11-27 14:28:11Z: the kubelet "
            "evicted it")
+    into.clean()
+    # where the rules evict they take h-bulk before a border and the kubelet behind it: there they begin anew
+    into = Into({}, folder)
+    into.into(*words, "--each", "60s", "--simulate", longest=200)
+    told = run([f"{TOOLS}/story", "--traces", into.folder, "shop/h-bulk", "--without-why"])[1]
     again = [line.split("  ")[-1] for line in told.split("\n") if "14:28:00Z)" in line]
     expect("a pod that the rules evicted before a border is there again", again, [
         "phase Running (there again, as on the node, at 14:28:00Z)",
