@@ -55,19 +55,25 @@ def test_stories_of_decisions():
 
 
 def test_who_ended_a_pod():
-    """What a pod came to is by the rules where these have it; a pod that the node has ended ended by its word."""
-    for recording, pod, wanted in (
-        ("ended_extended", "deadline", ["shop/deadline on n1: Failed (DeadlineExceeded), BestEffort",
-                                        "first tick 1767225600, ended 1767225605 as Failed"]),
-        ("kubelet_evicts_extended", "hog", [
+    """What a pod came to is by the rules where these evict it; a pod that the node has ended ended by its word."""
+    ended, evicted = (read(f"{HERE}/recordings/{name}/trace") for name in ("ended_extended", "kubelet_evicts_extended"))
+    for what, text, pod, wanted in (
+        ("by a deadline", ended, "deadline", ["shop/deadline on n1: Failed (DeadlineExceeded), BestEffort",
+                                              "first tick 1767225600, ended 1767225605 as Failed"]),
+        ("by the kubelet", evicted, "hog", [
+            "shop/hog on n1: Failed (Evicted), BestEffort",
+            "first tick 1767225600, ended 1767225607 as Evicted, gone before 1767225613"]),
+        ("by the rules", evicted.replace(',"evictionsRecorded":true', ""), "hog", [
             "shop/hog on n1: by the rules Failed (Evicted), BestEffort",
             "first tick 1767225600, ended by the rules 1767225607 as Evicted, gone before 1767225613"]),
     ):
-        folder = f"{HERE}/recordings/{recording}"
-        words = [f"{TOOLS}/story", "--seconds", f"shop/{pod}", "--trace", f"{folder}/trace", "--without-why"]
-        told = run(words, read(f"{folder}/report"))[1].splitlines()
+        with tempfile.NamedTemporaryFile("w", encoding="utf-8") as file:
+            file.write(text)
+            file.flush()
+            words = [f"{TOOLS}/story", "--seconds", f"shop/{pod}", "--trace", file.name, "--without-why"]
+            told = run(words, replayed(text)[1])[1].splitlines()
         heads = [line for line in told if line.startswith(("shop/", "first tick"))]
-        expect(f"story of {recording}: who ended shop/{pod}", heads, wanted)
+        expect(f"who ended shop/{pod}: {what}", heads, wanted)
 
 
 CAUSES = {"shop/agree": None, "shop/first": "no sample below the threshold was recorded (memory.available was 900Mi, "

@@ -212,7 +212,7 @@ def test_words_that_a_program_passes_over():
     told = [line.split() for line in story_of(trace, replayed(trace)[1], "default/a").splitlines()]
     expect("spared and not judged, passed over", [line in told for line in (
         ["5", "50Mi"], ["1", "default/a", "300Mi", "0", "300Mi", "0", "BestEffort", "named"],
-        "default/a on n1: by the rules Running, BestEffort".split())], [True] * 3)
+        "default/a on n1: Running, BestEffort".split())], [True] * 3)
 
 
 def test_a_code_that_was_guessed():
