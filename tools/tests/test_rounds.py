@@ -112,16 +112,13 @@ def test_summary_between_looks():
 
 
 def test_pause_and_rounds():
-    """Once the program heeds rounds, no pause is written beside them."""
+    """No pause is written where the ticks say which of them are rounds."""
     summary = Summary({}, False, sampled(memory=10), {})
     answer = json.dumps({"kubeletconfig": {}})
     without = Summary({}, False, sampled(memory=None), {})
-    before = node.HEEDS_ROUNDS
-    for heeds, of, wanted in ((False, summary, 30), (True, summary, None), (True, without, 30)):
-        node.HEEDS_ROUNDS = heeds
+    for of, wanted in ((summary, None), (without, 30)):
         made = node_line_of(answer, "n1", of, lines.extended()).fields
-        expect(f"a pause beside rounds, heeded: {heeds}", made.get("evictionPauseSeconds"), wanted)
-    node.HEEDS_ROUNDS = before
+        expect("a pause, or rounds", made.get("evictionPauseSeconds"), wanted)
 
 
 def test_evictions_recorded():

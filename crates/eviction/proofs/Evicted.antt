@@ -143,7 +143,7 @@ candidate_ends pods before tick evictions n status c end is =
     evicted = place_of (own_eviction n (before ++ tick ∷ []) evictions)
 
     says : option_map (λ (f : PodFailure). f.at) status.failure ≡ Some tick.at
-    says = c.may ((ended_is c.pod evicted h status.phase c.is_status.lifecycle.phase).1 (end, is))
+    says = c.may.lives ((ended_is c.pod evicted h status.phase c.is_status.lifecycle.phase).1 (end, is))
 
     by : (o : Option EvictionRecord) → own_eviction n (before ++ tick ∷ []) evictions ≡ o
         → IsEnd c.pod (place_of (own_eviction n (before ++ tick ∷ []) evictions)) h (Some end)

@@ -38,8 +38,8 @@ asks_or_not : (eviction : EvictionConfig) (before : List TickObs) (tick : TickOb
     → OrNot (Asks eviction before tick key)
 asks_or_not eviction before tick key =
     elim (both (due_or_not eviction before tick key) (negated (reclaimed_or_not eviction tick key))) [
-      | inl w ↦ inl (record { due = w.0; not_reclaimed = w.1 })
-      | inr not ↦ inr (λ asks. not (asks.due, asks.not_reclaimed))
+      | inl w ↦ inl (record { judged = w.0.0; due = w.0.1; not_reclaimed = w.1 })
+      | inr not ↦ inr (λ asks. not ((asks.judged, asks.due), asks.not_reclaimed))
     ]
 
 -- so one threshold is served, or none

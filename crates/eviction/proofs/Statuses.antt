@@ -75,6 +75,7 @@ some_status number pod eviction h few =
         requests = requests_of pod;
         usage = usage.0;
         priority = pod.priority;
+        spared = pod.spared;
         order = option_map (λ (e : EvictionRecord). e.order) eviction;
         failure = failure.0;
       },
@@ -86,6 +87,7 @@ some_status number pod eviction h few =
         requests = refl;
         usage = usage.1;
         priority = refl;
+        spared = refl;
         order = refl;
         failure = failure.1;
       },

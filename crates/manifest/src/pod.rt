@@ -169,4 +169,7 @@ pub struct PodSpec {
     pub grace_period_seconds: GracePeriod,
     /// `spec.initContainers`, then `spec.containers`, in their order.
     pub containers: ContainerList,
+    /// Whether the node spares the pod, so that it never evicts it, as a static or a critical one. No manifest says
+    /// so; a pod line may. (This project's extended format.)
+    pub spared: bool,
 }

@@ -35,6 +35,8 @@ pub enum Field {
     Resources,
     /// A container's `startupProbe`, `livenessProbe` or `readinessProbe`.
     Probe,
+    /// Whether the node spares the pod, which stands beside the manifest. (This project's extended format.)
+    Spared,
 }
 
 /// The first fault of a manifest, in the order of its fields.

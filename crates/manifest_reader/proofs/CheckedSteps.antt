@@ -59,6 +59,7 @@ pod_with metadata spec = record {
   priority = spec.settings.priority;
   grace_period_seconds = spec.settings.grace_period_seconds;
   containers = spec.containers;
+  spared = false;
 }
 
 of_spec : (metadata : Metadata) (found : Result Data ManifestFault)

@@ -296,6 +296,7 @@ fn pod_of(alloc: Global, value: &Value) -> Result<PodSpec, ManifestFault>
         priority: settings.priority,
         grace_period_seconds: settings.grace_period_seconds,
         containers,
+        spared: false,
     })
 }
 

@@ -178,6 +178,6 @@ evicted_is_no_candidate old new n order free may are moment p c =
     let was = may.1 in
     let here = are.here was.piece was.at in
     let is = status_at new moment n (with_eviction was.piece order) p here c in
-    let says = c.may (evicted_ended was.piece order order.at p (free n was.piece was.at) was.present is) in
+    let says = c.may.lives (evicted_ended was.piece order order.at p (free n was.piece was.at) was.present is) in
     absurd (let w : None ≡ Some moment =
     sym (ap (option_map (λ (f : PodFailure). f.at)) is.failure) ∙ says in cc)

@@ -12,6 +12,7 @@ use Rattle.qos.specs.declared.class.Qos.{Qos}
 use Rattle.qos.proofs.ClassLemmas.{one_class}
 use Rattle.pressure.specs.rule.Pressures.{Observation, IsSince}
 use Rattle.pressure.proofs.LawLemmas.{one_since}
+use Rattle.observations.specs.rule.Observations.{judged_of}
 use Rattle.node_signals.specs.declared.condition.NodeCondition.{NodeCondition}
 use Rattle.node_signals.specs.rule.Conditions.{conditions}
 use Rattle.node_signals.proofs.ConditionLemmas.{one_list}
@@ -84,7 +85,7 @@ condition_one config ticks condition a b x y =
     let value : a.value ≡ b.value =
     same_bool a.value b.value ((λ m. y.value.1 (x.value.0 m)), (λ m. x.value.1 (y.value.0 m))) in
     let same : y.since.0 ≡ x.since.0 =
-    one_list config.eviction condition ticks y.since.0 x.since.0 y.since.1 x.since.1 in
+    one_list config.eviction condition (judged_of ticks) y.since.0 x.since.0 y.since.1 x.since.1 in
     let since : a.since ≡ b.since =
     one_since.unique period x.since.0 a.since b.since x.since.2
     (subst (λ (h : List Observation). IsSince period h b.since) same y.since.2) in

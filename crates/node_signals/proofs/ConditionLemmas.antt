@@ -13,6 +13,7 @@ use Rattle.pressure.specs.declared.pressure.Pressure.{Pressure}
 use Rattle.pressure.specs.state.State.{IsStateOf as IsPressureState}
 use Rattle.node_config.specs.rule.EvictionConfig.{EvictionConfig}
 use Rattle.observations.specs.declared.tick.TickObs.{TickObs}
+use Rattle.observations.specs.rule.Observations.{judged_of}
 use Rattle.node_signals.specs.declared.condition.NodeCondition.{NodeCondition}
 use Rattle.node_signals.specs.rule.Conditions.{IsMet, AreObservations, IsTrueAfter, IsSinceMoment}
 use Rattle.node_signals.specs.state.Node.{IsPressureOf}
@@ -106,11 +107,13 @@ observed_more eviction condition before tick h met is a = record {
 -- a value that says of the observations whether the condition is true says it of the ticks
 pub true_after : (eviction : EvictionConfig) (period : ℕ) (condition : NodeCondition) (ticks : List TickObs)
     (h : List Observation) (value : Bool)
-    → AreObservations eviction condition ticks h → (IsTrue value ↔ IsUnderPressure period h)
+    → AreObservations eviction condition (judged_of ticks) h → (IsTrue value ↔ IsUnderPressure period h)
     → (IsTrue value ↔ IsTrueAfter eviction period condition ticks)
 true_after eviction period condition ticks h value a is = (
   (λ t. (h, a, is.0 t)),
-  (λ after. is.1 (subst (IsUnderPressure period) (one_list eviction condition ticks after.0 h after.1 a) after.2)),
+  (λ after.
+      let same = one_list eviction condition (judged_of ticks) after.0 h after.1 a in
+      is.1 (subst (IsUnderPressure period) same after.2)),
 )
 
 -- a pressure that takes an observation more, whatever they were
@@ -131,7 +134,7 @@ pressure_more eviction period condition before tick at met old new is_at is take
 
 pub is_true_of : (eviction : EvictionConfig) (period : ℕ) (condition : NodeCondition) (ticks : List TickObs)
     (pressure : Pressure) (value : Bool)
-    → IsPressureOf eviction period condition ticks pressure
+    → IsPressureOf eviction period condition (judged_of ticks) pressure
     → ((p : ℕ) (h : List Observation) → IsPressureState p h pressure → (IsTrue value ↔ IsUnderPressure p h))
     → (IsTrue value ↔ IsTrueAfter eviction period condition ticks)
 is_true_of eviction period condition ticks pressure value (h, observed, state) tells =
@@ -139,7 +142,7 @@ is_true_of eviction period condition ticks pressure value (h, observed, state) t
 
 pub since_of : (eviction : EvictionConfig) (period : ℕ) (condition : NodeCondition) (ticks : List TickObs)
     (pressure : Pressure) (since : ℕ)
-    → IsPressureOf eviction period condition ticks pressure
+    → IsPressureOf eviction period condition (judged_of ticks) pressure
     → ((p : ℕ) (h : List Observation) → IsPressureState p h pressure → IsSince p h since)
     → IsSinceMoment eviction period condition ticks since
 since_of eviction period condition ticks pressure since (h, observed, state) tells = (h, observed, tells period h state)

@@ -18,12 +18,14 @@ use Rattle.thresholds.proofs.Since.{due_by}
 use Rattle.pressure.specs.rule.Pressures.{Observation, IsMetAt, WasMetLately, IsUnderPressure}
 use Rattle.node_config.specs.rule.EvictionConfig.{EvictionConfig}
 use Rattle.observations.specs.declared.tick.TickObs.{TickObs}
+use Rattle.observations.specs.rule.Observations.{judged_of}
 use Rattle.node_signals.specs.declared.key.ThresholdKey.{ThresholdKey}
 use Rattle.node_signals.specs.declared.condition.NodeCondition.{NodeCondition}
 use Rattle.node_signals.specs.declared.condition.NodeCondition.TheVariants.{MemoryPressure, DiskPressure, PidPressure}
 use Rattle.node_signals.specs.rule.Keys.{serving_order, threshold_at}
 use Rattle.node_signals.specs.rule.Thresholds.{samples, IsActiveOnNode, IsDueOnNode, IsEnough, IsReclaimed}
 use Rattle.node_signals.specs.rule.Conditions.{condition_of, Meets, IsMet}
+use Rattle.node_signals.proofs.Judged.{judged_more}
 
 -- a threshold is active, or it isn't
 threshold_active_or_not : (threshold : Threshold) (capacity : Option ℕ) (h : List Sample)
@@ -55,9 +57,9 @@ threshold_due_or_not threshold capacity h x =
       | inr not ↦ inr (λ due. not (same.1 due))
     ]
 
-pub due_or_not : (eviction : EvictionConfig) (before : List TickObs) (tick : TickObs) (key : ThresholdKey)
+due_with_or_not : (eviction : EvictionConfig) (before : List TickObs) (tick : TickObs) (key : ThresholdKey)
     → OrNot (IsDueOnNode eviction (before ++ tick ∷ []) key)
-due_or_not eviction before tick key =
+due_with_or_not eviction before tick key =
     let capacity = of eviction.capacity key.signal in
     let sample_of : TickObs → Sample = λ t. sample t.at (of t.signals key.signal) in
     let Due : Threshold → List Sample → Type 0 = λ threshold h. OrNot (IsThresholdDue threshold capacity h) in
@@ -65,6 +67,20 @@ due_or_not eviction before tick key =
     (threshold_due_or_not threshold capacity (samples key.signal before) (sample_of tick)) in
     given_or_not (λ threshold. IsThresholdDue threshold capacity (samples key.signal (before ++ tick ∷ []))) each
     (threshold_at eviction key)
+
+-- the node judges a tick and the threshold is due by what it has judged, or not so
+pub due_or_not : (eviction : EvictionConfig) (before : List TickObs) (tick : TickObs) (key : ThresholdKey)
+    → OrNot (IsTrue tick.judged × IsDueOnNode eviction (judged_of (before ++ tick ∷ [])) key)
+due_or_not eviction before tick key = elim (true_or_not tick.judged) [
+  | inl judged ↦
+      let Due : List TickObs → Type 0 = λ ticks. OrNot (IsDueOnNode eviction ticks key) in
+      elim (subst Due (sym (judged_more before tick judged))
+      (due_with_or_not eviction (judged_of before) tick key)) [
+        | inl due ↦ inl (judged, due)
+        | inr not ↦ inr (λ w. not w.1)
+      ]
+  | inr not ↦ inr (λ w. not w.0)
+]
 
 pub reclaimed_or_not : (eviction : EvictionConfig) (tick : TickObs) (key : ThresholdKey)
     → OrNot (IsReclaimed eviction tick key)

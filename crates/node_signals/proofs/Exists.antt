@@ -12,6 +12,7 @@ use Rattle.pressure.specs.rule.Pressures.{Observation}
 use Rattle.pressure.proofs.LawLemmas.{one_since}
 use Rattle.node_config.specs.rule.EvictionConfig.{EvictionConfig}
 use Rattle.observations.specs.declared.tick.TickObs.{TickObs}
+use Rattle.observations.specs.rule.Observations.{judged_of}
 use Rattle.node_signals.specs.declared.key.ThresholdKey.{ThresholdKey}
 use Rattle.node_signals.specs.declared.condition.NodeCondition.{NodeCondition}
 use Rattle.node_signals.specs.declared.event.NodeEvent.{NodeEvent}
@@ -48,14 +49,14 @@ some_observations eviction condition ticks =
 some_value : (eviction : EvictionConfig) (period : ℕ) (condition : NodeCondition) (ticks : List TickObs)
     → (value : Bool) × (IsTrue value ↔ IsTrueAfter eviction period condition ticks)
 some_value eviction period condition ticks =
-    let observed = some_observations eviction condition ticks in
+    let observed = some_observations eviction condition (judged_of ticks) in
     let value = test_of (pressure_or_not period observed.0) in
     (value.0, true_after eviction period condition ticks observed.0 value.0 observed.1 value.1)
 
 some_moment : (eviction : EvictionConfig) (period : ℕ) (condition : NodeCondition) (ticks : List TickObs)
     → (since : ℕ) × IsSinceMoment eviction period condition ticks since
 some_moment eviction period condition ticks =
-    let observed = some_observations eviction condition ticks in
+    let observed = some_observations eviction condition (judged_of ticks) in
     let since = one_since.exists period observed.0 in
     (since.0, (observed.0, observed.1, since.1))
 
@@ -72,8 +73,10 @@ change_of event_of N O (now, is) (old, was) =
 threshold_event : (eviction : EvictionConfig) (before : List TickObs) (tick : TickObs) (key : ThresholdKey)
     → (event : Option NodeEvent) × IsTheOne (ChangesThreshold eviction before tick key) event
 threshold_event eviction before tick key =
-    change_of (Threshold key) (IsActiveOnNode eviction (before ++ tick ∷ []) key) (IsActiveOnNode eviction before key)
-    (test_of (active_or_not eviction (before ++ tick ∷ []) key)) (test_of (active_or_not eviction before key))
+    let now = judged_of (before ++ tick ∷ []) in
+    let was = judged_of before in
+    change_of (Threshold key) (IsActiveOnNode eviction now key) (IsActiveOnNode eviction was key)
+    (test_of (active_or_not eviction now key)) (test_of (active_or_not eviction was key))
 
 condition_event : (eviction : EvictionConfig) (period : ℕ) (before : List TickObs) (tick : TickObs)
     (condition : NodeCondition)
@@ -89,11 +92,12 @@ reclaim_event eviction before tick key =
     elim (both (due_or_not eviction before tick key) (reclaimed_or_not eviction tick key)) [
       | inl w ↦ (
         Some (Reclaim key),
-        IsTheOne-some (Reclaims eviction before tick key) (Reclaim key) (refl, w.0, w.1) (λ e reclaims. sym reclaims.0),
+        IsTheOne-some (Reclaims eviction before tick key) (Reclaim key) (refl, w.0.0, w.0.1, w.1)
+            (λ e reclaims. sym reclaims.0),
       )
       | inr not ↦ (
         None,
-        IsTheOne-none (Reclaims eviction before tick key) (λ e reclaims. not (reclaims.1, reclaims.2)),
+        IsTheOne-none (Reclaims eviction before tick key) (λ e reclaims. not ((reclaims.1, reclaims.2), reclaims.3)),
       )
     ]
 

@@ -1,3 +1,4 @@
+pub mod Judged
 pub mod WatchLemmas
 pub mod ServedLemmas
 pub mod ConditionLemmas

@@ -4,6 +4,7 @@ ghost use Rattle.std.specs.Prelude.{◌≡◌, ◌<◌, ◌++◌, ◌∷◌, [],
 ghost use Rattle.histories.specs.rule.TheOne.{IsTheOne};
 ghost use Rattle.node_config.specs.rule.EvictionConfig.{EvictionConfig};
 ghost use Rattle.observations.specs.declared.tick.TickObs.{TickObs};
+ghost use Rattle.observations.specs.rule.Observations.{judged_of};
 ghost use Rattle.node_signals.specs.declared.key.ThresholdKey.{ThresholdKey};
 ghost use Rattle.node_signals.specs.rule.Keys.{serving_order};
 ghost use Rattle.node_signals.specs.rule.Conditions.{conditions};
@@ -36,8 +37,8 @@ fn threshold_event(old: &Watches, new: &Watches, place: usize) -> Option<NodeEve
     requires { place < THRESHOLDS }
     ensures { (eviction : EvictionConfig) (before : List TickObs) (tick : TickObs) (key : ThresholdKey)
         → slice_get serving_order place ≡ Some key
-        → AreWatches eviction before old.now
-        → AreWatches eviction (before ++ tick ∷ []) new.now
+        → AreWatches eviction (judged_of before) old.now
+        → AreWatches eviction (judged_of (before ++ tick ∷ [])) new.now
         → IsTheOne (ChangesThreshold eviction before tick key) result }
 {
     let key = key_at(place);
@@ -52,8 +53,8 @@ pub(crate) fn add_threshold_events(
     new: &Watches,
 ) -> Result<(), AllocError>
     ensures { (eviction : EvictionConfig) (before : List TickObs) (tick : TickObs)
-        → AreWatches eviction before old.now
-        → AreWatches eviction (before ++ tick ∷ []) new.now
+        → AreWatches eviction (judged_of before) old.now
+        → AreWatches eviction (judged_of (before ++ tick ∷ [])) new.now
         → OnOk result (Adds (ChangesThreshold eviction before tick) serving_order events.old.items events.new.items) }
 {
     for place in 0..THRESHOLDS {
@@ -65,8 +66,8 @@ pub(crate) fn add_threshold_events(
 /// Whether the condition became true or is no longer, by the pressures before and after the tick.
 fn condition_event(old: &Pressures, new: &Pressures, condition: NodeCondition) -> Option<NodeEvent>
     ensures { (eviction : EvictionConfig) (period : ℕ) (before : List TickObs) (tick : TickObs)
-        → ArePressures eviction period before old.now
-        → ArePressures eviction period (before ++ tick ∷ []) new.now
+        → ArePressures eviction period (judged_of before) old.now
+        → ArePressures eviction period (judged_of (before ++ tick ∷ [])) new.now
         → IsTheOne (ChangesCondition eviction period before tick condition) result }
 {
     let value = new.of(condition).is_true();
@@ -80,8 +81,8 @@ pub(crate) fn add_condition_events(
     new: &Pressures,
 ) -> Result<(), AllocError>
     ensures { (eviction : EvictionConfig) (period : ℕ) (before : List TickObs) (tick : TickObs)
-        → ArePressures eviction period before old.now
-        → ArePressures eviction period (before ++ tick ∷ []) new.now
+        → ArePressures eviction period (judged_of before) old.now
+        → ArePressures eviction period (judged_of (before ++ tick ∷ [])) new.now
         → OnOk result
         (Adds (ChangesCondition eviction period before tick) conditions events.old.items events.new.items) }
 {
@@ -100,7 +101,7 @@ pub(crate) fn add_condition_events(
     Ok(())
 }
 
-/// Whether the threshold at this place is due and the node has freed enough by itself.
+/// Whether the node judges the tick, and the threshold at this place is due and the node has freed enough by itself.
 fn reclaim_event(
     watches: &Watches,
     eviction: &EvictionConfig,
@@ -110,11 +111,11 @@ fn reclaim_event(
     requires { place < THRESHOLDS }
     ensures { (before : List TickObs) (key : ThresholdKey)
         → slice_get serving_order place ≡ Some key
-        → AreWatches eviction.now (before ++ tick.now ∷ []) watches.now
+        → AreWatches eviction.now (judged_of (before ++ tick.now ∷ [])) watches.now
         → IsTheOne (Reclaims eviction.now before tick.now key) result }
 {
     let key = key_at(place);
-    if is_due(watches, place) && is_reclaimed(eviction, key, tick) {
+    if tick.judged && is_due(watches, place) && is_reclaimed(eviction, key, tick) {
         Some(NodeEvent::Reclaim { key })
     } else {
         None
@@ -129,7 +130,7 @@ pub(crate) fn add_reclaim_events(
     tick: &TickObs,
 ) -> Result<(), AllocError>
     ensures { (before : List TickObs)
-        → AreWatches eviction.now (before ++ tick.now ∷ []) watches.now
+        → AreWatches eviction.now (judged_of (before ++ tick.now ∷ [])) watches.now
         → OnOk result (Adds (Reclaims eviction.now before tick.now) serving_order events.old.items events.new.items) }
 {
     for place in 0..THRESHOLDS {

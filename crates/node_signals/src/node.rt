@@ -38,12 +38,15 @@ impl NodeSignals {
         }
     }
 
-    /// The node after one more tick.
+    /// The node after one more tick. One that it doesn't judge changes nothing.
     fn after(&self, tick: &TickObs) -> NodeSignals
         ensures { (eviction : EvictionConfig) (period : ℕ) (before : List TickObs)
             → IsStateOf eviction period before self.now
             → IsStateOf eviction period (before ++ tick.now ∷ []) result }
     {
+        if !tick.judged {
+            return *self;
+        }
         let mut watches = self.watches;
         sample_all(&mut watches, tick);
         let mut pressures = self.pressures;
@@ -73,7 +76,7 @@ impl NodeSignals {
 
     /// Takes one more tick of a node with these thresholds, and gives its events: thresholds that
     /// became active or were cleared, conditions that changed, and thresholds for which the node
-    /// freed enough by itself. An `Err` changes nothing.
+    /// freed enough by itself; none of a tick that the node doesn't judge. An `Err` changes nothing.
     pub fn take(
         &mut self,
         alloc: Global,
@@ -95,7 +98,8 @@ impl NodeSignals {
     }
 
     /// The threshold for which a pod is to be evicted in the last tick taken: the first in the
-    /// serving order that is due and for which the node has not freed enough by itself.
+    /// serving order that is due and for which the node has not freed enough by itself; none in a
+    /// tick that the node doesn't judge.
     pub fn served(&self, eviction: &EvictionConfig, tick: &TickObs) -> Option<ThresholdKey>
         ensures { (period : ℕ) (before : List TickObs)
             → IsStateOf eviction.now period (before ++ tick.now ∷ []) self.now

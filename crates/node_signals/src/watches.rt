@@ -8,6 +8,7 @@ ghost use Rattle.thresholds.specs.rule.Samples.{Sample, sample as sample_of};
 ghost use Rattle.node_config.specs.rule.EvictionConfig.{EvictionConfig};
 ghost use Rattle.node_config.specs.state.EvictionConfig.{HasCapacity};
 ghost use Rattle.observations.specs.declared.tick.TickObs.{TickObs};
+ghost use Rattle.observations.specs.rule.Observations.{judged_of};
 ghost use Rattle.node_signals.specs.declared.key.ThresholdKey.{ThresholdKey};
 ghost use Rattle.node_signals.specs.rule.Keys.{serving_order};
 ghost use Rattle.node_signals.specs.rule.Thresholds.{IsActiveOnNode, IsDueOnNode, IsEnough, IsReclaimed, Asks};
@@ -138,16 +139,16 @@ pub(crate) fn is_reclaimed(eviction: &EvictionConfig, key: ThresholdKey, tick: &
     key.signal.is_of_file_system() && is_enough(threshold, capacity, freed)
 }
 
-/// Whether the threshold at this place asks for an eviction: it is due, and the node has not freed
-/// enough by itself.
+/// Whether the threshold at this place asks for an eviction: the node judges the tick, the threshold is due, and the
+/// node has not freed enough by itself.
 fn asks(watches: &Watches, eviction: &EvictionConfig, tick: &TickObs, place: usize) -> bool
     requires { place < THRESHOLDS }
     ensures { (before : List TickObs) (key : ThresholdKey)
         → slice_get serving_order place ≡ Some key
-        → AreWatches eviction.now (before ++ tick.now ∷ []) watches.now
+        → AreWatches eviction.now (judged_of (before ++ tick.now ∷ [])) watches.now
         → (IsTrue result ↔ Asks eviction.now before tick.now key) }
 {
-    is_due(watches, place) && !is_reclaimed(eviction, key_at(place), tick)
+    tick.judged && is_due(watches, place) && !is_reclaimed(eviction, key_at(place), tick)
 }
 
 /// The threshold that is served.
@@ -157,7 +158,7 @@ pub(crate) fn served(
     tick: &TickObs,
 ) -> Option<ThresholdKey>
     ensures { (before : List TickObs)
-        → AreWatches eviction.now (before ++ tick.now ∷ []) watches.now
+        → AreWatches eviction.now (judged_of (before ++ tick.now ∷ [])) watches.now
         → IsServed eviction.now before tick.now result }
 {
     for place in 0..THRESHOLDS {

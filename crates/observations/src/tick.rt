@@ -20,6 +20,9 @@ pub struct TickObs {
     pub signals: BySignal<Option<Quantity>>,
     /// The values of the file system signals after space was reclaimed, where the tick has one.
     pub after_reclaim: BySignal<Option<Quantity>>,
+    /// Whether the node judges its signals in this tick. (This project's extended format; without a word of it each
+    /// tick is judged.)
+    pub judged: bool,
 }
 
 /// What the tick lists of a container of a pod, both by number.

@@ -57,7 +57,7 @@ not_evicted p at status ends is may (Some e) there =
     subst (λ (o : Option EvictionRecord). IfSome (place_of o) (EndsAt p.pod (ticks p))) there ends in
     let over : HasEnded p.pod (evicted_at p) (ticks p) =
     subst (λ (o : Option EvictionRecord). HasEnded p.pod (place_of o) (ticks p)) (sym there) (e.place, ended.is_end) in
-    let says = may ((ended_is p.pod (evicted_at p) (ticks p) status.phase is.lifecycle.phase).1 over) in
+    let says = may.lives ((ended_is p.pod (evicted_at p) (ticks p) status.phase is.lifecycle.phase).1 over) in
     let none : status.failure ≡ None =
     subst (λ (o : Option EvictionRecord). IsFailure p.pod o (ticks p) status.failure) there is.failure in
     absurd (let w : None ≡ Some at =
@@ -93,7 +93,7 @@ lived_so_far p x status rising free none last is may (t, ended) =
     (sym whole) (end_old p.pod None h x t before) in
     let over : HasEnded p.pod (evicted_at p) (ticks p) =
     subst (λ (o : Option ℕ). HasEnded p.pod o (ticks p)) (sym no_place) (t, after) in
-    let says = may ((ended_is p.pod (evicted_at p) (ticks p) status.phase is.lifecycle.phase).1 over) in
+    let says = may.lives ((ended_is p.pod (evicted_at p) (ticks p) status.phase is.lifecycle.phase).1 over) in
     let fails : IsFailure p.pod None (ticks p) status.failure =
     subst (λ (o : Option EvictionRecord). IsFailure p.pod o (ticks p) status.failure) none is.failure in
     let failure : status.failure ≡ failure_at (ticks p) t = fails.2

@@ -3,6 +3,7 @@ use Rattle.std.proofs.Common.{◌≡◌, ◌∙◌, ◌⊎◌, inl, inr, ℕ, �
 use Rattle.std.proofs.Common.{Some, None, refl, ap, sym, subst, arith}
 use Rattle.std.specs.Prelude.{◌↔◌, ◌||◌, IsTrue, IsSome, IsSomeAnd, is_some, IfSome, not, option_map, option_and_then}
 use Rattle.std.specs.Prelude.{if◌then◌else◌, slice_get}
+use Rattle.std.proofs.lemmas.Bool.{cases_Bool}
 use Rattle.histories.proofs.Decide.{OrNot}
 use Rattle.histories.proofs.Lists.{slice_get-old}
 use Rattle.phase.specs.rule.RawPhase.{IsTerminal}
@@ -130,19 +131,25 @@ by_node pod None h end failure b is ends now fails =
 
 -- a tick of the moment may evict the pod, or not
 pub may_or_not : (at : ℕ) (status : PodStatus) → OrNot (MayBeEvicted at status)
-may_or_not at status = elim (terminal_cases status.phase) [
-  | inl ended ↦ elim (place_or_not (option_map (λ (f : PodFailure). f.at) status.failure) at) [
-    | inl says ↦ inl (λ t. says)
-    | inr not ↦ inr (λ may. not (may ended))
+may_or_not at status = elim (cases_Bool status.spared) [
+  | inl spared ↦ inr (λ may. absurd (let w : true ≡ false = sym spared ∙ may.not_spared in cc))
+  | inr not ↦ elim (terminal_cases status.phase) [
+    | inl ended ↦ elim (place_or_not (option_map (λ (f : PodFailure). f.at) status.failure) at) [
+      | inl says ↦ inl (record { not_spared = not; lives = λ t. says })
+      | inr silent ↦ inr (λ may. silent (may.lives ended))
+    ]
+    | inr lives ↦ inl (record { not_spared = not; lives = λ t. absurd (lives t) })
   ]
-  | inr lives ↦ inl (λ t. absurd (lives t))
 ]
 
 -- two statuses of a pod are one in this
 pub may_by : (number : ℕ) (pod : PodSpec) (eviction : Option EvictionRecord) (h : List PodTick) (p q : PodStatus)
     (at : ℕ) → IsStatusAfter number pod eviction h p → IsStatusAfter number pod eviction h q → MayBeEvicted at p
     → MayBeEvicted at q
-may_by number pod eviction h p q at is was may = λ ended.
-    let phase = IsPhase-unique pod (place_of eviction) h q.phase p.phase was.lifecycle.phase is.lifecycle.phase in
-    let failure = one_failure pod eviction h q.failure p.failure was.failure is.failure in
-    ap (option_map (λ (f : PodFailure). f.at)) failure ∙ may (subst IsTerminal phase ended)
+may_by number pod eviction h p q at is was may = record {
+  not_spared = was.spared ∙ sym is.spared ∙ may.not_spared;
+  lives = λ ended.
+      let phase = IsPhase-unique pod (place_of eviction) h q.phase p.phase was.lifecycle.phase is.lifecycle.phase in
+      let failure = one_failure pod eviction h q.failure p.failure was.failure is.failure in
+      ap (option_map (λ (f : PodFailure). f.at)) failure ∙ may.lives (subst IsTerminal phase ended);
+}

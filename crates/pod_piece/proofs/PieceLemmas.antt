@@ -231,6 +231,7 @@ kept_numbered p n differs state status earlier events kept = record {
     requests = kept.shown.requests;
     usage = kept.shown.usage;
     priority = kept.shown.priority;
+    spared = kept.shown.spared;
     order = kept.shown.order;
     failure = kept.shown.failure;
   };

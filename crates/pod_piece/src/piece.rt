@@ -116,6 +116,7 @@ fn first_status(
         requests: EffectiveRequests::of(pod),
         usage: nothing(),
         priority: pod.priority,
+        spared: pod.spared,
         order: None,
         failure: None,
     })

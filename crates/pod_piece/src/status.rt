@@ -83,6 +83,8 @@ pub struct PodStatus {
     pub usage: NewestUsage,
     /// Its priority.
     pub priority: i32,
+    /// Whether the node spares it. (This project's extended format.)
+    pub spared: bool,
     /// The order that evicted it, if it was evicted.
     pub order: Option<EvictOrder>,
     /// How the node has ended it, if it has, but for an eviction.
@@ -118,11 +120,14 @@ impl PodStatus {
         }
     }
 
-    /// Whether a tick at the moment, in seconds, may evict the pod: it has not ended, or the node has ended it with
-    /// that very tick, as the tick says.
+    /// Whether a tick at the moment, in seconds, may evict the pod: the node doesn't spare it, and it has not ended, or
+    /// the node has ended it with that very tick, as the tick says.
     pub fn may_be_evicted(&self, at: u64) -> bool
         ensures { IsTrue result ↔ MayBeEvicted at self.now }
     {
+        if self.spared {
+            return false;
+        }
         if !self.is_terminal() {
             return true;
         }

@@ -36,7 +36,7 @@ pub(crate) fn line_of(
 }
 
 /// Places of a tick line for a value: what stands before it, and behind it.
-pub(crate) const PLACES: [(&str, &str); 38] = [
+pub(crate) const PLACES: [(&str, &str); 39] = [
     (r#"{"kind":"#, r#","at":7}"#),
     (r#"{"at":7,"kind":"tick","kind":"#, "}"),
     (r#"{"kind":"tick","at":"#, "}"),
@@ -111,6 +111,7 @@ pub(crate) const PLACES: [(&str, &str); 38] = [
         r#"{"kind":"tick","at":99,"pods":[{"pod":"a","deleting":"#,
         "}]}",
     ),
+    (r#"{"kind":"tick","at":99,"judged":"#, "}"),
     (r#"{"kind":"tick","at":99,"signals":"#, "}"),
     (
         r#"{"kind":"tick","at":7,"signals":{"memory.available":"#,

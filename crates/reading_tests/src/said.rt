@@ -103,6 +103,7 @@ fn add_entries(text: &mut String, entries: &[TickEntry]) -> Result<(), AllocErro
 
 fn add_tick_line(text: &mut String, line: &TickLine) -> Result<(), AllocError> {
     add_entries(text, line.entries.as_slice())?;
+    add_truth(text, "unjudged", line.unjudged)?;
     add_samples(text, line.signals, line.after_reclaim)
 }
 

@@ -9,7 +9,7 @@ use Rattle.tick_lines.specs.state.Laws.{OnlyTheirFields}
 
 line_alike : ReadsOnly line_fields tick_line_of
 unfolding tick_line_of
-line_alike d e (pods, (signals, (after, none))) = rw (pods, signals, after) refl
+line_alike d e (pods, (signals, (after, (judged, none)))) = rw (pods, signals, after, judged) refl
 
 entry_alike : ReadsOnly entry_fields entry_of
 unfolding entry_of

@@ -15,7 +15,7 @@ use Rattle.tick_lines.specs.rule.Fields.{only_object, quantity_at}
 use Rattle.tick_lines.specs.rule.Listings.{listings_of}
 use Rattle.tick_lines.specs.rule.Results.{results_of}
 use Rattle.tick_lines.specs.rule.Reasons.{reason_member_of}
-use Rattle.tick_lines.specs.rule.Truths.{truth_of}
+use Rattle.tick_lines.specs.rule.Truths.{truth_of, denial_of}
 use Rattle.tick_lines.specs.rule.Usages.{usage_in, usage_of}
 use Rattle.tick_lines.specs.rule.Entries.{entry_of, entries_of}
 use Rattle.tick_lines.specs.rule.Samples.{samples_of}
@@ -25,6 +25,7 @@ pub record IsLine (d : Data) (line : TickLine) : Type 0 where
   pub entries : entries_of (field_at (codes "pods") d) ≡ Ok line.entries
   pub signals : samples_of Node (field_at (codes "signals") d) ≡ Ok line.signals
   pub after_reclaim : samples_of FileSystems (field_at (codes "afterReclaim") d) ≡ Ok line.after_reclaim
+  pub unjudged : denial_of (field_at (codes "judged") d) ≡ line.unjudged
 
 pub line_parts : (d : Data) (line : TickLine) → tick_line_of d ≡ Ok line → IsLine d line
 unfolding tick_line_of
@@ -37,6 +38,7 @@ line_parts d line e =
       entries = entries.1 ∙ ap (λ (l : TickLine). Ok l.entries) same;
       signals = signals.1 ∙ ap (λ (l : TickLine). Ok l.signals) same;
       after_reclaim = after.1 ∙ ap (λ (l : TickLine). Ok l.after_reclaim) same;
+      unjudged = ap (λ (l : TickLine). l.unjudged) same;
     }
 
 pub record IsEntry (d : Data) (entry : TickEntry) : Type 0 where

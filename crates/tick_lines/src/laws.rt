@@ -42,6 +42,12 @@ pub fn failed_said()
     ensures { laws.FailedSaid }
 {}
 
+/// A line says that the node does not judge the tick exactly where its member `judged` is false, and nothing of it
+/// exactly where the member is missing, null or true.
+pub fn judged_said()
+    ensures { laws.JudgedSaid }
+{}
+
 /// A line is refused where it names a signal that it may not name.
 pub fn only_signals()
     ensures { laws.OnlySignals }

@@ -26,5 +26,5 @@ pub use tape::{
     EntryText, LineSamples, ListingText, ResultText, entries_text, entry_text, listing_text,
     result_text, samples_text,
 };
-pub use truth::TruthMember;
+pub use truth::{TruthMember, truth_of};
 pub use value::TickValue;

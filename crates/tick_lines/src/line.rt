@@ -11,6 +11,7 @@ use crate::entry::TickEntry;
 use crate::fault::TickLineFault;
 use crate::items::{check_items, read_items};
 use crate::samples::samples_of;
+use crate::truth::{TruthMember, denial_of};
 use crate::value::TickValue;
 use json_fields::{Scope, field};
 use lists::Sequence;
@@ -29,6 +30,8 @@ pub struct TickLine {
     /// What the node has left of each resource of its file systems after images and dead containers were deleted,
     /// where the line has a sample. (Kubernetes, "Node-pressure Eviction", "Reclaiming node level resources".)
     pub after_reclaim: BySignal<Option<Quantity>>,
+    /// Whether it says that the node does not judge the tick. (This project's extended format.)
+    pub unjudged: TruthMember,
 }
 
 /// Reads the entries of a tick line, which come before its samples. `Usage` where one of them is faulty, and
@@ -50,6 +53,7 @@ fn read_line<V: TickValue>(alloc: Global, line: &V) -> Result<TickLine, TickLine
         entries: entries_of(alloc, line)?,
         signals: samples_of(Scope::Node, field(line, "signals"))?,
         after_reclaim: samples_of(Scope::FileSystems, field(line, "afterReclaim"))?,
+        unjudged: denial_of(field(line, "judged")),
     })
 }
 

@@ -12,6 +12,7 @@ ghost use Rattle.tick_lines.specs.rule.Fields.{items_of, quantity_at};
 ghost use Rattle.tick_lines.specs.rule.Listings.{attempt_of, state_of, listing_of};
 ghost use Rattle.tick_lines.specs.rule.Results.{result_of};
 ghost use Rattle.tick_lines.specs.rule.Samples.{samples_of};
+ghost use Rattle.tick_lines.specs.rule.Truths.{denial_of};
 ghost use Rattle.tick_lines.specs.state.Tape.{text_in, code_in, probe_in, outcome_in, left_in, listing_as, result_as};
 ghost use Rattle.tick_lines.specs.state.Tape.{truth_in, reason_in};
 ghost use Rattle.tick_lines.specs.declared.reason.ReasonMember.TheVariants.{Missing};
@@ -23,7 +24,7 @@ use crate::fields::quantity_at;
 use crate::listing::{ListedInstance, attempt_of, code_of, state_of};
 use crate::probing::{outcome_named, probe_named};
 use crate::samples::samples_of;
-use crate::truth::{TruthMember, truth_of};
+use crate::truth::{TruthMember, denial_of, truth_of};
 use json::Value;
 use json_fields::{MemberNames, Scope, TapeItems, TapeValue};
 use manifest::{Outcome, ProbeKind};
@@ -462,7 +463,18 @@ fn samples_at(
     }
 }
 
-/// The samples of a tick line. Its entries are read first, since a fault of theirs comes before one of a sample.
+/// Whether the line says nothing of whether the node judges the tick, or that it does.
+fn is_judged(value: &TapeValue<'_, '_>) -> bool
+    ensures { IsTrue result → denial_of (field_at (codes "judged") (data_at value.now)) ≡ No }
+{
+    let Some(found) = value.scalar_at::<Global>("judged") else {
+        return false;
+    };
+    matches!(denial_of(found.as_ref()), TruthMember::No)
+}
+
+/// The samples of a tick line; none where it says that the node doesn't judge the tick. Its entries are read first,
+/// since a fault of theirs comes before one of a sample.
 pub fn samples_text(
     alloc: Global,
     value: &TapeValue<'_, '_>,
@@ -475,6 +487,9 @@ pub fn samples_text(
     let Some(after_reclaim) = samples_at(alloc, Scope::FileSystems, value, "afterReclaim")? else {
         return Ok(None);
     };
+    if !is_judged(value) {
+        return Ok(None);
+    }
     Ok(Some(LineSamples {
         signals,
         after_reclaim,

@@ -1,23 +1,23 @@
-//! Members that are true, or say nothing.
+//! Members that are truth values, one of which says something.
 
 ghost use Rattle.std.specs.Prelude.{◌≡◌, option_map};
-ghost use Rattle.tick_lines.specs.rule.Truths.{truth_of};
+ghost use Rattle.tick_lines.specs.rule.Truths.{truth_of, denial_of};
 
 use crate::value::TickValue;
 
-/// What an entry says in a member such as `unsampled` or `deleting`. (This project's extended format.)
+/// What is said in a member such as `unsampled`, `deleting` or `judged`. (This project's extended format.)
 #[derive(Clone, Copy, Debug, PartialEq, Eq)]
 pub enum TruthMember {
-    /// Nothing: it is missing, null or false.
+    /// Nothing: it is missing, null or the truth value that says nothing.
     No,
-    /// It is true.
+    /// What it says is so: it is true, or false where that says something.
     Yes,
     /// It has a value of another kind than a truth value.
     OfOtherKind,
 }
 
-/// What such a member says.
-pub(crate) fn truth_of<V: TickValue>(found: Option<&V>) -> TruthMember
+/// What a member says that says something by true.
+pub fn truth_of<V: TickValue>(found: Option<&V>) -> TruthMember
     ensures { result ≡ truth_of (option_map (λ v. V.data v.now) found.entry) }
 {
     let Some(value) = found else {
@@ -26,6 +26,20 @@ pub(crate) fn truth_of<V: TickValue>(found: Option<&V>) -> TruthMember
     match value.truth() {
         Some(true) => TruthMember::Yes,
         Some(false) => TruthMember::No,
+        None => TruthMember::OfOtherKind,
+    }
+}
+
+/// What a member says that says something by false.
+pub(crate) fn denial_of<V: TickValue>(found: Option<&V>) -> TruthMember
+    ensures { result ≡ denial_of (option_map (λ v. V.data v.now) found.entry) }
+{
+    let Some(value) = found else {
+        return TruthMember::No;
+    };
+    match value.truth() {
+        Some(true) => TruthMember::No,
+        Some(false) => TruthMember::Yes,
         None => TruthMember::OfOtherKind,
     }
 }

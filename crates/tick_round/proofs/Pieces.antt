@@ -155,7 +155,7 @@ candidate_not_evicted config pods ticks es x pieces n status shown len present a
         subst (λ (e : Option EvictionRecord). IsPhase pod (option_map (λ (v : EvictionRecord). v.place) e)
         (pod_ticks (ticks ++ x ∷ []) n) status.phase) is phase in
         let says =
-        candidate.may (evicted_ends pod v.place (pod_ticks (ticks ++ x ∷ []) n) status.phase now (omega arith)) in
+        candidate.may.lives (evicted_ends pod v.place (pod_ticks (ticks ++ x ∷ []) n) status.phase now (omega arith)) in
         let silent : status.failure ≡ None = subst (λ (e : Option EvictionRecord).
         IsFailure pod e (pod_ticks (ticks ++ x ∷ []) n) status.failure) is failure in
         absurd (let w : None ≡ Some x.at =

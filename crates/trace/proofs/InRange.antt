@@ -7,12 +7,12 @@ use Rattle.std.proofs.lemmas.List.Elements.{All-nil, All-cons, All-push, All-app
 use Rattle.serde_json.specs.Data.{Data}
 use Rattle.serde_json.specs.Find.{as_number, as_i64, as_u64}
 use Rattle.json_fields.specs.rule.Fields.{field_at}
-use Rattle.json_fields.specs.rule.Reading.{each}
+use Rattle.json_fields.specs.rule.Reading.{each, refused_if}
 use Rattle.json_fields.proofs.Steps.{bind_ok}
 use Rattle.json_fields.proofs.Only.{same_value}
 use Rattle.manifest_fields.specs.declared.fault.Field.TheVariants as fields
 use Rattle.manifest_fields.specs.declared.fault.ManifestFault.{ManifestFault}
-use Rattle.manifest_fields.specs.declared.fault.ManifestFault.TheVariants.{ProbeRange, InitProbe}
+use Rattle.manifest_fields.specs.declared.fault.ManifestFault.TheVariants.{ProbeRange, InitProbe, WrongKind}
 use Rattle.manifest.specs.declared.pod.ContainerSpec.{ContainerSpec}
 use Rattle.manifest.specs.declared.pod.PodSpec.{PodSpec}
 use Rattle.manifest.specs.declared.pod.Role.{Role}
@@ -29,10 +29,16 @@ use Rattle.manifest_fields.specs.rule.ProbeFields.{not_from_0, in_range, number_
 use Rattle.manifest_fields.specs.rule.ProbeFields.{some_probes, unprobed, probes_of}
 use Rattle.manifest_fields.specs.rule.ResourceFields.{resources_of}
 use Rattle.node_config.specs.declared.node.Format.{Format}
+use Rattle.tick_lines.specs.declared.truth.TruthMember.{TruthMember}
+use Rattle.tick_lines.specs.rule.Truths.{truth_of}
+use Rattle.trace.specs.declared.fault.FaultKind.{FaultKind}
+use Rattle.trace.specs.declared.fault.FaultKind.TheVariants.{Manifest}
 use Rattle.trace.specs.declared.trace_so_far.Trace.{Trace}
 use Rattle.trace.specs.state.Laws.{Says, says_node, says_pod, says_gone, says_tick}
-use Rattle.trace.specs.rule.TraceSoFar.{TraceSoFar}
-use Rattle.trace.specs.rule.Pod.{of_manifest, manifest_of}
+use Rattle.trace.specs.rule.TraceSoFar.{TraceSoFar, heeds}
+use Rattle.trace.specs.rule.Placing.{says_so}
+use Rattle.trace.specs.rule.Written.{is_of_other_kind}
+use Rattle.trace.specs.rule.Pod.{of_manifest, manifest_of, pod_from, spared_by}
 use Rattle.trace.specs.rule.Trace.{trace_of}
 use Rattle.trace.proofs.Said.{IsKept, of_trace}
 
@@ -208,15 +214,28 @@ read : (r : Result PodSpec ManifestFault) (pod : PodSpec) → of_manifest r ≡ 
 read (Ok p) pod e = ap Ok (same_value _ _ e)
 read (Err fault) pod e = absurd (cc)
 
+-- whether the node spares a pod says nothing of its containers
+spared_alone : (heeds : Bool) (spared : TruthMember) (pod next : PodSpec) → spared_by heeds spared pod ≡ Ok next
+    → pod.containers ≡ next.containers
+spared_alone heeds spared pod next e =
+    let known = bind_ok (refused_if (heeds && is_of_other_kind spared) (Manifest (WrongKind fields.Spared)))
+    (λ known. Ok (record pod { spared = heeds && says_so spared })) next e in
+    ap (λ (p : PodSpec). p.containers)
+    (same_value {E = FaultKind} (record pod { spared = heeds && says_so spared }) next known.2)
+
 line_keeps : (past : TraceSoFar) (line : List ℕ) (next : TraceSoFar) → HaveProbesInRange past.roll.pods
     → Says past line next
     → HaveProbesInRange next.roll.pods
 line_keeps past line _ all (says_node d node is e) = all
 line_keeps past line _ all (says_pod d pod is new) =
     let found = field_at (codes "pod") d in
-    let given = bind_ok (manifest_of found) (λ m. of_manifest (pod_at m)) pod is.pod_is in
+    let spared = truth_of (field_at (codes "spared") d) in
+    let whole = bind_ok (pod_from found) (spared_by (heeds past) spared) pod is.pod_is in
+    let given = bind_ok (manifest_of found) (λ m. of_manifest (pod_at m)) whole.0 whole.1 in
+    let same = spared_alone (heeds past) spared whole.0 pod whole.2 in
     All-push (λ (p : PodSpec). All HasProbesInRange p.containers) past.roll.pods pod all
-    (pod_given given.0 pod (read (pod_at given.0) pod given.2))
+    (subst (λ (cs : List ContainerSpec). All HasProbesInRange cs) same
+    (pod_given given.0 whole.0 (read (pod_at given.0) whole.0 given.2)))
 line_keeps past line _ all (says_gone d number is named) = all
 line_keeps past line _ all (says_tick d at written placed is coded) = all
 

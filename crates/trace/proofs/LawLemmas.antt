@@ -37,7 +37,7 @@ use Rattle.trace.specs.declared.placing.PlacedEntry.{PlacedEntry}
 use Rattle.json_lines.specs.rule.Lines.{lines_of, is_blank, longest_line}
 use Rattle.trace.specs.rule.Written.{node_in, tick_line_in}
 use Rattle.roster.specs.rule.Roll.{roll, key_of_pod}
-use Rattle.trace.specs.rule.Pod.{has_key, pod_from, named_in}
+use Rattle.trace.specs.rule.Pod.{has_key, pod_of_line, named_in}
 use Rattle.trace.specs.rule.Placing.{placed_of}
 use Rattle.node_config.specs.declared.node.Format.{Format}
 use Rattle.node_config.specs.declared.node.Version.{Version}
@@ -149,13 +149,13 @@ pod_line_keeps version past d next e =
     let keyed : PodSpec → Result TraceSoFar FaultKind = λ pod. refused_if (has_key past.roll
     (key_of_pod pod)) DuplicatePod
     >>= last pod in
-    let read : ⊤ → Result TraceSoFar FaultKind = λ u. pod_from (field_at (codes "pod") d) >>= keyed in
+    let read : ⊤ → Result TraceSoFar FaultKind = λ u. pod_of_line (heeds past) d >>= keyed in
     let first : ⊤ → Result TraceSoFar FaultKind =
     λ u. refused_if (nat_le most_pods (length past.roll.pods)) TooMany >>= read in
     let before = bind_ok (refused_if (is_late version past.ticks) Order) first next (sym (pod_whole version past d)
     ∙ e) in
     let room = bind_ok (refused_if (nat_le most_pods (length past.roll.pods)) TooMany) read next before.2 in
-    let pod = bind_ok (pod_from (field_at (codes "pod") d)) keyed next room.2 in
+    let pod = bind_ok (pod_of_line (heeds past) d) keyed next room.2 in
     let new = bind_ok (refused_if (has_key past.roll (key_of_pod pod.0)) DuplicatePod) (last pod.0) next pod.2 in
     let given : Ok (with_pod past pod.0) ≡ Ok next = new.2 in
     let is_next : with_pod past pod.0 ≡ next = cc in

@@ -151,9 +151,14 @@ all_placed roll es placed e =
 
 line_spoken : (d : Data) (es : List TickEntry) (samples : LineSamples)
     → entries_of (field_at (codes "pods") d) ≡ Ok es → HasSamples d samples
-    → tick_line_of d ≡ Ok (record { entries = es; signals = samples.signals; after_reclaim = samples.after_reclaim })
+    → tick_line_of d ≡ Ok (record {
+      entries = es;
+      signals = samples.signals;
+      after_reclaim = samples.after_reclaim;
+      unjudged = No;
+    })
 unfolding tick_line_of
-line_spoken d es samples entries has = rw (entries, has.signals, has.after_reclaim) refl
+line_spoken d es samples entries has = rw (entries, has.signals, has.after_reclaim, has.unjudged) refl
 
 -- ---- entries that are noted as they come
 
@@ -256,6 +261,7 @@ pub line_shown : (roll : Roll) (d : Data) (moment : Option ℕ) (items : List Da
       pods = pods_from at noted.entries roll.departures 0 roll.pods;
       signals = samples.signals;
       after_reclaim = samples.after_reclaim;
+      judged = true;
     }
     → IsShown roll (Tick moment (tick_line_of d)) tick
 line_shown roll d moment items samples at slots tick noted early has_items has shows =
@@ -265,6 +271,7 @@ line_shown roll d moment items samples at slots tick noted early has_items has s
       entries = entries.0;
       signals = samples.signals;
       after_reclaim = samples.after_reclaim;
+      unjudged = No;
     } in
     shown_record roll moment (tick_line_of d) at written noted.entries tick early
     (line_spoken d entries.0 samples listed has) (entries_silent items entries.0 entries.1 noted.silent)

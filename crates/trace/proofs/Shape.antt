@@ -1,6 +1,6 @@
 -- The shape of a trace.
 use Rattle.std.proofs.Common.{◌≡◌, ◌≢◌, ◌∙◌, ℕ, zero, suc, ◌+◌, ◌≤◌, ◌<◌, true, false, List, [], ◌∷◌, ◌++◌, length}
-use Rattle.std.proofs.Common.{Option, Some, None, Result, Ok, Err, refl, ap, sym, subst, inl, inr, arith}
+use Rattle.std.proofs.Common.{Bool, Option, Some, None, Result, Ok, Err, refl, ap, sym, subst, inl, inr, arith}
 use Rattle.std.specs.Prelude.{slice_get, slice_set, codes, IfOk, IsSome}
 use Rattle.std.proofs.lemmas.List.{length-append}
 use Rattle.std.proofs.lemmas.Option.{slice_get_within}
@@ -19,7 +19,7 @@ use Rattle.trace.specs.declared.placing.PlacedEntry.{PlacedEntry}
 use Rattle.trace.specs.state.Memory.{GivesAt}
 use Rattle.trace.specs.state.Laws.{HasKey, Says, says_node, says_pod, says_gone, says_tick}
 use Rattle.trace.specs.rule.Observed.{observed}
-use Rattle.trace.specs.rule.TraceSoFar.{TraceSoFar, with_pod, without}
+use Rattle.trace.specs.rule.TraceSoFar.{TraceSoFar, with_pod, without, heeds}
 use Rattle.trace.specs.rule.Pod.{named_in}
 use Rattle.roster.specs.rule.Roll.{Roll, key_of_pod, stays, is_present}
 use Rattle.trace.specs.state.Sound.{HasArrived, Stays, ShowsEach, AreArrivals, AreDepartures, HaveOwnKeys, HasShape}
@@ -116,10 +116,10 @@ stayed departures number now t n is still departure here =
     still departure (still_gone departures number now n departure is here)
 
 -- what a tick shows of the pods
-shows_each : (at : ℕ) (written : TickLine) (es : List PlacedEntry) (roll : Roll) (t : ℕ)
+shows_each : (heeds : Bool) (at : ℕ) (written : TickLine) (es : List PlacedEntry) (roll : Roll) (t : ℕ)
     → AreArrivals (length roll.pods) t roll.arrivals → AreDepartures (length roll.pods) t roll.arrivals roll.departures
-    → ShowsEach roll.pods roll.arrivals roll.departures t (observed at written es roll)
-shows_each at written es roll t all left = record {
+    → ShowsEach roll.pods roll.arrivals roll.departures t (observed heeds at written es roll)
+shows_each heeds at written es roll t all left = record {
   told = λ n. (
     λ lt. arrived_all roll.arrivals t n all.in_range
         (omega (arith, as_many at es roll.departures 0 roll.pods, all.as_many)),
@@ -359,14 +359,14 @@ line_keeps past line _ all (says_pod d pod is new) = pod_keeps past pod is.room 
 line_keeps past line _ all (says_gone d number is named) =
     left_keeps past number (named_present past.roll (text_at (codes "pod") d) number named) all
 line_keeps past line _ all (says_tick d at written placed is coded) =
-    let now = observed at written placed past.roll in
+    let now = observed (heeds past) at written placed past.roll in
     let has = is.is_apart.has_places.has_written.has_moment in
     record {
       shown = λ t tick here. elim (place_split past.ticks now tick t here) [
         | inl before ↦ all.shown t tick before
         | inr last ↦
             let roll = past.roll in
-            let here = shows_each at written placed roll (length past.ticks) all.arrived all.left in
+            let here = shows_each (heeds past) at written placed roll (length past.ticks) all.arrived all.left in
             subst (λ (u : ℕ). ShowsEach roll.pods roll.arrivals roll.departures u tick) (sym last.0)
             (subst (ShowsEach roll.pods roll.arrivals roll.departures (length past.ticks)) last.1 here)
       ];

@@ -91,10 +91,11 @@ counts_at (p ∷ ps) zero count e = (p, refl, let same : length p.containers ≡
 counts_at (p ∷ ps) (suc k) count e = counts_at ps k count e
 
 -- it may stand behind ticks of these pods that end before it
-pub comes_next : (ticks : List TickObs) (at : ℕ) (written : TickLine) (es : List PlacedEntry) (roll : Roll)
+pub comes_next : (heeds : Bool) (ticks : List TickObs) (at : ℕ) (written : TickLine) (es : List PlacedEntry)
+    (roll : Roll)
     → EndBefore ticks at
-    → ComesNext ticks (container_counts roll.pods) (observed at written es roll)
-comes_next ticks at written es roll later =
+    → ComesNext ticks (container_counts roll.pods) (observed heeds at written es roll)
+comes_next heeds ticks at written es roll later =
     record {
       as_many = as_many at es roll.departures 0 roll.pods
           ∙ sym (length-map roll.pods (λ (p : PodSpec). length p.containers));

@@ -1,5 +1,6 @@
--- A line none of whose entries has a word on its pod is the same in each version.
-use Rattle.std.proofs.Common.{◌≡◌, ◌∙◌, ◌||◌, Bool, true, false, List, [], ◌∷◌, Option, Result, Ok, refl, ap, sym}
+-- A line that says nothing that depends on the version is the same in each.
+use Rattle.std.proofs.Common.{◌≡◌, ◌∙◌, ◌||◌, ◌&&◌, not, ℕ, Bool, true, false, List, [], ◌∷◌, Option, Result, Ok}
+use Rattle.std.proofs.Common.{refl, ap, sym}
 use Rattle.std.proofs.lemmas.Bool.{or_parts, or_from}
 use Rattle.std.specs.List.{list_any}
 use Rattle.std.specs.Prelude.{codes}
@@ -26,8 +27,10 @@ use Rattle.tick_lines.proofs.Parts.{entry_parts}
 use Rattle.trace.specs.declared.fault.FaultKind.{FaultKind}
 use Rattle.trace.specs.declared.placing.EntrySaid.{EntrySaid}
 use Rattle.trace.specs.declared.placing.PlacedEntry.{PlacedEntry}
+use Rattle.trace.specs.rule.Observed.{observed}
 use Rattle.trace.specs.rule.Placing.{number_in, sampling_of, words_of, said_in, entry_of_pod, placed_entry, placed_of}
-use Rattle.trace.specs.state.Placing.{is_word, is_reason_said, speaks, some_speaks}
+use Rattle.trace.specs.rule.Placing.{says_so}
+use Rattle.trace.specs.state.Placing.{is_word, is_reason_said, speaks, some_speaks, line_speaks}
 use Rattle.trace.specs.state.Tape.{item_speaks}
 use Rattle.trace.specs.rule.Written.{is_of_other_kind, is_no_reason, has_other_kind, heeded}
 use Rattle.trace.proofs.Placed.{with_number}
@@ -123,10 +126,26 @@ known_kinds (x ∷ xs) silent =
     or_from (is_unknown x) (has_other_kind xs) (known_kind x both.0) (known_kinds xs both.1)
 
 -- none of its members is refused
-pub not_refused : (heeds : Bool) (written : TickLine) → some_speaks written.entries ≡ false
+pub not_refused : (heeds : Bool) (written : TickLine) → line_speaks written ≡ false
     → heeded heeds written ≡ Ok written
-not_refused true written silent = rw (known_kinds written.entries silent) refl
+not_refused true written silent =
+    let both = or_parts (is_word written.unjudged) (some_speaks written.entries) silent in
+    rw (known_member written.unjudged both.0, known_kinds written.entries both.1) refl
 not_refused false written silent = refl
+
+-- and each version has it that the node judges the tick
+judged_alike : (heeds : Bool) (unjudged : TruthMember) → is_word unjudged ≡ false
+    → not (heeds && says_so unjudged) ≡ true
+judged_alike true No silent = refl
+judged_alike false No silent = refl
+judged_alike heeds Yes silent = absurd (cc)
+judged_alike heeds OfOtherKind silent = absurd (cc)
+
+pub observed_alike : (heeds : Bool) (at : ℕ) (written : TickLine) (placed : List PlacedEntry) (roll : Roll)
+    → line_speaks written ≡ false → observed false at written placed roll ≡ observed heeds at written placed roll
+observed_alike heeds at written placed roll silent =
+    let both = or_parts (is_word written.unjudged) (some_speaks written.entries) silent in
+    rw (judged_alike heeds written.unjudged both.0) refl
 
 -- the words of entries are those of their items
 members_alike : (ds : List Data) (es : List TickEntry) → each entry_of ds ≡ Ok es

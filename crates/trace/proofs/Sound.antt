@@ -22,7 +22,7 @@ use Rattle.following.specs.rule.Backwards.{is_backwards}
 use Rattle.trace.specs.state.Memory.{GivesAt}
 use Rattle.trace.specs.state.Laws.{Says, says_node, says_pod, says_gone, says_tick}
 use Rattle.trace.specs.rule.Observed.{observed}
-use Rattle.trace.specs.rule.TraceSoFar.{TraceSoFar}
+use Rattle.trace.specs.rule.TraceSoFar.{TraceSoFar, heeds}
 use Rattle.trace.specs.state.Sound.{AreAcceptable, AreRising}
 use Rattle.trace.specs.rule.Trace.{trace_of}
 use Rattle.following.proofs.Forwards.{pods_forwards}
@@ -64,7 +64,7 @@ line_sound past line _ all (says_pod d pod is new) = record { acceptable = all.a
 line_sound past line _ all (says_gone d number is named) =
     record { acceptable = all.acceptable; rising = all.rising }
 line_sound past line _ all (says_tick d at written placed is coded) =
-    let tick = observed at written placed past.roll in
+    let tick = observed (heeds past) at written placed past.roll in
     let later = moment_later past.ticks (field_at (codes "at") d) at
     is.is_apart.has_places.has_written.has_moment.moment in
     record {

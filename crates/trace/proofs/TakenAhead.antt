@@ -3,7 +3,7 @@ use Rattle.std.proofs.Common.{◌≡◌, ◌∙◌, ℕ, ◌+◌, ◌<◌, List,
 use Rattle.std.proofs.Common.{Bool, true, false}
 use Rattle.std.proofs.Common.{Option, Some, Result, Ok, Err, OnOk, refl, ap, sym, subst, inl, inr}
 use Rattle.std.specs.Borrow.{Bor}
-use Rattle.std.proofs.lemmas.Bool.{cases_Bool}
+use Rattle.std.proofs.lemmas.Bool.{cases_Bool, or_parts}
 use Rattle.std.proofs.lemmas.List.{take_more, drop_more}
 use Rattle.std.specs.Prelude.{⊤, MatchBool, if◌then◌else◌}
 use Rattle.std.specs.List.{list_any}
@@ -32,14 +32,14 @@ use Rattle.trace.specs.state.Memory.{is_memory}
 use Rattle.trace.specs.rule.Observed.{observed, some_code_missing}
 use Rattle.trace.specs.rule.TraceSoFar.{TraceSoFar, version_in, heeds, with_tick}
 use Rattle.trace.specs.rule.Placing.{placed_of, is_doubled, has_twice, are_of_one_pod, repeats}
-use Rattle.trace.specs.state.Placing.{some_speaks}
+use Rattle.trace.specs.state.Placing.{is_word, some_speaks, line_speaks}
 use Rattle.trace.specs.state.Pod.{container_counts}
 use Rattle.trace.specs.state.Taken.{tick_of, tick_after, tick_line_at, any_line_at, lines_at}
 use Rattle.trace.specs.rule.Tick.{moment_from, room_for_tick, observed_in}
 use Rattle.trace.specs.rule.Trace.{turn_of, at_line}
 use Rattle.trace.specs.rule.Written.{heeded}
 use Rattle.trace.proofs.Shown.{comes_next, went_on}
-use Rattle.trace.proofs.Silent.{placed_alike, not_refused}
+use Rattle.trace.proofs.Silent.{placed_alike, not_refused, observed_alike}
 use Rattle.json_lines.proofs.ZippedParts.{zip_append}
 
 abbrev seen : TraceSoFar → TickObs → Result TraceSoFar FaultKind
@@ -49,16 +49,16 @@ seen past tick = Ok (with_tick past tick)
 entries_apart : (past : TraceSoFar) (at : ℕ) (written : TickLine) (placed : List PlacedEntry)
     → is_doubled placed ≡ false → some_code_missing placed ≡ false
     → observed_in past at written placed
-    ≡ (refused_if (is_backwards past.ticks (observed at written placed past.roll)) Backwards
-    >>= λ (u : ⊤). Ok (observed at written placed past.roll))
+    ≡ (refused_if (is_backwards past.ticks (observed (heeds past) at written placed past.roll)) Backwards
+    >>= λ (u : ⊤). Ok (observed (heeds past) at written placed past.roll))
 unfolding observed_in
 entries_apart past at written placed apart coded = rw (apart, coded) refl
 
 -- nothing is refused of what is written, which is placed as in any version
 entries_shown : (past : TraceSoFar) (tick : TickObs) (written : TickLine) (placed : List PlacedEntry)
-    → some_speaks written.entries ≡ false → placed_of false past.roll written.entries ≡ Ok placed
+    → line_speaks written ≡ false → placed_of false past.roll written.entries ≡ Ok placed
     → is_doubled placed ≡ false → some_code_missing placed ≡ false
-    → tick ≡ observed tick.at written placed past.roll
+    → tick ≡ observed (heeds past) tick.at written placed past.roll
     → (heeded (heeds past) written
     >>= λ (w : TickLine). placed_of (heeds past) past.roll w.entries >>= observed_in past tick.at w)
     ≡ (refused_if (is_backwards past.ticks tick) Backwards >>= λ (u : ⊤). Ok tick)
@@ -67,7 +67,8 @@ entries_shown past tick written placed silent places apart coded shows =
     (λ (w : TickLine). placed_of (heeds past) past.roll w.entries >>= observed_in past tick.at w) written
     (not_refused (heeds past) written silent)
     ∙ then_ok (placed_of (heeds past) past.roll written.entries) (observed_in past tick.at written) placed
-    (placed_alike (heeds past) past.roll written.entries silent ∙ places)
+    (placed_alike (heeds past) past.roll written.entries
+    (or_parts (is_word written.unjudged) (some_speaks written.entries) silent).1 ∙ places)
     ∙ subst (λ (o : TickObs). observed_in past tick.at written placed
     ≡ (refused_if (is_backwards past.ticks o) Backwards >>= λ (u : ⊤). Ok o)) (sym shows)
     (entries_apart past tick.at written placed apart coded)
@@ -87,9 +88,9 @@ steps (Ok t) (Ok u) true true past tick entries e = rw e refl
 steps (Ok t) (Ok u) true false past tick entries e = rw e refl
 
 tick_taken : (past : TraceSoFar) (tick : TickObs) (written : TickLine) (placed : List PlacedEntry)
-    → some_speaks written.entries ≡ false → placed_of false past.roll written.entries ≡ Ok placed
+    → line_speaks written ≡ false → placed_of false past.roll written.entries ≡ Ok placed
     → is_doubled placed ≡ false → some_code_missing placed ≡ false
-    → tick ≡ observed tick.at written placed past.roll
+    → tick ≡ observed (heeds past) tick.at written placed past.roll
     → tick_line_at past (Some tick.at) (Ok written) ≡ (may_stand past tick >>= λ (u : ⊤). seen past tick)
 unfolding tick_after tick_of may_stand
 tick_taken past tick written placed silent places apart coded shows =
@@ -104,7 +105,8 @@ pub shown_taken : (past : TraceSoFar) (said : LineData) (tick : TickObs) → IsS
     → any_line_at past said ≡ (may_stand past tick >>= λ (u : ⊤). seen past tick)
 shown_taken past said tick is =
     ap (any_line_at past) is.says
-    ∙ tick_taken past tick is.written is.placed is.silent is.places is.apart is.coded is.shows
+    ∙ tick_taken past tick is.written is.placed is.silent is.places is.apart is.coded
+    (is.shows ∙ observed_alike (heeds past) tick.at is.written is.placed past.roll is.silent)
 
 moment_step : (test : Bool) (n at : ℕ) (given : Result ℕ FaultKind) → given ≡ (if test then Ok n else Err Moment)
     → given ≡ Ok at → n ≡ at
@@ -119,7 +121,7 @@ pub ahead_comes_next : (ticks : List TickObs) (roll : Roll) (tick : TickObs) →
     → EndBefore ticks tick.at → ComesNext ticks (container_counts roll.pods) tick
 ahead_comes_next ticks roll tick is later =
     subst (ComesNext ticks (container_counts roll.pods)) (sym is.1.shows)
-    (comes_next ticks tick.at is.1.written is.1.placed roll later)
+    (comes_next false ticks tick.at is.1.written is.1.placed roll later)
 
 roll_kept : (past next : TraceSoFar) (turn : Result Turn FaultKind) (tick : Result TickObs FaultKind)
     → (turn >>= λ (t : Turn). tick >>= seen past) ≡ Ok next → next.roll ≡ past.roll
@@ -145,9 +147,9 @@ pods_kept past next (Json d) keeps e = absurd keeps
 
 pub shown_record : (roll : Roll) (moment : Option ℕ) (said : Result TickLine TickLineFault) (at : ℕ)
     (written : TickLine) (placed : List PlacedEntry) (tick : TickObs) → moment ≡ Some at → said ≡ Ok written
-    → some_speaks written.entries ≡ false → placed_of false roll written.entries ≡ Ok placed
+    → line_speaks written ≡ false → placed_of false roll written.entries ≡ Ok placed
     → has_twice are_of_one_pod placed ≡ false → list_any repeats placed ≡ false → some_code_missing placed ≡ false
-    → tick ≡ observed at written placed roll
+    → tick ≡ observed false at written placed roll
     → IsShown roll (Tick moment said) tick
 shown_record roll moment said at written placed tick early spoken silent places once apart coded shows =
     let here : at ≡ tick.at = sym (ap (λ (t : TickObs). t.at) shows) in
@@ -159,7 +161,7 @@ shown_record roll moment said at written placed tick early spoken silent places 
       places = places;
       apart = rw (once, apart) refl;
       coded = coded;
-      shows = subst (λ (n : ℕ). tick ≡ observed n written placed roll) here shows;
+      shows = subst (λ (n : ℕ). tick ≡ observed false n written placed roll) here shows;
     }
 
 -- a test that refused nothing, and what holds then

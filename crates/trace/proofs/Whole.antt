@@ -20,7 +20,7 @@ use Rattle.trace.specs.rule.Observed.{observed, some_code_missing}
 use Rattle.trace.specs.rule.TraceSoFar.{TraceSoFar, version_in, heeds, with_pod, without, with_tick}
 use Rattle.trace.specs.rule.Placing.{placed_of}
 use Rattle.roster.specs.rule.Roll.{key_of_pod}
-use Rattle.trace.specs.rule.Pod.{has_key, pod_from, named_in}
+use Rattle.trace.specs.rule.Pod.{has_key, pod_of_line, named_in}
 use Rattle.trace.specs.rule.Tick.{moment_of, observed_in, tick_in, tick_at}
 use Rattle.trace.specs.rule.Trace.{json_of, kind_from, kind_of_line, is_late, pod_in, pod_line_at, gone_line_at}
 use Rattle.trace.specs.rule.Trace.{in_order, kind_and_value, line_at}
@@ -52,7 +52,7 @@ abbrev pub with_room : TraceSoFar → Data → ⊤ → Result TraceSoFar FaultKi
 with_room past d u = moment_of past.ticks (field_at (codes "at") d) >>= with_moment past d
 
 abbrev pub with_code : TraceSoFar → ℕ → TickLine → List PlacedEntry → ⊤ → Result TickObs FaultKind
-with_code past at written placed u = Ok (observed at written placed past.roll)
+with_code past at written placed u = Ok (observed (heeds past) at written placed past.roll)
 
 abbrev pub with_forwards : TraceSoFar → ℕ → TickLine → List PlacedEntry → ⊤ → Result TickObs FaultKind
 with_forwards past at written placed u =
@@ -60,8 +60,8 @@ with_forwards past at written placed u =
 
 abbrev pub with_apart : TraceSoFar → ℕ → TickLine → List PlacedEntry → ⊤ → Result TickObs FaultKind
 with_apart past at written placed u =
-    refused_if (is_backwards past.ticks (observed at written placed past.roll)) Backwards >>= with_forwards past at
-    written placed
+    refused_if (is_backwards past.ticks (observed (heeds past) at written placed past.roll)) Backwards
+    >>= with_forwards past at written placed
 
 abbrev pub gone_said : TraceSoFar → ℕ → Result TraceSoFar FaultKind
 gone_said past number = Ok (without past number)
@@ -81,7 +81,7 @@ abbrev pub pod_said : TraceSoFar → PodSpec → Result TraceSoFar FaultKind
 pod_said past pod = refused_if (has_key past.roll (key_of_pod pod)) DuplicatePod >>= pod_new past pod
 
 abbrev pub pod_read : TraceSoFar → Data → ⊤ → Result TraceSoFar FaultKind
-pod_read past d u = pod_from (field_at (codes "pod") d) >>= pod_said past
+pod_read past d u = pod_of_line (heeds past) d >>= pod_said past
 
 abbrev pub pod_early : TraceSoFar → Data → ⊤ → Result TraceSoFar FaultKind
 pod_early past d u = refused_if (nat_le most_pods (length past.roll.pods)) TooMany >>= pod_read past d
@@ -115,11 +115,11 @@ tick_whole past d =
     (with_places past at written) (λ placed. refl))))
 
 -- of a pod line, up to the pod
-abbrev said_pod : Data → ⊤ → Result PodSpec FaultKind
-said_pod d room = pod_from (field_at (codes "pod") d)
+abbrev said_pod : TraceSoFar → Data → ⊤ → Result PodSpec FaultKind
+said_pod past d room = pod_of_line (heeds past) d
 
 abbrev said_early : TraceSoFar → Data → ⊤ → Result PodSpec FaultKind
-said_early past d in_time = refused_if (nat_le most_pods (length past.roll.pods)) TooMany >>= said_pod d
+said_early past d in_time = refused_if (nat_le most_pods (length past.roll.pods)) TooMany >>= said_pod past d
 
 pub pod_whole : (version : Version) (past : TraceSoFar) (d : Data)
     → pod_line_at version past d ≡ (refused_if (is_late version past.ticks) Order >>= pod_early past d)
@@ -127,7 +127,7 @@ unfolding pod_line_at pod_in
 pod_whole version past d =
     let last = pod_said past in
     in_a_row (refused_if (is_late version past.ticks) Order) (said_early past d) last (pod_early past d) (λ in_time.
-    in_a_row (refused_if (nat_le most_pods (length past.roll.pods)) TooMany) (said_pod d) last (pod_read past d)
+    in_a_row (refused_if (nat_le most_pods (length past.roll.pods)) TooMany) (said_pod past d) last (pod_read past d)
     (λ room. refl))
 
 -- of any line, up to its kind and its value

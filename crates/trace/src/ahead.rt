@@ -9,7 +9,7 @@ ghost use Rattle.trace.specs.rule.Placing.{are_of_one_pod, has_twice};
 
 use crate::by_pod::entries_by_pod;
 use crate::fault::FaultKind;
-use crate::placing::{PlacedEntry, some_entry_repeats, some_speaks};
+use crate::placing::{PlacedEntry, line_speaks, some_entry_repeats};
 use crate::tape::shown_on_tape;
 use crate::tick::{observed, placed_by, some_code_missing};
 use json_lines::{LONGEST_TAPE, LineBuffers, TextLine, TickRecord, other_line, text_line};
@@ -48,17 +48,17 @@ fn shown_once(
 ) -> Result<Option<TickObs>, AllocError>
     requires { All (λ e. e.pod < length roster.now.pods) placed.now }
     ensures { IfOk result (λ found. IfSome found (λ tick. (has_twice are_of_one_pod placed.now ≡ false)
-        × (tick ≡ observed at written.now placed.now roster.now))) }
+        × (tick ≡ observed false at written.now placed.now roster.now))) }
 {
     let found = entries_by_pod(alloc, placed, roster.pods().len())?;
     if found.has_pod_twice {
         return Ok(None);
     }
-    Ok(Some(observed(alloc, at, written, placed, &found.first, roster)?))
+    Ok(Some(observed(alloc, false, at, written, placed, &found.first, roster)?))
 }
 
-/// The tick that a tick line shows of these pods, if nothing in it is at fault by itself, and no entry says that its
-/// pod has no sample: that depends on the version.
+/// The tick that a tick line shows of these pods, if nothing in it is at fault by itself, and it says nothing that
+/// depends on the version.
 fn shown_by(
     alloc: Global,
     roster: &Roster,
@@ -69,7 +69,7 @@ fn shown_by(
     let (Some(at), Ok(written)) = (line.at, &line.written) else {
         return Ok(None);
     };
-    if some_speaks(written.entries.as_slice()) {
+    if line_speaks(written) {
         return Ok(None);
     }
     let placed = match placed_by(alloc, false, roster, written) {

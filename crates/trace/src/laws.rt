@@ -67,6 +67,16 @@ pub fn deleting_shown()
     ensures { laws.DeletingShown }
 {}
 
+/// A tick shows that the node doesn't judge it exactly where the text is of version 3 and the line says so.
+pub fn judged_shown()
+    ensures { laws.JudgedShown }
+{}
+
+/// The node spares a pod exactly where the text is of version 3 and the pod's line says so.
+pub fn spared_said()
+    ensures { laws.SparedSaid }
+{}
+
 /// A tick shows that the node has ended a pod, and why, exactly where the text is of version 3 and the pod's entry says
 /// so.
 pub fn failed_shown()

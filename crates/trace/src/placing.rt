@@ -6,7 +6,7 @@ ghost use Rattle.json_fields.specs.state.Reading.{GivesExactly, GivesUnless, che
 ghost use Rattle.trace.specs.state.Memory.{is_memory};
 ghost use Rattle.trace.specs.rule.Placing.{number_in, container_number, placed_listing, placed_result, pod_numbered};
 ghost use Rattle.trace.specs.rule.Placing.{entry_of_pod, has_twice, are_of_one_container, is_of_probe};
-ghost use Rattle.trace.specs.state.Placing.{entries_of_pods, is_word, is_reason_said, speaks, some_speaks};
+ghost use Rattle.trace.specs.state.Placing.{entries_of_pods, is_word, is_reason_said, speaks, some_speaks, line_speaks};
 ghost use Rattle.trace.specs.rule.Placing.{are_of_one_probe, repeats, sampled_or, without_sample};
 ghost use Rattle.trace.specs.rule.Placing.{sampling_of, reason_given, words_of, said_in, placed_entry, placed_of};
 ghost use Rattle.std.specs.List.{list_any};
@@ -17,7 +17,9 @@ use manifest::{Outcome, PodSpec, ProbeKind};
 use observations::{EndReason, PodWords, Sampling, Usage};
 use roster::Roster;
 use std::alloc::Global;
-use tick_lines::{ListedInstance, Listing, ProbeResult, ReasonMember, TickEntry, TruthMember};
+use tick_lines::{
+    ListedInstance, Listing, ProbeResult, ReasonMember, TickEntry, TickLine, TruthMember,
+};
 
 /// A listing of the container with the number.
 #[derive(Clone, Copy)]
@@ -156,10 +158,18 @@ fn speaks(entry: &TickEntry) -> bool
 }
 
 /// Whether one of the entries has such a member.
-pub(crate) fn some_speaks(entries: &[TickEntry]) -> bool
+fn some_speaks(entries: &[TickEntry]) -> bool
     ensures { result ≡ some_speaks entries.now }
 {
     entries.iter().any(|e| speaks(e))
+}
+
+/// Whether the line says something that depends on the version: that the node doesn't judge the tick, or a word on a
+/// pod.
+pub(crate) fn line_speaks(written: &TickLine) -> bool
+    ensures { result ≡ line_speaks written.now }
+{
+    is_word(written.unjudged) || some_speaks(written.entries.as_slice())
 }
 
 /// A sample that came, or this where none did.

@@ -1,22 +1,28 @@
 //! Pod lines.
 
-ghost use Rattle.std.specs.Prelude.{◌≡◌, option_map, None, IfErr, IfOk, IsErrOf, string_bytes};
+ghost use Rattle.std.specs.Prelude.{◌≡◌, ◌&&◌, option_map, None, IfErr, IfOk, IsErrOf, string_bytes};
 ghost use Rattle.serde_json.specs.View.{view};
 ghost use Rattle.json_fields.specs.rule.Reading.{refused_if};
 ghost use Rattle.json_fields.specs.state.Reading.{GivesExactly, GivesUnless};
 ghost use Rattle.roster.specs.rule.Roll.{key_of_pod, number_of};
 ghost use Rattle.trace.specs.state.Memory.{is_memory};
-ghost use Rattle.trace.specs.declared.fault.FaultKind.TheVariants.{DuplicatePod};
-ghost use Rattle.trace.specs.rule.Pod.{has_key, new_key, room_for_pod, manifest_of, pod_from};
+ghost use Rattle.manifest_fields.specs.declared.fault.Field.TheVariants as fields;
+ghost use Rattle.manifest_fields.specs.declared.fault.ManifestFault.TheVariants.{WrongKind};
+ghost use Rattle.trace.specs.declared.fault.FaultKind.TheVariants.{DuplicatePod, Manifest};
+ghost use Rattle.trace.specs.rule.Written.{is_of_other_kind};
+ghost use Rattle.trace.specs.rule.Pod.{has_key, new_key, room_for_pod, manifest_of, pod_from, pod_of_line};
 
 use crate::fault::{FaultKind, refused_if};
+use crate::tick::{is_of_other_kind, says_so};
 use crate::trace_so_far::TraceSoFar;
+use json_fields::field;
 use manifest::PodSpec;
 use manifest_reader::{Field, ManifestFault, read_pod};
 use observations::MOST_PODS;
 use roster::Roster;
 use serde_json::Value;
 use std::alloc::{AllocError, Global};
+use tick_lines::{TruthMember, truth_of};
 
 /// The manifest of a pod line.
 fn manifest_of(found: Option<&Value>) -> Result<&Value, FaultKind>
@@ -25,14 +31,49 @@ fn manifest_of(found: Option<&Value>) -> Result<&Value, FaultKind>
     found.ok_or(FaultKind::Manifest(ManifestFault::Missing(Field::Pod)))
 }
 
-/// The pod that a pod line's manifest describes. Out of memory only where the manifest has no fault.
+/// The pod that a pod line's manifest describes, which says nothing of whether the node spares it. Out of memory only
+/// where the manifest has no fault.
 #[tactic(auto, using(crate::proofs::Manifests::manifest_fault))]
-pub(crate) fn pod_from(alloc: Global, found: Option<&Value>) -> Result<PodSpec, FaultKind>
+fn pod_from(alloc: Global, found: Option<&Value>) -> Result<PodSpec, FaultKind>
     ensures gives { GivesUnless is_memory (λ p. p) result (pod_from (option_map (λ v. view v.now) found.entry)) }
     ensures faults { IfErr (pod_from (option_map (λ v. view v.now) found.entry)) (IsErrOf result) }
 {
     let manifest = manifest_of(found)?;
     Ok(read_pod(alloc, manifest)?)
+}
+
+/// Nothing, unless a member that says whether the node spares the pod is of another kind than a truth value, where the
+/// version heeds it. It takes no memory.
+fn known_spared(heeds: bool, spared: TruthMember) -> Result<(), FaultKind>
+    ensures { GivesExactly (λ t. t) result
+        (refused_if (heeds && is_of_other_kind spared) (Manifest (WrongKind fields.Spared))) }
+{
+    refused_if(
+        heeds && is_of_other_kind(spared),
+        FaultKind::Manifest(ManifestFault::WrongKind(Field::Spared)),
+    )
+}
+
+/// The pod that a pod line says. Out of memory only where the line has no other fault.
+pub(crate) fn pod_of_line(alloc: Global, heeds: bool, line: &Value) -> Result<PodSpec, FaultKind>
+    ensures gives { GivesUnless is_memory (λ p. p) result (pod_of_line heeds (view line.now)) }
+    ensures faults { IfErr (pod_of_line heeds (view line.now)) (IsErrOf result) }
+{
+    let spared = truth_of(field(line, "spared"));
+    match pod_from(alloc, field(line, "pod")) {
+        Ok(pod) => {
+            known_spared(heeds, spared)?;
+            Ok(PodSpec {
+                spared: heeds && says_so(spared),
+                ..pod
+            })
+        }
+        Err(FaultKind::OutOfMemory) => {
+            known_spared(heeds, spared)?;
+            Err(FaultKind::OutOfMemory)
+        }
+        Err(kind) => Err(kind),
+    }
 }
 
 /// A pod's key.

@@ -19,9 +19,9 @@ ghost use Rattle.trace.specs.rule.Tick.{tick_at};
 ghost use Rattle.trace.specs.state.Tick.{MayStandBehind};
 
 use crate::fault::{FaultKind, refused_if};
-use crate::pod::{new_key, pod_from, room_for_pod};
+use crate::pod::{new_key, pod_of_line, room_for_pod};
 use crate::tick::{is_backwards, moment_in, room, take_tick, with_tick};
-use crate::trace_so_far::{LineKind, TraceSoFar, Turn};
+use crate::trace_so_far::{LineKind, TraceSoFar, Turn, heeds_unsampled};
 use json_fields::{field, text_at};
 use json_lines::{TextLine, TickRecord, tick_record};
 use manifest::PodSpec;
@@ -181,7 +181,7 @@ fn pod_in(
 {
     refused_if(is_late(version, so_far), FaultKind::Order)?;
     room_for_pod(so_far)?;
-    pod_from(alloc, field(line, "pod"))
+    pod_of_line(alloc, heeds_unsampled(so_far), line)
 }
 
 /// Takes a pod line.

@@ -119,6 +119,7 @@ fn shown_by_value(
         pods: Sequence::from_vec(pods),
         signals: samples.signals,
         after_reclaim: samples.after_reclaim,
+        judged: true,
     }))
 }
 

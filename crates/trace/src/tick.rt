@@ -8,18 +8,19 @@ ghost use Rattle.json_fields.specs.state.Reading.{GivesExactly, GivesUnless};
 ghost use Rattle.trace.specs.state.Memory.{is_memory};
 ghost use Rattle.trace.specs.rule.TraceSoFar.{with_tick};
 ghost use Rattle.trace.specs.state.ByPod.{AreFirst};
-ghost use Rattle.trace.specs.rule.Placing.{placed_of, is_doubled, repeats};
+ghost use Rattle.trace.specs.rule.Placing.{placed_of, is_doubled, repeats, says_so};
 ghost use Rattle.trace.specs.declared.fault.FaultKind.TheVariants.{Backwards, Doubled, ExitCode};
 ghost use Rattle.trace.specs.rule.Observed.{seen_in, outcome_in, results_in, listings_of, results_of, said_from};
 ghost use Rattle.trace.specs.rule.Observed.{seen_listed, containers_from, pod_observed, pods_from, observed};
-ghost use Rattle.trace.specs.rule.Observed.{lacks_code, some_code_missing};
+ghost use Rattle.trace.specs.rule.Observed.{is_judged, lacks_code, some_code_missing};
 ghost use Rattle.following.specs.rule.Backwards.{is_backwards};
 ghost use Rattle.following.specs.state.Followed.{EndBefore, ComesNext};
 ghost use Rattle.trace.specs.state.Pod.{container_counts};
 ghost use Rattle.trace.specs.state.Taken.{placed_at, tick_of, tick_after};
 ghost use Rattle.trace.specs.rule.Tick.{moment_from, room_for_tick, observed_in};
 ghost use Rattle.trace.specs.state.Tick.{MayStandBehind};
-ghost use Rattle.trace.specs.rule.Written.{is_of_other_kind, is_no_reason, has_other_kind, heeded, written_in};
+ghost use Rattle.trace.specs.rule.Written.{is_of_other_kind, is_no_reason, has_other_kind, line_has_other_kind};
+ghost use Rattle.trace.specs.rule.Written.{heeded, written_in};
 
 use crate::by_pod::{EntriesByPod, entries_by_pod, entry_for};
 use crate::fault::{FaultKind, refused_if};
@@ -216,8 +217,22 @@ fn pods_observed(
     Ok(all)
 }
 
+pub(crate) fn says_so(member: TruthMember) -> bool
+    ensures { result ≡ says_so member }
+{
+    matches!(member, TruthMember::Yes)
+}
+
+/// Whether the node judges the tick: unless the line says that it doesn't and the version heeds that.
+fn is_judged(heeds: bool, written: &TickLine) -> bool
+    ensures { result ≡ is_judged heeds written.now }
+{
+    !(heeds && says_so(written.unjudged))
+}
+
 pub(crate) fn observed(
     alloc: Global,
+    heeds: bool,
     at: u64,
     written: &TickLine,
     placed: &[PlacedEntry],
@@ -225,7 +240,7 @@ pub(crate) fn observed(
     roster: &Roster,
 ) -> Result<TickObs, AllocError>
     requires { AreFirst placed.now (length roster.now.pods) first.now }
-    ensures { IfOk result (λ t. t ≡ observed at written.now placed.now roster.now) }
+    ensures { IfOk result (λ t. t ≡ observed heeds at written.now placed.now roster.now) }
 {
     let pods = pods_observed(alloc, at, placed, first, roster)?;
     Ok(TickObs {
@@ -233,6 +248,7 @@ pub(crate) fn observed(
         pods: Sequence::from_vec(pods),
         signals: written.signals,
         after_reclaim: written.after_reclaim,
+        judged: is_judged(heeds, written),
     })
 }
 
@@ -256,7 +272,7 @@ pub(crate) fn some_code_missing(entries: &[PlacedEntry]) -> bool
         .any(|e| entry_lacks_code(e.listings.as_slice()))
 }
 
-fn is_of_other_kind(member: TruthMember) -> bool
+pub(crate) fn is_of_other_kind(member: TruthMember) -> bool
     ensures { result ≡ is_of_other_kind member }
 {
     matches!(member, TruthMember::OfOtherKind)
@@ -286,14 +302,18 @@ fn has_other_kind(entries: &[TickEntry]) -> bool
     entries.iter().any(|e| is_of_no_kind(e))
 }
 
+/// Whether one of these, or the line's member `judged`, is of another kind.
+fn line_has_other_kind(written: &TickLine) -> bool
+    ensures { result ≡ line_has_other_kind written.now }
+{
+    is_of_other_kind(written.unjudged) || has_other_kind(written.entries.as_slice())
+}
+
 /// Refuses these members where the version heeds them.
 fn heeded(heeds: bool, written: &TickLine) -> Result<&TickLine, FaultKind>
     ensures { GivesExactly (λ t. t.now) result (heeded heeds written.now) }
 {
-    refused_if(
-        heeds && has_other_kind(written.entries.as_slice()),
-        FaultKind::Usage,
-    )?;
+    refused_if(heeds && line_has_other_kind(written), FaultKind::Usage)?;
     Ok(written)
 }
 
@@ -437,7 +457,15 @@ fn observed_in(
     ensures follows { IfOk result (MayStandBehind so_far.now) }
 {
     let by_pod = by_pod(alloc, so_far, placed)?;
-    let tick = observed(alloc, at, written, placed, &by_pod.first, &so_far.roster)?;
+    let tick = observed(
+        alloc,
+        heeds_unsampled(so_far),
+        at,
+        written,
+        placed,
+        &by_pod.first,
+        &so_far.roster,
+    )?;
     forwards(so_far, &tick)?;
     coded(placed)?;
     Ok(tick)

@@ -27,8 +27,6 @@ RECLAIMS = "evictionMinimumReclaim"
 # what the formats don't read: the ticks say what the kubelet did, so where they say nothing it evicted none; but for a
 # node of which nothing is sampled, as by its runtime alone
 TELLS = {"recordsKubelet": True}
-# whether the program heeds which ticks are judged: until it does, a pause stands for what the rounds say
-HEEDS_ROUNDS = False
 PERCENT_NUMBER = re.compile(r"[0-9]+[.]?[0-9]*|[.][0-9]+")
 GO_DURATION = re.compile(r"[+]?(0|(([0-9]+[.]?[0-9]*|[.][0-9]+)(h|ms|m|s|us|µs|μs|ns))+)")
 GO_UNITS = {"h": Fraction(3600), "m": Fraction(60), "s": Fraction(1), "ms": Fraction(1, 10 ** 3),
@@ -166,7 +164,7 @@ def node_line_of(text: Answer, name: str, summary: Summary, node_format: Format)
 def pause_of(node_format: Format, summary: Summary) -> dict[str, bool | int | None]:
     """How long no pod is evicted after an eviction: a kubelet waits for the evicted one. Where the ticks say in which
     it decides, none is needed."""
-    seconds = None if HEEDS_ROUNDS and are_told(summary.signals) else node_format.eviction_pause
+    seconds = None if are_told(summary.signals) else node_format.eviction_pause
     return {"evictionPauseSeconds": seconds, "evictionPauseUntilGone": None if seconds is None else True}
 
 

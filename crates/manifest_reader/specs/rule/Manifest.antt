@@ -1,7 +1,7 @@
 -- What a manifest says of a pod, or its first fault: one line for each field, in the order in which
 -- they are read (Kubernetes API, `Pod`; "Pod Lifecycle", "Container restart policy"; "Pod Priority
 -- and Preemption").
-use Rattle.std.specs.Prelude.{ℕ, ℤ, pos, ⊤, ◌+◌, List, ◌++◌, length, nat_lt, Option, Some}
+use Rattle.std.specs.Prelude.{ℕ, ℤ, pos, ⊤, ◌+◌, List, ◌++◌, length, nat_lt, Option, Some, false}
 use Rattle.std.specs.Prelude.{None, option_and_then, if◌then◌else◌, Result, Ok, Err, bytes_eq, codes}
 use Rattle.quantity.specs.rule.Duration.{end_of_time}
 use Rattle.serde_json.specs.Data.{Data}
@@ -156,4 +156,5 @@ pod_at d = do
     priority = spec.settings.priority;
     grace_period_seconds = spec.settings.grace_period_seconds;
     containers = spec.containers;
+    spared = false;
   })

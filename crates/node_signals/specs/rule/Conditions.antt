@@ -1,5 +1,6 @@
 -- When a node's conditions are true, and since when (Kubernetes, "Node-pressure Eviction", "Node
--- conditions" and "Node condition oscillation").
+-- conditions" and "Node condition oscillation"). A condition turns in no tick but one in which the node judges its
+-- signals.
 use Rattle.std.specs.Prelude.{◌≡◌, ◌↔◌, ℕ, suc, List, [], ◌∷◌, length, take, slice_get, codes, Some, IsSomeAnd}
 use Rattle.histories.specs.rule.Histories.{moment_at}
 use Rattle.signals.specs.declared.signal.Signal.{Signal}
@@ -8,6 +9,7 @@ use Rattle.signals.specs.declared.signal.Signal.TheVariants.{NodefsInodesFree, I
 use Rattle.pressure.specs.rule.Pressures.{Observation, IsMetAt, IsUnderPressure, IsSince}
 use Rattle.node_config.specs.rule.EvictionConfig.{EvictionConfig}
 use Rattle.observations.specs.declared.tick.TickObs.{TickObs}
+use Rattle.observations.specs.rule.Observations.{judged_of}
 use Rattle.node_signals.specs.declared.key.ThresholdKey.{ThresholdKey}
 use Rattle.node_signals.specs.declared.condition.NodeCondition.{NodeCondition}
 use Rattle.node_signals.specs.declared.condition.NodeCondition.TheVariants.{MemoryPressure, DiskPressure, PidPressure}
@@ -33,18 +35,19 @@ condition_of PidAvailable = PidPressure
 abbrev pub conditions : List NodeCondition
 conditions = MemoryPressure ∷ DiskPressure ∷ PidPressure ∷ []
 
--- the threshold is one of the condition's, and active after these ticks
+-- the threshold is one of the condition's, and active after these ticks, which the node has judged
 pub record Meets (eviction : EvictionConfig) (condition : NodeCondition) (ticks : List TickObs)
     (key : ThresholdKey) : Type 0 where
   pub belongs : condition_of key.signal ≡ condition
   pub active : IsActiveOnNode eviction ticks key
 
--- the condition is met after these ticks: one of its thresholds is active
+-- the condition is met after these ticks, which the node has judged: one of its thresholds is active
 abbrev pub IsMet : EvictionConfig → NodeCondition → List TickObs → Type 0
 IsMet eviction condition ticks =
     (place : ℕ) × IsSomeAnd (slice_get serving_order place) (Meets eviction condition ticks)
 
--- one observation for each tick, at its moment: whether the condition is met after it
+-- one observation for each of these ticks, which the node has judged, at its moment: whether the condition is met
+-- after it
 pub record AreObservations (eviction : EvictionConfig) (condition : NodeCondition) (ticks : List TickObs)
     (h : List Observation) : Type 0 where
   pub as_many : length h ≡ length ticks
@@ -55,9 +58,9 @@ pub record AreObservations (eviction : EvictionConfig) (condition : NodeConditio
 -- the condition is true after these ticks, with this transition period in seconds
 abbrev pub IsTrueAfter : EvictionConfig → ℕ → NodeCondition → List TickObs → Type 0
 IsTrueAfter eviction period condition ticks =
-    (h : List Observation) × AreObservations eviction condition ticks h × IsUnderPressure period h
+    (h : List Observation) × AreObservations eviction condition (judged_of ticks) h × IsUnderPressure period h
 
 -- the condition has been true, or has not been, since this moment
 abbrev pub IsSinceMoment : EvictionConfig → ℕ → NodeCondition → List TickObs → ℕ → Type 0
 IsSinceMoment eviction period condition ticks since =
-    (h : List Observation) × AreObservations eviction condition ticks h × IsSince period h since
+    (h : List Observation) × AreObservations eviction condition (judged_of ticks) h × IsSince period h since

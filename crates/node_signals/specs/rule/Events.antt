@@ -4,6 +4,7 @@ use Rattle.std.specs.Prelude.{◌≡◌, ◌↔◌, List, [], ◌∷◌, ◌++�
 use Rattle.histories.specs.rule.TheOne.{IsTheOne}
 use Rattle.node_config.specs.rule.EvictionConfig.{EvictionConfig}
 use Rattle.observations.specs.declared.tick.TickObs.{TickObs}
+use Rattle.observations.specs.rule.Observations.{judged_of}
 use Rattle.node_signals.specs.declared.key.ThresholdKey.{ThresholdKey}
 use Rattle.node_signals.specs.declared.condition.NodeCondition.{NodeCondition}
 use Rattle.node_signals.specs.declared.event.NodeEvent.{NodeEvent}
@@ -16,10 +17,11 @@ use Rattle.node_signals.specs.rule.Conditions.{conditions, IsTrueAfter}
 abbrev pub Changes : (Bool → NodeEvent) → Type 0 → Type 0 → NodeEvent → Type 0
 Changes event_of N O event = (value : Bool) × (event ≡ event_of value) × (IsTrue value ↔ N) × ((IsTrue value ↔ O) → ⊥)
 
--- the threshold is active after the tick and was not before, or the other way round
+-- the threshold is active after the tick and was not before, or the other way round, by what the node has judged
 abbrev pub ChangesThreshold : EvictionConfig → List TickObs → TickObs → ThresholdKey → NodeEvent → Type 0
 ChangesThreshold eviction before tick key =
-    Changes (Threshold key) (IsActiveOnNode eviction (before ++ tick ∷ []) key) (IsActiveOnNode eviction before key)
+    Changes (Threshold key)
+    (IsActiveOnNode eviction (judged_of (before ++ tick ∷ [])) key) (IsActiveOnNode eviction (judged_of before) key)
 
 -- the condition is true after the tick and was not before, or the other way round
 abbrev pub ChangesCondition : EvictionConfig → ℕ → List TickObs → TickObs → NodeCondition → NodeEvent → Type 0
@@ -27,10 +29,11 @@ ChangesCondition eviction period before tick condition =
     Changes (Pressure condition)
     (IsTrueAfter eviction period condition (before ++ tick ∷ [])) (IsTrueAfter eviction period condition before)
 
--- the threshold is due, and the node has freed enough by itself
+-- the node judges the tick, the threshold is due by what it has judged, and the node has freed enough by itself
 abbrev pub Reclaims : EvictionConfig → List TickObs → TickObs → ThresholdKey → NodeEvent → Type 0
 Reclaims eviction before tick key event =
-    (event ≡ Reclaim key) × IsDueOnNode eviction (before ++ tick ∷ []) key × IsReclaimed eviction tick key
+    (event ≡ Reclaim key) × IsTrue tick.judged
+    × IsDueOnNode eviction (judged_of (before ++ tick ∷ [])) key × IsReclaimed eviction tick key
 
 -- the list of an event, if there is one
 abbrev pub as_list : Option NodeEvent → List NodeEvent

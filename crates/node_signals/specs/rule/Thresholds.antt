@@ -1,8 +1,9 @@
 -- Which of a node's thresholds are active, due and served (Kubernetes, "Node-pressure Eviction",
 -- "Eviction thresholds" and "Reclaiming node level resources"; that one threshold alone is served in a
--- tick is this profile's rule). The ticks are all that the node has recorded, oldest first.
+-- tick is this profile's rule). Only the ticks in which the node judges its signals count; the samples are those of
+-- such ticks alone, oldest first.
 use Rattle.std.specs.Prelude.{◌≡◌, ℕ, ◌+◌, ◌≤◌, List, [], ◌∷◌, ◌++◌, map, slice_get, true, Option, option_and_then}
-use Rattle.std.specs.Prelude.{IsSomeAnd}
+use Rattle.std.specs.Prelude.{IsTrue, IsSomeAnd}
 use Rattle.histories.specs.rule.Histories.{IsFirstPlace}
 use Rattle.signals.specs.declared.signal.Signal.{Signal}
 use Rattle.signals.specs.declared.threshold.Threshold.{Threshold}
@@ -13,20 +14,21 @@ use Rattle.thresholds.specs.rule.Samples.{Sample, sample}
 use Rattle.thresholds.specs.rule.Thresholds.{IsThresholdActive, IsThresholdDue}
 use Rattle.node_config.specs.rule.EvictionConfig.{EvictionConfig}
 use Rattle.observations.specs.declared.tick.TickObs.{TickObs}
+use Rattle.observations.specs.rule.Observations.{judged_of}
 use Rattle.node_signals.specs.declared.key.ThresholdKey.{ThresholdKey}
 use Rattle.node_signals.specs.rule.Keys.{serving_order, threshold_at}
 
--- the samples of a signal, one for each tick
+-- the samples of a signal, one for each of these ticks
 abbrev pub samples : Signal → List TickObs → List Sample
 samples signal ticks = map (λ (tick : TickObs). sample tick.at (of tick.signals signal)) ticks
 
--- the node has the threshold, and it is active after these ticks
+-- the node has the threshold, and it is active after these ticks, which it has judged
 abbrev pub IsActiveOnNode : EvictionConfig → List TickObs → ThresholdKey → Type 0
 IsActiveOnNode eviction ticks key =
     IsSomeAnd (threshold_at eviction key)
     (λ threshold. IsThresholdActive threshold (of eviction.capacity key.signal) (samples key.signal ticks))
 
--- the node has the threshold, and it is due after these ticks
+-- the node has the threshold, and it is due after these ticks, which it has judged
 abbrev pub IsDueOnNode : EvictionConfig → List TickObs → ThresholdKey → Type 0
 IsDueOnNode eviction ticks key =
     IsSomeAnd (threshold_at eviction key)
@@ -42,10 +44,11 @@ pub record IsReclaimed (eviction : EvictionConfig) (tick : TickObs) (key : Thres
   pub freed : IsSomeAnd (threshold_at eviction key)
       (λ threshold. IsSomeAnd (of tick.after_reclaim key.signal) (IsEnough (of eviction.capacity key.signal) threshold))
 
--- the threshold asks for an eviction in a tick that comes after these: it is due, and the node has
--- not freed enough by itself
+-- the threshold asks for an eviction in a tick that comes after these: the node judges the tick, the threshold is due
+-- by what the node has judged, and the node has not freed enough by itself
 pub record Asks (eviction : EvictionConfig) (before : List TickObs) (tick : TickObs) (key : ThresholdKey) : Type 0 where
-  pub due : IsDueOnNode eviction (before ++ tick ∷ []) key
+  pub judged : IsTrue tick.judged
+  pub due : IsDueOnNode eviction (judged_of (before ++ tick ∷ [])) key
   pub not_reclaimed : IsReclaimed eviction tick key → ⊥
 
 -- the threshold at a place of the serving order asks for an eviction

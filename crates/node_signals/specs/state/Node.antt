@@ -10,6 +10,7 @@ use Rattle.pressure.specs.rule.Pressures.{Observation}
 use Rattle.pressure.specs.state.State.{IsStateOf as IsPressureState}
 use Rattle.node_config.specs.rule.EvictionConfig.{EvictionConfig}
 use Rattle.observations.specs.declared.tick.TickObs.{TickObs}
+use Rattle.observations.specs.rule.Observations.{judged_of}
 use Rattle.node_signals.specs.declared.key.ThresholdKey.{ThresholdKey}
 use Rattle.node_signals.specs.declared.condition.NodeCondition.{NodeCondition}
 use Rattle.node_signals.specs.declared.condition.NodeCondition.TheVariants.{MemoryPressure, DiskPressure, PidPressure}
@@ -51,5 +52,5 @@ pub record ArePressures (eviction : EvictionConfig) (period : ℕ) (ticks : List
 
 -- the node's state after these ticks, with these thresholds and this transition period in seconds
 pub record IsStateOf (eviction : EvictionConfig) (period : ℕ) (ticks : List TickObs) (node : NodeSignals) : Type 0 where
-  pub watches : AreWatches eviction ticks node.watches
-  pub pressures : ArePressures eviction period ticks node.pressures
+  pub watches : AreWatches eviction (judged_of ticks) node.watches
+  pub pressures : ArePressures eviction period (judged_of ticks) node.pressures

@@ -1,7 +1,7 @@
 -- What the ticks show of one pod and of one container.
 use Rattle.std.specs.Prelude.{ℕ, List, map, Option, option_and_then, slice_get}
 use Rattle.std.specs.Option.{option_flatten}
-use Rattle.std.specs.List.{filter_map}
+use Rattle.std.specs.List.{filter, filter_map}
 use Rattle.histories.specs.rule.Histories.{recorded}
 use Rattle.state_diff.specs.declared.seen.Seen.{Seen}
 use Rattle.state_diff.specs.rule.Instances.{Tick}
@@ -16,6 +16,10 @@ shown_of tick pod = option_flatten (slice_get tick.pods pod)
 -- what a tick shows of the pods that are present, by their numbers
 abbrev pub all_shown : TickObs → List PodObs
 all_shown tick = filter_map (λ (shown : Option PodObs). shown) tick.pods
+
+-- the ticks in which the node judges its signals (this project's extended format; without a word of it all of them)
+abbrev pub judged_of : List TickObs → List TickObs
+judged_of ticks = filter (λ (tick : TickObs). tick.judged) ticks
 
 -- what an observation of a pod lists of a container, by number
 abbrev pub listed_in : PodObs → ℕ → Option Seen

@@ -1,7 +1,7 @@
 -- What a pod's status shows. (Kubernetes, "Pod Lifecycle"; "Pod Quality of Service Classes"; "Node-pressure
 -- Eviction".)
 use Rattle.std.specs.Prelude.{◌≡◌, ℕ, ◌||◌, Bool, List, Option, Some, None, option_map, option_and_then, slice_get}
-use Rattle.std.specs.Prelude.{if◌then◌else◌, codes}
+use Rattle.std.specs.Prelude.{if◌then◌else◌, false, codes}
 use Rattle.std.specs.Str.{bytes_eq}
 use Rattle.manifest.specs.declared.pod.PodSpec.{PodSpec}
 use Rattle.manifest.specs.declared.resources.Resource.TheVariants.{Cpu, Memory, EphemeralStorage}
@@ -58,10 +58,11 @@ disrupted_at (Some order) failure = Some order.at
 disrupted_at None None = None
 disrupted_at None (Some failure) = if disrupts failure.reason then Some failure.at else None
 
--- a pod of this status may be evicted by a tick of the moment: it has not ended, or the node has ended it with that
--- tick, as the tick says
-abbrev pub MayBeEvicted : ℕ → PodStatus → Type 0
-MayBeEvicted at status = IsTerminal status.phase → option_map (λ (f : PodFailure). f.at) status.failure ≡ Some at
+-- a pod of this status may be evicted by a tick of the moment: the node doesn't spare it, and it has not ended, or the
+-- node has ended it with that tick, as the tick says
+pub record MayBeEvicted (at : ℕ) (status : PodStatus) : Type 0 where
+  pub not_spared : status.spared ≡ false
+  pub lives : IsTerminal status.phase → option_map (λ (f : PodFailure). f.at) status.failure ≡ Some at
 
 -- what a status shows of a pod with a number, after these ticks of it
 pub record IsStatusAfter (number : ℕ) (pod : PodSpec) (eviction : Option EvictionRecord) (h : List PodTick)
@@ -74,5 +75,6 @@ pub record IsStatusAfter (number : ℕ) (pod : PodSpec) (eviction : Option Evict
   pub requests : status.requests ≡ requests_of pod
   pub usage : IsUsageOf pod (place_of eviction) h status.usage
   pub priority : status.priority ≡ pod.priority
+  pub spared : status.spared ≡ pod.spared
   pub order : status.order ≡ option_map (λ (e : EvictionRecord). e.order) eviction
   pub failure : IsFailure pod eviction h status.failure

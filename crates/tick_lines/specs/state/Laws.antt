@@ -100,6 +100,17 @@ abbrev pub DeletingSaid : Type 0
 DeletingSaid = (d : Data) (entry : TickEntry) → entry_of d ≡ Ok entry
     → SaysTruth (field_at (codes "deleting") d) entry.deleting
 
+-- such a member says its word by false alone, and nothing by true and by no value
+pub record SaysDenial (found : Option Data) (said : TruthMember) : Type 0 where
+  pub yes : said ≡ Yes ↔ found ≡ Some (boolean false)
+  pub no : said ≡ No ↔ ((found ≡ None) ⊎ (found ≡ Some (boolean true)))
+
+-- a line says that the node does not judge the tick exactly where its member is false; each value but a truth value is
+-- left to be refused
+abbrev pub JudgedSaid : Type 0
+JudgedSaid = (d : Data) (line : TickLine) → tick_line_of d ≡ Ok line
+    → SaysDenial (field_at (codes "judged") d) line.unjudged
+
 -- the member says this reason exactly where it is its text and that is one, and nothing by null and by no value
 pub record SaysReason (found : Option Data) (said : ReasonMember) : Type 0 where
   pub reason : (reason : List ℕ) → (said ≡ members.Reason reason
@@ -137,7 +148,7 @@ ReadsOnly names read = (d e : Data) → AreAlike names d e → read d ≡ read e
 
 -- the fields that are read
 abbrev pub line_fields : List (List ℕ)
-line_fields = codes "pods" ∷ codes "signals" ∷ codes "afterReclaim" ∷ []
+line_fields = codes "pods" ∷ codes "signals" ∷ codes "afterReclaim" ∷ codes "judged" ∷ []
 
 abbrev pub entry_fields : List (List ℕ)
 entry_fields =

@@ -31,7 +31,7 @@ use Rattle.tick_lines.specs.rule.Samples.{samples_of}
 use Rattle.tick_lines.specs.declared.reason.ReasonMember.{ReasonMember}
 use Rattle.tick_lines.specs.declared.reason.ReasonMember.TheVariants.{Missing}
 use Rattle.tick_lines.specs.rule.Reasons.{reason_member_of}
-use Rattle.tick_lines.specs.rule.Truths.{truth_of}
+use Rattle.tick_lines.specs.rule.Truths.{truth_of, denial_of}
 use Rattle.tick_lines.specs.rule.Usages.{usage_of}
 
 -- the data of the items that are left
@@ -56,10 +56,11 @@ pub record IsEntry (d : Data) (e : EntryText) : Type 0 where
   pub deleting : truth_of (field_at (codes "deleting") d) ≡ No
   pub failed : reason_member_of (field_at (codes "failed") d) ≡ Missing
 
--- what is read of a line behind its entries
+-- what is read of a line behind its entries; it doesn't say that the node does not judge the tick
 pub record HasSamples (d : Data) (l : LineSamples) : Type 0 where
   pub signals : samples_of Node (field_at (codes "signals") d) ≡ Ok l.signals
   pub after_reclaim : samples_of FileSystems (field_at (codes "afterReclaim") d) ≡ Ok l.after_reclaim
+  pub unjudged : denial_of (field_at (codes "judged") d) ≡ No
 
 -- a text that has to be there
 abbrev pub text_in : Option Data → Result (List ℕ) TickLineFault

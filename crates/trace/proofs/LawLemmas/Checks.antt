@@ -24,7 +24,7 @@ use Rattle.trace.specs.declared.placing.PlacedEntry.{PlacedEntry}
 use Rattle.json_lines.specs.rule.Lines.{longest_line}
 use Rattle.trace.specs.rule.Written.{node_in, tick_line_in}
 use Rattle.roster.specs.rule.Roll.{key_of_pod}
-use Rattle.trace.specs.rule.Pod.{has_key, pod_from, named_in}
+use Rattle.trace.specs.rule.Pod.{has_key, pod_of_line, named_in}
 use Rattle.trace.proofs.Whole.{with_kind, with_json, with_tick_seen, with_places, with_written, with_moment}
 use Rattle.trace.proofs.Whole.{with_room, with_code, with_forwards, with_apart, pod_new, pod_said, pod_read}
 use Rattle.trace.proofs.Whole.{pod_early, gone_named, gone_whole, tick_whole, pod_whole, line_whole}
@@ -105,14 +105,14 @@ code_fails : (past : TraceSoFar) (line : List ℕ) (d : Data) (at : ℕ) (writte
 code_fails past line d at written placed kind is e =
     elim (tested (some_code_missing placed) ExitCode (with_code past at written placed) kind e) [
       | inl here ↦ subst (λ (k : FaultKind). Fails past line k) here.1 (no_code d at written placed is here.0)
-      | inr later ↦ absurd (no_fault (observed at written placed past.roll) kind later.1)
+      | inr later ↦ absurd (no_fault (observed (heeds past) at written placed past.roll) kind later.1)
     ]
 
 order_fails : (past : TraceSoFar) (line : List ℕ) (d : Data) (at : ℕ) (written : TickLine) (placed : List PlacedEntry)
     (kind : FaultKind) → IsApart past line d at written placed → with_apart past at written placed tt ≡ Err kind
     → Fails past line kind
 order_fails past line d at written placed kind is e =
-    elim (tested (is_backwards past.ticks (observed at written placed past.roll)) Backwards
+    elim (tested (is_backwards past.ticks (observed (heeds past) at written placed past.roll)) Backwards
     (with_forwards past at written placed) kind e) [
       | inl here ↦ subst (λ (k : FaultKind). Fails past line k) here.1 (backwards d at written placed is here.0)
       | inr later ↦ code_fails past line d at written placed kind (record { is_apart = is; forwards = later.0 }) later.1
@@ -184,7 +184,7 @@ said_fails past line d pod kind is e =
 
 read_fails : (past : TraceSoFar) (line : List ℕ) (d : Data) (kind : FaultKind) → Stands past line kinds.Pod d
     → length past.roll.pods < most_pods → pod_read past d tt ≡ Err kind → Fails past line kind
-read_fails past line d kind is room e = elim (bind_err (pod_from (field_at (codes "pod") d)) (pod_said past) kind e) [
+read_fails past line d kind is room e = elim (bind_err (pod_of_line (heeds past) d) (pod_said past) kind e) [
   | inl here ↦ wrong_pod d kind is room here
   | inr later ↦ said_fails past line d later.0 kind (record { stands = is; room = room; pod_is = later.1 }) later.2
 ]
@@ -364,7 +364,7 @@ of_pod_room past line d is room =
 pub of_pod_said : (past : TraceSoFar) (line : List ℕ) (d : Data) (pod : PodSpec) → HasPod past line d pod
     → line_at past line ≡ pod_said past pod
 of_pod_said past line d pod is = of_pod_room past line d is.stands is.room
-    ∙ then_ok (pod_from (field_at (codes "pod") d)) (pod_said past) pod is.pod_is
+    ∙ then_ok (pod_of_line (heeds past) d) (pod_said past) pod is.pod_is
 
 pub of_gone : (past : TraceSoFar) (line : List ℕ) (d : Data) → Stands past line kinds.Gone d
     → line_at past line ≡ gone_named past (named_in past.roll (text_at (codes "pod") d))
@@ -418,7 +418,7 @@ of_forwards : (past : TraceSoFar) (line : List ℕ) (d : Data) (at : ℕ) (writt
     → with_forwards past at written placed tt ≡ Err kind → line_at past line ≡ Err kind
 of_forwards past line d at written placed kind is e =
     of_apart past line d at written placed kind is.is_apart
-    (passed (is_backwards past.ticks (observed at written placed past.roll)) Backwards
+    (passed (is_backwards past.ticks (observed (heeds past) at written placed past.roll)) Backwards
     (with_forwards past at written placed) is.forwards ∙ e)
 
 fails_line : (past : TraceSoFar) (line : List ℕ) (kind : FaultKind) → Fails past line kind
@@ -435,7 +435,7 @@ fails_line past line _ (many_pods d is many) =
     of_pod past line d is ∙ failed (nat_le most_pods (length past.roll.pods)) TooMany (pod_read past d)
     (le-leb most_pods (length past.roll.pods) many)
 fails_line past line _ (wrong_pod d kind is room e) = of_pod_room past line d is room
-    ∙ then_err (pod_from (field_at (codes "pod") d)) (pod_said past) kind e
+    ∙ then_err (pod_of_line (heeds past) d) (pod_said past) kind e
 fails_line past line _ (duplicate_pod d pod is known) = of_pod_said past line d pod is
     ∙ failed (has_key past.roll (key_of_pod pod)) DuplicatePod (pod_new past pod)
     (there_key past.roll (key_of_pod pod) known)
@@ -454,7 +454,7 @@ fails_line past line _ (doubled d at written placed is twice) =
     (failed (is_doubled placed) Doubled (with_apart past at written placed) twice)
 fails_line past line _ (backwards d at written placed is back) =
     of_apart past line d at written placed Backwards is
-    (failed (is_backwards past.ticks (observed at written placed past.roll)) Backwards
+    (failed (is_backwards past.ticks (observed (heeds past) at written placed past.roll)) Backwards
     (with_forwards past at written placed) back)
 fails_line past line _ (no_code d at written placed is missing) =
     of_forwards past line d at written placed ExitCode is

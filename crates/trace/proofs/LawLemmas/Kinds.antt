@@ -17,16 +17,18 @@ use Rattle.tick_lines.specs.declared.entry.TickEntry.{TickEntry}
 use Rattle.tick_lines.specs.declared.probing.ProbeResult.{ProbeResult}
 use Rattle.json_lines.specs.rule.Lines.{lines_of, json_in}
 use Rattle.manifest_fields.specs.declared.fault.ManifestFault.{ManifestFault}
-use Rattle.manifest_fields.specs.declared.fault.ManifestFault.TheVariants.{Missing}
+use Rattle.manifest_fields.specs.declared.fault.ManifestFault.TheVariants.{Missing, WrongKind}
 use Rattle.manifest_fields.specs.declared.fault.ManifestFault.TheVariants as faults
 use Rattle.manifest_fields.specs.declared.fault.Field.TheVariants as fields
 use Rattle.manifest.specs.rule.Containers.{names_of}
 use Rattle.lists.specs.rule.Names.{place_of}
 use Rattle.tick_lines.specs.declared.listing.Listing.{Listing}
 use Rattle.roster.specs.rule.Roll.{Roll, number_of}
-use Rattle.trace.specs.rule.Pod.{of_manifest, pod_from}
+use Rattle.trace.specs.rule.Pod.{of_manifest, pod_from, spared_by, pod_of_line}
 use Rattle.manifest_reader.specs.rule.Manifest.{pod_at}
-use Rattle.trace.specs.rule.Placing.{number_in, container_number, placed_listing, placed_result, entry_of_pod}
+use Rattle.tick_lines.specs.declared.truth.TruthMember.{TruthMember}
+use Rattle.tick_lines.specs.rule.Truths.{truth_of}
+use Rattle.trace.specs.rule.Placing.{says_so, number_in, container_number, placed_listing, placed_result, entry_of_pod}
 use Rattle.trace.specs.rule.Placing.{placed_entry, placed_of}
 use Rattle.trace.specs.rule.TraceSoFar.{TraceSoFar, heeds}
 use Rattle.trace.specs.rule.Tick.{is_later, moment_from}
@@ -47,9 +49,10 @@ use Rattle.tick_lines.specs.declared.line.TickLine.{TickLine}
 use Rattle.tick_lines.specs.rule.Line.{tick_line_of}
 use Rattle.tick_lines.proofs.OnlyUsage.{IsUsageFault, one_kind}
 use Rattle.trace.specs.rule.Faults.{kind_of_node_fault, kind_of_tick_fault}
-use Rattle.trace.specs.rule.Written.{is_foreign, of_node_line, of_tick_line, node_in, has_other_kind, heeded}
+use Rattle.trace.specs.rule.Written.{is_foreign, of_node_line, of_tick_line, node_in, is_of_other_kind}
+use Rattle.trace.specs.rule.Written.{line_has_other_kind, heeded}
 use Rattle.trace.specs.rule.Written.{tick_line_in}
-use Rattle.manifest_reader.proofs.NeverMemory.{IsFound, missing, pod_at_only}
+use Rattle.manifest_reader.proofs.NeverMemory.{IsFound, missing, wrong, pod_at_only}
 
 abbrev Is : FaultKind → FaultKind → Type 0
 Is given kind = kind ≡ given
@@ -88,6 +91,18 @@ pod_only : (found : Option Data) → Only IsManifest (pod_from found)
 pod_only None = only_err IsManifest (Manifest (Missing fields.Pod)) (Missing fields.Pod, refl, missing fields.Pod)
 pod_only (Some d) = manifest_only (pod_at d) (pod_at_only d)
 
+spared_only : (heeds : Bool) (spared : TruthMember) (pod : PodSpec) → Only IsManifest (spared_by heeds spared pod)
+spared_only heeds spared pod =
+    only_bind IsManifest _ _
+    (only_refused IsManifest (heeds && is_of_other_kind spared) (Manifest (WrongKind fields.Spared))
+    (WrongKind fields.Spared, refl, wrong fields.Spared))
+    (λ known. only_ok IsManifest (record pod { spared = heeds && says_so spared }))
+
+pod_line_only : (heeds : Bool) (d : Data) → Only IsManifest (pod_of_line heeds d)
+pod_line_only heeds d =
+    only_bind IsManifest _ _ (pod_only (field_at (codes "pod") d))
+    (spared_only heeds (truth_of (field_at (codes "spared") d)))
+
 moment_only : (ticks : List TickObs) (found : Option ℕ) → Only (Is Moment) (moment_from ticks found)
 moment_only ticks None = only_err (Is Moment) Moment refl
 moment_only ticks (Some at) =
@@ -101,7 +116,7 @@ of_tick_only (Err fault) only =
 
 heeded_only : (heeds : Bool) (written : TickLine) → Only (Is Usage) (heeded heeds written)
 heeded_only heeds written =
-    only_bind (Is Usage) _ _ (only_refused (Is Usage) (heeds && has_other_kind written.entries) Usage refl)
+    only_bind (Is Usage) _ _ (only_refused (Is Usage) (heeds && line_has_other_kind written) Usage refl)
     (λ known. only_ok (Is Usage) written)
 
 tick_only : (heeds : Bool) (d : Data) → Only (Is Usage) (tick_line_in heeds d)
@@ -146,7 +161,7 @@ pub kinds_of_checks : KindsOfChecks
 kinds_of_checks = record {
   json = λ line kind e. (json_only line).has kind e;
   node = λ format d kind e. (node_in_only format d).has kind e;
-  pod = λ found kind e. let is = (pod_only found).has kind e in (is.0, is.1);
+  pod = λ heeds d kind e. let is = (pod_line_only heeds d).has kind e in (is.0, is.1);
   moment = λ ticks found kind e. (moment_only ticks (option_and_then as_u64 (option_and_then as_number found))).has
       kind e;
   tick = λ heeds d kind e. (tick_only heeds d).has kind e;
@@ -169,7 +184,7 @@ fails_not_memory past line _ (wrong_node d kind is e) = elim ((node_in_only past
 ]
 fails_not_memory past line _ (many_pods d is some) = (λ memory. absurd (cc), λ memory. absurd (cc))
 fails_not_memory past line _ (wrong_pod d kind is none e) =
-    let given = (pod_only (field_at (codes "pod") d)).has kind e in
+    let given = (pod_line_only (heeds past) d).has kind e in
     let fault = given.0 in
     let found : IsFound fault = given.2 in
     is_not kind (Manifest fault) given.1 (

@@ -147,24 +147,25 @@ pod_at at es departures n (x ∷ xs) (suc p) pod here present =
     ∙ ap (λ (k : ℕ). Some (pod_observed at (entry_for es k) pod)) place
 
 -- a pod that is present, in the whole tick
-pub pod_shown : (at : ℕ) (written : TickLine) (es : List PlacedEntry) (roll : Roll) (n : ℕ) (pod : PodSpec)
+pub pod_shown : (heeds : Bool) (at : ℕ) (written : TickLine) (es : List PlacedEntry) (roll : Roll) (n : ℕ)
+    (pod : PodSpec)
     → slice_get roll.pods n ≡ Some pod → is_present roll.departures n ≡ true
-    → shown_of (observed at written es roll) n ≡ Some (pod_observed at (entry_for es n) pod)
-pod_shown at written es roll n pod here present =
+    → shown_of (observed heeds at written es roll) n ≡ Some (pod_observed at (entry_for es n) pod)
+pod_shown heeds at written es roll n pod here present =
     let zeroth : 0 + n ≡ n = omega arith in
     let stays : is_present roll.departures (0 + n) ≡ true =
     subst (λ (k : ℕ). is_present roll.departures k ≡ true) (sym zeroth) present in
     pod_at at es roll.departures 0 roll.pods n pod here stays
     ∙ ap (λ (k : ℕ). Some (pod_observed at (entry_for es k) pod)) zeroth
 
-seen_is : (at : ℕ) (written : TickLine) (es : List PlacedEntry) (roll : Roll) (n c : ℕ) (pod : PodSpec)
+seen_is : (heeds : Bool) (at : ℕ) (written : TickLine) (es : List PlacedEntry) (roll : Roll) (n c : ℕ) (pod : PodSpec)
     → slice_get roll.pods n ≡ Some pod → is_present roll.departures n ≡ true → c < length pod.containers
-    → seen_of (observed at written es roll) n c ≡ seen_in (listings_of (entry_for es n)) c
-seen_is at written es roll n c pod here present lt =
+    → seen_of (observed heeds at written es roll) n c ≡ seen_in (listings_of (entry_for es n)) c
+seen_is heeds at written es roll n c pod here present lt =
     let first : 0 + c ≡ c = omega arith in
     let entry = entry_for es n in
     ap (λ (o : Option PodObs). option_and_then (λ (p : PodObs). listed_in p c) o)
-    (pod_shown at written es roll n pod here present)
+    (pod_shown heeds at written es roll n pod here present)
     ∙ container_at (listings_of entry) (results_of entry) 0 pod.containers c lt
     ∙ ap (seen_in (listings_of entry)) first
 
@@ -184,6 +185,6 @@ listed es n c seen apart (k, entry, here, is, given) =
     ∙ is_given entry.listings c seen (once_in es k entry parts.1 here) given
 
 pub listings_shown : ListingsShown
-listings_shown at written es roll n c pod seen apart here present lt =
-    let is = seen_is at written es roll n c pod here present lt in
+listings_shown heeds at written es roll n c pod seen apart here present lt =
+    let is = seen_is heeds at written es roll n c pod here present lt in
     (λ e. lists es n c seen (entry_for es n) refl (sym is ∙ e), λ given. is ∙ listed es n c seen apart given)

@@ -25,7 +25,7 @@ use Rattle.trace.specs.declared.placing.PlacedEntry.{PlacedEntry}
 use Rattle.json_lines.specs.rule.Lines.{longest_line}
 use Rattle.trace.specs.rule.Written.{node_in, tick_line_in}
 use Rattle.roster.specs.rule.Roll.{key_of_pod}
-use Rattle.trace.specs.rule.Pod.{has_key, pod_from, named_in}
+use Rattle.trace.specs.rule.Pod.{has_key, pod_of_line, named_in}
 use Rattle.trace.proofs.Versions.{no_node, some_node}
 use Rattle.trace.proofs.Keys.{key_nowhere, nowhere_key}
 use Rattle.trace.specs.rule.Placing.{placed_of, is_doubled}
@@ -59,12 +59,12 @@ tick_says past line d next is e =
     (with_places past at.0 written.0) next written.2 in
     let tick = bind_ok (observed_in past at.0 written.0 placed.0) (with_tick_seen past) next placed.2 in
     let apart = cleared (is_doubled placed.0) Doubled (with_apart past at.0 written.0 placed.0) tick.0 tick.1 in
-    let forwards = cleared (is_backwards past.ticks (observed at.0 written.0 placed.0 past.roll)) Backwards
+    let forwards = cleared (is_backwards past.ticks (observed (heeds past) at.0 written.0 placed.0 past.roll)) Backwards
     (with_forwards past at.0 written.0 placed.0) tick.0 apart.1 in
     let coded = cleared (some_code_missing placed.0) ExitCode (with_code past at.0 written.0 placed.0) tick.0
     forwards.1 in
-    let is_tick : observed at.0 written.0 placed.0 past.roll ≡ tick.0 =
-    same_value {E = FaultKind} (observed at.0 written.0 placed.0 past.roll) tick.0 coded.1 in
+    let is_tick : observed (heeds past) at.0 written.0 placed.0 past.roll ≡ tick.0 =
+    same_value {E = FaultKind} (observed (heeds past) at.0 written.0 placed.0 past.roll) tick.0 coded.1 in
     let is_next : with_tick past tick.0 ≡ next = same_value {E = FaultKind} (with_tick past tick.0) next tick.2 in
     let has_moment : HasMoment past line d at.0 =
     record { stands = is; room = leb-false most_ticks (length past.ticks) room.0; moment = at.1 } in
@@ -75,11 +75,11 @@ tick_says past line d next is e =
     let is_apart : IsApart past line d at.0 written.0 placed.0 = record { has_places = has_places; apart = apart.0 } in
     let is_forwards : IsForwards past line d at.0 written.0 placed.0 =
     record { is_apart = is_apart; forwards = forwards.0 } in
-    let says : Says past line (with_tick past (observed at.0 written.0 placed.0 past.roll)) =
+    let says : Says past line (with_tick past (observed (heeds past) at.0 written.0 placed.0 past.roll)) =
     says_tick d at.0 written.0 placed.0 is_forwards coded.0 in
     subst (λ (p : TraceSoFar). Says past line p) {x = with_tick past tick.0} {y = next} is_next
-    (subst (λ (t : TickObs). Says past line (with_tick past t)) {x = observed at.0 written.0 placed.0 past.roll} {y =
-    tick.0} is_tick says)
+    (subst (λ (t : TickObs). Says past line (with_tick past t))
+    {x = observed (heeds past) at.0 written.0 placed.0 past.roll} {y = tick.0} is_tick says)
 
 pod_says : (version : Version) (past : TraceSoFar) (line : List ℕ) (d : Data) (next : TraceSoFar)
     → version_in past ≡ Some version
@@ -88,7 +88,7 @@ pod_says version past line d next some is e =
     let before = cleared (is_late version past.ticks) Order (pod_early past d) next
     (sym (pod_whole version past d) ∙ e) in
     let room = cleared (nat_le most_pods (length past.roll.pods)) TooMany (pod_read past d) next before.1 in
-    let pod = bind_ok (pod_from (field_at (codes "pod") d)) (pod_said past) next room.1 in
+    let pod = bind_ok (pod_of_line (heeds past) d) (pod_said past) next room.1 in
     let new = cleared (has_key past.roll (key_of_pod pod.0)) DuplicatePod (pod_new past pod.0) next pod.2 in
     let is_next : with_pod past pod.0 ≡ next = same_value {E = FaultKind} (with_pod past pod.0) next new.1 in
     let stands : Stands past line kinds.Pod d =
@@ -165,10 +165,10 @@ node_line past line d node is e =
 
 tick_line : (past : TraceSoFar) (line : List ℕ) (d : Data) (at : ℕ) (written : TickLine) (placed : List PlacedEntry)
     → IsForwards past line d at written placed → some_code_missing placed ≡ false
-    → line_at past line ≡ Ok (with_tick past (observed at written placed past.roll))
+    → line_at past line ≡ Ok (with_tick past (observed (heeds past) at written placed past.roll))
 unfolding observed_in
 tick_line past line d at written placed is coded =
-    let seen = observed at written placed past.roll in
+    let seen = observed (heeds past) at written placed past.roll in
     let given : observed_in past at written placed ≡ Ok seen =
     passed (is_doubled placed) Doubled (with_apart past at written placed) is.is_apart.apart
     ∙ passed (is_backwards past.ticks seen) Backwards (with_forwards past at written placed) is.forwards

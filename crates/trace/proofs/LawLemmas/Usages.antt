@@ -1,12 +1,15 @@
 -- What a tick shows of a pod's samples and words and of the node's signals is what its line tells.
 use Rattle.std.proofs.Common.{◌≡◌, ◌∙◌, ℕ, zero, suc, Bool, true, false, List, [], ◌∷◌, Option, Some, None, Result, Ok}
 use Rattle.std.proofs.Common.{Err, refl, ap, sym}
-use Rattle.std.specs.Prelude.{◌↔◌, ◌&&◌, slice_get, option_map}
+use Rattle.std.specs.Prelude.{◌↔◌, ◌&&◌, not, slice_get, option_map, codes}
 use Rattle.std.proofs.lemmas.Option.{same_Some}
+use Rattle.json_fields.specs.rule.Fields.{field_at}
 use Rattle.json_fields.specs.rule.Reading.{◌>>=◌, each, refused_if}
 use Rattle.json_fields.proofs.Only.{same_value}
 use Rattle.json_fields.proofs.Steps.{bind_ok, there_is}
 use Rattle.manifest.specs.declared.pod.PodSpec.{PodSpec}
+use Rattle.manifest_fields.specs.declared.fault.Field.TheVariants as fields
+use Rattle.manifest_fields.specs.declared.fault.ManifestFault.TheVariants.{WrongKind}
 use Rattle.node_config.specs.declared.node.Version.{Version}
 use Rattle.node_config.specs.declared.node.Version.TheVariants.{One, Two, Three}
 use Rattle.observations.specs.rule.Pods.{PodObs}
@@ -23,9 +26,12 @@ use Rattle.tick_lines.specs.declared.line.TickLine.{TickLine}
 use Rattle.tick_lines.specs.declared.reason.ReasonMember.{ReasonMember}
 use Rattle.tick_lines.specs.declared.reason.ReasonMember.TheVariants as reasons
 use Rattle.tick_lines.specs.declared.truth.TruthMember.{TruthMember}
+use Rattle.serde_json.specs.Data.{boolean}
 use Rattle.tick_lines.specs.declared.truth.TruthMember.TheVariants.{No, Yes, OfOtherKind}
 use Rattle.tick_lines.specs.rule.Line.{tick_line_of}
+use Rattle.tick_lines.specs.rule.Truths.{truth_of}
 use Rattle.tick_lines.proofs.Quantities.{samples_said}
+use Rattle.tick_lines.proofs.Truths.{says_truth}
 use Rattle.trace.specs.declared.fault.FaultKind.{FaultKind}
 use Rattle.trace.specs.declared.fault.FaultKind.TheVariants as faults
 use Rattle.trace.specs.declared.fault.FaultKind.TheVariants.{StrangerPod}
@@ -33,11 +39,12 @@ use Rattle.trace.specs.declared.placing.EntrySaid.{EntrySaid}
 use Rattle.trace.specs.declared.placing.PlacedEntry.{PlacedEntry}
 use Rattle.trace.specs.rule.Observed.{said_from, entry_for, observed}
 use Rattle.trace.specs.rule.Placing.{has_twice, are_of_one_pod, number_in, sampling_of, entry_of_pod, placed_entry}
-use Rattle.trace.specs.rule.Placing.{placed_of, said_in, words_of}
+use Rattle.trace.specs.rule.Placing.{placed_of, said_in, words_of, says_so}
+use Rattle.trace.specs.rule.Pod.{pod_from, spared_by}
 use Rattle.trace.specs.rule.TraceSoFar.{heeds_unsampled}
-use Rattle.trace.specs.rule.Written.{has_other_kind, written_in}
+use Rattle.trace.specs.rule.Written.{is_of_other_kind, line_has_other_kind, written_in}
 use Rattle.trace.specs.state.Laws.{Tells, sampling_shown_of, UsageShown, SaysUnsampled, UnsampledShown, SignalsShown}
-use Rattle.trace.specs.state.Laws.{DeletingShown, FailedShown}
+use Rattle.trace.specs.state.Laws.{DeletingShown, FailedShown, JudgedShown, SparedSaid}
 use Rattle.trace.proofs.Placed.{entry_says}
 use Rattle.trace.proofs.LawLemmas.Listings.{entry_found, entry_given, pod_shown}
 
@@ -45,12 +52,12 @@ use Rattle.trace.proofs.LawLemmas.Listings.{entry_found, entry_given, pod_shown}
 abbrev says_of : Option PlacedEntry → Sampling
 says_of entry = (said_from entry).sampling
 
-sampling_is : (at : ℕ) (written : TickLine) (es : List PlacedEntry) (roll : Roll) (n : ℕ) (pod : PodSpec)
+sampling_is : (heeds : Bool) (at : ℕ) (written : TickLine) (es : List PlacedEntry) (roll : Roll) (n : ℕ) (pod : PodSpec)
     → slice_get roll.pods n ≡ Some pod → is_present roll.departures n ≡ true
-    → sampling_shown_of (observed at written es roll) n ≡ Some (says_of (entry_for es n))
-sampling_is at written es roll n pod here present =
+    → sampling_shown_of (observed heeds at written es roll) n ≡ Some (says_of (entry_for es n))
+sampling_is heeds at written es roll n pod here present =
     ap (λ (o : Option PodObs). option_map (λ (p : PodObs). p.sampling) o)
-    (pod_shown at written es roll n pod here present)
+    (pod_shown heeds at written es roll n pod here present)
 
 tells : (es : List PlacedEntry) (n : ℕ) (says : Sampling) (entry : Option PlacedEntry) → (says ≡ Unsaid → ⊥)
     → entry_for es n ≡ entry → says_of entry ≡ says → Tells es n says
@@ -64,19 +71,19 @@ told : (es : List PlacedEntry) (n : ℕ) (says : Sampling) → has_twice are_of_
 told es n says once (k, entry, here, is, given) = ap says_of (entry_given es n entry once k here is) ∙ given
 
 -- what is shown of samples, where something is, is what the pod's entry tells
-shown_told : (at : ℕ) (written : TickLine) (es : List PlacedEntry) (roll : Roll) (n : ℕ) (pod : PodSpec)
+shown_told : (heeds : Bool) (at : ℕ) (written : TickLine) (es : List PlacedEntry) (roll : Roll) (n : ℕ) (pod : PodSpec)
     (says : Sampling) → (says ≡ Unsaid → ⊥) → has_twice are_of_one_pod es ≡ false
     → slice_get roll.pods n ≡ Some pod → is_present roll.departures n ≡ true
-    → (sampling_shown_of (observed at written es roll) n ≡ Some says ↔ Tells es n says)
-shown_told at written es roll n pod says some once here present =
-    let is = sampling_is at written es roll n pod here present in (
+    → (sampling_shown_of (observed heeds at written es roll) n ≡ Some says ↔ Tells es n says)
+shown_told heeds at written es roll n pod says some once here present =
+    let is = sampling_is heeds at written es roll n pod here present in (
       λ e. tells es n says (entry_for es n) some refl (same_Some (says_of (entry_for es n)) says (sym is ∙ e)),
       λ given. is ∙ ap Some (told es n says once given),
     )
 
 pub usage_shown : UsageShown
-usage_shown at written es roll n pod usage once here present =
-    shown_told at written es roll n pod (Sampled usage) (λ e. absurd (cc)) once here present
+usage_shown heeds at written es roll n pod usage once here present =
+    shown_told heeds at written es roll n pod (Sampled usage) (λ e. absurd (cc)) once here present
 
 -- ---- that a pod has no sample
 
@@ -184,7 +191,8 @@ tells_it version roll entries es n all three w =
 pub unsampled_shown : UnsampledShown
 unsampled_shown version at written es roll n pod places once here present =
     let all = all_read (heeds_unsampled version) roll written.entries es places in
-    let shown = shown_told at written es roll n pod Unsampled (λ e. absurd (cc)) once here present in (
+    let shown = shown_told (heeds_unsampled version) at written es roll n pod Unsampled (λ e. absurd (cc)) once here
+    present in (
       λ e. told_by version roll written.entries es n all (shown.0 e),
       λ is. shown.1 (tells_it version roll written.entries es n all is.0 is.1),
     )
@@ -234,14 +242,14 @@ word_shown : {X : Type 0} (word : PodWords → X) (x : X) (heeds : Bool) (at : �
     (es : List PlacedEntry) (roll : Roll) (n : ℕ) (pod : PodSpec) → (word no_words ≡ x → ⊥)
     → placed_of heeds roll written.entries ≡ Ok es → has_twice are_of_one_pod es ≡ false
     → slice_get roll.pods n ≡ Some pod → is_present roll.departures n ≡ true
-    → (option_map (λ (p : PodObs). word p.words) (shown_of (observed at written es roll) n) ≡ Some x
+    → (option_map (λ (p : PodObs). word p.words) (shown_of (observed heeds at written es roll) n) ≡ Some x
     ↔ Written word heeds roll written.entries n x)
 word_shown {X} word x heeds at written es roll n pod some places once here present =
     let all = all_read heeds roll written.entries es places in
-    let is : option_map (λ (p : PodObs). word p.words) (shown_of (observed at written es roll) n)
+    let is : option_map (λ (p : PodObs). word p.words) (shown_of (observed heeds at written es roll) n)
     ≡ Some (word (said_from (entry_for es n)).words) =
     ap (λ (o : Option PodObs). option_map (λ (p : PodObs). word p.words) o)
-    (pod_shown at written es roll n pod here present) in (
+    (pod_shown heeds at written es roll n pod here present) in (
       λ e. word_written word x heeds roll written.entries es n all
           (word_found word x es n (entry_for es n) some refl
           (same_Some (word (said_from (entry_for es n)).words) x (sym is ∙ e))),
@@ -309,7 +317,7 @@ failed_shown version at written es roll n pod reason places once here present =
 as_read : (heeds : Bool) (r : Result TickLine TickLineFault) (written : TickLine) → written_in heeds r ≡ Ok written
     → r ≡ Ok written
 as_read heeds (Ok x) written e =
-    let known = bind_ok (refused_if (heeds && has_other_kind x.entries) faults.Usage) (λ known. Ok x) written e in
+    let known = bind_ok (refused_if (heeds && line_has_other_kind x) faults.Usage) (λ known. Ok x) written e in
     ap Ok (same_value {E = FaultKind} x written known.2)
 as_read heeds (Err fault) written e = absurd (cc)
 
@@ -320,3 +328,48 @@ signals_shown = record {
   after_reclaim = λ heeds d at written placed roll signal e. samples_said.after_reclaim d written signal
       (as_read heeds (tick_line_of d) written e);
 }
+
+-- that the node doesn't judge a tick
+judged_said : (heeds : Bool) (unjudged : TruthMember) → not (heeds && says_so unjudged) ≡ false
+    → (heeds ≡ true) × (unjudged ≡ Yes)
+judged_said true No e = absurd (cc)
+judged_said true Yes e = (refl, refl)
+judged_said true OfOtherKind e = absurd (cc)
+judged_said false unjudged e = absurd (cc)
+
+pub judged_shown : JudgedShown
+judged_shown version at written es roll = (
+  (λ e.
+      let said = judged_said (heeds_unsampled version) written.unjudged e in
+      (in_three version said.0, said.1)),
+  (λ (three, says).
+      ap (λ (v : Option Version). not (heeds_unsampled v && says_so written.unjudged)) three
+      ∙ ap (λ (member : TruthMember). not (true && says_so member)) says),
+)
+
+-- that the node spares a pod
+spared_as : (heeds : Bool) (spared : TruthMember) (pod next : PodSpec) → spared_by heeds spared pod ≡ Ok next
+    → next.spared ≡ (heeds && says_so spared)
+spared_as heeds spared pod next e =
+    let known = bind_ok (refused_if (heeds && is_of_other_kind spared) (faults.Manifest (WrongKind fields.Spared)))
+    (λ known. Ok (record pod { spared = heeds && says_so spared })) next e in
+    sym (ap (λ (p : PodSpec). p.spared) (same_value {E = FaultKind} _ next known.2))
+
+both_so : (heeds : Bool) (spared : TruthMember) → (heeds && says_so spared) ≡ true → (heeds ≡ true) × (spared ≡ Yes)
+both_so true No e = absurd (cc)
+both_so true Yes e = (refl, refl)
+both_so true OfOtherKind e = absurd (cc)
+both_so false spared e = absurd (cc)
+
+pub spared_said : SparedSaid
+spared_said version d pod e =
+    let heeds = heeds_unsampled version in
+    let member = field_at (codes "spared") d in
+    let read = bind_ok (pod_from (field_at (codes "pod") d)) (spared_by heeds (truth_of member)) pod e in
+    let is = spared_as heeds (truth_of member) read.0 pod read.2 in (
+      (λ so.
+          let said = both_so heeds (truth_of member) (sym is ∙ so) in
+          (in_three version said.0, (says_truth member).yes.0 said.1)),
+      (λ (three, says). is ∙ ap (λ (v : Option Version). heeds_unsampled v && says_so (truth_of member)) three
+          ∙ ap (λ (said : TruthMember). true && says_so said) ((says_truth member).yes.1 says)),
+    )

@@ -1,6 +1,6 @@
 -- What the entries of a tick line show of every pod and container.
 use Rattle.std.specs.Prelude.{ℕ, ◌+◌, ◌==◌, ◌&&◌, Bool, false, List, [], ◌∷◌, Option, Some, None, is_none, unwrap_or}
-use Rattle.std.specs.Prelude.{if◌then◌else◌, pos, refl}
+use Rattle.std.specs.Prelude.{if◌then◌else◌, not, pos, refl}
 use Rattle.std.specs.List.{list_any}
 use Rattle.manifest.specs.declared.pod.ContainerSpec.{ContainerSpec}
 use Rattle.manifest.specs.declared.pod.PodSpec.{PodSpec}
@@ -22,7 +22,7 @@ use Rattle.observations.specs.declared.tick.TickObs.{TickObs}
 use Rattle.observations.specs.declared.usage.Sampling.TheVariants.{Unsaid}
 use Rattle.tick_lines.specs.declared.line.TickLine.{TickLine}
 use Rattle.roster.specs.rule.Roll.{Roll, is_present}
-use Rattle.trace.specs.rule.Placing.{is_of_probe}
+use Rattle.trace.specs.rule.Placing.{is_of_probe, says_so}
 
 abbrev pub seen_as : CriState → ListedInstance → Seen
 seen_as Created r = record { attempt = r.attempt; state = Created; code = None; code_given = refl }
@@ -95,13 +95,18 @@ pods_from at es departures n (p ∷ ps) =
     (if is_present departures n then Some (pod_observed at (entry_for es n) p) else None)
     ∷ pods_from at es departures (n + 1) ps
 
--- the whole tick: its entries, placed, and the line's samples of the node's signals
-abbrev pub observed : ℕ → TickLine → List PlacedEntry → Roll → TickObs
-observed at written placed roll = record {
+-- the node judges the tick, unless the line says that it doesn't and the version heeds that
+abbrev pub is_judged : Bool → TickLine → Bool
+is_judged heeds written = not (heeds && says_so written.unjudged)
+
+-- the whole tick: its entries, placed, and the line's samples of the node's signals, which it judges or doesn't
+abbrev pub observed : Bool → ℕ → TickLine → List PlacedEntry → Roll → TickObs
+observed heeds at written placed roll = record {
   at = at;
   pods = pods_from at placed roll.departures 0 roll.pods;
   signals = written.signals;
   after_reclaim = written.after_reclaim;
+  judged = is_judged heeds written;
 }
 
 -- an exited instance is listed without an exit code

@@ -1,15 +1,20 @@
 -- What a pod line says.
 use Rattle.std.specs.Prelude.{ℕ, ⊤, nat_le, Bool, List, length, Option, option_and_then, is_some, Result}
-use Rattle.std.specs.Prelude.{Ok, Err}
+use Rattle.std.specs.Prelude.{Ok, Err, ◌&&◌, codes}
 use Rattle.observations.specs.rule.Limits.{most_pods}
 use Rattle.serde_json.specs.Data.{Data}
 use Rattle.manifest_fields.specs.declared.fault.ManifestFault.{ManifestFault}
-use Rattle.manifest_fields.specs.declared.fault.ManifestFault.TheVariants.{Missing}
+use Rattle.manifest_fields.specs.declared.fault.ManifestFault.TheVariants.{Missing, WrongKind}
 use Rattle.manifest_fields.specs.declared.fault.Field.TheVariants as fields
 use Rattle.manifest.specs.declared.pod.PodSpec.{PodSpec}
 use Rattle.manifest_reader.specs.rule.Manifest.{pod_at}
+use Rattle.json_fields.specs.rule.Fields.{field_at}
 use Rattle.json_fields.specs.rule.Reading.{◌>>=◌, refused_if, some_or}
 use Rattle.roster.specs.rule.Roll.{Roll, key_of_pod, number_of}
+use Rattle.tick_lines.specs.declared.truth.TruthMember.{TruthMember}
+use Rattle.tick_lines.specs.rule.Truths.{truth_of}
+use Rattle.trace.specs.rule.Placing.{says_so}
+use Rattle.trace.specs.rule.Written.{is_of_other_kind}
 use Rattle.trace.specs.declared.fault.FaultKind.{FaultKind}
 use Rattle.trace.specs.declared.fault.FaultKind.TheVariants.{Manifest, DuplicatePod, TooMany}
 
@@ -40,3 +45,13 @@ manifest_of found = some_or (Manifest (Missing fields.Pod)) found
 -- the pod that it describes
 abbrev pub pod_from : Option Data → Result PodSpec FaultKind
 pod_from found = manifest_of found >>= λ d. of_manifest (pod_at d)
+
+-- the pod, once it is said whether the node spares it, where the version heeds that
+abbrev pub spared_by : Bool → TruthMember → PodSpec → Result PodSpec FaultKind
+spared_by heeds spared pod =
+    refused_if (heeds && is_of_other_kind spared) (Manifest (WrongKind fields.Spared))
+    >>= λ known. Ok (record pod { spared = heeds && says_so spared })
+
+-- the pod that a pod line says: that of its manifest, which the node spares or doesn't
+abbrev pub pod_of_line : Bool → Data → Result PodSpec FaultKind
+pod_of_line heeds d = pod_from (field_at (codes "pod") d) >>= spared_by heeds (truth_of (field_at (codes "spared") d))

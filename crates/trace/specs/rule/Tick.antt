@@ -44,9 +44,9 @@ room_for_tick ticks = refused_if (nat_le most_ticks (length ticks)) TooMany
 unfoldable pub observed_in : TraceSoFar → ℕ → TickLine → List PlacedEntry → Result TickObs FaultKind
 observed_in past at written placed = do
   apart ← refused_if (is_doubled placed) Doubled
-  forwards ← refused_if (is_backwards past.ticks (observed at written placed past.roll)) Backwards
+  forwards ← refused_if (is_backwards past.ticks (observed (heeds past) at written placed past.roll)) Backwards
   coded ← refused_if (some_code_missing placed) ExitCode
-  Ok (observed at written placed past.roll)
+  Ok (observed (heeds past) at written placed past.roll)
 
 -- the tick that a tick line says after those that say what is past
 unfoldable pub tick_in : TraceSoFar → Data → Result TickObs FaultKind

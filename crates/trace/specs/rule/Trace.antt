@@ -21,8 +21,8 @@ use Rattle.trace.specs.declared.trace_so_far.Turn.TheVariants as turns
 use Rattle.json_lines.specs.rule.Lines.{lines_of, is_blank, json_in, longest_line}
 use Rattle.trace.specs.rule.Written.{node_in}
 use Rattle.roster.specs.rule.Roll.{Roll, nothing as no_pods}
-use Rattle.trace.specs.rule.Pod.{new_key, room_for_pod, pod_from, named_in}
-use Rattle.trace.specs.rule.TraceSoFar.{TraceSoFar, version_in, of_node, with_pod, without}
+use Rattle.trace.specs.rule.Pod.{new_key, room_for_pod, pod_of_line, named_in}
+use Rattle.trace.specs.rule.TraceSoFar.{TraceSoFar, version_in, heeds, of_node, with_pod, without}
 use Rattle.trace.specs.rule.Tick.{tick_at}
 
 -- a line's JSON value
@@ -68,7 +68,7 @@ unfoldable pub pod_in : Version → TraceSoFar → Data → Result PodSpec Fault
 pod_in version past d = do
   in_time ← refused_if (is_late version past.ticks) Order
   room ← room_for_pod past.roll.pods
-  pod_from (field_at (codes "pod") d)
+  pod_of_line (heeds past) d
 
 unfoldable pub pod_line_at : Version → TraceSoFar → Data → Result TraceSoFar FaultKind
 pod_line_at version past d = do

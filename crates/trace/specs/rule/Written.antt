@@ -60,9 +60,13 @@ abbrev pub has_other_kind : List TickEntry → Bool
 has_other_kind entries =
     list_any (λ e. (is_of_other_kind e.unsampled || is_of_other_kind e.deleting) || is_no_reason e.failed) entries
 
+-- one of these, or the line's member `judged`, is of another kind
+abbrev pub line_has_other_kind : TickLine → Bool
+line_has_other_kind written = is_of_other_kind written.unjudged || has_other_kind written.entries
+
 -- where the version heeds these members, one of another kind is refused, once the whole line is read
 abbrev pub heeded : Bool → TickLine → Result TickLine FaultKind
-heeded heeds written = refused_if (heeds && has_other_kind written.entries) Usage >>= λ known. Ok written
+heeded heeds written = refused_if (heeds && line_has_other_kind written) Usage >>= λ known. Ok written
 
 -- what a tick line says beside its moment, by what it says by itself
 abbrev pub written_in : Bool → Result TickLine TickLineFault → Result TickLine FaultKind

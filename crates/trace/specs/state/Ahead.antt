@@ -17,21 +17,21 @@ use Rattle.trace.specs.declared.placing.PlacedEntry.{PlacedEntry}
 use Rattle.trace.specs.rule.Observed.{observed, some_code_missing}
 use Rattle.trace.specs.rule.TraceSoFar.{TraceSoFar, version_in}
 use Rattle.trace.specs.rule.Placing.{placed_of, is_doubled}
-use Rattle.trace.specs.state.Placing.{some_speaks}
+use Rattle.trace.specs.state.Placing.{line_speaks}
 use Rattle.trace.specs.rule.Tick.{moment_from, room_for_tick}
 use Rattle.trace.specs.rule.Trace.{turn_of}
 
--- The line shows this of these pods, and nothing in it is at fault by itself. None of its entries has a word on its
--- pod, so it is the same in each version.
+-- The line shows this of these pods, and nothing in it is at fault by itself. It says nothing that depends on the
+-- version, so it is the same in each.
 pub record IsShown (roll : Roll) (said : LineData) (tick : TickObs) : Type 0 where
   pub written : TickLine
   pub placed : List PlacedEntry
   pub says : said ≡ Tick (Some tick.at) (Ok written)
-  pub silent : some_speaks written.entries ≡ false
+  pub silent : line_speaks written ≡ false
   pub places : placed_of false roll written.entries ≡ Ok placed
   pub apart : is_doubled placed ≡ false
   pub coded : some_code_missing placed ≡ false
-  pub shows : tick ≡ observed tick.at written placed roll
+  pub shows : tick ≡ observed false tick.at written placed roll
 
 -- what was read of a line that says this
 abbrev pub IsAhead : Roll → LineData → LineAhead → Type 0

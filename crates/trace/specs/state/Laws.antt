@@ -2,7 +2,7 @@
 -- 1, .. and, in an answer, the numbers 1, 2, ...
 use Rattle.std.specs.Prelude.{◌≡◌, ◌≢◌, ◌⊎◌, ◌↔◌, ◌+◌, ◌≤◌, ◌<◌, ℕ, zero, suc, true, false, List, [], length}
 use Rattle.std.specs.Prelude.{slice_get, Bool, Option, Some, None, is_some, option_map, IsSomeAnd, Ok, Err, codes}
-use Rattle.serde_json.specs.Data.{Data}
+use Rattle.serde_json.specs.Data.{Data, boolean}
 use Rattle.json_fields.specs.rule.Fields.{field_at, text_at}
 use Rattle.trace.specs.declared.fault.FaultKind.{FaultKind}
 use Rattle.trace.specs.declared.fault.FaultKind.TheVariants.{TooLong, NotJson, UnknownKind, Order, Manifest, Config}
@@ -34,7 +34,7 @@ use Rattle.trace.specs.declared.placing.PlacedResult.{PlacedResult}
 use Rattle.trace.specs.declared.placing.PlacedEntry.{PlacedEntry}
 use Rattle.json_lines.specs.rule.Lines.{lines_of, is_blank, longest_line}
 use Rattle.trace.specs.rule.Written.{node_in, tick_line_in}
-use Rattle.trace.specs.rule.Pod.{pod_from, named_in}
+use Rattle.trace.specs.rule.Pod.{pod_of_line, named_in}
 use Rattle.trace.specs.rule.Placing.{placed_of, has_twice, are_of_one_pod, are_of_one_probe, is_doubled}
 use Rattle.trace.specs.rule.Observed.{seen_listed, outcome_in, observed, some_code_missing}
 use Rattle.following.specs.rule.Backwards.{is_backwards}
@@ -153,7 +153,7 @@ pub record Stands (past : TraceSoFar) (line : List ℕ) (line_kind : LineKind) (
 pub record HasPod (past : TraceSoFar) (line : List ℕ) (d : Data) (pod : PodSpec) : Type 0 where
   pub stands : Stands past line kinds.Pod d
   pub room : length past.roll.pods < most_pods
-  pub pod_is : pod_from (field_at (codes "pod") d) ≡ Ok pod
+  pub pod_is : pod_of_line (heeds past) d ≡ Ok pod
 
 -- the pod with the number is present, and has this key
 pub record IsNamed (roll : Roll) (n : ℕ) (key : List ℕ) : Type 0 where
@@ -193,7 +193,7 @@ pub record IsApart (past : TraceSoFar) (line : List ℕ) (d : Data) (at : ℕ) (
 pub record IsForwards (past : TraceSoFar) (line : List ℕ) (d : Data) (at : ℕ) (written : TickLine)
     (placed : List PlacedEntry) : Type 0 where
   pub is_apart : IsApart past line d at written placed
-  pub forwards : is_backwards past.ticks (observed at written placed past.roll) ≡ false
+  pub forwards : is_backwards past.ticks (observed (heeds past) at written placed past.roll) ≡ false
 
 -- the first check that a line fails after what is said before it, with the fault that it answers:
 -- the checks of every line, and then those of a node line, of a pod line, of a line by which a pod leaves, or of a
@@ -210,7 +210,7 @@ pub data Fails (past : TraceSoFar) (line : List ℕ) : FaultKind → Type 0 wher
   many_pods : (d : Data) → Stands past line kinds.Pod d → most_pods ≤ length past.roll.pods
       → Fails past line TooMany
   wrong_pod : (d : Data) (kind : FaultKind) → Stands past line kinds.Pod d → length past.roll.pods < most_pods
-      → pod_from (field_at (codes "pod") d) ≡ Err kind → Fails past line kind
+      → pod_of_line (heeds past) d ≡ Err kind → Fails past line kind
   duplicate_pod : (d : Data) (pod : PodSpec) → HasPod past line d pod → HasKey past.roll (key_of_pod pod)
       → Fails past line DuplicatePod
   nobody_gone : (d : Data) → Stands past line kinds.Gone d → named_in past.roll (text_at (codes "pod") d) ≡ None
@@ -225,7 +225,8 @@ pub data Fails (past : TraceSoFar) (line : List ℕ) : FaultKind → Type 0 wher
   doubled : (d : Data) (at : ℕ) (written : TickLine) (placed : List PlacedEntry)
       → HasPlaces past line d at written placed → is_doubled placed ≡ true → Fails past line Doubled
   backwards : (d : Data) (at : ℕ) (written : TickLine) (placed : List PlacedEntry)
-      → IsApart past line d at written placed → is_backwards past.ticks (observed at written placed past.roll) ≡ true
+      → IsApart past line d at written placed
+      → is_backwards past.ticks (observed (heeds past) at written placed past.roll) ≡ true
       → Fails past line Backwards
   no_code : (d : Data) (at : ℕ) (written : TickLine) (placed : List PlacedEntry)
       → IsForwards past line d at written placed → some_code_missing placed ≡ true → Fails past line ExitCode
@@ -245,7 +246,7 @@ pub data Says (past : TraceSoFar) (line : List ℕ) : TraceSoFar → Type 0 wher
       → named_in past.roll (text_at (codes "pod") d) ≡ Some number → Says past line (without past number)
   says_tick : (d : Data) (at : ℕ) (written : TickLine) (placed : List PlacedEntry)
       → IsForwards past line d at written placed → some_code_missing placed ≡ false
-      → Says past line (with_tick past (observed at written placed past.roll))
+      → Says past line (with_tick past (observed (heeds past) at written placed past.roll))
 
 -- a line without a fault says its node, its pod, that a pod is gone, or its tick, behind what is said before it
 abbrev pub AllChecks : Type 0
@@ -257,7 +258,7 @@ pub record KindsOfChecks : Type 0 where
   pub json : (line : List ℕ) (kind : FaultKind) → json_of line ≡ Err kind → kind ≡ NotJson
   pub node : (format : Format) (d : Data) (kind : FaultKind) → node_in format d ≡ Err kind
       → (kind ≡ Config) ⊎ (kind ≡ SoftWithoutGrace)
-  pub pod : (found : Option Data) (kind : FaultKind) → pod_from found ≡ Err kind → (fault : ManifestFault)
+  pub pod : (heeds : Bool) (d : Data) (kind : FaultKind) → pod_of_line heeds d ≡ Err kind → (fault : ManifestFault)
       × (kind ≡ Manifest fault)
   pub moment : (ticks : List TickObs) (found : Option Data) (kind : FaultKind) → moment_of ticks found ≡ Err kind
       → kind ≡ Moment
@@ -329,10 +330,10 @@ Lists es pod container seen = (k : ℕ) × (entry : PlacedEntry) × (slice_get e
 -- where no pod and no container is listed twice, what a tick shows of a container is exactly what
 -- its line lists, wherever it stands
 abbrev pub ListingsShown : Type 0
-ListingsShown = (at : ℕ) (written : TickLine) (es : List PlacedEntry) (roll : Roll) (n c : ℕ) (pod : PodSpec)
-    (seen : Seen) → is_doubled es ≡ false
+ListingsShown = (heeds : Bool) (at : ℕ) (written : TickLine) (es : List PlacedEntry) (roll : Roll) (n c : ℕ)
+    (pod : PodSpec) (seen : Seen) → is_doubled es ≡ false
     → slice_get roll.pods n ≡ Some pod → is_present roll.departures n ≡ true → c < length pod.containers
-    → (seen_of (observed at written es roll) n c ≡ Some seen ↔ Lists es n c seen)
+    → (seen_of (observed heeds at written es roll) n c ≡ Some seen ↔ Lists es n c seen)
 
 -- one of the entries is of the pod with the number, and says this of its samples
 abbrev pub Tells : List PlacedEntry → ℕ → Sampling → Type 0
@@ -346,10 +347,10 @@ sampling_shown_of tick n = option_map (λ (p : PodObs). p.sampling) (shown_of ti
 -- where no pod is listed twice, what a tick shows of a pod's use is exactly what the pod's entry
 -- tells, wherever it stands
 abbrev pub UsageShown : Type 0
-UsageShown = (at : ℕ) (written : TickLine) (es : List PlacedEntry) (roll : Roll) (n : ℕ) (pod : PodSpec)
-    (usage : PodUsage) → has_twice are_of_one_pod es ≡ false
+UsageShown = (heeds : Bool) (at : ℕ) (written : TickLine) (es : List PlacedEntry) (roll : Roll) (n : ℕ)
+    (pod : PodSpec) (usage : PodUsage) → has_twice are_of_one_pod es ≡ false
     → slice_get roll.pods n ≡ Some pod → is_present roll.departures n ≡ true
-    → (sampling_shown_of (observed at written es roll) n ≡ Some (Sampled usage) ↔ Tells es n (Sampled usage))
+    → (sampling_shown_of (observed heeds at written es roll) n ≡ Some (Sampled usage) ↔ Tells es n (Sampled usage))
 
 -- one of the entries is of the pod with this number and says that it has no sample, and none came with it
 pub record SaysUnsampled (roll : Roll) (es : List TickEntry) (n : ℕ) : Type 0 where
@@ -367,7 +368,7 @@ UnsampledShown = (version : Option Version) (at : ℕ) (written : TickLine) (es 
     (pod : PodSpec) → placed_of (heeds_unsampled version) roll written.entries ≡ Ok es
     → has_twice are_of_one_pod es ≡ false
     → slice_get roll.pods n ≡ Some pod → is_present roll.departures n ≡ true
-    → (sampling_shown_of (observed at written es roll) n ≡ Some Unsampled
+    → (sampling_shown_of (observed (heeds_unsampled version) at written es roll) n ≡ Some Unsampled
     ↔ ((version ≡ Some Three) × SaysUnsampled roll written.entries n))
 
 -- what the tick shows of whether the pod with the number is being deleted
@@ -389,7 +390,7 @@ DeletingShown = (version : Option Version) (at : ℕ) (written : TickLine) (es :
     (pod : PodSpec) → placed_of (heeds_unsampled version) roll written.entries ≡ Ok es
     → has_twice are_of_one_pod es ≡ false
     → slice_get roll.pods n ≡ Some pod → is_present roll.departures n ≡ true
-    → (deleting_shown_of (observed at written es roll) n ≡ Some true
+    → (deleting_shown_of (observed (heeds_unsampled version) at written es roll) n ≡ Some true
     ↔ ((version ≡ Some Three) × SaysDeleting roll written.entries n))
 
 -- why the tick shows that the node has ended the pod with the number, if it does
@@ -411,18 +412,31 @@ FailedShown = (version : Option Version) (at : ℕ) (written : TickLine) (es : L
     (pod : PodSpec) (reason : List ℕ) → placed_of (heeds_unsampled version) roll written.entries ≡ Ok es
     → has_twice are_of_one_pod es ≡ false
     → slice_get roll.pods n ≡ Some pod → is_present roll.departures n ≡ true
-    → (failed_shown_of (observed at written es roll) n ≡ Some (Some reason)
+    → (failed_shown_of (observed (heeds_unsampled version) at written es roll) n ≡ Some (Some reason)
     ↔ ((version ≡ Some Three) × SaysFailed roll written.entries n reason))
+
+-- a tick shows that the node doesn't judge it exactly where the text is of version 3 and the line says so
+abbrev pub JudgedShown : Type 0
+JudgedShown = (version : Option Version) (at : ℕ) (written : TickLine) (es : List PlacedEntry) (roll : Roll)
+    → ((observed (heeds_unsampled version) at written es roll).judged ≡ false
+    ↔ ((version ≡ Some Three) × (written.unjudged ≡ Yes)))
+
+-- the node spares a pod exactly where the text is of version 3 and the pod's line says so
+abbrev pub SparedSaid : Type 0
+SparedSaid = (version : Option Version) (d : Data) (pod : PodSpec)
+    → pod_of_line (heeds_unsampled version) d ≡ Ok pod
+    → (pod.spared ≡ true ↔ ((version ≡ Some Three) × (field_at (codes "spared") d ≡ Some (boolean true))))
 
 -- what a tick shows of a signal is exactly the quantity that its line has under the signal's name
 pub record SignalsShown : Type 0 where
   pub signals : (heeds : Bool) (d : Data) (at : ℕ) (written : TickLine) (placed : List PlacedEntry) (roll : Roll)
       (signal : Signal) → tick_line_in heeds d ≡ Ok written
-      → IsSample (field_at (codes "signals") d) (name_of signal) (of (observed at written placed roll).signals signal)
+      → IsSample (field_at (codes "signals") d) (name_of signal)
+      (of (observed heeds at written placed roll).signals signal)
   pub after_reclaim : (heeds : Bool) (d : Data) (at : ℕ) (written : TickLine) (placed : List PlacedEntry) (roll : Roll)
       (signal : Signal) → tick_line_in heeds d ≡ Ok written
       → IsSample (field_at (codes "afterReclaim") d) (name_of signal)
-      (of (observed at written placed roll).after_reclaim signal)
+      (of (observed heeds at written placed roll).after_reclaim signal)
 
 -- of some container of some pod, both by number, the tick has a listing that may not come after all
 -- those of the earlier ticks

@@ -6,6 +6,7 @@ use Rattle.json_fields.specs.rule.Reading.{◌>>=◌}
 use Rattle.manifest.specs.declared.pod.PodSpec.{PodSpec}
 use Rattle.trace.specs.declared.fault.FaultKind.{FaultKind}
 use Rattle.tick_lines.specs.declared.entry.TickEntry.{TickEntry}
+use Rattle.tick_lines.specs.declared.line.TickLine.{TickLine}
 use Rattle.tick_lines.specs.declared.reason.ReasonMember.{ReasonMember}
 use Rattle.tick_lines.specs.declared.reason.ReasonMember.TheVariants as reasons
 use Rattle.tick_lines.specs.declared.truth.TruthMember.{TruthMember}
@@ -31,6 +32,10 @@ speaks entry = (is_word entry.unsampled || is_word entry.deleting) || is_reason_
 
 abbrev pub some_speaks : List TickEntry → Bool
 some_speaks entries = list_any speaks entries
+
+-- the line says something that depends on the version: that the node doesn't judge the tick, or a word on a pod
+abbrev pub line_speaks : TickLine → Bool
+line_speaks written = is_word written.unjudged || some_speaks written.entries
 
 -- the entries, each of the pod with its number
 abbrev pub entries_of_pods : Bool → List PodSpec → List ℕ → List TickEntry → Result (List PlacedEntry) FaultKind

@@ -29,6 +29,7 @@ returns c =
       requests = c.of.ensures;
       usage = subst (λ (u : NewestUsage). IsUsageOf pod None [] u) (sym c.nothing.ensures) (no_usage pod None);
       priority = let fits : SFits w32 c.args.pod.now.priority = search rules in omega (arith, ints);
+      spared = refl;
       order = refl;
       failure = no_failure pod;
     }

@@ -12,8 +12,9 @@ forwards-requires c =
     let past = c.args.so_far.now in
     let same : c.so_far.inside.roster ≡ past.roll = ap (λ (p : TraceSoFar). p.roll) c.so_far.view_is in
     let comes = subst (λ (r : Roll). ComesNext past.ticks (container_counts past.roll.pods)
-    (observed c.args.at c.args.written.now c.args.placed.now r)) (sym same)
-    (comes_next past.ticks c.args.at c.args.written.now c.args.placed.now past.roll c.requires.later) in
+    (observed c.heeds_unsampled.result c.args.at c.args.written.now c.args.placed.now r)) (sym same)
+    (comes_next c.heeds_unsampled.result past.ticks c.args.at c.args.written.now c.args.placed.now past.roll
+    c.requires.later) in
     subst (ComesNext past.ticks (container_counts past.roll.pods)) (sym c.in_ok-tick.ensures) comes
 
 pub returns-clause-follows : goal.returns-clause-follows
@@ -21,8 +22,9 @@ returns-clause-follows c =
     let past = c.args.so_far.now in
     let same : c.so_far.inside.roster ≡ past.roll = ap (λ (p : TraceSoFar). p.roll) c.so_far.view_is in
     let comes = subst (λ (r : Roll). ComesNext past.ticks (container_counts past.roll.pods)
-    (observed c.args.at c.args.written.now c.args.placed.now r)) (sym same)
-    (comes_next past.ticks c.args.at c.args.written.now c.args.placed.now past.roll c.requires.later) in
+    (observed c.heeds_unsampled.result c.args.at c.args.written.now c.args.placed.now r)) (sym same)
+    (comes_next c.heeds_unsampled.result past.ticks c.args.at c.args.written.now c.args.placed.now past.roll
+    c.requires.later) in
     record {
       comes_next = subst (ComesNext past.ticks (container_counts past.roll.pods)) (sym c.in_ok-tick.ensures) comes;
       forwards = c.in_ok-forwards.ensures.on;

@@ -82,6 +82,7 @@ invariant_of-self c =
       requests = shown.requests;
       usage = usage_evicted i.pod h x i.status.usage shown.usage none end;
       priority = shown.priority;
+      spared = shown.spared;
       order = refl;
       failure = refl;
     })

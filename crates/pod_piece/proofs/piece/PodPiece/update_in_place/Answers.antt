@@ -147,6 +147,7 @@ invariant_of-self-2 c =
           (usage_more i.pod e phase.0 h (pod_tick observed) i.status.usage c.has_ended-had_ended.result shown.usage
           (c.has_ended-had_ended.ensures.ended i.pod e h was) phase.1));
       priority = shown.priority;
+      spared = shown.spared;
       order = shown.order;
       failure = failure;
     })
