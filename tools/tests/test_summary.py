@@ -209,7 +209,12 @@ def test_words_that_a_program_passes_over():
              '{"kind":"pod","spared":true,"pod":{"metadata":{"name":"a"},"spec":{"containers":[{"name":"c"}]}}}\n'
              '{"kind":"tick","at":5,"judged":false,"pods":[{"pod":"default/a","containers":[{"name":"c","attempt":0,'
              '"state":"CONTAINER_RUNNING"}],"usage":{"memory":"300Mi"}}],"signals":{"memory.available":"50Mi"}}\n')
-    told = [line.split() for line in story_of(trace, replayed(trace)[1], "default/a").splitlines()]
+    heeding = replayed(trace)[1]
+    expect("spared and not judged, heeded", ["names" in heeding, "active" in heeding], [False, False])
+    named = ("event 5 node threshold memory.available hard active\nevent 5 node pressure MemoryPressure True\n"
+             "event 5 node names default/a memory.available hard\npod 0 ")
+    passing = heeding.replace("pod 0 ", named, 1).replace("MemoryPressure False 0", "MemoryPressure True 5")
+    told = [line.split() for line in story_of(trace, passing, "default/a").splitlines()]
     expect("spared and not judged, passed over", [line in told for line in (
         ["5", "50Mi"], ["1", "default/a", "300Mi", "0", "300Mi", "0", "BestEffort", "named"],
         "default/a on n1: Running, BestEffort".split())], [True] * 3)
