@@ -283,6 +283,26 @@ def test_import_of_a_journal_with_a_hole():
     expect("import of a journal that begins anew", (len(traces), "numbers" in said), (2, True))
 
 
+def test_import_of_rounds():
+    """Each round of the eviction manager is one judged tick, of the moment of its first observation; a round that finds
+    nothing is none, though the second in which it begins has a tick."""
+    begins = '"Eviction manager: synchronize housekeeping"'
+    found = '"Eviction manager: observations" signal="{}" available="{}" capacity="8Gi" time="2026-03-01 10:00:20 UTC"'
+    more = [f"I0301 10:00:{at}    2211 helpers.go:1] {said}\n" for at, said in (
+        ("20.045000", begins), ("20.999000", found.format("memory.available", "2Gi")),
+        ("21.001000", found.format("nodefs.available", "4Gi")), ("22.045000", begins),
+        ("50.100000", begins), ("50.200000", found.format("memory.available", "1Gi")))]
+    lines = read(f"{FOLDER}/keyed.log").splitlines(keepends=True)
+    text = "".join(sorted(lines + more, key=lambda line: line[1:]))
+    status, trace, said = imported(given=text)
+    judged = [(tick["at"], tick["signals"]) for tick in ticks_of(map(json.loads, trace.splitlines()))
+              if tick.get("judged") is not False]
+    gi = 1 << 30
+    expect("import of rounds", (status, judged, "no rounds" in said), (0, [
+        (1772359220, {"memory.available": 2 * gi, "nodefs.available": 4 * gi}),
+        (1772359250, {"memory.available": gi, "nodefs.available": 4 * gi})], False))
+
+
 # --- what a runtime writes ---
 
 def listings_of(trace):

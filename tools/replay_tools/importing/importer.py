@@ -4,6 +4,7 @@ from __future__ import annotations
 
 from collections import Counter
 from collections.abc import Callable, Iterable, Iterator
+from dataclasses import dataclass, field
 from typing import Any, Optional
 
 from replay_tools import entry
@@ -27,9 +28,18 @@ FIRST_LOOKS = 6
 AGAIN_SECONDS = 60
 # an eviction follows its ranking and what the node was short of within so many seconds
 NEAR_SECONDS = 60
+# the observations of one round of the eviction manager follow each other within so many seconds
+ROUND_SECONDS = 1.0
 MOST_LOOSE = 100_000
 LONGEST_MESSAGE = 4096
 EVICTED_WORD = "Evicted"
+
+
+@dataclass
+class Round:
+    """A round of the eviction manager: the moment of its first observation, and the signals of which it has one."""
+    at: float
+    signals: set[str] = field(default_factory=set)
 
 
 class Importer:
@@ -61,6 +71,7 @@ class Importer:
         self.process: Optional[int] = None
         # when the kubelet was started, where the journal has that
         self.started_at: Optional[float] = None
+        self.round = Round(0.0)
         self.resource: tuple[float, str] = (0.0, "")
         self.ranked: tuple[float, tuple[facts.Reference, ...]] = (0.0, ())
         self.messages: dict[str, str] = {}
@@ -333,11 +344,15 @@ class Importer:
         self.say(f"{int(fact.at) - fact.seconds}: the clock went back by {fact.seconds} s")
 
     def on_observed(self, fact: facts.Observed) -> None:
-        self.placing.judge(fact.at)
+        """A round says first that it begins, and then, by less than a second, what it finds: that stands in one tick,
+        of the moment of the first one. A round that finds nothing judges nothing."""
         if fact.signal is None or fact.available is None:
             return
+        if fact.signal in self.round.signals or fact.at - self.round.at > ROUND_SECONDS:
+            self.round = Round(fact.at)
+        self.round.signals.add(fact.signal)
         self.placing.count("observations")
-        self.placing.sample(fact.at, fact.signal, fact.available)
+        self.placing.sample(self.round.at, fact.signal, fact.available)
         if fact.capacity is not None:
             self.capacity[fact.signal] = fact.capacity
 

@@ -29,7 +29,6 @@ SAID, FAILED = "said", "failed"
 # of a gap: by how many seconds the clock went back there
 CLOCK_BACK = "clockBack"
 MOST_SAID = 20
-NOT_JUDGED = ',"judged":false}'
 POD_LINE = '{"kind":"pod"'
 TICK_AT = re.compile(r'\{"kind":"tick","at":(\d+),')
 
@@ -45,7 +44,6 @@ class Placing:
         # which of the probes have their successes in the journal
         self.told_probes: set[str] = set()
         self.has_successes = False
-        self.rounds: set[int] = set()
         self.beside: dict[str, list[tuple[int, str, Any]]] = defaultdict(list)
         self.gaps: list[tuple[int, dict[str, int]]] = []
         self.spared: dict[str, bool] = {}
@@ -103,12 +101,10 @@ class Placing:
         self.beside[key].append((int(at), SAID, {"at": int(at), **said}))
 
     def sample(self, at: float, signal: str, available: int) -> None:
-        """A round of the eviction manager has its own observations."""
+        """A round of the eviction manager has its own observations, whose tick is judged."""
+        self.timeline.place_round(at)
         if signal in SIGNALS:
             self.timeline.place_signal(at, signal, available, True)
-
-    def judge(self, at: float) -> None:
-        self.rounds.add(int(at))
 
     def gap(self, since: float, until: float, clock_back: int = 0) -> None:
         """Nothing is known of the time between; a tick stands at its end. A clock may have gone back there."""
@@ -154,9 +150,7 @@ class Placing:
 
     def tick_with_members(self, line: str, at: int) -> str:
         """A tick's line; it is read anew only where something was said of a pod."""
-        is_round = at in self.rounds
-        self.rounds.discard(at)
-        more: dict[str, Any] = {} if is_round else {"judged": False}
+        more: dict[str, Any] = {}
         gaps = [gap for second, gap in self.gaps if second <= at]
         if gaps:
             back = sum(gap.get(CLOCK_BACK, 0) for gap in gaps)
@@ -167,7 +161,7 @@ class Placing:
             return line_of({**self.with_rows(json.loads(line), due, at), **more})
         if "gap" in more:
             return f"{line[:-1]},{shown(more)[1:]}"
-        return line if is_round else line[:-1] + NOT_JUDGED
+        return line
 
     def with_rows_of(self, entry: dict[str, Any], at: int) -> dict[str, Any]:
         """A pod's entry of a tick with what was said of it by then."""

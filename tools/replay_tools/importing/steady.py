@@ -35,6 +35,8 @@ class ImportedTimeline(Timeline):
         # an entry of a second with what stands there that is not the timeline's
         self.completed = completed
         self.guesses = self.asides = ImportedAsides()
+        # a tick is judged where the journal has a round of the eviction manager
+        self.tells_rounds = True
         self.steady: dict[str, Steady] = {}
 
     def entry(self, pod: Pod, changed: set[tuple[str, str]] | None) -> dict[str, Any] | None:
