@@ -8,64 +8,64 @@ from typing import Optional
 STARTED, DIED = "started", "died"
 
 
-@dataclass(frozen=True)
+@dataclass(unsafe_hash=True)
 class Reference:
     """A pod as a line names it: NAMESPACE/NAME and its uid, one of which may be unknown."""
     key: Optional[str] = None
     uid: Optional[str] = None
 
 
-@dataclass(frozen=True)
+@dataclass
 class Fact:
     at: float
 
 
-@dataclass(frozen=True)
+@dataclass
 class Process(Fact):
     """The kubelet's process, where it is another one than before; and the node's name, where a line says it."""
     process: int
     node: str = ""
 
 
-@dataclass(frozen=True)
+@dataclass
 class Begun(Fact):
     """The kubelet was started."""
 
 
-@dataclass(frozen=True)
+@dataclass
 class NodeName(Fact):
     name: str
 
 
-@dataclass(frozen=True)
+@dataclass
 class Missing(Fact):
     """The journal says that it has not all lines up to here."""
     why: str
 
 
-@dataclass(frozen=True)
+@dataclass
 class TurnedBack(Fact):
     """The node's clock went back by so many seconds. Moments behind that are so much later than it says."""
     seconds: int
 
 
-@dataclass(frozen=True)
+@dataclass
 class Added(Fact):
     pod: Reference
     source: str = ""
 
 
-@dataclass(frozen=True)
+@dataclass
 class Deleted(Fact):
     pod: Reference
 
 
-@dataclass(frozen=True)
+@dataclass
 class Removed(Fact):
     pod: Reference
 
 
-@dataclass(frozen=True)
+@dataclass
 class Turned(Fact):
     """The kubelet's look found, or its runtime said, that a container or a sandbox has started or has died. A moment of
     the runtime's is exact."""
@@ -75,7 +75,7 @@ class Turned(Fact):
     is_exact: bool = False
 
 
-@dataclass(frozen=True)
+@dataclass
 class Known(Fact):
     """What a line says of one instance of a container by its id: each part of it may be unknown."""
     id: str
@@ -89,14 +89,14 @@ class Known(Fact):
     is_sandbox: bool = False
 
 
-@dataclass(frozen=True)
+@dataclass
 class Created(Fact):
     """A container of a pod is started now, by its name; its id is in another line."""
     pod: Reference
     container: str
 
 
-@dataclass(frozen=True)
+@dataclass
 class Probed(Fact):
     """The result of a probe: success or failure, and what it put out."""
     pod: Reference
@@ -106,7 +106,7 @@ class Probed(Fact):
     output: str = ""
 
 
-@dataclass(frozen=True)
+@dataclass
 class Turnover(Fact):
     """What all results of a probe have come to, of a pod whose container is not named: ready, unready, started."""
     pod: Reference
@@ -114,7 +114,7 @@ class Turnover(Fact):
     status: str
 
 
-@dataclass(frozen=True)
+@dataclass
 class Killing(Fact):
     """The kubelet ends an instance: its grace, and why, as far as a line says that."""
     id: str
@@ -124,7 +124,7 @@ class Killing(Fact):
     why: str = ""
 
 
-@dataclass(frozen=True)
+@dataclass
 class Waits(Fact):
     """A container waits, and why."""
     pod: Reference
@@ -133,7 +133,7 @@ class Waits(Fact):
     message: str
 
 
-@dataclass(frozen=True)
+@dataclass
 class Observed(Fact):
     """A round of the eviction manager, and what it found of a signal; None where it says that there was a round."""
     signal: Optional[str] = None
@@ -141,31 +141,31 @@ class Observed(Fact):
     capacity: Optional[int] = None
 
 
-@dataclass(frozen=True)
+@dataclass
 class Reclaims(Fact):
     """The node is short of a resource, and the eviction manager begins to reclaim it."""
     resource: str
 
 
-@dataclass(frozen=True)
+@dataclass
 class Ranked(Fact):
     pods: tuple[Reference, ...]
 
 
-@dataclass(frozen=True)
+@dataclass
 class Evicted(Fact):
     pod: Reference
     is_cleaned_up: bool = False
 
 
-@dataclass(frozen=True)
+@dataclass
 class Refused(Fact):
     """The kubelet did not admit a pod, since the node was under pressure."""
     pod: Reference
     conditions: str
 
 
-@dataclass(frozen=True)
+@dataclass
 class Happened(Fact):
     """An Event that the kubelet made of a pod."""
     pod: Reference
@@ -174,7 +174,7 @@ class Happened(Fact):
     count: int = 1
 
 
-@dataclass(frozen=True)
+@dataclass
 class OutOfMemory(Fact):
     """The kernel ended a process since a memory limit was reached; of a container's id where the runtime says it."""
     id: Optional[str] = None

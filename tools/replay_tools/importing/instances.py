@@ -108,12 +108,17 @@ class Instances:
         self.chains: list[Chain] = []
         self.hints = Hints()
         self.names: list[str] = []
+        # whether a line said something since their containers were found
+        self.is_news = False
 
     def of(self, identity: str) -> Instance:
+        """The instance of an id, of which a line says something."""
+        self.is_news = True
         return self.by_id.setdefault(identity, Instance(identity))
 
     def note_name(self, name: str) -> None:
         """A name of a container that a line says, of a pod without a manifest."""
+        self.is_news = True
         if name not in self.names:
             self.names.append(name)
 
@@ -167,6 +172,9 @@ class Instances:
 
     def resolve(self, pod: Optional[Pod], added_at: float) -> None:
         """Finds the container of each instance that has not been written yet."""
+        if not self.is_news:
+            return
+        self.is_news = False
         self.complete(added_at)
         self.find_sandboxes()
         names = pod.containers() if pod is not None else list(self.names)
@@ -301,8 +309,9 @@ class Linking:
             said = [each.name for each in chain.instances if each.name and not each.is_found]
             if chain.name is None and said and not self.is_taken(said[-1]):
                 chain.name = said[-1]
-        self.name_by(self.hints.waits, True)
-        self.name_by(self.hints.probed, False)
+        if any(chain.name is None for chain in self.chains):
+            self.name_by(self.hints.waits, True)
+            self.name_by(self.hints.probed, False)
         left = [name for name in self.names if not self.is_taken(name)]
         for chain in self.chains:
             if chain.name is None:

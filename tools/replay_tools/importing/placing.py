@@ -13,7 +13,7 @@ from replay_tools.record.lines import Format, extended, line_of
 from replay_tools.traces import SIGNALS
 
 from . import marks
-from .steady import ImportedTimeline
+from .steady import ImportedTimeline, Rows
 
 if TYPE_CHECKING:
     from replay_tools.record.pods import Pod
@@ -39,12 +39,12 @@ class Placing:
     def __init__(self, every: int = EVERY, most_pods_at_once: bool = False) -> None:
         self.format: Format = extended()
         self.is_at_once = most_pods_at_once
-        self.timeline = ImportedTimeline(self.format, self.with_rows_of)
+        self.timeline = ImportedTimeline(self.format, self.rows_due, self.with_rows)
         self.every = every
         # which of the probes have their successes in the journal
         self.told_probes: set[str] = set()
         self.has_successes = False
-        self.beside: dict[str, list[tuple[int, str, Any]]] = defaultdict(list)
+        self.beside: Rows = defaultdict(list)
         self.gaps: list[tuple[int, dict[str, int]]] = []
         self.spared: dict[str, bool] = {}
         self.templates: dict[str, bool] = {}
@@ -138,8 +138,7 @@ class Placing:
         """A line with the members that are not the timeline's."""
         if line.startswith(POD_LINE):
             return self.pod_with_members(json.loads(line))
-        found = TICK_AT.match(line)
-        return line if found is None else self.tick_with_members(line, int(found[1]))
+        return self.tick_with_gap(line) if self.gaps else line
 
     def pod_with_members(self, fields: dict[str, Any]) -> str:
         metadata = fields["pod"]["metadata"]
@@ -148,53 +147,32 @@ class Placing:
         guessed = {"guessed": [marks.MANIFEST]} if self.templates.get(key) else {}
         return line_of({**fields, **more, **guessed})
 
-    def tick_with_members(self, line: str, at: int) -> str:
-        """A tick's line; it is read anew only where something was said of a pod."""
-        more: dict[str, Any] = {}
+    def tick_with_gap(self, line: str) -> str:
+        """A tick's line with the gaps before it."""
+        found = TICK_AT.match(line)
+        at = -1 if found is None else int(found[1])
         gaps = [gap for second, gap in self.gaps if second <= at]
-        if gaps:
-            back = sum(gap.get(CLOCK_BACK, 0) for gap in gaps)
-            more["gap"] = {**gaps[-1], "since": gaps[0]["since"], **({CLOCK_BACK: back} if back else {})}
-            self.gaps = [each for each in self.gaps if each[0] > at]
-        due = [key for key, rows in self.beside.items() if any(row[0] <= at for row in rows)]
-        if due:
-            return line_of({**self.with_rows(json.loads(line), due, at), **more})
-        if "gap" in more:
-            return f"{line[:-1]},{shown(more)[1:]}"
-        return line
+        if not gaps:
+            return line
+        back = sum(gap.get(CLOCK_BACK, 0) for gap in gaps)
+        told = {**gaps[-1], "since": gaps[0]["since"], **({CLOCK_BACK: back} if back else {})}
+        self.gaps = [each for each in self.gaps if each[0] > at]
+        return f"{line[:-1]},{shown({'gap': told})[1:]}"
 
-    def with_rows_of(self, entry: dict[str, Any], at: int) -> dict[str, Any]:
-        """A pod's entry of a tick with what was said of it by then."""
-        rows = self.beside.get(entry["pod"])
-        if rows is None or all(row[0] > at for row in rows):
-            return entry
-        self.keep_rows(entry["pod"], at)
-        taken = dict(entry)
-        self.take_rows(taken, [row for row in rows if row[0] <= at])
-        return taken
-
-    def keep_rows(self, key: str, at: int) -> None:
-        """What was said of a pod up to a second is taken."""
-        self.beside[key] = [row for row in self.beside[key] if row[0] > at]
-        if not self.beside[key]:
-            del self.beside[key]
-
-    def with_rows(self, fields: dict[str, Any], due: list[str], at: int) -> dict[str, Any]:
-        """A tick with what was said of pods that have no entry in it."""
-        entries = {each["pod"]: each for each in fields["pods"]}
-        present = {pod.key for pod in self.timeline.present}
+    def rows_due(self, at: int) -> Rows:
+        """What was said of each pod up to a second, which is taken."""
+        due = {key: [row for row in rows if row[0] <= at] for key, rows in self.beside.items()}
+        due = {key: rows for key, rows in due.items() if rows}
         for key in due:
-            rows = self.beside[key]
-            self.keep_rows(key, at)
-            if key in present or key in entries:
-                entry = entries.setdefault(key, {"pod": key, "containers": []})
-                self.take_rows(entry, [row for row in rows if row[0] <= at])
-        return {**fields, "pods": list(entries.values())}
+            self.beside[key] = [row for row in self.beside[key] if row[0] > at]
+            if not self.beside[key]:
+                del self.beside[key]
+        return due
 
     @staticmethod
-    def take_rows(entry: dict[str, Any], rows: list[tuple[int, str, Any]]) -> None:
-        for _, member, value in rows:
-            if member == FAILED:
-                entry[FAILED] = value
-            elif len(entry.setdefault(SAID, [])) < MOST_SAID:
-                entry[SAID].append(value)
+    def with_rows(key: str, entry: Optional[dict[str, Any]], due: Rows) -> dict[str, Any]:
+        """A pod's entry with what was said of it."""
+        taken: dict[str, Any] = dict(entry or {"pod": key, "containers": []})
+        said = [value for _, member, value in due[key] if member == SAID]
+        failed = {FAILED: value for _, member, value in due[key] if member == FAILED}
+        return taken | failed | ({SAID: said[:MOST_SAID]} if said else {})

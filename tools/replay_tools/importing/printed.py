@@ -100,7 +100,7 @@ def of_pod(message: Message) -> Iterator[facts.Fact]:
 
 
 def of_patch(message: Message) -> Iterator[facts.Fact]:
-    found = PATCH.match(message.text)
+    found = PATCH.match(message.text) if "containerID" in message.text else None
     pod = None if found is None else placed_in(found[1])
     if found is None or pod is None:
         return

@@ -2,6 +2,7 @@
 
 from __future__ import annotations
 
+import gc
 import sys
 import tempfile
 import time
@@ -22,6 +23,8 @@ from .writing import Ended, Plain, Writer
 
 MOST_NOTES = 100
 SINCE = "1h"
+# most of what is made lives on for ten minutes of the journal, so cycles are looked for more seldom
+MADE_BETWEEN_LOOKS = 100_000
 
 
 def run(words: Namespace) -> int:
@@ -53,6 +56,7 @@ class Nothing(entry.Fault):
 
 def imported(words: Namespace) -> int:
     """Imports journals; the status."""
+    gc.set_threshold(MADE_BETWEEN_LOOKS)
     shift = zone_of(words.zone)
     if words.node is not None and name_fault(words.node) is not None:
         raise entry.Fault(f"--node takes a node's name, not '{words.node}'")

@@ -1,11 +1,14 @@
-"""The timeline of an import. Most pods of a tick are as they were in the one before, and what it says of these is made
+"""The timeline of an import. Most pods of a tick are as they were in the one before, and the text of these is made
 once."""
 
 from __future__ import annotations
 
 from collections.abc import Callable
+from dataclasses import dataclass
 from typing import Any, Optional, TYPE_CHECKING
 
+from replay_tools.record.formats import shown
+from replay_tools.record.lines import line_of_text
 from replay_tools.record.timeline import Timeline
 
 from .marks import ImportedAsides
@@ -13,53 +16,64 @@ from .marks import ImportedAsides
 if TYPE_CHECKING:
     from replay_tools.record.lines import Format
     from replay_tools.record.pods import Pod
+    from replay_tools.record.timeline import Tick
 
 # what is told once, as a message, is out of an entry when it has been made so often
 STEADY = 3
+NO_PODS, PODS = '"pods":[]', '"pods":[{}]'
+Rows = dict[str, list[tuple[int, str, Any]]]
 
 
+@dataclass
 class Steady:
-    """The entry of a pod, how often it was made of the same, and of what."""
-
-    def __init__(self, of: Any) -> None:
-        self.of = of
-        self.made = 0
-        self.entry: Optional[dict[str, Any]] = None
+    """The entry of a pod of which nothing was placed since, its text, and how often it was made."""
+    entry: Optional[dict[str, Any]] = None
+    text: str = ""
+    made: int = 0
 
 
 class ImportedTimeline(Timeline):
-    """A timeline that has no samples and no Events of pods."""
+    """A timeline that has no samples and no Events of pods. `rows_due` has what else stands in the entries of pods in a
+    tick, by their keys, and `with_rows` an entry with that."""
 
-    def __init__(self, trace_format: Format, completed: Callable[[dict[str, Any], int], dict[str, Any]]) -> None:
+    def __init__(self, trace_format: Format, rows_due: Callable[[int], Rows],
+                 with_rows: Callable[[str, Optional[dict[str, Any]], Rows], dict[str, Any]]) -> None:
         super().__init__(trace_format)
-        # an entry of a second with what stands there that is not the timeline's
-        self.completed = completed
+        self.rows_due = rows_due
+        self.with_rows = with_rows
         self.guesses = self.asides = ImportedAsides()
         # a tick is judged where the journal has a round of the eviction manager
         self.tells_rounds = True
         self.steady: dict[str, Steady] = {}
 
-    def entry(self, pod: Pod, changed: set[tuple[str, str]] | None) -> dict[str, Any] | None:
-        """A pod's entry of the second that is written, which is the one before the next."""
-        entry = self.steady_entry(pod, changed)
-        return None if entry is None else self.completed(entry, int(self.next_second) - 1)
-
-    def steady_entry(self, pod: Pod, changed: set[tuple[str, str]] | None) -> dict[str, Any] | None:
-        """A pod's entry, as in the tick before where all is as it was then."""
-        uid = pod.uid
-        has_result = bool(self.results) and uid in {place[0] for place in self.results}
-        if changed is not None or has_result or uid in self.deleted or uid in self.failed:
+    def lines_of(self, second: int, tick: Tick, is_silent: bool) -> list[str]:
+        """The lines of a second, whose changes make entries anew."""
+        for uid in {*(uid for uid, _ in tick.listings), *tick.waits}:
             self.forget(uid)
-            return super().entry(pod, changed)
-        listings, found = self.listings.get(uid), self.steady.get(uid)
-        of = tuple(listings.items()) if listings else (), self.asides.waits.get(uid)
-        if found is None or found.of != of:
-            found = self.steady[uid] = Steady(of)
+        return super().lines_of(second, tick, is_silent)
+
+    def tick_of(self, second: int, tick: Tick, signals: dict[str, int], changed: set[tuple[str, str]] | None) -> str:
+        """The line of a tick, put together of the texts of entries."""
+        rows = self.rows_due(second)
+        once = {*(place[0] for place in self.results), *self.deleted, *self.failed}
+        texts = []
+        for pod in self.present:
+            found = self.steady.get(pod.uid)
+            is_steady = found is not None and found.made == STEADY and pod.uid not in once and pod.key not in rows
+            texts.append(found.text if is_steady else self.text_of(pod, rows, pod.uid in once))
+        line = self.line_with([], second, tick, signals)
+        return line_of_text(line.replace(NO_PODS, PODS.format(",".join(filter(None, texts))), 1))
+
+    def text_of(self, pod: Pod, rows: Rows, is_once: bool) -> str:
+        """The text of a pod's entry, made anew where something stands in it once; empty where it has none."""
+        found = Steady() if is_once else self.steady.setdefault(pod.uid, Steady())
         if found.made < STEADY:
             found.made += 1
-            found.entry = super().entry(pod, changed)
-            found.of = of[0], self.asides.waits.get(uid)
-        return found.entry
+            found.entry = self.entry(pod, None)
+            found.text = "" if found.entry is None else shown(found.entry)
+        if is_once:
+            self.forget(pod.uid)
+        return shown(self.with_rows(pod.key, found.entry, rows)) if pod.key in rows else found.text
 
     def mark(self, uid: str, name: str, attempt: int, marks: tuple[str, ...]) -> None:
         """Parts of an instance that were guessed, beside those that were known to be."""

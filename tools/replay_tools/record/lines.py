@@ -48,7 +48,11 @@ DEFAULT = STANDARD
 
 
 def line_of(fields: dict[str, Any]) -> str:
-    text = shown(fields)
+    return line_of_text(shown(fields))
+
+
+def line_of_text(text: str) -> str:
+    """A line, which is not longer than the formats take."""
     if len(text.encode()) > LONGEST_LINE:
         raise TooLong("a line would be longer than the formats take")
     return text

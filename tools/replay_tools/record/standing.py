@@ -234,9 +234,14 @@ class Pod:
         self.failed: str | None = None
         self.waiting: dict[str, Any] = {}
         self.decisions: list[Any] = []
+        # what the newest tick has of it
+        self.newest: Any = None
 
     def take(self, entry: Any, second: int) -> None:
-        """What a tick has of it."""
+        """What a tick has of it. The same again changes nothing, but for results of probes."""
+        if entry == self.newest and not entry.get("probes"):
+            return
+        self.newest = entry
         listed = {each["name"]: each for each in entry.get("containers") or []}
         for name, container in self.containers.items():
             container.show(listed.get(name), second)
@@ -327,6 +332,8 @@ class Standing:
     def assume(self, probed: dict[str, dict[str, tuple[None, bool, bool]]]) -> bool:
         """Takes what the statuses of the pods say at the first tick, {key: {container: (restarts, started, ready)}};
         whether that is more than the tick shows."""
+        for pod in self.pods.values():
+            pod.newest = None
         return any([container.assume(*probed[key][name], self.at) for key, pod in self.pods.items()
                     for name, container in pod.containers.items() if name in probed.get(key, {})])
 

@@ -349,18 +349,24 @@ class Timeline:
         self.signals = without_nones({**self.signals, **tick.signals})
         signals = self.shown_signals(second, tick)
         if tick.is_wanted:
-            changed = set(tick.listings) if is_silent else None
-            entries = [self.entry(pod, changed) for pod in self.present]
-            entries = [entry for entry in entries if entry is not None]
-            is_judged = tick.is_judged or not self.tells_rounds
-            node_ready = None if self.ready is None else self.ready.told()
-            lines.append(tick_line(second, entries, signals, told(tick.decisions, tick.ends), is_judged, node_ready))
+            lines.append(self.tick_of(second, tick, signals, set(tick.listings) if is_silent else None))
             self.results, self.usages, self.failed, self.deleted, self.unsampled = {}, {}, {}, {}, set()
             self.said = {}
         if self.format.says_gone:
             lines += [gone_line(pod) for pod in tick.departures]
             self.depart(tick.departures)
         return lines
+
+    def tick_of(self, second: int, tick: Tick, signals: dict[str, int], changed: set[tuple[str, str]] | None) -> str:
+        """The line of a tick with all that stands at it."""
+        entries = [entry for entry in (self.entry(pod, changed) for pod in self.present) if entry is not None]
+        return self.line_with(entries, second, tick, signals)
+
+    def line_with(self, entries: list[dict[str, Any]], second: int, tick: Tick, signals: dict[str, int]) -> str:
+        """The line of a tick with these entries of pods."""
+        is_judged = tick.is_judged or not self.tells_rounds
+        node_ready = None if self.ready is None else self.ready.told()
+        return tick_line(second, entries, signals, told(tick.decisions, tick.ends), is_judged, node_ready)
 
     def shown_signals(self, second: int, tick: Tick) -> dict[str, int]:
         """The signals of a tick, as last sampled. What was left before the kubelet evicted a pod is not what is left
