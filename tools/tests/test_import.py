@@ -283,6 +283,76 @@ def test_import_of_a_journal_with_a_hole():
     expect("import of a journal that begins anew", (len(traces), "numbers" in said), (2, True))
 
 
+def later(text, place, seconds):
+    """A log whose lines are so much later from a place on."""
+    at = text.index(place)
+    made = [text[:at]]
+    for line, second, fraction, *_ in lines_of(text[at:]):
+        stamp_of = time.strftime("%m%d %H:%M:%S", time.gmtime(second + seconds))
+        made.append(f"{line[0]}{stamp_of}.{fraction}{HEADER.match(line)[0][21:]}{line[HEADER.match(line).end():]}\n")
+    return "".join(made)
+
+
+def gap_in(trace):
+    """The tick behind the gap of a trace, the moment of the tick before it, and both traces of a folder."""
+    ticks = ticks_of(map(json.loads, trace.splitlines()))
+    place = next((place for place, tick in enumerate(ticks) if "gap" in tick), None)
+    return (None, None) if place is None else (ticks[place], ticks[place - 1]["at"])
+
+
+def test_import_of_the_kubelets_journal_with_a_hole():
+    """A kubelet that tells of its rounds and says nothing for a minute, or whose container starts again without a line
+    of its exit: the trace ends there. Below -v=3 a kubelet may be silent for long."""
+    text = read(f"{FOLDER}/keyed.log")
+    rounds = [f'I0301 10:{minute:02}:{second}0.500000    2211 eviction_manager.go:2] "Eviction manager: synchronize '
+              'housekeeping"\n' for minute in (0, 1) for second in range(6)]
+    told = "".join(sorted(text.splitlines(keepends=True) + rounds, key=lambda line: line[1:]))
+    given = later(told, "I0301 10:00:54", 300)
+    at = given.index("I0301 10:05:54")
+    given = given[:at] + "".join(line for line in given[at:].splitlines(keepends=True)
+                                 if "shop/hog" not in line and "bbbb0" not in line)
+    status, trace, said = imported(given=given)
+    tick, before = gap_in(trace)
+    expect("import of a silent kubelet", (status, checked(trace), tick and tick["gap"], before), (
+        0, 0, {"since": 1772359250, "until": 1772359554}, 1772359250))
+    expect("import of a silent kubelet: what is said", [line for line in said.split("\n") if "behind a gap" in line
+                                                        or "lines are missing" in line], [
+        "import: 1 time without a line of the kubelet's, which would have said something there: lines are missing",
+        "import: 1 pod of which no line behind a gap speaks (shop/hog): told as before it"])
+    listed = {entry["pod"]: [(each["attempt"], each.get("guessed")) for each in entry["containers"]]
+              for entry in tick["pods"]}
+    expect("import of a silent kubelet: a pod of which no line speaks", listed, {
+        "shop/web": [(2, None)], "shop/hog": [(0, ["state"])]})
+    traces, _ = traces_of(given)
+    expect("import of a silent kubelet: its traces", (len(traces), "follows" in traces[1][0]), (2, False))
+    expect("import of a kubelet that tells of no round", gap_in(imported(given=later(text, "I0301 10:00:54", 300))[1]),
+           (None, None))
+
+
+def test_import_of_an_exit_in_a_hole():
+    """An exit that no line has was in the longest time without one; so was the end of a pod whose name another one
+    has."""
+    text = read(f"{FOLDER}/keyed.log")
+    lost = "".join(line for line in text.splitlines(keepends=True) if "10:00:40" not in line)
+    status, trace, _ = imported(given=later(lost, "I0301 10:00:50", 300))
+    tick, before = gap_in(trace)
+    expect("import of an exit in a hole", (status, checked(trace), tick and tick["gap"], before), (
+        0, 0, {"since": 1772359235, "until": 1772359550}, 1772359235))
+    [web] = [entry["containers"] for entry in tick["pods"] if entry["pod"] == "shop/web"]
+    expect("import of an exit in a hole: the exit", [(each["attempt"], each["ended"]) for each in web], [
+        (2, {"attempt": 1, "exitCode": 137, "guessed": ["exitCode"]})])
+    at = text.index("I0301 10:00:50")
+    other = text[at:].replace("11111111-", "99999999-").replace("aaaa0", "cccc0")
+    status, trace, _ = imported(given=later(text[:at] + other, "I0301 10:00:50", 300))
+    tick, before = gap_in(trace)
+    lines = list(map(json.loads, trace.splitlines()))
+    expect("import of a pod that went in a hole", (status, checked(trace), tick and tick["gap"]["until"], before), (
+        0, 0, 1772359550, 1772359240))
+    expect("import of a pod that went in a hole: its lines", [
+        line.get("uid", "gone")[:4] for line in lines if "shop/web" in (line.get("pod"), line["kind"] == "pod" and
+        "/".join(line["pod"]["metadata"][name] for name in ("namespace", "name")))], ["1111", "gone", "9999", "gone"])
+
+
 def test_import_of_rounds():
     """Each round of the eviction manager is one judged tick, of the moment of its first observation; a round that finds
     nothing is none, though the second in which it begins has a tick."""

@@ -99,9 +99,10 @@ class Importer:
                 self.placing.written_at = int(fact.at)
                 self.settled_at = fact.at
             self.kinds[type(fact).__name__] += 1
+            self.note_silence(fact)
             self.handlers.get(type(fact), self.ignore)(fact)
             if self.now - self.settled_at >= SETTLE_SECONDS:
-                yield from self.settle(self.now - self.hold)
+                yield from self.settle(self.placing.silences.open_from(self.now - self.hold))
         if self.begun is not None:
             self.placing.timeline.place_look(self.now)
             yield from self.settle(self.now, True)
@@ -117,7 +118,10 @@ class Importer:
         if not self.has_met_running:
             self.meet_running()
         for life in self.lives:
+            life.resolve(self.placing)
+        for life in self.lives:
             life.settle(horizon, self.placing)
+        self.placing.doubt(self.lives, float("inf") if is_end else horizon - LATE_SECONDS)
         yield from self.placing.due(float("inf") if is_end else horizon - LATE_SECONDS)
         self.forget(horizon)
 
@@ -151,8 +155,18 @@ class Importer:
             self.of_id = {identity: life for identity, life in self.of_id.items() if id(life) not in gone}
         for life in self.lives:
             life.forget(horizon - self.hold)
+        self.placing.silences.forget(horizon - self.hold)
         while len(self.loose) > MOST_LOOSE:
             del self.loose[next(iter(self.loose))]
+
+    def note_silence(self, fact: facts.Fact) -> None:
+        """A time before a fact in which the kubelet said nothing is a hole where its rounds say so, and no line that it
+        was started anew."""
+        silence = self.placing.silences.take(fact)
+        is_anew = isinstance(fact, facts.Begun) or (isinstance(fact, facts.Process)
+                                                    and self.process not in (None, fact.process))
+        if silence is not None and silence.is_hole and not is_anew:
+            self.placing.hole(silence.since, silence.until)
 
     # --- pods ---
 
@@ -169,7 +183,13 @@ class Importer:
         elif found is not None and found.uid is None and pod.uid is not None:
             found.uid = pod.uid
             self.by_uid[pod.uid] = found
-        return found
+        return self.heard(found)
+
+    def heard(self, life: Optional[Life]) -> Optional[Life]:
+        """A pod of which a line speaks."""
+        if life is not None:
+            life.heard_at = self.now
+        return life
 
     @staticmethod
     def is_another(life: Life, pod: facts.Reference, is_new: bool) -> bool:
@@ -215,12 +235,12 @@ class Importer:
     def known_life(self, pod: facts.Reference) -> Optional[Life]:
         found = self.by_uid.get(pod.uid) if pod.uid is not None else None
         found = self.by_key.get(pod.key) if found is None and pod.key is not None else found
-        return None if found is not None and self.is_another(found, pod, False) else found
+        return None if found is not None and self.is_another(found, pod, False) else self.heard(found)
 
     # --- instances ---
 
     def on_turned(self, fact: facts.Turned) -> None:
-        life = self.of_id.get(fact.id) or self.life_of(fact.pod, fact.at)
+        life = self.heard(self.of_id.get(fact.id)) or self.life_of(fact.pod, fact.at)
         if life is None:
             return
         self.own(fact.id, life)
@@ -239,7 +259,7 @@ class Importer:
                 self.tell(life, known)
 
     def on_known(self, fact: facts.Known) -> None:
-        life = self.of_id.get(fact.id)
+        life = self.heard(self.of_id.get(fact.id))
         if life is None and (fact.pod.key is not None or fact.pod.uid in self.by_uid):
             life = self.life_of(fact.pod, fact.at)
         if life is None:
@@ -260,7 +280,7 @@ class Importer:
             life.instances.note_name(fact.container)
 
     def on_killing(self, fact: facts.Killing) -> None:
-        life = self.of_id.get(fact.id)
+        life = self.heard(self.of_id.get(fact.id))
         if life is None:
             return
         instance = life.instances.of(fact.id)

@@ -45,6 +45,8 @@ class Instance:
     killing: Optional[facts.Killing] = None
     written: Optional[int] = None
     has_ended: bool = False
+    # whether the kubelet's look found it
+    is_looked: bool = False
 
     @property
     def begin(self) -> Optional[float]:
@@ -130,6 +132,18 @@ class Instances:
         for chain in self.chains:
             chain.instances = [each for each in chain.instances if each.id in self.by_id] or [chain.newest]
         self.hints.forget(before)
+
+    def lost(self) -> list[tuple[Instance, Instance]]:
+        """The instances of which no line says that they exited, each with the next one of its container: the kubelet's
+        looks found both."""
+        return [(each, after) for chain in self.chains for each, after in zip(chain.instances, chain.instances[1:])
+                if each.end is None and each.is_looked and after.is_looked]
+
+    def heard(self, instance: Instance, before: float) -> float:
+        """When a line said last that an instance ran, before a moment."""
+        probed = [at for at, name in self.hints.probed if name == instance.name and at < before]
+        killed = [] if instance.killing is None else [instance.killing.at]
+        return max([instance.seen or 0.0, *probed, *killed])
 
     def complete(self, added_at: float) -> None:
         """Instances that no look found, and of which a status says when they started, ran all the same: from then on,

@@ -77,6 +77,8 @@ class Life:
         self.removed_at: Optional[float] = None
         self.cleaned_at: Optional[float] = None
         self.replaced_at: Optional[float] = None
+        # when a line spoke of it last
+        self.heard_at = at
         self.decision: Optional[Decision] = None
         self.decided_since = 0.0
         self.is_decided = False
@@ -95,6 +97,7 @@ class Life:
     def turn(self, fact: facts.Turned, is_met: bool) -> None:
         """A start or an exit, which may be told more than once: the first counts, and the runtime's is exact."""
         instance = self.instances.of(fact.id)
+        instance.is_looked = instance.is_looked or not fact.is_exact
         if fact.what == "started":
             if fact.is_exact:
                 instance.started = fact.at if instance.started is None else instance.started
@@ -124,7 +127,6 @@ class Life:
         """Places all that happened up to a moment."""
         if self.is_over or self.is_refused or self.added_at > horizon:
             return
-        self.instances.resolve(self.pod, self.added_at)
         if self.arrived is None and not self.arrive(placing):
             return
         leaves_at = self.leaves_at()
@@ -135,6 +137,20 @@ class Life:
         self.place_silent(None, until, placing)
         self.decide(horizon, placing)
         self.leave(horizon, placing)
+
+    def resolve(self, placing: Placing) -> None:
+        """Finds the containers of its instances, and ends what ended in a hole of the journal: an instance behind which
+        the next one started, and the pod itself where another one has its name, without a line that says so."""
+        if self.is_over or self.is_refused:
+            return
+        self.instances.resolve(self.pod, self.added_at)
+        for instance, after in self.instances.lost():
+            start = after.seen or 0.0
+            instance.gone = placing.hole_between(self.instances.heard(instance, start), start)
+        is_told = self.decision is not None or any(at is not None for at in (
+            self.deleted_at, self.removed_at, self.cleaned_at))
+        if self.replaced_at is not None and not is_told:
+            self.removed_at = placing.hole_between(self.heard_at, self.replaced_at)
 
     def arrive(self, placing: Placing) -> bool:
         """Its line, with a manifest, or with the containers that lines name where there is none."""
@@ -288,7 +304,8 @@ class Life:
         for (container, probe), probing in self.probings.items():
             if name in (None, container) and placing.is_silent(probe):
                 self.set_phase(container, probe, probing)
-                self.place_results(container, probing.silent(until - probing.period / 2), placing)
+                found = probing.silent(until - probing.period / 2, placing.timeline.gaps)
+                self.place_results(container, found, placing)
 
     def set_phase(self, container: str, probe: str, probing: Probing) -> None:
         """A probe comes at a period of its own, which the next line that it has shows too."""

@@ -5,8 +5,16 @@ from __future__ import annotations
 from typing import Any
 
 from replay_tools.record.asides import Asides
+from replay_tools.record.runtime import RUNNING
 
-CODE, MOMENT, CONTAINER, MANIFEST = "exitCode", "moment", "container", "manifest"
+CODE, MOMENT, CONTAINER, MANIFEST, STATE = "exitCode", "moment", "container", "manifest", "state"
+
+
+def doubted(listing: dict[str, Any]) -> dict[str, Any]:
+    """A listing behind a gap of which no line there speaks: what ran before is said to run, and marked."""
+    if listing["state"] != RUNNING:
+        return listing
+    return {**listing, "guessed": [*listing.get("guessed", ()), STATE]}
 
 
 def is_code_known(listing: dict[str, Any]) -> bool:

@@ -13,6 +13,7 @@ from replay_tools.record.lines import Format, extended, line_of
 from replay_tools.traces import SIGNALS
 
 from . import marks
+from .silences import Silences
 from .steady import ImportedTimeline, Rows
 
 if TYPE_CHECKING:
@@ -24,6 +25,8 @@ if TYPE_CHECKING:
 EVERY = 10
 # the seconds behind one in which something may still be placed
 LATE_SECONDS = 60
+# what is counted: holes that the journal of the kubelet alone shows, and pods of which no line behind a gap speaks
+HOLES, DOUBTED = "holes", "pods in doubt"
 # a member of a pod's entry: what the kubelet said
 SAID, FAILED = "said", "failed"
 # of a gap: by how many seconds the clock went back there
@@ -46,6 +49,9 @@ class Placing:
         self.has_successes = False
         self.beside: Rows = defaultdict(list)
         self.gaps: list[tuple[int, dict[str, int]]] = []
+        # the ends of gaps of which it is not settled which pods are there behind them
+        self.behind: list[float] = []
+        self.silences = Silences()
         self.spared: dict[str, bool] = {}
         self.templates: dict[str, bool] = {}
         self.gone_at: dict[str, int] = {}
@@ -108,9 +114,37 @@ class Placing:
 
     def gap(self, since: float, until: float, clock_back: int = 0) -> None:
         """Nothing is known of the time between; a tick stands at its end. A clock may have gone back there."""
+        self.silences.tell(since, until)
+        self.timeline.gaps.append((int(since), int(until)))
         self.timeline.place_look(until)
         turned = {CLOCK_BACK: clock_back} if clock_back else {}
         self.gaps.append((int(until), {"since": int(since), "until": int(until), **turned}))
+        self.behind.append(until)
+
+    def hole(self, since: float, until: float) -> None:
+        """Lines of the kubelet are missing there, which nothing told before."""
+        if not self.silences.is_told(since, until):
+            self.count(HOLES)
+            self.gap(since, until)
+
+    def hole_between(self, since: float, until: float) -> Optional[float]:
+        """The end of the hole in which a line between two moments was lost; None where no time between them is without
+        lines, or where what was there is written."""
+        found = self.silences.between(since, until)
+        if found is None or found.until < self.timeline.next_second:
+            return None
+        self.hole(found.since, found.until)
+        return found.until
+
+    def doubt(self, lives: list[Life], before: float) -> None:
+        """Behind gaps that end before a moment: the instances of pods of which no line there speaks are as they were
+        before, which is marked."""
+        for until in [each for each in self.behind if each < before]:
+            self.behind.remove(until)
+            for life in lives:
+                if life.arrived is not None and life.arrived < until and life.heard_at < until:
+                    self.beside[life.key].append((int(until), marks.STATE, None))
+                    self.count(DOUBTED, life.key)
 
     # --- what is written ---
 
@@ -173,6 +207,8 @@ class Placing:
     def with_rows(key: str, entry: Optional[dict[str, Any]], due: Rows) -> dict[str, Any]:
         """A pod's entry with what was said of it."""
         taken: dict[str, Any] = dict(entry or {"pod": key, "containers": []})
+        if any(member == marks.STATE for _, member, _ in due[key]):
+            taken["containers"] = [marks.doubted(listing) for listing in taken["containers"]]
         said = [value for _, member, value in due[key] if member == SAID]
         failed = {FAILED: value for _, member, value in due[key] if member == FAILED}
         return taken | failed | ({SAID: said[:MOST_SAID]} if said else {})

@@ -3,7 +3,7 @@ without a line has succeeded. Of these successes those are made that change some
 
 from __future__ import annotations
 
-from collections.abc import Iterator
+from collections.abc import Iterator, Sequence
 from typing import Optional
 
 from replay_tools.record.probes import Result
@@ -51,9 +51,14 @@ class Probing:
         self.successes += 1
         return self.successes <= self.wanted
 
-    def silent(self, until: float) -> Iterator[Result]:
-        """The successes without a line that were due by a moment, up to those that are wanted."""
+    def silent(self, until: float, gaps: Sequence[tuple[int, int]]) -> Iterator[Result]:
+        """The successes without a line that were due by a moment, up to those that are wanted: none in a gap, of which
+        no line is known."""
         while self.due is not None and self.due <= until and self.successes < self.wanted:
+            behind = next((end for since, end in gaps if since < self.due < end), None)
+            if behind is not None:
+                self.due = self.first_behind(behind)
+                continue
             self.successes += 1
             yield Result(self.due, self.probe, SUCCESS)
             self.due += self.period

@@ -45,11 +45,19 @@ class ImportedTimeline(Timeline):
         # a tick is judged where the journal has a round of the eviction manager
         self.tells_rounds = True
         self.steady: dict[str, Steady] = {}
+        # times of which nothing is known: the seconds between which no tick stands
+        self.gaps: list[tuple[int, int]] = []
+
+    def second_of(self, moment: float, *after: Any) -> int:
+        """The second in which something stands: what happened in a gap stands at its end."""
+        second = super().second_of(moment, *after)
+        return next((until for since, until in self.gaps if since < second < until), second)
 
     def lines_of(self, second: int, tick: Tick, is_silent: bool) -> list[str]:
         """The lines of a second, whose changes make entries anew."""
         for uid in {*(uid for uid, _ in tick.listings), *tick.waits}:
             self.forget(uid)
+        self.gaps = [gap for gap in self.gaps if gap[1] > second]
         return super().lines_of(second, tick, is_silent)
 
     def tick_of(self, second: int, tick: Tick, signals: dict[str, int], changed: set[tuple[str, str]] | None) -> str:

@@ -10,6 +10,8 @@ from typing import Any, TYPE_CHECKING
 from replay_tools import entry
 from replay_tools.traces import SIGNALS
 
+from .placing import DOUBTED, HOLES
+
 if TYPE_CHECKING:
     from .importer import Importer
     from .journals import Counts
@@ -69,10 +71,25 @@ def lacking(importer: Importer, kinds: Counter[str], placed: Counter[str]) -> li
                         ("containers that no manifest has", "they are left out"),
                         ("pods left out", "a trace has at most 256 at once")):
         if placed[what]:
-            names = sorted(importer.placing.named[what])
-            more = ", .." if placed[what] > NAMED else ""
-            said.append(f"{placed[what]} {what} ({', '.join(names[:NAMED])}{more}): {means}")
-    said.append("no journal has pods' use of the node: the rules evict nobody")
+            said.append(f"{placed[what]} {what} ({names_of(importer, what)}): {means}")
+    return said + of_holes(importer, placed) + ["no journal has pods' use of the node: the rules evict nobody"]
+
+
+def names_of(importer: Importer, what: str) -> str:
+    """The first names of what was counted."""
+    more = ", .." if importer.placing.counts[what] > NAMED else ""
+    return ", ".join(sorted(importer.placing.named[what])[:NAMED]) + more
+
+
+def of_holes(importer: Importer, placed: Counter[str]) -> list[str]:
+    """What the journal of the kubelet alone shows of lines that it lacks, and what is not known behind gaps."""
+    said = []
+    if placed[HOLES]:
+        said.append(f"{entry.counted(placed[HOLES], 'time')} without a line of the kubelet's, which would have said "
+                    "something there: lines are missing")
+    if placed[DOUBTED]:
+        said.append(f"{entry.counted(placed[DOUBTED], 'pod')} of which no line behind a gap speaks "
+                    f"({names_of(importer, DOUBTED)}): told as before it")
     return said
 
 
