@@ -229,6 +229,50 @@ def test_import_of_a_clock_that_went_back():
         "I0301 10:00:54", "I0301 10:00:30"))[1], False)
 
 
+def imported_of(*texts):
+    """What is made of several journals: one trace, and traces in a folder."""
+    with tempfile.TemporaryDirectory() as folder:
+        words = []
+        for number, text in enumerate(texts):
+            words += ["--journal", f"{folder}/{number}"]
+            with open(f"{folder}/{number}", "w", encoding="utf-8") as file:
+                file.write(text)
+        alone = imported(*words)
+        traces, _ = traces_of("", *words, "--each", "1d")
+        return alone, traces
+
+
+def test_import_of_two_journals_whose_clock_went_back():
+    """The kubelet and the runtime show it by lines of other moments, and it is one clock. Where each of two journals,
+    one behind the other, has a turn of its own, there are two."""
+    text = read(f"{FOLDER}/keyed.log")
+    at = text.index("I0301 10:00:54")
+    kubelet = text[:at] + text[at:].replace("I0301 10:", "I0301 09:")
+    ends = r'id:\"aaaa000000a2\" pid:73 exit_status:0 exited_at:{seconds:1772355681 nanos:850000000}"'
+    event = r'time="2026-03-01T09:01:21.900Z" level=info msg="received exit event container_id:\"aaaa000000a2\" '
+    runtime = (read(f"{FOLDER}/containerd.log") + event + ends + "\n").replace(
+        "aaaa0000f0f0", f"aaaa{56 * '0'}f0f0").replace("aaaa000000a", f"aaaa{58 * '0'}a")
+    for texts in ((kubelet, runtime), (runtime, kubelet)):
+        (status, trace, said), traces = imported_of(*texts)
+        tick, _ = gap_in(trace)
+        expect("import of two journals of one clock", (status, tick and tick["gap"], "1 time the clock went" in said), (
+            0, {"since": 1772359250, "until": 1772359251, "clockBack": 3597}, True))
+        ticks = list(map(ticks_of, traces))
+        expect("import of two journals of one clock: their traces", [(each[0]["at"], each[-1]["at"]) for each in ticks],
+               [(1772355654, 1772355683), (1772359200, 1772359250)])
+        [exited] = [row for row in listings_of("\n".join(map(json.dumps, traces[0]))) if row[3:5] == (2, "EXITED")]
+        expect("import of two journals of one clock: an exact moment", exited[0], 1772355681)
+    other = kubelet[kubelet.index("I0301 10:00:05"):].replace("0301 ", "0302 ").replace("aaaa0", "dddd0").replace(
+        "bbbb0", "eeee0").replace("11111111-", "33333333-").replace("22222222-", "44444444-")
+    (status, trace, said), traces = imported_of(kubelet, other)
+    begins = sorted(lines[place]["at"] for lines in map(ticks_of, traces) for place in (0, -1))
+    day = 86400
+    expect("import of two journals, each with a turn of its own", (status, checked(trace), "2 times the clock" in said,
+                                                                   begins[0], begins[-1]), (
+        0, 0, True, 1772355654, 1772359250 + day))
+    expect("import of two journals, each with a turn of its own: behind the second", 1772355654 + day in begins, True)
+
+
 def records(text, hole, has_others, sequence="a1", step=1):
     """The records of a journal whose lines have numbers, of which one is missing before a line; behind each may be one
     of another program."""

@@ -45,8 +45,10 @@ class Missing(Fact):
 
 @dataclass
 class TurnedBack(Fact):
-    """The node's clock went back by so many seconds. Moments behind that are so much later than it says."""
+    """The node's clock went back by so many seconds from a moment. Moments behind that are so much later than it
+    says."""
     seconds: int
+    since: float = 0.0
 
 
 @dataclass

@@ -16,7 +16,7 @@ from . import facts
 from .lives import Life
 from .manifests import Manifests
 from .outputs import output_kept
-from .placing import LATE_SECONDS, Placing
+from .placing import LATE_SECONDS, TURNS, Placing
 
 # what is placed waits so long for what later lines say of it
 HOLD_SECONDS = 600
@@ -361,6 +361,7 @@ class Importer:
 
     def on_turned_back(self, fact: facts.TurnedBack) -> None:
         self.placing.gap(self.before, fact.at, fact.seconds)
+        self.placing.count(TURNS)
         self.say(f"{int(fact.at) - fact.seconds}: the clock went back by {fact.seconds} s")
 
     def on_observed(self, fact: facts.Observed) -> None:

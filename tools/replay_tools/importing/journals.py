@@ -83,7 +83,6 @@ class Counts:
     suppressed: int = 0
     back: int = 0
     holes: int = 0
-    turns: int = 0
     faults: list = field(default_factory=list)
 
 

@@ -3,15 +3,15 @@
 from __future__ import annotations
 
 from collections.abc import Callable, Iterator
-from dataclasses import replace
 from typing import Any
 
 from replay_tools import entry
 
 from . import facts, keyed, printed
-from .journals import Counts, Hole, Journal, Line, Skipping, merged
+from .journals import Counts, Hole, Journal, Line, Skipping
 from .messages import Message, messages_of
 from .moments import Klog
+from .ordering import in_order
 from .runtimes import Runtime, moment_in
 
 WANTED = {word.encode() for word in (*printed.FORMS, *(f'"{word}' for word in keyed.FIRST_WORDS))}
@@ -103,17 +103,10 @@ class Processes:
         return not node or self.node is None or node == self.node or node.partition(".")[0] == self.node
 
 
-class Clock:
-    """How much later moments are taken behind each time at which a node's clock went back."""
-
-    def __init__(self) -> None:
-        self.shifts: list[int] = []
-
-
 class Reader:
     """Reads one journal."""
 
-    def __init__(self, journal: Journal, klog: Klog, processes: Processes, clock: Clock) -> None:
+    def __init__(self, journal: Journal, klog: Klog, processes: Processes) -> None:
         self.journal = journal
         self.klog = klog
         self.processes = processes
@@ -121,18 +114,15 @@ class Reader:
         self.process = -1
         self.node = ""
         self.now = 0.0
-        # by how much later moments are taken since the clock went back, from which moment on, and how often it did
-        self.clock = clock
-        self.shift = 0
-        self.turned_at = 0.0
-        self.turns = 0
+        # the newest moment since the clock went back, and how often it did
         self.newest = 0.0
+        self.turns = 0
         # whether moments are klog's own
         self.uses_klog = False
 
     def all_facts(self) -> Iterator[facts.Fact]:
-        """Its facts. A line whose moment is a little before that of the one before it is put behind that one; behind a
-        clock that went back all moments are as if it had not."""
+        """Its facts by the moments that it has. A line whose moment is a little before that of the one before it is put
+        behind that one; where the clock went back that is a fact, and moments are those that it says from there on."""
         for item in messages_of(self.journal.lines(self.klog, SKIPPING), self.klog):
             if item.node and not self.processes.is_ours(item.node):
                 continue
@@ -142,43 +132,13 @@ class Reader:
                 moment, read = item.moment, self.of_line
             else:
                 moment = item.at
-            if moment is not None and moment + self.shift < self.newest:
-                if moment + self.shift < self.newest - BACK_SECONDS and self.turns < MOST_TURNS:
-                    yield from self.turn_clock(moment)
+            if moment is not None and moment < self.newest - BACK_SECONDS and self.turns < MOST_TURNS:
+                self.turns += 1
+                since, self.newest, self.now = self.newest, moment, moment
+                yield facts.TurnedBack(moment, 0, since)
             elif moment is not None:
-                self.newest = moment + self.shift
-            yield from read(item) if self.shift == 0 else self.shifted(item, read)
-
-    def turn_clock(self, moment: float) -> Iterator[facts.Fact]:
-        """The clock went back to a moment. From here on that is at the second behind the newest one, or where another
-        journal of the node put it, which told it then."""
-        self.turns += 1
-        self.turned_at = moment
-        known = self.clock.shifts[self.turns - 1] if self.turns <= len(self.clock.shifts) else 0
-        if known > self.shift and moment + known >= self.newest - BACK_SECONDS:
-            self.shift = known
-            return
-        before, self.shift = self.shift, int(self.newest) + 1 - int(moment)
-        self.clock.shifts.append(self.shift)
-        self.journal.counts.turns += 1
-        yield facts.TurnedBack(moment + self.shift, self.shift - before)
-
-    def shifted(self, item: Any, read: Callable[[Any], Iterator[facts.Fact]]) -> Iterator[facts.Fact]:
-        """The facts of a message or a line, with all moments as if the clock had not gone back; an exact one of before
-        that is so already."""
-        place = "at" if isinstance(item, Message) else "moment"
-        moment = getattr(item, place)
-        if moment is not None:
-            setattr(item, place, moment + self.shift)
-        for fact in read(item):
-            if isinstance(fact, facts.Known):
-                started, finished = (self.exact(each, fact.at) for each in (fact.started, fact.finished))
-                fact = replace(fact, started=started, finished=finished)
-            yield fact
-
-    def exact(self, moment: float | None, at: float) -> float | None:
-        is_behind = moment is not None and self.turned_at - 1 <= moment <= at - self.shift + 1
-        return moment + self.shift if is_behind else moment
+                self.newest = max(self.newest, moment)
+            yield from read(item)
 
     def of_message(self, message: Message) -> Iterator[facts.Fact]:
         if message.at < self.now:
@@ -220,16 +180,16 @@ class Reader:
 def read_all(journals: list[Journal], klog_of: Callable[[Journal], Klog], node: str | None) -> tuple[
         Iterator[facts.Fact], list[Reader]]:
     """The facts of several journals by their moments."""
-    processes, clock = Processes(node, len(journals)), Clock()
-    readers = [Reader(journal, klog_of(journal), processes, clock) for journal in journals]
-    return merged([reader.all_facts() for reader in readers]), readers
+    processes = Processes(node, len(journals))
+    readers = [Reader(journal, klog_of(journal), processes) for journal in journals]
+    return in_order(readers), readers
 
 
 def all_counts(journals: list[Journal]) -> Counts:
     """What was read of all of them."""
     total: Any = Counts()
     for journal in journals:
-        for name in ("size", "lines", "cut", "foreign", "suppressed", "back", "holes", "turns"):
+        for name in ("size", "lines", "cut", "foreign", "suppressed", "back", "holes"):
             setattr(total, name, getattr(total, name) + getattr(journal.counts, name))
         total.faults += journal.counts.faults
     return total

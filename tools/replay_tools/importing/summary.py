@@ -10,7 +10,7 @@ from typing import Any, TYPE_CHECKING
 from replay_tools import entry
 from replay_tools.traces import SIGNALS
 
-from .placing import DOUBTED, HOLES
+from .placing import DOUBTED, HOLES, TURNS
 
 if TYPE_CHECKING:
     from .importer import Importer
@@ -82,8 +82,11 @@ def names_of(importer: Importer, what: str) -> str:
 
 
 def of_holes(importer: Importer, placed: Counter[str]) -> list[str]:
-    """What the journal of the kubelet alone shows of lines that it lacks, and what is not known behind gaps."""
+    """What the journal of the kubelet alone shows of lines that it lacks, and what its gaps come to."""
     said = []
+    if placed[TURNS]:
+        said.append(f"{entry.counted(placed[TURNS], 'time')} the clock went back: with --into the next trace has the "
+                    "moments that it said from there on; in a trace alone they go on")
     if placed[HOLES]:
         said.append(f"{entry.counted(placed[HOLES], 'time')} without a line of the kubelet's, which would have said "
                     "something there: lines are missing")
@@ -99,7 +102,5 @@ def of_counts(counts: Counts) -> list[str]:
             (counts.foreign, "line", "not of the form of the journal, and left out"),
             (counts.suppressed, "place", "where journald left out messages"),
             (counts.holes, "place", "where numbers of the journal's lines are missing"),
-            (counts.turns, "time", "the clock went back: with --into the next trace has the moments that it said from "
-             "there on; in a trace alone they go on"),
             (counts.back, "line", "whose moment is behind that of the one before, which it is given"))
     return [f"{entry.counted(count, what)} {means}" for count, what, means in told if count] + counts.faults

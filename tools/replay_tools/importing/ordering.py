@@ -1,0 +1,88 @@
+"""Facts of several journals in the order of their moments, by one clock: that of the node, which may go back. Each
+journal shows that where its next line comes, so those that have shown it wait for the others."""
+
+from __future__ import annotations
+
+from collections.abc import Iterator
+from typing import TYPE_CHECKING
+
+from . import facts
+
+if TYPE_CHECKING:
+    from .reading import Reader
+
+# a journal that waits has waited for all that was said before the clock went back, when the others are so far beyond
+BEYOND_SECONDS = 60
+
+
+class Source:
+    """A journal with its next fact, and by how much later its moments are taken than its clock says."""
+
+    def __init__(self, reader: Reader) -> None:
+        self.reader = reader
+        self.found = reader.all_facts()
+        self.shift = 0
+        # the moment to which the clock went back last, as it says
+        self.turned_at = 0.0
+        self.head: facts.Fact | None = None
+        self.advance()
+
+    def advance(self) -> None:
+        fact = next(self.found, None)
+        self.head = fact if fact is None or self.shift == 0 else self.shifted(fact, self.shift)
+
+    def turning(self) -> facts.TurnedBack | None:
+        """Where its clock went back just now, that."""
+        return self.head if isinstance(self.head, facts.TurnedBack) else None
+
+    def turn(self, seconds: int, moment: float) -> None:
+        """The clock went back by so many seconds, to a moment as the journals had it before."""
+        self.turned_at = moment - self.shift
+        self.shift += seconds
+        if self.turning() is not None:
+            self.advance()
+        elif self.head is not None:
+            self.head = self.shifted(self.head, seconds)
+
+    def shifted(self, fact: facts.Fact, seconds: int) -> facts.Fact:
+        """A fact whose moment is so much later; an exact moment of before the clock went back is so already."""
+        if isinstance(fact, facts.Known):
+            said = fact.at
+            fact.started = self.exact(fact.started, said, seconds)
+            fact.finished = self.exact(fact.finished, said, seconds)
+        if isinstance(fact, facts.TurnedBack):
+            fact.since += seconds
+        fact.at += seconds
+        return fact
+
+    def exact(self, moment: float | None, said: float, seconds: int) -> float | None:
+        is_behind = moment is not None and self.turned_at - 1 <= moment <= said + 1
+        return moment + seconds if is_behind else moment
+
+
+def in_order(readers: list[Reader]) -> Iterator[facts.Fact]:
+    """The facts of journals."""
+    sources = [Source(reader) for reader in readers]
+    while sources := [each for each in sources if each.head is not None]:
+        waiting = [turning for each in sources if (turning := each.turning()) is not None]
+        going = [each for each in sources if each.turning() is None] if waiting else sources
+        first = min(going, key=moment_of_next, default=None)
+        until = max((each.since for each in waiting), default=0.0)
+        if first is None or (waiting and moment_of_next(first) > until + BEYOND_SECONDS):
+            yield turned(sources, waiting)
+        elif first.head is not None:
+            yield first.head
+            first.advance()
+
+
+def moment_of_next(source: Source) -> float:
+    return 0.0 if source.head is None else source.head.at
+
+
+def turned(sources: list[Source], waiting: list[facts.TurnedBack]) -> facts.TurnedBack:
+    """The clock went back in journals: from there on it is as if all of them were behind the newest of its moments."""
+    moment = min(each.at for each in waiting)
+    seconds = int(max(each.since for each in waiting)) + 1 - int(moment)
+    for each in sources:
+        each.turn(seconds, moment)
+    return facts.TurnedBack(moment + seconds, seconds)
