@@ -19,6 +19,8 @@ from replay_tools.outside import visible
 TOOL = ["kubelet-replay"]
 # that of the formats
 LONGEST_INPUT = 64 << 20
+# the part of CHANGELOG.md that a checkout has between two releases, and what the version then says
+NOT_RELEASED, UNRELEASED = "## Not released yet", ", and what is not released yet"
 
 
 class Fault(Exception):
@@ -207,11 +209,21 @@ def is_version(words: list[str]) -> bool:
 
 
 def version(tool: str) -> int:
-    """Writes the version of the release, or of the checkout, that the tool is of; the status."""
+    """Writes the version of the release that the tool is of, or that the checkout goes on from; the status."""
     top = os.path.dirname(os.path.dirname(os.path.dirname(os.path.realpath(__file__))))
     with open(os.path.join(top, "VERSION"), encoding="utf-8") as file:
-        sys.stdout.write(f"{tool} {file.read()}")
+        number = file.read().strip()
+    sys.stdout.write(f"{tool} {number}{UNRELEASED if has_more(top) else ''}\n")
     return 0
+
+
+def has_more(top: str) -> bool:
+    """Whether the changes name some that no release has."""
+    try:
+        with open(os.path.join(top, "CHANGELOG.md"), encoding="utf-8") as file:
+            return any(line.startswith(NOT_RELEASED) for line in file)
+    except OSError:
+        return False
 
 
 def counted(count: int, what: str) -> str:

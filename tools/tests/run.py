@@ -408,13 +408,25 @@ def test_full_disks():
 
 
 def test_versions():
-    """Each tool says its version, and its help by its short name too."""
-    version = read(f"{TOP}/VERSION")
+    """Each tool says its version, that a checkout has more than a release, and its help by its short name too."""
+    version, more = read(f"{TOP}/VERSION"), ", and what is not released yet"
+    if "\n## Not released yet" in read(f"{TOP}/CHANGELOG.md"):
+        version = version.replace("\n", f"{more}\n")
     for tool in ("record", "story", "timeline", "what-if", "json", "why", "page", "fleet", "explain", "import",
                  "kubelet-replay", "kubectl-replay", "kubectl_complete-replay"):
         for word in ("--version", "-V"):
             expect(f"{tool} {word}", run([f"{TOOLS}/{tool}", word]), (0, f"{tool} {version}", ""))
         expect(f"{tool} -h", run([f"{TOOLS}/{tool}", "-h"]), run([f"{TOOLS}/{tool}", "--help"]))
+    with tempfile.TemporaryDirectory() as top:
+        shutil.copytree(f"{TOOLS}/replay_tools", f"{top}/tools/replay_tools", ignore=shutil.ignore_patterns("*.pyc"))
+        for tool in ("story", "what-if"):
+            shutil.copy(f"{TOOLS}/{tool}", f"{top}/tools")
+            for changes, said in (("# Changes\n\n## Not released yet\n", more), ("# Changes\n\n## 1.2.3\n", "")):
+                for name, text in (("VERSION", "1.2.3\n"), ("CHANGELOG.md", changes)):
+                    with open(f"{top}/{name}", "w", encoding="utf-8") as file:
+                        file.write(text)
+                expect(f"{tool} --version of changes {said}", run([f"{top}/tools/{tool}", "--version"]), (
+                    0, f"{tool} 1.2.3{said}\n", ""))
 
 
 def test_help():
