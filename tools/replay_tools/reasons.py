@@ -19,8 +19,10 @@ PLAIN = "Error"
 NEVER_RAN = ("StartError", "ContainerCannotRun", "CreateContainerError", "RunContainerError")
 # a tick line without one of them says no reason
 SIGNS = (b'"reason"', b'"waiting"', b'"ended"', b'"guessed"', b'"readinessGates"', b"\\u")
-# in the array of members that were guessed, as where a log says of an exit no code
-CODE = "exitCode"
+# in the array of members that were guessed, as where a log says of an exit no code, and of a start or an exit no moment
+# but that of the kubelet's next look
+CODE, MOMENT = "exitCode", "moment"
+WITHIN = " (within a second)"
 
 
 @dataclass
@@ -63,6 +65,8 @@ class Reasons:
         self.gates: dict[tuple[int, str], list[Wait]] = {}
         """as waits, by the pod's number and the condition of a readiness gate that is not true"""
         self.closed: dict[tuple[int, str], Wait] = {}
+        self.looked: set[tuple[str, int, str, int]] = set()
+        """the starts and deaths that are known by a look: the event's word, the pod's number, container and attempt"""
 
     def take(self, line: bytes, at: int, entries: dict[str, dict[str, Any]], present: dict[str, traces.Pod]) -> None:
         """What a tick says, by its bytes and its entries."""
@@ -74,6 +78,8 @@ class Reasons:
             number = present[key].number
             for listed in dicts_at(found, "containers"):
                 has_words = any(word in listed for word in ("reason", "guessed"))
+                if is_guessed_in(listed, MOMENT):
+                    self.take_look(number, listed)
                 for said in (listed if has_words else None, listed.get("ended")):
                     if isinstance(said, dict):
                         self.take_end(number, listed.get("name"), said)
@@ -84,6 +90,17 @@ class Reasons:
             closed.update({(number, gate): ("readiness gate", None) for gate in closed_gates(found)})
         take_waits(self.waits, self.open, at, waiting)
         take_waits(self.gates, self.closed, at, closed)
+
+    def take_look(self, number: int, listed: dict[str, Any]) -> None:
+        attempt, name = outside.whole(listed.get("attempt", 0), 0, outside.MOST_OF_CODE), text_at(listed, "name")
+        if attempt is not None and name is not None:
+            self.looked.add(("died" if "exitCode" in listed else "started", number, name, attempt))
+
+    def within_words(self, event: reports.Event) -> str:
+        """That a start or a death is known by the kubelet's next look alone; nothing of others."""
+        is_looked = event.word in ("started", "died") and (
+            event.word, event.number, event.container, int(event.rest[0])) in self.looked
+        return WITHIN if is_looked else ""
 
     def take_end(self, number: int, name: str, said: dict[str, Any]) -> None:
         """A later reason is the better one, and a message stands in the first tick alone."""
@@ -140,8 +157,12 @@ def closed_gates(found: dict[str, Any]) -> list[str]:
 
 def guesses_code(said: dict[str, Any]) -> bool:
     """Whether a listing says that its exit code was guessed."""
+    return is_guessed_in(said, CODE)
+
+
+def is_guessed_in(said: dict[str, Any], what: str) -> bool:
     guessed = said.get("guessed")
-    return isinstance(guessed, list) and CODE in guessed
+    return isinstance(guessed, list) and what in guessed
 
 
 def dicts_at(found: dict[str, Any], name: str) -> list[dict[str, Any]]:

@@ -62,7 +62,10 @@ def event_words(event: reports.Event, is_beside: bool = False, trace: traces.Tra
     kubelet did, and a death with why, as far as the trace says it, and the whole with its message."""
     why = reasons.cause_words(event, int(event.rest[1]), trace, is_whole) if event.word == "died" else ""
     kind = events.kinds()[event.word]
-    return kind.attempt(event.rest), kind.told(event.rest, why, is_beside, reasons.is_guessed(event, trace))
+    told = kind.told(event.rest, why, is_beside, reasons.is_guessed(event, trace))
+    output = trace.said.output_before(event, event.rest[1]) if event.word == "kill" and trace is not None else None
+    within = trace.reasons.within_words(event) if trace is not None else ""
+    return kind.attempt(event.rest), f"{told} ({output})" if output else f"{told}{within}"
 
 
 def beside_words(pod: reports.Pod, event: reports.Event, show: Callable[[int], str]) -> str:

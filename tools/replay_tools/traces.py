@@ -13,6 +13,7 @@ from replay_tools.decided import Decision, Deletion, decisions_of, take_words
 from replay_tools.fields import Bounds, bounds_of, dict_at, list_at, number_at, text_at, value_at
 from replay_tools.limits import memory_in
 from replay_tools.reasons import Reasons, guesses_code
+from replay_tools.said import SaidOfPods
 
 if TYPE_CHECKING:
     from replay_tools import report as reports
@@ -182,6 +183,8 @@ class Trace:
     """what the kubelet did, in the order of the ticks"""
     reasons: Reasons = field(default_factory=Reasons)
     """why instances ended and containers wait"""
+    said: SaidOfPods = field(default_factory=SaidOfPods)
+    """what the kubelet and Events said"""
     deletions: dict[int, Deletion] = field(default_factory=dict)
     """by the number of the pod"""
     failed: dict[int, Decision] = field(default_factory=dict)
@@ -360,6 +363,7 @@ def trace_with(trace: Trace | None, present: dict[str, Pod], lines: Lines, begin
         take_words(trace, present)
         trace.decisions += decisions_of(trace, found)
         trace.reasons.take(lines.text[begin:end], found["at"], trace.ticks[-1].entries, present)
+        trace.said.take(lines.text[begin:end], trace.ticks[-1].entries, present)
     else:
         raise ValueError("kind")
     return trace

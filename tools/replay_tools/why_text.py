@@ -32,6 +32,8 @@ def whole_text(trace: traces.Trace, report: reports.Report, pod: reports.Pod, sh
                                 *throttled_lines(around, show)])
              for around in why.around_events(trace, report, pod)]
     parts += kubelet_parts(trace, report, pod, show, kubelet) + wait_parts(trace, pod, show)
+    parts += [(said.at, [" ".join(filter(None, [f"{show(said.at)} ", said.container, said.words()]))])
+              for said in trace.said.of(pod.number)]
     parts += [(at, [f"{show(at)}  {what}", *lines]) for at, what, lines in node_rows(trace, report, pod, show)]
     lines, kept = [], [part for part in parts if is_near(part[0])]
     for _, (head, *rest) in sorted(kept, key=lambda part: part[0]):

@@ -52,6 +52,7 @@ import test_real_node
 import test_reasons
 import test_record
 import test_rounds
+import test_said
 import test_secrets
 import test_ship
 import test_summary
@@ -69,7 +70,7 @@ MODULES = (test_record, test_connections, test_plays, test_into, test_into_folde
            test_kubectl, test_command, test_explain, test_reasons, test_deploy, test_probes, test_answers,
            test_secrets, test_deletions, test_ends, test_members, test_rounds, test_into_kills, test_into_room,
            test_used, test_logs, test_ship, test_metrics, test_events, test_tests, test_hostile_nodes,
-           test_hostile_traces, test_import, test_import_real, test_summary, test_workloads, test_follow)
+           test_hostile_traces, test_import, test_import_real, test_summary, test_workloads, test_follow, test_said)
 RECORDINGS = f"{HERE}/recordings"
 COMMANDS = f"{HERE}/commands"
 

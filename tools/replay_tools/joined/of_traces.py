@@ -32,6 +32,8 @@ def join_traces(found: list[parts.Part], borders: list[reports.Border], numbers:
         take_decisions(made, part.trace, of)
         take_words(made, part.trace, of)
         take_reasons(made, part.trace, of, border)
+        for number, several in part.trace.said.of_pod.items():
+            made.said.of_pod.setdefault(of[number], {}).update(several)
     made.gaps = [(border.since, border.at) for border in borders if border.is_gap]
     made.places = {tick.at: place for place, tick in enumerate(made.ticks)}
     return made
@@ -98,6 +100,7 @@ def number_of(made: traces.Trace, decision: traces.Decision) -> int | None:
 
 
 def take_reasons(made: traces.Trace, trace: traces.Trace, of: dict[int, int], border: reports.Border | None) -> None:
+    made.reasons.looked |= {(word, of[number], name, attempt) for word, number, name, attempt in trace.reasons.looked}
     for (number, name, attempt), end in trace.reasons.ends.items():
         before = made.reasons.ends.setdefault((of[number], name, attempt), end)
         before.reason, before.message = end.reason or before.reason, before.message or end.message
