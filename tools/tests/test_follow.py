@@ -133,6 +133,31 @@ def test_follow_one_pod_since():
         expect("follow since a moment", sorted(followed.next() for _ in wanted), sorted(wanted))
 
 
+def test_follow_of_the_node():
+    """That it was not Ready, by the moments of its condition, and that it was started anew with what exited: once."""
+    since = {"status": "False", "reason": "KubeletNotReady", "since": BEGIN + 17}
+    with Followed("web", "--seconds") as followed:
+        followed.write(f"{FIRST}.part", {**NODE, "bootedAt": BEGIN - 1000}, pod("web-7d-x"), pod("calm"),
+                       tick(0, RUNS), tick(10, RUNS))
+        followed.start()
+        expect("follow of a node: from when on", followed.next()[:23], "story: what is recorded")
+        followed.write(f"{FIRST}.part", tick(20, RUNS, nodeReady=since), tick(30, RUNS, nodeReady=since),
+                       tick(40, RUNS, nodeReady=since))
+        expect("follow of a node that is not Ready", followed.next(), f"{BEGIN + 17}  the node is NotReady: "
+               "KubeletNotReady")
+        followed.write(f"{FIRST}.part", tick(50, RUNS), tick(60, RUNS))
+        expect("follow of a node that is Ready again", followed.next(), f"{BEGIN + 50}  the node is Ready again")
+        followed.pack(FIRST)
+        lost = {**DIED, "exitCode": 137, "reason": "Unknown"}
+        followed.write(f"{SECOND}.part", {**NODE, "bootedAt": BEGIN + 80}, pod("web-7d-x"), pod("calm"),
+                       tick(90, lost), tick(100, AGAIN), tick(110, AGAIN))
+        told = [followed.next() for _ in range(2)]
+        expect("follow of a node that is rebooted", f"{BEGIN + 80}  the node was rebooted: 1 container exited 137" in
+               told, True)
+        left = [line for line in iter(lambda: followed.next(5), None) if "node" in line]
+        expect("follow of a node: nothing is told twice", left, [])
+
+
 def test_follow_refused():
     for words, said in ((["--follow", "/nonexistent"], "/nonexistent is no folder, as that of tools/record --into"),
                         (["--follow", "/tmp", "--at", "03:10Z"], "--follow and --at exclude each other"),

@@ -70,6 +70,8 @@ class Follower:
         for pod in report.pods:
             if self.is_wanted(pod.key):
                 yield from ((at, f"{pod.key} {what}") for at, what in asides(trace, pod) if least < at <= certain)
+        if any(self.is_wanted(pod.key) for pod in report.pods):
+            yield from ((at, what) for said, at, what in of_node(trace, report) if least < said <= certain)
         for decision in decided.decisions_with_endings(trace):
             told = decision.kind, decision.pod, decision.at
             if told not in self.facts and decision.at <= certain and self.is_wanted(decision.pod):
@@ -94,6 +96,20 @@ def asides(trace: traces.Trace, pod: reports.Pod) -> Iterator[Row]:
         yield deletion.at, f"is being deleted{deletion.words()}"
     for container, wait in trace.reasons.waits_of(pod):
         yield wait.since, f"{container} waits: {wait.words()}"
+
+
+def of_node(trace: traces.Trace, report: reports.Report) -> Iterator[tuple[int, int, str]]:
+    """What happened to the node itself, which the trace may say later: the moment of the tick that says it first, its
+    own, and what it was."""
+    for reboot in telling.reboots(trace, report):
+        yield trace.ticks[reboot.before + 1].at, reboot.at, reboot.words()
+    for time_of in telling.times_not_ready(trace):
+        said = next(tick.at for tick in trace.ticks if tick.not_ready is not None and tick.at >= time_of.since)
+        reason = f": {time_of.reason}" if time_of.reason else ""
+        yield said, time_of.since, f"the node is NotReady{reason}"
+        is_over_gap = any(time_of.until == begin for begin, _ in trace.gaps)
+        if time_of.until is not None and not is_over_gap:
+            yield time_of.until, time_of.until, "the node is Ready again"
 
 
 def event_line(event: reports.Event, trace: traces.Trace, is_beside: bool) -> str:
