@@ -39,8 +39,7 @@ class NodeName(Fact):
 
 @dataclass
 class Missing(Fact):
-    """The journal says that it has not all lines up to here."""
-    why: str
+    """The journal says that it has not all lines up to here, or that the clock went forward."""
 
 
 @dataclass

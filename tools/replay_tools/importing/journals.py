@@ -17,7 +17,7 @@ from typing import Any, BinaryIO, Optional
 
 from replay_tools import entry, outside, packed
 
-from .holes import Numbers
+from .holes import HOLE, Numbers
 from .moments import Klog, moment_of_iso
 
 PIECE = 1 << 20
@@ -55,8 +55,11 @@ class Line:
     node: str = ""
 
 
+@dataclass
 class Hole(Line):
-    """Stands for lines that a journal lacks, with the moment, the node and the process of the line behind them."""
+    """Stands for lines that a journal lacks, or for a clock that went forward, with the moment, the node and the
+    process of the line behind it."""
+    why: str = HOLE
 
 
 # stands for messages that are not read
@@ -83,6 +86,7 @@ class Counts:
     suppressed: int = 0
     back: int = 0
     holes: int = 0
+    forwards: int = 0
     faults: list = field(default_factory=list)
 
 
@@ -116,8 +120,8 @@ def of_json(lines: Iterator[bytes], counts: Counts, skipping: Skipping) -> Itera
     """`journalctl -o json`. A message that is no text is a list of bytes. Each record's number is read."""
     numbers, header = Numbers(), HEADERS["json"]
     for text in lines:
-        is_behind_hole, found = numbers.lack_before_json(text), header.search(text)
-        if found is not None and not is_behind_hole and skipping.is_unwanted(text, found.end()):
+        behind, found = numbers.before_json(text), header.search(text)
+        if found is not None and behind is None and skipping.is_unwanted(text, found.end()):
             yield SKIPPED
             continue
         record = outside.json_of(text)
@@ -125,11 +129,13 @@ def of_json(lines: Iterator[bytes], counts: Counts, skipping: Skipping) -> Itera
             counts.foreign += bool(text.strip())
             continue
         for line in line_of(record.get, counts):
-            yield from behind_hole(line) if is_behind_hole else (line,)
+            yield from standing_behind(behind, line)
 
 
-def behind_hole(line: Line) -> Iterator[Line]:
-    yield Hole(line.moment, b"", line.unit, line.process, line.node)
+def standing_behind(what: Optional[str], line: Line) -> Iterator[Line]:
+    """A line, with what it stands behind before it, if it does."""
+    if what is not None:
+        yield Hole(line.moment, b"", line.unit, line.process, line.node, what)
     yield line
 
 
@@ -173,9 +179,9 @@ def of_export(file: BinaryIO, counts: Counts) -> Iterator[Line]:
 
 
 def of_record(record: dict[str, Any], counts: Counts, numbers: Numbers) -> Iterator[Line]:
-    is_behind_hole = numbers.lack_before_record(record)
+    behind = numbers.before_record(record)
     for line in line_of(record.get, counts):
-        yield from behind_hole(line) if is_behind_hole else (line,)
+        yield from standing_behind(behind, line)
 
 
 def of_short_iso(lines: Iterator[Optional[bytes]], counts: Counts) -> Iterator[Line]:

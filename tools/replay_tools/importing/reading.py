@@ -8,6 +8,7 @@ from typing import Any
 from replay_tools import entry
 
 from . import facts, keyed, printed
+from .holes import FORWARD
 from .journals import Counts, Hole, Journal, Line, Skipping
 from .messages import Message, messages_of
 from .moments import Klog
@@ -165,11 +166,13 @@ class Reader:
     def of_line(self, line: Line) -> Iterator[facts.Fact]:
         if SUPPRESSED.encode() in line.text and b"messages from" in line.text:
             self.journal.counts.suppressed += 1
-            yield facts.Missing(self.moment_of(line), "journald left out messages")
+            yield facts.Missing(self.moment_of(line))
             return
         if isinstance(line, Hole):
-            self.journal.counts.holes += 1
-            yield facts.Missing(self.moment_of(line), "numbers of lines are missing")
+            is_forward = line.why == FORWARD
+            self.journal.counts.forwards += is_forward
+            self.journal.counts.holes += not is_forward
+            yield facts.Missing(self.moment_of(line))
             return
         yield from self.runtime.facts_of(line)
 
@@ -189,7 +192,7 @@ def all_counts(journals: list[Journal]) -> Counts:
     """What was read of all of them."""
     total: Any = Counts()
     for journal in journals:
-        for name in ("size", "lines", "cut", "foreign", "suppressed", "back", "holes"):
+        for name in ("size", "lines", "cut", "foreign", "suppressed", "back", "holes", "forwards"):
             setattr(total, name, getattr(total, name) + getattr(journal.counts, name))
         total.faults += journal.counts.faults
     return total

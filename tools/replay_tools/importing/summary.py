@@ -102,5 +102,6 @@ def of_counts(counts: Counts) -> list[str]:
             (counts.foreign, "line", "not of the form of the journal, and left out"),
             (counts.suppressed, "place", "where journald left out messages"),
             (counts.holes, "place", "where numbers of the journal's lines are missing"),
+            (counts.forwards, "time", "the clock went forward, or the node stood still"),
             (counts.back, "line", "whose moment is behind that of the one before, which it is given"))
     return [f"{entry.counted(count, what)} {means}" for count, what, means in told if count] + counts.faults
