@@ -297,6 +297,27 @@ def test_import_of_events():
     shutil.rmtree(folder)
 
 
+def test_import_of_what_events_say():
+    """Of a container or of its pod, once while it is the same; of a hook's message, which has a command, nothing."""
+    again = "Back-off restarting failed container app in pod web_shop(11111111-1111-1111-1111-111111111111)"
+    of_app = "spec.containers{app}"
+    said = [("40.200000", of_app, "BackOff", again), ("41.200000", of_app, "BackOff", again),
+            ("42.200000", "", "SandboxChanged", "Pod sandbox changed, it will be killed and re-created."),
+            ("43.200000", of_app, "FailedPostStartHook", f"Exec lifecycle hook ([echo {SECRET}]) failed"),
+            ("44.200000", of_app, "Started", "Started container app")]
+    lines = [f'I0301 10:00:{at}    2211 event.go:307] "Event occurred" object="shop/web" fieldPath="{path}" kind="Pod" '
+             f'apiVersion="v1" type="Warning" reason="{reason}" message="{message}"\n'
+             for at, path, reason, message in said]
+    text = "".join(sorted(read(f"{FOLDER}/keyed.log").splitlines(keepends=True) + lines, key=lambda line: line[1:]))
+    status, trace, _ = imported(given=text)
+    told = [each for line in map(json.loads, trace.splitlines()) for entry in line.get("pods") or []
+            for each in entry.get("said", ()) if 1772359240 <= each["at"] < 1772359250]
+    expect("import of what Events say", (status, SECRET in trace, told), (0, False, [
+        {"at": 1772359240, "container": "app", "reason": "BackOff", "message": again},
+        {"at": 1772359242, "reason": "SandboxChanged", "message": said[2][3]},
+        {"at": 1772359243, "container": "app", "reason": "FailedPostStartHook", "messageLeftOut": True}]))
+
+
 def test_import_of_an_audit_log():
     """Objects that the API server had in hand: a manifest, and a status with the code of an exit that no line has."""
     text = read(f"{FOLDER}/keyed.log")

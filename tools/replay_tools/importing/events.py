@@ -10,7 +10,7 @@ from replay_tools.record.runtime import moment_of
 
 from . import facts, manifests
 from .keyed import MADE
-from .references import key_of
+from .references import container_at, key_of
 
 
 def read_all(paths: list[str]) -> Iterator[facts.Fact]:
@@ -40,4 +40,5 @@ def of_value(value: Any) -> Iterator[facts.Happened]:
         if pod.get("kind") == "Pod" and moment is not None and key is not None:
             uid = pod.get("uid") if isinstance(pod.get("uid"), str) else None
             yield facts.Happened(moment, facts.Reference(key, uid), str(of.get("reason") or ""),
-                                 str(of.get("message") or ""), outside.whole(of.get("count"), 1) or 1)
+                                 str(of.get("message") or ""), outside.whole(of.get("count"), 1) or 1,
+                                 container_at(pod.get("fieldPath")))

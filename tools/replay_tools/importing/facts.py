@@ -168,11 +168,12 @@ class Refused(Fact):
 
 @dataclass
 class Happened(Fact):
-    """An Event that the kubelet made of a pod."""
+    """An Event that the kubelet made of a pod, or of one of its containers."""
     pod: Reference
     reason: str
     message: str
     count: int = 1
+    container: Optional[str] = None
 
 
 @dataclass

@@ -33,6 +33,9 @@ ROUND_SECONDS = 1.0
 MOST_LOOSE = 100_000
 LONGEST_MESSAGE = 4096
 EVICTED_WORD = "Evicted"
+# the reasons of Events that are told; of failures of probes, kills and evictions there are lines
+TOLD = ("BackOff", "Failed", "FailedCreatePodSandBox", "FailedMount", "FailedPostStartHook", "FailedPreStopHook",
+        "NodeNotReady", "Preempting", "ProbeWarning", "SandboxChanged", "TaintManagerEviction")
 
 
 @dataclass
@@ -77,6 +80,7 @@ class Importer:
         self.messages: dict[str, str] = {}
         self.capacity: dict[str, int] = {}
         self.probed: dict[tuple[str, str, str], tuple[str, Optional[str]]] = {}
+        self.happened: dict[tuple[str, str, str], str] = {}
         self.handlers: dict[type, Callable[[Any], None]] = {
             facts.Process: self.on_process, facts.NodeName: self.on_node, facts.Missing: self.on_missing,
             facts.TurnedBack: self.on_turned_back,
@@ -420,11 +424,23 @@ class Importer:
         if life is None:
             return
         self.placing.count("events")
+        if fact.reason in TOLD:
+            self.say_event(life.key, fact)
         if fact.reason == EVICTED_WORD:
             kept = message_kept(EVICTED_WORD, fact.message, LONGEST_MESSAGE) or ""
             self.messages[life.key] = kept
             if life.decision is not None and kept and not life.is_decided:
                 life.decision = Decision(EVICTED, life.decision.moment, EVICTED_WORD, kept)
+
+    def say_event(self, key: str, fact: facts.Happened) -> None:
+        """What an Event says, where that is another message than the one before for its reason."""
+        place, message = (key, fact.container or "", fact.reason), message_kept(fact.reason, fact.message)
+        if self.happened.get(place) != fact.message:
+            is_left_out = message is None and bool(fact.message.strip())
+            self.placing.say(key, fact.at, without_nones({
+                "container": fact.container, "reason": fact.reason, "count": fact.count if fact.count > 1 else None,
+                "message": message, "messageLeftOut": is_left_out or None}))
+        self.happened[place] = fact.message
 
 
 def refuse_strangers(importer: Importer) -> None:

@@ -12,7 +12,7 @@ from replay_tools import outside
 from . import facts
 from .messages import Message
 from .printed import TYPES, amount, patched, waits_in
-from .references import id_of, reference_of, references_of
+from .references import container_at, id_of, reference_of, references_of
 from .statuses import code_of, of_printed, of_status
 
 EVENT = re.compile(r"ID:\"?([-\w]+)\"?,? Type:\"?(\w+)\"?,? Data:\"?(\w+)\"?")
@@ -118,7 +118,7 @@ def of_happened(message: Message) -> Iterator[facts.Fact]:
     if keys.get("kind") not in (None, "Pod") or pod is None or pod.key is None:
         return
     reason, said = str(keys.get("reason") or ""), str(keys.get("message") or keys.get("note") or "")
-    yield facts.Happened(message.at, pod, reason, said)
+    yield facts.Happened(message.at, pod, reason, said, container=container_at(keys.get("fieldPath")))
     found = MADE.match(said)
     if found is not None and reason == "Started":
         yield facts.Created(message.at, pod, found[1])

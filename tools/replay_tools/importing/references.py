@@ -17,6 +17,7 @@ BEHIND_NAME = re.compile(r"_([a-z0-9][-a-z0-9]{0,62})\(([-0-9A-Za-z]{1,64})\)")
 UID = re.compile(r"[-0-9A-Za-z]{1,64}")
 KEYED = re.compile(r"[a-z0-9][-a-z0-9]{0,62}/[a-z0-9][-.a-z0-9]{0,252}")
 ID = re.compile(r"[0-9a-f]{12,64}")
+OF_CONTAINER = re.compile(r"spec\.(?:initContainers|containers)\{([a-z0-9](?:[-a-z0-9]{0,61}[a-z0-9])?)\}")
 
 
 def key_of(namespace: Any, name: Any) -> str | None:
@@ -66,6 +67,12 @@ def references_of(value: Any) -> list[Reference]:
         return [found for each in value if (found := reference_of(each)) is not None]
     text = str(value or "")
     return list(placed(text)) or [Reference(key) for key in KEYED.findall(text) if key_of(*key.split("/")) is not None]
+
+
+def container_at(path: Any) -> str | None:
+    """The container of a path as an Event has it, spec.containers{app}."""
+    found = OF_CONTAINER.fullmatch(path) if isinstance(path, str) else None
+    return None if found is None else found[1]
 
 
 def id_of(text: Any) -> str | None:
