@@ -318,6 +318,19 @@ def test_import_of_what_events_say():
         {"at": 1772359243, "container": "app", "reason": "FailedPostStartHook", "messageLeftOut": True}]))
 
 
+def test_import_of_a_ranking():
+    """The pods in the order in which they were to be evicted, and for what, are said of the one that was."""
+    text = read(f"{FOLDER}/keyed.log")
+    names = [f"shop/p-{number}" for number in range(12)]
+    many = text.replace('"shop/hog","shop/web"', ",".join(f'"{name}"' for name in ["shop/hog", *names]))
+    for given, message in ((text, "to reclaim memory: shop/hog, shop/web"),
+                           (many, f"to reclaim memory: shop/hog, {', '.join(names[:9])} and 3 more")):
+        ranked = [(entry["pod"], each) for line in map(json.loads, imported(given=given)[1].splitlines())
+                  for entry in line.get("pods") or [] for each in entry.get("said", ()) if "Ranked" in each["reason"]]
+        expect("import of a ranking", ranked, [
+            ("shop/hog", {"at": 1772359260, "reason": "RankedForEviction", "message": message})])
+
+
 def test_import_of_an_audit_log():
     """Objects that the API server had in hand: a manifest, and a status with the code of an exit that no line has."""
     text = read(f"{FOLDER}/keyed.log")

@@ -32,7 +32,8 @@ NEAR_SECONDS = 60
 ROUND_SECONDS = 1.0
 MOST_LOOSE = 100_000
 LONGEST_MESSAGE = 4096
-EVICTED_WORD = "Evicted"
+EVICTED_WORD, RANKED_WORD = "Evicted", "RankedForEviction"
+MOST_RANKED = 10
 # the reasons of Events that are told; of failures of probes, kills and evictions there are lines
 TOLD = ("BackOff", "Failed", "FailedCreatePodSandBox", "FailedMount", "FailedPostStartHook", "FailedPreStopHook",
         "NodeNotReady", "Preempting", "ProbeWarning", "SandboxChanged", "TaintManagerEviction")
@@ -402,6 +403,17 @@ class Importer:
         said = self.messages.get(life.key) or self.made_message(fact.at, is_first)
         life.decision = Decision(EVICTED, fact.at, EVICTED_WORD, said)
         life.decided_since = ranked_at if is_first else fact.at
+        if is_first:
+            self.say_ranking(life.key, fact.at)
+
+    def say_ranking(self, key: str, at: float) -> None:
+        """What the node was short of, and the pods in the order in which they were to be evicted."""
+        ranked_at, ranked = self.ranked
+        since, resource = self.resource
+        names = [str(pod.key) for pod in ranked[:MOST_RANKED]]
+        more = f" and {len(ranked) - MOST_RANKED} more" if len(ranked) > MOST_RANKED else ""
+        short_of = f"to reclaim {resource}: " if at - since <= NEAR_SECONDS else ""
+        self.placing.say(key, ranked_at, {"reason": RANKED_WORD, "message": f"{short_of}{', '.join(names)}{more}"})
 
     def made_message(self, at: float, is_ranked: bool) -> str:
         """The first sentence of the kubelet's message, of the resource that it says to be short of."""
