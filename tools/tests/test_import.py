@@ -423,6 +423,27 @@ def test_import_of_hostile_lines():
     expect("import of hostile lines: the trace", trace, wanted)
 
 
+def test_import_of_more_than_a_line_takes():
+    """What is said of all pods in one second stands in the ticks behind it, where one would be too long a line."""
+    pods = [f"shop/{'p' * 50}-{number}" for number in range(250)]
+    head = "I0301 10:00:{}.000000    2211 kubelet.go:1] "
+    names = ",".join(f'"{pod}"' for pod in pods)
+    text = head.format("05") + f'"SyncLoop ADD" source="api" pods=[{names}]\n'
+    said = ('"Event occurred" object="{0}" kind="Pod" reason="BackOff" fieldPath="spec.containers{{{1}}}" message='
+            '"Back-off restarting failed container {1} in pod {2}_shop(11111111-1111-1111-1111-111111111111)"\n')
+    text += "".join(head.format("06") + said.format(pod, f"c{number}", pod.partition("/")[2])
+                    for pod in pods for number in range(20))
+    probed = '"Probe succeeded" probeType="Readiness" pod="{}" containerName="c0"\n'
+    text += "".join(head.format("06") + probed.format(pod) for pod in pods)
+    text += "".join(head.replace("10:00", f"10:{minute:02}").format("00") + probed.format(pods[0])
+                    for minute in range(1, 4))
+    status, trace, _ = imported("--node", "worker-3", given=text, pods=None)
+    rows = sum(len(entry.get("said", ())) for line in map(json.loads, trace.splitlines())
+               for entry in line.get("pods") or [])
+    longest = max(map(len, trace.splitlines()), default=0)
+    expect("import of more than a line takes", (status, rows, longest < 1 << 20), (0, 5000, True))
+
+
 # --- what a cluster answers ---
 
 KUBECTL = """#!/bin/sh

@@ -32,7 +32,8 @@ HOLES, DOUBTED, TURNS = "holes", "pods in doubt", "turns"
 SAID, FAILED = "said", "failed"
 # of a gap: by how many seconds the clock went back there
 CLOCK_BACK = "clockBack"
-MOST_SAID = 20
+# of a pod in a tick, and of all pods
+MOST_SAID, MOST_SAID_AT_ONCE = 20, 500
 POD_LINE = '{"kind":"pod"'
 TICK_AT = re.compile(r'\{"kind":"tick","at":(\d+),')
 
@@ -195,11 +196,14 @@ class Placing:
         return f"{line[:-1]},{shown({'gap': told})[1:]}"
 
     def rows_due(self, at: int) -> Rows:
-        """What was said of each pod up to a second, which is taken."""
-        due = {key: [row for row in rows if row[0] <= at] for key, rows in self.beside.items()}
-        due = {key: rows for key, rows in due.items() if rows}
-        for key in due:
-            self.beside[key] = [row for row in self.beside[key] if row[0] > at]
+        """What was said of each pod up to a second, which is taken; a later tick has what is more than a line takes."""
+        due, left = {}, MOST_SAID_AT_ONCE
+        for key, rows in list(self.beside.items()):
+            taken = [row for row in rows if row[0] <= at and (row[1] != SAID or left > 0)]
+            if taken:
+                due[key] = taken
+                left -= min(sum(row[1] == SAID for row in taken), MOST_SAID)
+                self.beside[key] = [row for row in rows if row[0] > at or (row[1] == SAID and row not in taken)]
             if not self.beside[key]:
                 del self.beside[key]
         return due

@@ -11,6 +11,7 @@ from argparse import Namespace
 from replay_tools import entry, outside
 from replay_tools.joined import asked
 from replay_tools.record.formats import name_fault
+from replay_tools.record.lines import TooLong
 
 from . import cluster, events, manifests, moments, reading, summary
 from .importer import Importer, refuse_strangers
@@ -85,6 +86,9 @@ def imported(words: Namespace) -> int:
         if ended.status:
             raise entry.Fault(str(ended.reason), ended.status) from None
         entry.say(f"{ended.reason}; --into writes several")
+    except TooLong as fault:
+        progress.end()
+        raise entry.Fault(str(fault), 1) from None
     for line in notes.said:
         entry.say(line)
     for line in summary.lines_of(importer, readers, reading.all_counts(journals), words):
