@@ -35,6 +35,12 @@ class Source:
         """Where its clock went back just now, that."""
         return self.head if isinstance(self.head, facts.TurnedBack) else None
 
+    def up_to_turn(self) -> Iterator[facts.Fact]:
+        """Its facts until its clock goes back."""
+        while self.head is not None and self.turning() is None:
+            yield self.head
+            self.advance()
+
     def turn(self, seconds: int, moment: float) -> None:
         """The clock went back by so many seconds, to a moment as the journals had it before."""
         self.turned_at = moment - self.shift
@@ -64,6 +70,9 @@ def in_order(readers: list[Reader]) -> Iterator[facts.Fact]:
     """The facts of journals."""
     sources = [Source(reader) for reader in readers]
     while sources := [each for each in sources if each.head is not None]:
+        if len(sources) == 1 and sources[0].turning() is None:
+            yield from sources[0].up_to_turn()
+            continue
         waiting = [turning for each in sources if (turning := each.turning()) is not None]
         going = [each for each in sources if each.turning() is None] if waiting else sources
         first = min(going, key=moment_of_next, default=None)

@@ -18,9 +18,9 @@ ROUNDS, ROUND_SECONDS = 3, 60
 # the runtime's line of a start stands so long before that of the kubelet's look
 LOOK_SECONDS = 2
 # what a kubelet alone says
-OF_KUBELET = (facts.Process, facts.Begun, facts.Added, facts.Deleted, facts.Removed, facts.Turned, facts.Probed,
+OF_KUBELET = {facts.Process, facts.Begun, facts.Added, facts.Deleted, facts.Removed, facts.Turned, facts.Probed,
               facts.Turnover, facts.Killing, facts.Waits, facts.Observed, facts.Reclaims, facts.Ranked, facts.Evicted,
-              facts.Refused)
+              facts.Refused}
 
 
 @dataclass
@@ -43,7 +43,7 @@ class Silences:
 
     def take(self, fact: facts.Fact) -> Optional[Silence]:
         """Takes a fact; the time before it in which the kubelet said nothing, where it is long."""
-        if not isinstance(fact, OF_KUBELET) or (isinstance(fact, facts.Turned) and fact.is_exact):
+        if type(fact) not in OF_KUBELET or (isinstance(fact, facts.Turned) and fact.is_exact):
             return None
         since, self.newest = self.newest, fact.at
         found = None
