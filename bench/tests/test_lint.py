@@ -11,10 +11,10 @@ from common import PATH_WITH_COMMANDS, Case, commands_in, run, write
 SHELL = {"a": "#!/bin/sh\n", "b c": "#!/usr/bin/env bash\n", "d.sh": "echo\n", "lib/e": "# shellcheck shell=bash\n",
          "f.bash": "", "g": "#! /bin/dash -e\n"}
 PYTHON = {"h": "#!/usr/bin/env python3\n", "i.py": "", "lib/j": "#!/usr/bin/python3 -B\n",
-          "s": "#!/bin/sh\n'''exec' python3 \"$0\"\n'''\n", "tools/replay_tools/t.py": "", "tools/t.py": ""}
+          "tools/replay_tools/t.py": "", "tools/t.py": ""}
 OTHERS = {"k": "", "l.md": "#!/bin/sh\n"[1:], "m": "sh\n", "n": "#!/usr/bin/awk -f\n", "out/o.py": "FINDING\n",
           ".gitignore": "out/\n", "p": "#!/usr/bin/env fish\n", "q.js": "// python\n"}
-ALL = "12 files were looked at: 6 of shell, 6 of Python\n"
+ALL = "11 files were looked at: 6 of shell, 5 of Python\n"
 
 
 @unittest.skipUnless(shutil.which("git"), "git is missing")
@@ -51,7 +51,7 @@ class Lint(Case):
     def test_a_file_that_is_gone(self):
         os.remove(f"{self.top}/a")
         status, said, _ = self.lint()
-        self.assertEqual((status, said.splitlines()[-1]), (0, "11 files were looked at: 5 of shell, 6 of Python"))
+        self.assertEqual((status, said.splitlines()[-1]), (0, "10 files were looked at: 5 of shell, 5 of Python"))
 
     def test_words_and_what_is_missing(self):
         self.assertEqual(run("lint", "--all"), (3, "", "usage: bench/lint [FOLDER]\n"))

@@ -1,5 +1,6 @@
 """Tests of a release: the documents that it has beside its program, made of this repository, and its signature."""
 import glob
+import importlib.util
 import os
 import shutil
 import subprocess
@@ -62,6 +63,25 @@ KEYS = {
                 ["openssl", "pkey", "-in", "KEY.sec", "-pubout", "-out", "KEY.pub"]),
     "signify-openbsd": (["signify-openbsd", "-G", "-n", "-p", "KEY.pub", "-s", "KEY.sec"],),
 }
+
+
+class Bytecode(Case):
+    def test_it_comes_with_the_release(self):
+        """Each module of the archive has its bytecode for this Python, which is what runs, and nothing more is left."""
+        room = self.enterContext(tempfile.TemporaryDirectory())
+        status, made, said = run("release", "--program", PROGRAM, room)
+        self.assertEqual(status, 0, said)
+        subprocess.run(["tar", "-xzf", made.splitlines()[0], "-C", room], check=True)
+        [package] = glob.glob(f"{room}/kubelet-replay-*/tools/replay_tools")
+        sources = [os.path.join(package, path) for path in glob.glob("**/*.py", root_dir=package, recursive=True)]
+        there = set(glob.glob(f"{package}/**/*.pyc", recursive=True))
+        self.assertEqual(there, {importlib.util.cache_from_source(path) for path in sources})
+        done = subprocess.run([f"{package}/../story", "--version"], capture_output=True, text=True, check=True,
+                              env={"PATH": f"{os.path.dirname(sys.executable)}:/usr/bin:/bin", "PYTHONVERBOSE": "1"})
+        loaded = [line for line in done.stderr.splitlines() if "code object from" in line and "replay_tools" in line]
+        self.assertEqual([line for line in loaded if ".pyc" not in line and "__main__" not in line], [])
+        self.assertTrue(any("/commands/" in line or "/entry." in line for line in loaded), loaded)
+        self.assertEqual(set(glob.glob(f"{package}/**/*.pyc", recursive=True)), there)
 
 
 class Signed(Case):

@@ -2,15 +2,17 @@
 
 from __future__ import annotations
 
-import difflib
 from argparse import Namespace
 from collections.abc import Callable
 from dataclasses import dataclass
-from typing import Any
+from typing import Any, TYPE_CHECKING
 
 from replay_tools import (clock, endings, entry, kubelet as kubelets, naming, overview, report as reports, summary,
                           traces, why as why_ticks, why_text)
-from replay_tools.joined import asked, join, known
+from replay_tools.joined import asked, known
+
+if TYPE_CHECKING:
+    from replay_tools.joined import join
 
 
 @dataclass
@@ -41,17 +43,11 @@ class Given:
         return self.several is None or self.several.is_span_near(span)
 
 
-def add_words(words: entry.Words) -> None:
-    """Adds the words of a tool that takes several traces in place of a report."""
-    words.valued("--trace")
-    asked.add_words(words)
-
-
 def given(found: Namespace, gather: Callable[..., Any] | None = None) -> Given:
     """What the words of a tool name: the traces of --traces, or the report of standard input with the trace of
     --trace. `gather` makes of the report what takes the ticks of the trace (why.Ticks)."""
     wanted = asked.asked_of(found)
-    several = None if wanted is None else join.joined(wanted)
+    several = None if wanted is None else joined(wanted)
     report = entry.read_report() if several is None else several.report
     ticks = gather and gather(report)
     if several is None:
@@ -63,6 +59,11 @@ def given(found: Namespace, gather: Callable[..., Any] | None = None) -> Given:
         if ticks is not None:
             of_whole_ticks(lambda: ticks.take_all(trace))
     return Given(report, trace, several, ticks)
+
+
+def joined(wanted: asked.Asked) -> join.Joined:
+    from replay_tools.joined import join
+    return join.joined(wanted)
 
 
 def clock_of(found: Namespace, given_to: Given) -> clock.Clock:
@@ -104,6 +105,7 @@ def keys_of(report: reports.Report) -> list[str]:
 
 def nearest(report: reports.Report, key: str) -> str:
     """What to write in place of a key that no pod has."""
+    import difflib
     keys = keys_of(report)
     names = {known.partition("/")[2]: known for known in keys}
     near = difflib.get_close_matches(key, keys, 3) or [

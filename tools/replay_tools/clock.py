@@ -11,11 +11,6 @@ from replay_tools import entry, report as reports
 
 # what is greater counts from 1970, as the moments of a recording do
 LEAST_DATED = 10 ** 8
-HELP = """\
-Moments are written as times of UTC, with a Z, where they count from 1970, as those of a recording do, and else as the
-seconds of the trace; --local writes times of this machine's zone, with how far that is from UTC, --seconds the seconds
-of the trace, --utc times of UTC whatever they count from.
-"""
 
 
 class Clock(Enum):

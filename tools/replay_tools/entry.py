@@ -4,19 +4,19 @@ answer."""
 from __future__ import annotations
 
 import argparse
+import functools
 import io
 import os
 import signal
 import sys
 from collections.abc import Callable, Iterable
-from typing import Any, BinaryIO, IO, TextIO
+from typing import Any, BinaryIO, IO, TextIO, TYPE_CHECKING
 
-from replay_tools import events, first_bytes, report as reports
 from replay_tools.outside import visible
 
+if TYPE_CHECKING:
+    from replay_tools import report as reports
 
-# the tool that runs, which says what it says under its name
-TOOL = ["kubelet-replay"]
 # that of the formats
 LONGEST_INPUT = 64 << 20
 # the part of CHANGELOG.md that a checkout has between two releases, and what the version then says
@@ -39,7 +39,9 @@ class Words(argparse.ArgumentParser):
     """Takes the words of a tool. Its help is a text of its own, and what is mistaken is a fault of one line."""
 
     def __init__(self, text: str) -> None:
-        super().__init__(usage="", add_help=False, allow_abbrev=False, exit_on_error=False)
+        # nothing of it is shown, so nothing is asked of the terminal
+        super().__init__(usage="", add_help=False, allow_abbrev=False, exit_on_error=False,
+                         formatter_class=functools.partial(argparse.HelpFormatter, width=120))
         self.add_argument("-h", "--help", action=ShowHelp, text=text)
 
     def flag(self, *names: str) -> None:
@@ -102,8 +104,8 @@ def one_of(choices: Iterable[str]) -> Callable[[str], str]:
 
 
 def say(text: str) -> None:
-    """A line on standard error that is no fault."""
-    print(f"{TOOL[0]}: {visible(text)}", file=sys.stderr)
+    """A line on standard error that is no fault, under the name of the tool that runs."""
+    print(f"{sys.argv[0]}: {visible(text)}", file=sys.stderr)
 
 
 def standard_input() -> BinaryIO:
@@ -115,6 +117,7 @@ def standard_input() -> BinaryIO:
 
 def read_report() -> reports.Report:
     """The report of standard input."""
+    from replay_tools import first_bytes, report as reports
     given = standard_input()
     if given.isatty():
         raise Fault("it wants a report on standard input, as kubelet-replay run TRACE > REPORT writes it: .. < REPORT")
@@ -160,10 +163,8 @@ def standard_output() -> TextIO:
     return io.TextIOWrapper(buffer, plain.encoding, plain.errors, line_buffering=plain.isatty())
 
 
-def run(tool: str, main: Callable[[list[str]], int]) -> int:
-    """The status of a tool: that of main, or of a fault, 1 where standard output takes no more or the system refuses
-    something that no tool expects."""
-    TOOL[0] = tool
+def run(tool: str, main: Callable[[], int]) -> int:
+    """The status of a process that runs a tool: that of main, 1 where standard output is closed."""
     if sys.stderr is None:
         sys.stderr = open(os.devnull, "w", encoding="utf-8")
     if sys.stdout is None:
@@ -173,7 +174,17 @@ def run(tool: str, main: Callable[[list[str]], int]) -> int:
     try:
         # start holds an interrupt back until it is heard here
         signal.pthread_sigmask(signal.SIG_UNBLOCK, [signal.SIGINT])
-        status = version(tool) if is_version(sys.argv[1:]) else answered(main, sys.argv[1:])
+        return main()
+    except KeyboardInterrupt:
+        return 130
+
+
+def answered(tool: str, main: Callable[[], int], words: list[str]) -> int:
+    """The status of a tool, whose answer, help, version or fault is written: that of main, or of a fault, 1 where
+    standard output takes no more or the system refuses something that no tool expects."""
+    sys.argv = [tool, *words]
+    try:
+        status = version(tool) if is_version(words) else helped(main)
         sys.stdout.flush()
         return status
     except Fault as fault:
@@ -189,19 +200,15 @@ def run(tool: str, main: Callable[[list[str]], int]) -> int:
         os.dup2(os.open(os.devnull, os.O_WRONLY), sys.stdout.fileno())
         print(f"{tool}: {output}{visible(str(fault.strerror or fault))}", file=sys.stderr)
         return 1
-    except KeyboardInterrupt:
-        return 130
 
 
-def answered(main: Callable[[list[str]], int], words: list[str]) -> int:
-    """The status of a tool, with the answer or the help written."""
+def helped(main: Callable[[], int]) -> int:
+    """The status of main, or of the help that was asked for."""
     try:
-        return main(words)
+        return main()
     except Help as text:
         sys.stdout.write(str(text))
         return 0
-    except events.NoTable as fault:
-        raise Fault(str(fault), 1) from None
 
 
 def is_version(words: list[str]) -> bool:

@@ -9,15 +9,13 @@ import os
 import re
 from dataclasses import dataclass
 
+from replay_tools import entry
+
 TOP = os.path.dirname(os.path.dirname(os.path.dirname(os.path.realpath(__file__))))
 SCHEMA = os.path.join(TOP, "docs", "report.schema.json")
 PLACE = re.compile(r"\{(\w+)\}")
 # places of a line that are no fields of their own kind of event
 SUBJECTS = {"{pod} {container}": "container", "{pod} -": "pod", "node": "node"}
-
-
-class NoTable(Exception):
-    """The table is not where the tools are; the message says why."""
 
 
 @dataclass(frozen=True)
@@ -112,7 +110,7 @@ def definitions() -> dict:
         with open(SCHEMA, encoding="utf-8") as file:
             return json.load(file)["definitions"]
     except OSError as fault:
-        raise NoTable(f"{SCHEMA}, which has the words of events, can't be read: {fault.strerror}") from None
+        raise entry.Fault(f"{SCHEMA}, which has the words of events, can't be read: {fault.strerror}", 1) from None
 
 
 def kind_of(found: dict) -> Kind:

@@ -16,14 +16,6 @@ if TYPE_CHECKING:
 NEVER = -1
 # for which a container waits as it starts
 STARTING = ("ContainerCreating", "PodInitializing")
-# the helps say it with these words
-ORDER = """\
-The worst pods come first: those that the node ended, as by an eviction or over a deadline, those that a probe killed,
-that crashed and are not ready, that crashed, failed, wait, were backed off, were started again, were not ready; then
-those that the rules alone evict or name, those that were deleted, those that exited, and all others. Of one kind those
-with more restarts come first, then those that were not ready for longer. What the node did comes before what the rules
-say, by which a pod is ended where no trace says what the node did.
-"""
 
 
 class Worst(Enum):

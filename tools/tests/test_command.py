@@ -7,6 +7,7 @@ import pty
 import re
 import shutil
 import subprocess
+import sys
 import tempfile
 
 from checks import HERE, REPLAY, TOOLS, TOP, expect, expect_refused, read, run
@@ -39,6 +40,23 @@ def test_command_runs_the_tools():
                    "--context is no word of it")
     expect_refused("kubelet-replay story of another pod", run([COMMAND, "story", "-f", TRACE, "default/aa"]), 2,
                    "no pod default/aa; the nearest: default/a")
+
+
+def test_what_a_start_imports():
+    """What a tool does not need for what it is asked does not make its start longer."""
+    heavy = ("replay_tools.record.", "replay_tools.joined.parts", "replay_tools.cluster", "replay_tools.explain",
+             "concurrent.futures", "tempfile", "sqlite3", "difflib")
+
+    def imported(*words):
+        status, _, said = run([sys.executable, "-X", "importtime", *words], read(REPORT))
+        return status, {line.rpartition("|")[2].strip() for line in said.split("\n")}
+
+    by_itself = imported("-c", "pass")[1]
+    for words, more in ((["story", "--help"], ("replay_tools.traces", "subprocess")), (["story", "default/a"], ()),
+                        (["json", "--help"], ("replay_tools.traces", "subprocess")), (["json"], ())):
+        status, names = imported(f"{TOOLS}/replay_tools/__main__.py", *words)
+        expect(f"{' '.join(words)} imports what it needs", (status, "replay_tools.entry" in names, [
+            name for name in names - by_itself if name.startswith((*heavy, *more))]), (0, True, []))
 
 
 def test_what_cannot_be_read():

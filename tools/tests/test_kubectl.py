@@ -6,13 +6,14 @@ import os
 import re
 import shutil
 import subprocess
+import sys
 import tempfile
 
 from checks import HERE, REPLAY, TOOLS, TOP, expect, expect_refused, read, run
 
 KEPT = f"{HERE}/kubectl"
-TOOL_NAMES = ("record", "explain", "story", "why", "timeline", "page", "json", "what-if", "import", "fleet",
-              "fetch", "nodes")
+# the plugin with a stand-in for each tool
+PLUGIN = [sys.executable, f"{KEPT}/with_stand_ins.py"]
 TRACE = ('{"kind":"node","name":"made"}\n'
          '{"kind":"pod","pod":{"metadata":{"name":"web","namespace":"shop"},"spec":{"containers":[{"name":"app"}]}}}\n'
          '{"kind":"pod","pod":{"metadata":{"name":"other","namespace":"shop"},'
@@ -23,14 +24,8 @@ FIRST_WITH_COMPLETION = 26
 
 
 def make_folder():
-    """A folder with the plugin beside stand-ins for the tools, a trace, a report, and a text that is refused."""
+    """A folder with a stand-in for the program, a trace, a report, and a text that is refused."""
     folder = tempfile.mkdtemp()
-    os.makedirs(f"{folder}/tools")
-    os.symlink(f"{TOOLS}/replay_tools", f"{folder}/tools/replay_tools")
-    for name in ("kubectl-replay", "kubectl_complete-replay"):
-        shutil.copy(f"{TOOLS}/{name}", f"{folder}/tools")
-    for name in TOOL_NAMES:
-        shutil.copy(f"{KEPT}/commands/show", f"{folder}/tools/{name}")
     shutil.copy(f"{KEPT}/commands/show", f"{folder}/kubelet_replay")
     report = run([REPLAY], TRACE)[1]
     extended = "\n" + TRACE.replace('"made"', '"v3","version":3') + '{"kind":"gone","pod":"shop/web"}\n'
@@ -59,14 +54,13 @@ def test_kubectl_words():
         given = words.replace("FOLDER", folder).split()
         # a trace of -f is replayed by the program itself, else its stand-in shows what it is called with
         program = None if given[0] in ("run", "check") else REPLAY
-        status, out, said = run([f"{folder}/tools/kubectl-replay", *given], report, **with_stand_ins(folder, program))
+        status, out, said = run([*PLUGIN, *given], report, **with_stand_ins(folder, program))
         expect(f"kubectl replay {words}", (status, out.replace(folder, "FOLDER").strip(), said), (0, called, ""))
-    answer = run([f"{folder}/tools/kubectl-replay", "check", "/dev/stdin"], read(f"{folder}/extended").strip(),
-                 **with_stand_ins(folder))[1]
+    answer = run([*PLUGIN, "check", "/dev/stdin"], read(f"{folder}/extended").strip(), **with_stand_ins(folder))[1]
     expect("kubectl replay check of a pipe", answer,
            'kubelet_replay [check] [/dev/stdin] [--extended] < {"kind":"node","name":"v\n')
     settings = with_stand_ins(folder, namespace="shop")
-    answer = run([f"{folder}/tools/kubectl-replay", "story", "db"], report, **settings)[1]
+    answer = run([*PLUGIN, "story", "db"], report, **settings)[1]
     expect("kubectl replay in the namespace of its context", answer.split(" <")[0], "story [shop/db]")
     shutil.rmtree(folder)
 
@@ -100,8 +94,7 @@ def test_kubectl_refused():
     folder = make_folder()
     report = read(f"{HERE}/lines/came_again.report")
     for words, status, said, *means in rows("refused"):
-        answer = run([f"{folder}/tools/kubectl-replay", *words.replace("FOLDER", folder).split()], report,
-                     **with_stand_ins(folder, REPLAY))
+        answer = run([*PLUGIN, *words.replace("FOLDER", folder).split()], report, **with_stand_ins(folder, REPLAY))
         expect_refused(f"kubectl replay {words}", answer, int(status), said.replace("FOLDER", folder), *means)
     answer = run([f"{TOOLS}/kubectl-replay", "story", "-f", "-", "shop/web"], "{}\n")
     expect_refused("kubectl replay -f - of no trace", answer, 2, "standard input is refused: line 1: 33 UnknownKind",
@@ -134,7 +127,7 @@ def test_kubectl_completion():
     settings = with_stand_ins(folder, namespace="shop")
     for words, candidates in rows("completions"):
         given = ["" if word == "_" else word.replace("FOLDER", folder) for word in words.split()]
-        status, out, said = run([f"{folder}/tools/kubectl_complete-replay", *given], **settings)
+        status, out, said = run([f"{TOOLS}/kubectl_complete-replay", *given], **settings)
         shown = " ".join(out.split()).replace(folder, "FOLDER")
         expect(f"completion of {words}", (status, shown, said), (0, candidates, ""))
     shutil.rmtree(folder)

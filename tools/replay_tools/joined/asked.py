@@ -45,8 +45,10 @@ class Asked:
         return None if self.at is None else self.at + SECONDS_BEHIND
 
 
-def add_words(words: entry.Words) -> None:
-    """Adds the words of several traces to those of a tool."""
+def add_words(words: entry.Words, takes_trace: bool = True) -> None:
+    """Adds the words of several traces to those of a tool, and that of the trace of a report."""
+    if takes_trace:
+        words.valued("--trace")
     words.add_argument(TRACES, action="append")
     words.valued(*VALUED)
 

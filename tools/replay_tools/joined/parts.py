@@ -7,12 +7,10 @@ import re
 import subprocess
 import tempfile
 from collections.abc import Callable
-from concurrent.futures import ThreadPoolExecutor
 from dataclasses import dataclass
 from typing import Any, TYPE_CHECKING
 
 from replay_tools import entry, first_bytes, packed, program as programs, records, report as reports, summary, traces
-from replay_tools.explain import beside
 from replay_tools.joined import files
 
 if TYPE_CHECKING:
@@ -74,6 +72,7 @@ class Part:
 
 def parts_of(asked: asked.Asked) -> list[Part]:
     """The parts that are asked for, in the order of their times."""
+    from concurrent.futures import ThreadPoolExecutor
     sources = files.sources_of(asked)
     program = None if all(map(is_report, sources)) else program_path()
     with ThreadPoolExecutor(AT_ONCE) as threads:
@@ -169,6 +168,7 @@ def replayed(source: files.Source, text: bytes, program: str) -> bytes:
 
 def meaning(text: bytes, is_extended: bool) -> str | None:
     """What a refusal means, in one line."""
+    from replay_tools.explain import beside
     try:
         with tempfile.NamedTemporaryFile(prefix="trace-") as file:
             file.write(text)

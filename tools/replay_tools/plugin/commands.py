@@ -2,20 +2,14 @@
 
 from __future__ import annotations
 
-import os
 import re
-import subprocess
 import sys
 from dataclasses import dataclass
-from typing import IO, NoReturn
+from typing import IO
 
-from replay_tools import entry, program as programs
-from replay_tools.plugin import failing, files, several, words, workload
+from replay_tools import entry, program as programs, tree
+from replay_tools.plugin import files, several, words, workload
 from replay_tools.plugin.words import FOLLOW
-
-# beside the command that was called, which may be reached by a link
-TOOLS = os.path.dirname(os.path.realpath(sys.argv[0]))
-
 
 @dataclass(frozen=True)
 class Caller:
@@ -40,10 +34,10 @@ def run(given: list[str], caller: Caller) -> int:
     if "--help" in rest or "-h" in rest:
         return show_help(name, caller)
     if rest in (["--version"], ["-V"]):
-        files.run_on(programs.path() if name in ("run", "check") else os.path.join(TOOLS, name), ["--version"])
+        return tree.run(name, rest) if name in tree.MODULES else files.become(programs.path(), ["--version"])
     command = words.COMMANDS[name]
     if not command.takes_file:
-        files.run_on(os.path.join(TOOLS, name), rest)
+        return tree.run(name, rest)
     found = words.words_of(command, rest, caller.is_of_kubectl)
     if found.waiting:
         raise entry.Fault(f"{found.waiting} wants a value (--help says more)")
@@ -51,27 +45,22 @@ def run(given: list[str], caller: Caller) -> int:
     if name in ("run", "check"):
         return run_program(name, found, caller)
     if name == "explain":
-        files.run_on(os.path.join(TOOLS, name), [*([found.file] if found.file else []), *found.plain, *found.rest])
+        return tree.run(name, [*([found.file] if found.file else []), *found.plain, *found.rest])
     if name == "story" and FOLLOW in found.rest:
-        files.run_on(os.path.join(TOOLS, name), [*found.rest, *(words.pods_meant(command, found) or [])])
+        return tree.run(name, [*found.rest, *(words.pods_meant(command, found) or [])])
     if name == "story" and workload.is_meant(found):
         return workload.run(found, caller.is_of_kubectl)
     if command.takes_several and several.is_meant(found):
-        return several.run(name, command, found, os.path.join(TOOLS, name))
+        return several.run(name, command, found)
     return run_tool(name, command, found)
 
 
 def show_help(name: str, caller: Caller) -> int:
     """Shows a command's help, with its name as it is typed here."""
     if name in ("run", "check"):
-        files.run_on(programs.path(), ["help", name])
-    tool = os.path.join(TOOLS, name)
-    try:
-        done = subprocess.run([tool, "--help"], stdout=subprocess.PIPE, check=False)
-    except OSError as fault:
-        raise entry.Fault(f"{tool} is missing or can't be started: {fault.strerror}", 127) from None
-    sys.stdout.write(named(done.stdout.decode("utf-8", "replace"), name, caller.typed))
-    return done.returncode
+        files.become(programs.path(), ["help", name])
+    sys.stdout.write(named(tree.help_of(name), name, caller.typed))
+    return 0
 
 
 def named(text: str, name: str, typed: str) -> str:
@@ -88,6 +77,7 @@ def named(text: str, name: str, typed: str) -> str:
 
 def run_program(name: str, found: words.Words, caller: Caller) -> int:
     """Runs the program, with the option for the format that the node line of the trace says; its status."""
+    from replay_tools.plugin import failing
     rest, kinds = without_fail_on(found.rest)
     traces, copy = [*([found.file] if found.file else []), *found.plain], None
     option: list[str] = []
@@ -106,14 +96,15 @@ def run_program(name: str, found: words.Words, caller: Caller) -> int:
 
 def without_fail_on(rest: list[str]) -> tuple[list[str], dict[str, None] | None]:
     """The words for the program, and what a run is to fail on."""
+    from replay_tools.plugin import failing
     if failing.WORD not in rest:
         return rest, None
     place = rest.index(failing.WORD)
     return rest[:place] + rest[place + 2 :], failing.kinds_of(rest[place + 1])
 
 
-def run_tool(name: str, command: words.Command, found: words.Words) -> NoReturn:
-    """Becomes a tool, with the words that it takes in place of kubectl's."""
+def run_tool(name: str, command: words.Command, found: words.Words) -> int:
+    """Runs a tool, with the words that it takes in place of kubectl's; its status."""
     if name == "what-if":
         report = open_trace(found.file) if found.file else None
     else:
@@ -122,7 +113,9 @@ def run_tool(name: str, command: words.Command, found: words.Words) -> NoReturn:
     if command.pods != "none":
         pods, report = keys(command, found, report)
     trace = trace_words(name, found, pods)
-    files.run_on(os.path.join(TOOLS, name), [*found.rest, *pods, *trace], report)
+    if report is not None:
+        files.make_input(report)
+    return tree.run(name, [*found.rest, *pods, *trace])
 
 
 def keys(command: words.Command, found: words.Words, report: IO[bytes]) -> tuple[list[str], IO[bytes]]:

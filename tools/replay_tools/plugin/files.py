@@ -11,7 +11,6 @@ import tempfile
 from typing import Any, IO, NoReturn
 
 from replay_tools import entry, outside, packed, program as programs, report as reports, traces
-from replay_tools.explain import beside
 from replay_tools.joined import files as traces_of
 
 # a longer one is no line of a trace
@@ -95,10 +94,16 @@ def replayed(path: str) -> IO[bytes]:
         if said == "write failed":
             raise no_room("it takes no more")
         if done.returncode == 2:
-            raise entry.Fault(f"{shown(path)} is refused: {said}", means=beside.meaning(path, bool(option)))
+            raise entry.Fault(f"{shown(path)} is refused: {said}", means=meaning(path, bool(option)))
         raise entry.Fault(f"{shown(path)} can't be replayed: {said}", done.returncode if done.returncode == 127 else 1)
     report.seek(0)
     return report
+
+
+def meaning(path: str, is_extended: bool) -> str | None:
+    """What a refusal of a file means, in one line."""
+    from replay_tools.explain import beside
+    return beside.meaning(path, is_extended)
 
 
 def format_words(path: str) -> list[str]:
@@ -203,7 +208,7 @@ def run_beside(program: str, words: list[str], path: str, given: IO[bytes] | Non
     if said is not None:
         show_plain(said)
     if status in (1, 2) and path is not None:
-        means = beside.meaning(path, "--extended" in words)
+        means = meaning(path, "--extended" in words)
         if means:
             print(f"{caller}: {means}", file=sys.stderr)
     if status in (1, 3) and path is not None and not can_be_read(path):
@@ -259,15 +264,20 @@ def kept_input() -> str:
     return path_of(whole(given, "standard input"))
 
 
-def run_on(tool: str, words: list[str], report: IO[bytes] | None = None) -> NoReturn:
-    """Becomes a tool, with a file as its standard input. It does not come back."""
-    if report is not None and report.fileno() != 0:
+def make_input(report: IO[bytes]) -> None:
+    """Makes a file standard input, for a tool that reads its report there."""
+    if report.fileno() != 0:
         os.lseek(report.fileno(), 0, os.SEEK_SET)
         os.dup2(report.fileno(), 0)
+    sys.stdin = open(0, encoding="utf-8", closefd=False)
+
+
+def become(program: str, words: list[str]) -> NoReturn:
+    """Becomes a program. It does not come back."""
     sys.stdout.flush()
-    # Python ignores it, and a tool would begin so
+    # Python ignores it, and a program would begin so
     signal.signal(signal.SIGPIPE, signal.SIG_DFL)
     try:
-        os.execv(tool, [tool, *words])
+        os.execv(program, [program, *words])
     except OSError as fault:
-        raise entry.Fault(f"{tool} is missing or can't be started: {fault.strerror}", 127) from None
+        raise entry.Fault(f"{program} is missing or can't be started: {fault.strerror}", 127) from None

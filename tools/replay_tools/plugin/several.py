@@ -4,13 +4,10 @@ from __future__ import annotations
 
 import glob
 import os
-import subprocess
-import sys
 import tempfile
 from collections.abc import Callable
 
-from replay_tools import entry
-from replay_tools.cluster import fetching, recorders
+from replay_tools import entry, tree
 from replay_tools.joined import asked
 from replay_tools.plugin import files, words
 
@@ -25,8 +22,8 @@ def is_pattern(file: str) -> bool:
     return glob.has_magic(file) and not os.path.exists(file)
 
 
-def run(name: str, command: words.Command, found: words.Words, tool: str) -> int:
-    """Runs a tool on several traces; its status, where it comes back."""
+def run(name: str, command: words.Command, found: words.Words) -> int:
+    """Runs a tool on several traces; its status."""
     pods = found.plain if command.pods == "none" else words.pods_meant(command, found)
     if pods is None:
         pods = [f"{found.namespace}/"]
@@ -36,12 +33,12 @@ def run(name: str, command: words.Command, found: words.Words, tool: str) -> int
     if named or asked.TRACES in found.rest:
         if words.RECORDERS in found.rest:
             raise entry.Fault(f"{words.RECORDERS} is for the traces of a cluster, and files are named")
-        files.run_on(tool, [*rest, *pods, *named])
+        return tree.run(name, [*rest, *pods, *named])
     node = found.value("--node")
     if node is None:
         raise entry.Fault("it wants -f FILE or FOLDER for traces that are here, or --node NODE for those of a cluster")
-    return run_fetched(found, node, lambda folder: [tool, *without(rest, words.RECORDERS), *pods, asked.TRACES,
-                                                    folder])
+    return run_fetched(found, node, lambda folder: tree.run(
+        name, [*without(rest, words.RECORDERS), *pods, asked.TRACES, folder]))
 
 
 def without(rest: list[str], name: str) -> list[str]:
@@ -50,8 +47,9 @@ def without(rest: list[str], name: str) -> list[str]:
     return [word for place, word in enumerate(rest) if place not in places and place - 1 not in places]
 
 
-def run_fetched(found: words.Words, node: str, words_for: Callable[[str], list[str]]) -> int:
-    """Fetches the traces of a node into a folder that goes again, and runs a tool on them; its status."""
+def run_fetched(found: words.Words, node: str, run_on: Callable[[str], int]) -> int:
+    """Fetches the traces of a node into a folder that goes again, and runs a tool on it; its status."""
+    from replay_tools.cluster import fetching, recorders
     cluster = recorders.Cluster(found.context, found.value(words.RECORDERS) or recorders.NAMESPACE)
     first, last = asked.span_of(found.value("--since"), found.value("--at"), fetching.now())
     [recorder] = recorders.on_nodes(cluster.recorders(), [node])
@@ -65,11 +63,4 @@ def run_fetched(found: words.Words, node: str, words_for: Callable[[str], list[s
             raise entry.Fault(f"{node}: {'; '.join(came.faults)}", 1)
         for said in came.faults:
             entry.say(f"{node}: {said}")
-        sys.stdout.flush()
-        process = subprocess.Popen(words_for(path), stdin=subprocess.DEVNULL)
-        try:
-            status = process.wait()
-        except KeyboardInterrupt:
-            # the tool has it too, and must not outlive the folder
-            status = process.wait()
-        return status if status >= 0 else 128 - status
+        return run_on(path)

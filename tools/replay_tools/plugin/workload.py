@@ -5,12 +5,16 @@ from __future__ import annotations
 
 import sys
 import tempfile
+from typing import TYPE_CHECKING
 
-from replay_tools import asking, endings, entry
+from replay_tools import entry
 from replay_tools.clock import Clock
-from replay_tools.cluster import fetching, recorders, told, workloads
-from replay_tools.joined import asked, join
+from replay_tools.cluster import recorders, workloads
+from replay_tools.joined import asked
 from replay_tools.plugin import files, words
+
+if TYPE_CHECKING:
+    from replay_tools.cluster import fetching, told
 
 # where neither --since nor --at is given
 SINCE = "2h"
@@ -51,6 +55,7 @@ def target_of(found: words.Words) -> workloads.Target:
 
 def run(found: words.Words, is_of_kubectl: bool) -> int:
     """Tells the story of what the words name; the status."""
+    from replay_tools.cluster import fetching, told
     if is_of_kubectl and found.is_everywhere:
         raise entry.Fault(f"{words.EVERYWHERE[0]} is for traces that are here: a workload is of one namespace")
     target = target_of(found)
@@ -98,6 +103,9 @@ def named(nodes: list[str]) -> str:
 def told_of(came: fetching.Fetched, folder: str, of_time: tuple[str | None, str | None, float],
             members: workloads.Members) -> told.OnNode | None:
     """What was recorded of a node; None where that is nothing, which is said."""
+    from replay_tools import asking, endings
+    from replay_tools.cluster import told
+    from replay_tools.joined import join
     for fault in came.faults:
         entry.say(f"{came.node}: {fault}")
     if not came.copied:

@@ -1,0 +1,58 @@
+"""Lists the nodes of a cluster that record."""
+
+from __future__ import annotations
+
+import sys
+from concurrent.futures import ThreadPoolExecutor
+
+from replay_tools import amounts, entry, report as reports, telling
+from replay_tools.cluster import fetching, recorders
+
+HELP = """\
+usage: tools/nodes [--recorders NAMESPACE] [--context NAME]
+
+Lists the nodes on which a recorder of deploy/daemonset.yaml runs: since when it has traces (the begin of the oldest
+that it holds), up to when (its newest was written last then), how many they are, and how many bytes they have. Where a
+recorder does not answer, or does not run, that stands in its line.
+
+--recorders NAMESPACE is where the recorders are (kubelet-replay), --context NAME the context of kubectl. It asks for
+the pods with the label app=kubelet-replay-recorder, and runs find in each of them.
+
+It needs python3, and kubectl with the right to list and get these pods and to exec into them (pods: list, get;
+pods/exec: create, get). It leaves out nodes that have no such pod, and of a node what is named after another one, or
+has no size or time, which stands in its line.
+
+Status 0: done; 1: the recorders can't be listed, some recorder did not answer, or standard output takes no more; 2: a
+bad word, no recorder; 127: a command is missing.
+"""
+
+
+def parser() -> entry.Words:
+    taken = entry.Words(HELP)
+    recorders.add_words(taken)
+    return taken
+
+
+def main(words: list[str]) -> int:
+    cluster = recorders.cluster_of(parser().taken(words))
+    there = cluster.recorders()
+    with ThreadPoolExecutor(fetching.AT_ONCE) as threads:
+        rows = list(threads.map(lambda recorder: row_of(cluster, recorder), there.values()))
+    table = telling.table(f"{entry.counted(len(rows), 'node')} with a recorder",
+                          ["node", "traces", "since", "until", "size", ""], [row for row, _ in rows])
+    sys.stdout.write("".join(f"{entry.visible(line)}\n" for line in table[:-1]))
+    return 0 if all(answers for _, answers in rows) else 1
+
+
+def row_of(cluster: recorders.Cluster, recorder: recorders.Recorder) -> tuple[list[str], bool]:
+    """A node's row, and whether its recorder has answered."""
+    try:
+        held = cluster.held(recorder)
+    except recorders.NoAnswer as fault:
+        return [recorder.node, "-", "-", "-", "-", str(fault)], False
+    since, until = (reports.moment_text(at, True) if held.files else "-" for at in (
+        held.files[0].begun if held.files else 0, max((file.changed for file in held.files), default=0)))
+    writes = None if any(file.is_part for file in held.files) else "no trace is being written"
+    size = amounts.amount_text(1000 * sum(file.size for file in held.files), True)
+    said = "; ".join(filter(None, [writes, held.left_words()]))
+    return [recorder.node, str(len(held.files)), since, until, size, said], True

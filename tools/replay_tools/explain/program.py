@@ -1,0 +1,68 @@
+"""Writes what a refusal of the program means, of a trace that may be packed, or be read but once."""
+
+from __future__ import annotations
+
+import os
+import sys
+import tempfile
+from collections.abc import Iterator
+from contextlib import contextmanager
+
+from replay_tools import outside, packed, program as programs
+from replay_tools.traces import LONGEST_TRACE
+
+from . import answer, told, verdict
+
+
+def explained(path: str, name: str, is_extended: bool, is_line: bool) -> int:
+    """Writes what is said of a trace, which has this name for the operator; the status."""
+    if not os.environ.get("KUBELET_REPLAY"):
+        # in a checkout this builds the program where that is due, and what it says is not held back
+        programs.checked_path()
+    try:
+        with readable(path) as known:
+            return write(known, name, is_extended, is_line)
+    except packed.Damaged as fault:
+        show(answer.of_damaged(str(fault)), name, is_line)
+    return 0
+
+
+@contextmanager
+def readable(path: str) -> Iterator[str]:
+    """The path of a file as the program takes it: that of a copy, which goes again, where it can be read but once, is
+    packed, or has a name that the program does not take. Raises Damaged."""
+    text = bytes_to_copy(path)
+    if text is None:
+        yield path
+        return
+    with tempfile.NamedTemporaryFile(prefix="explain-") as copy:
+        copy.write(text)
+        copy.flush()
+        yield copy.name
+
+
+def bytes_to_copy(path: str) -> bytes | None:
+    """The bytes of a file that can't be handed to the program as it is; None where it can, or can't be read."""
+    if not os.path.exists(path) or os.path.isdir(path):
+        return None
+    is_file = os.path.isfile(path) and not path.startswith("/dev/")
+    try:
+        if is_file and not packed.is_packed_file(path) and outside.is_utf8(path):
+            return None
+        return packed.read(path, LONGEST_TRACE)
+    except OSError:
+        return None
+
+
+def show(given: answer.Answer, name: str, is_line: bool) -> None:
+    sys.stdout.write((told.one_line(given) or given.said) + "\n" if is_line else told.whole_text(given, name))
+
+
+def write(path: str, name: str, is_extended: bool, is_line: bool) -> int:
+    """Writes what a trace's refusal means, and of one of the extended format what it comes to as such; the status."""
+    given = [answer.answer_of(path, is_extended)]
+    show(given[0], name, is_line)
+    if not is_line and not is_extended and given[0].is_fault and verdict.says_extended(path):
+        given.append(answer.answer_of(path, True))
+        sys.stdout.write("\n" + told.whole_text(given[-1], f"{name} with --extended"))
+    return 1 if any(each.has_no_verdict for each in given) else 0

@@ -1,0 +1,15 @@
+"""What the helps of several tools say with the same words."""
+
+MOMENTS = """\
+Moments are written as times of UTC, with a Z, where they count from 1970, as those of a recording do, and else as the
+seconds of the trace; --local writes times of this machine's zone, with how far that is from UTC, --seconds the seconds
+of the trace, --utc times of UTC whatever they count from.
+"""
+# as summary has it
+ORDER = """\
+The worst pods come first: those that the node ended, as by an eviction or over a deadline, those that a probe killed,
+that crashed and are not ready, that crashed, failed, wait, were backed off, were started again, were not ready; then
+those that the rules alone evict or name, those that were deleted, those that exited, and all others. Of one kind those
+with more restarts come first, then those that were not ready for longer. What the node did comes before what the rules
+say, by which a pod is ended where no trace says what the node did.
+"""
