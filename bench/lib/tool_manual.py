@@ -1,31 +1,17 @@
 """Writes the manual pages of the tools into a folder, one for each command of kubelet-replay and two for the commands
-that have them all, from what their helps say.
+that have them all, from what their helps say, which the tools' own tree of commands has.
 
     tool_manual.py TOP FOLDER VERSION DATE
 """
 import os
 import re
-import subprocess
-from concurrent.futures import ThreadPoolExecutor
+import sys
 
 import script
 from manual import escaped
 
 ABOUT = {"kubelet-replay": "the program and its tools as one command",
          "kubectl-replay": "the same as a plugin of kubectl"}
-
-
-def help_of(top, *words):
-    """What a command of this repository says of itself; that it fails is no text of a manual."""
-    return subprocess.run([f"{top}/tools/{words[0]}", *words[1:], "--help"], stdin=subprocess.DEVNULL,
-                          capture_output=True, text=True, check=True).stdout
-
-
-def commands_of(text):
-    """The commands that a help lists, with what it says of each, at last where it stands twice; without those of the
-    program, which has a page of its own."""
-    found = dict(re.findall(r"^  kubelet-replay (\S+) .*?  +(\S.*)$", text, re.M))
-    return {name: says for name, says in found.items() if name not in ("run", "check")}
 
 
 def paragraphs(lines):
@@ -80,16 +66,23 @@ def page(name, about, text, version, date):
     return "\n".join(lines) + "\n"
 
 
+def helps_of(top):
+    """The commands of the tools of a repository by the names of their pages, with what each is and says of itself; the
+    program has a page of its own."""
+    sys.path.insert(0, f"{top}/tools")
+    from replay_tools import tree
+    from replay_tools.plugin import commands, help
+    of_all = {caller.name: (ABOUT[caller.name], help.text_of(caller))
+              for caller in (commands.ALONE, commands.OF_KUBECTL)}
+    return of_all | {f"kubelet-replay-{name}": (command.says, commands.help_of(name, commands.ALONE))
+                    for name, command in tree.COMMANDS.items() if tree.is_tool(name)}
+
+
 def main(words):
     if len(words) != 4:
         raise script.Usage("tool_manual.py TOP FOLDER VERSION DATE")
     top, folder, version, date = words
-    helps = {name: (about, help_of(top, name)) for name, about in ABOUT.items()}
-    commands = commands_of(helps["kubelet-replay"][1])
-    # a help is a process of its own, and most of its time is Python's start
-    with ThreadPoolExecutor(os.cpu_count()) as pool:
-        texts = pool.map(lambda command: help_of(top, "kubelet-replay", command), commands)
-        helps |= {f"kubelet-replay-{command}": it for command, *it in zip(commands, commands.values(), texts)}
+    helps = helps_of(top)
     for name, (about, text) in helps.items():
         with open(os.path.join(folder, f"{name}.1"), "w", encoding="utf-8") as file:
             file.write(page(name, about, text, version, date))

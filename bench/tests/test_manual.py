@@ -99,9 +99,12 @@ class ToolManual(Case):
         self.assertEqual(tool_manual.page("kubelet-replay-tool", "tells of a pod", HELP, "1.2.3", "2026-01-31"), PAGE)
 
     def test_the_commands(self):
-        text = ("usage: x\n\n  kubelet-replay run t    a report\n  kubelet-replay story -f t        the pods\n"
-                "  kubelet-replay story -f t shop/web   one\n  kubelet-replay why t > w   why it was\n")
-        self.assertEqual(tool_manual.commands_of(text), {"story": "one", "why": "why it was"})
+        """Each tool has a page, with the help as it is typed, and so have the two commands that have them all."""
+        helps = tool_manual.helps_of(TOP)
+        self.assertEqual(helps["kubelet-replay-why"][0], "what the trace holds around each event of one pod")
+        self.assertTrue(helps["kubelet-replay-why"][1].startswith("usage: kubelet-replay why POD "))
+        self.assertEqual({"kubelet-replay", "kubectl-replay", "kubelet-replay-run"} & set(helps),
+                         {"kubelet-replay", "kubectl-replay"})
 
     def test_the_pages_of_all_tools(self):
         with tempfile.TemporaryDirectory() as room:

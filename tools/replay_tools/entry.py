@@ -42,6 +42,9 @@ class Words(argparse.ArgumentParser):
         # nothing of it is shown, so nothing is asked of the terminal
         super().__init__(usage="", add_help=False, allow_abbrev=False, exit_on_error=False,
                          formatter_class=functools.partial(argparse.HelpFormatter, width=120))
+        self.text = text
+        self.of_files: set[str] = set()
+        self.choices: dict[str, tuple[str, ...]] = {}
         self.add_argument("-h", "--help", action=ShowHelp, text=text)
 
     def flag(self, *names: str) -> None:
@@ -53,6 +56,22 @@ class Words(argparse.ArgumentParser):
         """Words with a value, of which the last one counts; without it None."""
         for name in names:
             self.add_argument(name)
+
+    def files(self, *names: str, **how: Any) -> None:
+        """Words with a value that is the name of a file or a folder."""
+        for name in names:
+            self.add_argument(name, **how)
+        self.of_files.update(names)
+
+    def chosen(self, name: str, choices: Iterable[str], **how: Any) -> None:
+        """A word whose value is one of some texts, or is made of them."""
+        self.choices[name] = tuple(choices)
+        self.add_argument(name, **how)
+
+    def names(self, with_value: bool) -> tuple[str, ...]:
+        """The options that have a value, or those that have none, but for the help."""
+        return tuple(name for action in self._actions if (action.nargs != 0) == with_value
+                     and not isinstance(action, ShowHelp) for name in action.option_strings)
 
     def taken(self, words: list[str]) -> argparse.Namespace:
         """The values of the words, in whatever order they stand. Raises Fault and Help."""
@@ -217,10 +236,11 @@ def is_version(words: list[str]) -> bool:
 
 def version(tool: str) -> int:
     """Writes the version of the release that the tool is of, or that the checkout goes on from; the status."""
-    top = os.path.dirname(os.path.dirname(os.path.dirname(os.path.realpath(__file__))))
-    with open(os.path.join(top, "VERSION"), encoding="utf-8") as file:
+    package = os.path.dirname(os.path.realpath(__file__))
+    with open(os.path.join(package, "VERSION"), encoding="utf-8") as file:
         number = file.read().strip()
-    sys.stdout.write(f"{tool} {number}{UNRELEASED if has_more(top) else ''}\n")
+    more = UNRELEASED if has_more(os.path.dirname(os.path.dirname(package))) else ""
+    sys.stdout.write(f"{tool} {number}{more}\n")
     return 0
 
 

@@ -11,8 +11,8 @@ from dataclasses import dataclass
 
 from replay_tools import entry
 
-TOP = os.path.dirname(os.path.dirname(os.path.dirname(os.path.realpath(__file__))))
-SCHEMA = os.path.join(TOP, "docs", "report.schema.json")
+# a link to that of the documents
+SCHEMA = os.path.join(os.path.dirname(__file__), "report.schema.json")
 PLACE = re.compile(r"\{(\w+)\}")
 # places of a line that are no fields of their own kind of event
 SUBJECTS = {"{pod} {container}": "container", "{pod} -": "pod", "node": "node"}

@@ -1,36 +1,65 @@
-"""The tools by their names, and how one of them is run."""
+"""The tools by their names: what each command is, its words, its help, and how it is run. Completion, manual pages and
+the helps of kubelet-replay and kubectl replay are made of this."""
 
 from __future__ import annotations
 
 import importlib
+from dataclasses import dataclass
 from typing import Any
 
 from replay_tools import entry
 
-# the module of replay_tools.commands that has the words, the help and the work of each
-MODULES = {
-    "kubelet-replay": "kubelet_replay",
-    "kubectl-replay": "kubectl_replay",
-    "kubectl_complete-replay": "kubectl_complete",
-    "record": "record",
-    "explain": "explain",
-    "story": "story",
-    "why": "why",
-    "page": "page",
-    "timeline": "timeline",
-    "json": "json_lines",
-    "what-if": "what_if",
-    "import": "import_journal",
-    "fleet": "fleet",
-    "fetch": "fetch",
-    "nodes": "nodes",
+
+@dataclass(frozen=True)
+class Command:
+    """One of the commands of kubelet-replay and kubectl replay."""
+
+    module: str
+    """of replay_tools.commands, with its words, its help and its work"""
+    says: str
+    pods: str = "none"
+    """how many it takes: none, one or any"""
+    takes_file: bool = True
+    names_files: bool = False
+    """its words that are no option are files"""
+    lists_pods: bool = False
+    """without a pod it lists those of a namespace"""
+    takes_several: bool = False
+    """it tells of several traces, and of those of a cluster's node"""
+    is_of_program: bool = False
+    """the program does it"""
+    subcommands: tuple[str, ...] = ()
+
+
+COMMANDS = {
+    "record": Command("record", "record a node", takes_file=False),
+    "run": Command("run", "the report of a trace", names_files=True, is_of_program=True),
+    "check": Command("check", "whether a file is a trace, or its first faulty line", names_files=True,
+                     is_of_program=True),
+    "explain": Command("explain", "what a refusal means, and what to do", names_files=True),
+    "story": Command("story", "one pod's story", "one", lists_pods=True, takes_several=True),
+    "why": Command("why", "what the trace holds around each event of one pod", "one", takes_several=True),
+    "page": Command("page", "a page of a node", names_files=True, takes_several=True),
+    "timeline": Command("timeline", "a picture, of all pods or of those named", "any", takes_several=True),
+    "json": Command("json_lines", "a report as JSON lines, or with --sqlite FILE as tables", takes_several=True),
+    "what-if": Command("what_if", "a trace replayed with an edit"),
+    "import": Command("import_journal", "a trace out of a kubelet's journal, where none was recorded",
+                      takes_file=False),
+    "fleet": Command("fleet", "the traces of many nodes, and their worst pods", takes_file=False, names_files=True,
+                     subcommands=("run", "worst")),
+    "fetch": Command("fetch", "the traces of a cluster's nodes, into a folder", takes_file=False),
+    "nodes": Command("nodes", "which nodes of a cluster record, since when, how much", takes_file=False),
 }
+# what has them all
+ENTRIES = {"kubelet-replay": "kubelet_replay", "kubectl-replay": "kubectl_replay",
+           "kubectl_complete-replay": "kubectl_complete"}
 
 
 def start(given: list[str]) -> int:
     """The status of a process that was started for a tool, by its name and words; without a name of one all are words
     of kubelet-replay."""
-    name, words = (given[0], given[1:]) if given and given[0] in MODULES else ("kubelet-replay", given)
+    is_named = given[:1] != [] and (given[0] in ENTRIES or is_tool(given[0]))
+    name, words = (given[0], given[1:]) if is_named else ("kubelet-replay", given)
     return entry.run(name, lambda: run(name, words))
 
 
@@ -39,14 +68,23 @@ def run(name: str, words: list[str]) -> int:
     return entry.answered(name, lambda: module_of(name).main(words), words)
 
 
+def is_tool(name: str) -> bool:
+    """Whether it is a command of the tools, and not of the program."""
+    return name in COMMANDS and not COMMANDS[name].is_of_program
+
+
 def help_of(name: str) -> str:
     """What a tool says of itself."""
-    try:
-        module_of(name).main(["--help"])
-    except entry.Help as text:
-        return str(text)
-    raise AssertionError(f"{name} has no help")
+    return parser_of(name).text
+
+
+def parser_of(name: str, given: list[str] | None = None) -> entry.Words:
+    """The words that a command takes, behind a subcommand where it has some."""
+    subcommands = COMMANDS[name].subcommands
+    chosen = [word for word in (given or [])[:1] if word in subcommands] or list(subcommands[:1])
+    return module_of(name).parser(*chosen)
 
 
 def module_of(name: str) -> Any:
-    return importlib.import_module(f"replay_tools.commands.{MODULES[name]}")
+    module = ENTRIES[name] if name in ENTRIES else COMMANDS[name].module
+    return importlib.import_module(f"replay_tools.commands.{module}")

@@ -12,6 +12,8 @@ import tempfile
 
 from checks import HERE, REPLAY, TOOLS, TOP, expect, expect_refused, read, run
 
+from replay_tools import tree
+
 COMMAND = f"{TOOLS}/kubelet-replay"
 NAMES = ("record", "run", "check", "explain", "story", "why", "page", "timeline", "json", "what-if", "import",
          "fleet", "fetch", "nodes")
@@ -57,6 +59,48 @@ def test_what_a_start_imports():
         status, names = imported(f"{TOOLS}/replay_tools/__main__.py", *words)
         expect(f"{' '.join(words)} imports what it needs", (status, "replay_tools.entry" in names, [
             name for name in names - by_itself if name.startswith((*heavy, *more))]), (0, True, []))
+
+
+def python_with_pip():
+    """A python3 that can install a package without asking an index, or None."""
+    for python in (sys.executable, "/usr/bin/python3"):
+        if os.path.exists(python) and run([python, "-c", "import setuptools, wheel, pip"])[0] == 0:
+            return python
+    return None
+
+
+def test_the_package():
+    """Installed by pip it is an ordinary package with console scripts, which say what the tools say."""
+    python = python_with_pip()
+    if python is None:
+        print("left out: the package, since pip, setuptools or wheel is missing")
+        return
+    folder = tempfile.mkdtemp()
+    os.makedirs(f"{folder}/top/docs")
+    for path in ("pyproject.toml", "VERSION", "docs/report.schema.json"):
+        shutil.copy(f"{TOP}/{path}", f"{folder}/top/{path}")
+    shutil.copytree(f"{TOOLS}/replay_tools", f"{folder}/top/tools/replay_tools", symlinks=True)
+    made = run([python, "-m", "pip", "install", "--quiet", "--no-build-isolation", "--no-index", "--no-deps",
+                "--target", f"{folder}/there", f"{folder}/top"], longest=120)
+    expect("pip installs the package", made[0], 0)
+    for words in (["story", "default/a"], ["page"], ["json"], ["--version"], ["--help"], ["__complete", "st"]):
+        answer = run([python, f"{folder}/there/bin/kubelet-replay", *words], read(REPORT), PYTHONPATH=f"{folder}/there")
+        expect(f"kubelet-replay {words[0]} as a package", answer, run([COMMAND, *words], read(REPORT)))
+    shutil.rmtree(folder)
+
+
+def test_one_tree():
+    """Each option of a tool that its parser takes is completed, and no other; all stand in the tool's help."""
+    for name, command in tree.COMMANDS.items():
+        for subcommand in command.subcommands or (None,):
+            parser = tree.parser_of(name, [subcommand] if subcommand else [])
+            own = {*parser.names(with_value=True), *parser.names(with_value=False)}
+            words = [name, *([subcommand] if subcommand else []), "--"]
+            completed = set(run([COMMAND, "__complete", *words])[1].split()[:-1])
+            beside = {"--filename", "--namespace", "--recorders", "--selector"}
+            expect(f"{' '.join(words)} completes its options", completed - beside, own - beside)
+            if not command.is_of_program:
+                expect(f"the help of {name} has its options", [each for each in own if each not in parser.text], [])
 
 
 def test_what_cannot_be_read():

@@ -80,13 +80,14 @@ def test_events_of_the_documents():
 
 
 def test_without_the_table():
-    """The tools of a folder without docs/ say what they lack."""
+    """The tools without their table say what they lack."""
     folder = tempfile.mkdtemp()
     shutil.copytree(f"{TOOLS}/replay_tools", f"{folder}/tools/replay_tools")
     shutil.copy(f"{TOOLS}/json", f"{folder}/tools")
-    expect_refused("json without docs/report.schema.json", run([f"{folder}/tools/json"],
-                                                               read(f"{LINES}/came_again.report")), 1,
-                   "/docs/report.schema.json, which has the words of events, can't be read")
+    os.remove(f"{folder}/tools/replay_tools/report.schema.json")
+    answer = run([f"{folder}/tools/json"], read(f"{LINES}/came_again.report"))
+    expect_refused("json without report.schema.json", answer, 1,
+                   "/report.schema.json, which has the words of events, can't be read")
     shutil.rmtree(folder)
 
 

@@ -61,7 +61,7 @@ def parser() -> entry.Words:
     taken.add_argument("nodes", nargs="*")
     taken.flag("--all")
     taken.valued("--since", "--at")
-    taken.add_argument("--into", default="traces")
+    taken.files("--into", default="traces")
     taken.add_argument("--most", type=number_of_bytes, default=fetching.MOST_OF_NODE)
     recorders.add_words(taken)
     return taken

@@ -61,20 +61,26 @@ def main(words: list[str]) -> int:
     return COMMANDS[words[0]](words[1:])
 
 
+def parser(command: str) -> entry.Words:
+    """The words of run or worst."""
+    return run_parser() if command == "run" else worst_parser()
+
+
 def worst_parser() -> entry.Words:
     """The words of worst, which run has too."""
     taken = entry.Words(HELP)
     taken.add_argument("named", nargs="*")
-    taken.add_argument("--by", type=entry.one_of(worst.MEASURES), default=worst.WORST)
+    taken.chosen("--by", worst.MEASURES, type=entry.one_of(worst.MEASURES), default=worst.WORST)
     taken.add_argument("--top", type=entry.whole_number(1_000_000), default=10)
-    taken.valued("--metrics")
+    taken.files("--metrics")
     return taken
 
 
 def run_parser() -> entry.Words:
     taken = worst_parser()
     taken.flag("--anew")
-    taken.valued("--out", "--scheduler", "--parquet")
+    taken.files("--out", "--parquet")
+    taken.valued("--scheduler")
     taken.add_argument("--processes", type=entry.whole_number(MOST_PROCESSES))
     return taken
 

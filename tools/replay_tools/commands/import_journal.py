@@ -46,9 +46,10 @@ or of manifests of another cluster, and nothing is written; the cluster gives no
 def parser() -> entry.Words:
     taken = entry.Words(HELP)
     for name in ("--journal", "--pods", "--events", "--audit"):
-        taken.add_argument(name, action="append", default=[])
+        taken.files(name, action="append", default=[])
     taken.add_argument("named", nargs="*")
-    taken.valued("--node", "--into", "--zone", "--since", "--context")
+    taken.files("--into")
+    taken.valued("--node", "--zone", "--since", "--context")
     taken.add_argument("--each", type=duration, default=3600)
     taken.add_argument("--year", type=year)
     return taken

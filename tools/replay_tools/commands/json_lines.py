@@ -47,7 +47,7 @@ APPLICATION = int.from_bytes(b"repT", "big")
 
 def parser() -> entry.Words:
     taken = entry.Words(HELP)
-    taken.valued("--sqlite")
+    taken.files("--sqlite")
     asked.add_words(taken)
     return taken
 

@@ -23,6 +23,5 @@ def main(given: list[str]) -> int:
     if given in (["--help"], ["-h"]):
         raise entry.Help(HELP)
     from replay_tools.plugin import completion
-    found, directive = completion.candidates(given)
-    sys.stdout.write("".join(f"{name}\n" for name in found) + f":{directive}\n")
+    sys.stdout.write(completion.answer(given, is_of_kubectl=True))
     return 0

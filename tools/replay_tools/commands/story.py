@@ -67,7 +67,7 @@ def parser() -> entry.Words:
     taken = entry.Words(HELP)
     taken.add_argument("named", nargs="*")
     taken.flag("--without-why")
-    taken.valued("--follow")
+    taken.files("--follow")
     clock.add_words(taken)
     asked.add_words(taken)
     return taken

@@ -10,8 +10,10 @@ from replay_tools import entry, program as programs
 SCRIPT = os.path.join(programs.TOP, "tools", "what-if")
 
 
+def parser() -> entry.Words:
+    return entry.Words(subprocess.run([SCRIPT, "--help"], stdout=subprocess.PIPE, text=True, check=True).stdout)
+
+
 def main(words: list[str]) -> int:
     from replay_tools.plugin import files
-    if words == ["--help"]:
-        raise entry.Help(subprocess.run([SCRIPT, "--help"], stdout=subprocess.PIPE, text=True, check=True).stdout)
     files.become(SCRIPT, words)

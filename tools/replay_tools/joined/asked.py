@@ -48,8 +48,8 @@ class Asked:
 def add_words(words: entry.Words, takes_trace: bool = True) -> None:
     """Adds the words of several traces to those of a tool, and that of the trace of a report."""
     if takes_trace:
-        words.valued("--trace")
-    words.add_argument(TRACES, action="append")
+        words.files("--trace")
+    words.files(TRACES, action="append")
     words.valued(*VALUED)
 
 

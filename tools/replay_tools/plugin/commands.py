@@ -8,17 +8,21 @@ from dataclasses import dataclass
 from typing import IO
 
 from replay_tools import entry, program as programs, tree
-from replay_tools.plugin import files, several, words, workload
+from replay_tools.commands.run import FAIL_ON
+from replay_tools.plugin import files, help, several, words, workload
 from replay_tools.plugin.words import FOLLOW
 
 @dataclass(frozen=True)
 class Caller:
-    """The command that was called: its name, how it is typed, whether kubectl is what runs it, its help."""
+    """The command that was called: its name, how it is typed, whether kubectl is what runs it."""
 
     name: str
     typed: str
     is_of_kubectl: bool
-    help: str
+
+
+ALONE = Caller("kubelet-replay", "kubelet-replay", is_of_kubectl=False)
+OF_KUBECTL = Caller("kubectl-replay", "kubectl replay", is_of_kubectl=True)
 
 
 def run(given: list[str], caller: Caller) -> int:
@@ -26,23 +30,23 @@ def run(given: list[str], caller: Caller) -> int:
     if given[:1] == ["help"] and len(given) > 1:
         given = [given[1], "--help"]
     if not given or given[0] in ("-h", "--help", "help"):
-        (sys.stdout if given else sys.stderr).write(caller.help)
+        (sys.stdout if given else sys.stderr).write(help.text_of(caller))
         return 0 if given else 2
     name, *rest = given
-    if name not in words.COMMANDS:
-        raise entry.Fault(f"{name} is no command of it: {', '.join(words.COMMANDS)} (--help says more)")
+    if name not in tree.COMMANDS:
+        raise entry.Fault(f"{name} is no command of it: {', '.join(tree.COMMANDS)} (--help says more)")
     if "--help" in rest or "-h" in rest:
         return show_help(name, caller)
     if rest in (["--version"], ["-V"]):
-        return tree.run(name, rest) if name in tree.MODULES else files.become(programs.path(), ["--version"])
-    command = words.COMMANDS[name]
+        return tree.run(name, rest) if tree.is_tool(name) else files.become(programs.path(), ["--version"])
+    command = tree.COMMANDS[name]
     if not command.takes_file:
         return tree.run(name, rest)
-    found = words.words_of(command, rest, caller.is_of_kubectl)
+    found = words.words_of(name, rest, caller.is_of_kubectl)
     if found.waiting:
         raise entry.Fault(f"{found.waiting} wants a value (--help says more)")
     found.files = [files.kept_input() if file == "-" else file for file in found.files]
-    if name in ("run", "check"):
+    if not tree.is_tool(name):
         return run_program(name, found, caller)
     if name == "explain":
         return tree.run(name, [*([found.file] if found.file else []), *found.plain, *found.rest])
@@ -56,11 +60,16 @@ def run(given: list[str], caller: Caller) -> int:
 
 
 def show_help(name: str, caller: Caller) -> int:
-    """Shows a command's help, with its name as it is typed here."""
-    if name in ("run", "check"):
+    """Shows a command's help."""
+    if not tree.is_tool(name):
         files.become(programs.path(), ["help", name])
-    sys.stdout.write(named(tree.help_of(name), name, caller.typed))
+    sys.stdout.write(help_of(name, caller))
     return 0
+
+
+def help_of(name: str, caller: Caller) -> str:
+    """A tool's help, with its name as it is typed here."""
+    return named(tree.help_of(name), name, caller.typed)
 
 
 def named(text: str, name: str, typed: str) -> str:
@@ -68,7 +77,7 @@ def named(text: str, name: str, typed: str) -> str:
     usage, blank, rest = text.partition("\n\n")
     further = " " * (len(f"{typed} {name}") - len(f"tools/{name}"))
     lines = [line if not line.startswith("        ") else further + line for line in usage.split("\n")]
-    commands = "|".join(words.COMMANDS)
+    commands = "|".join(tree.COMMANDS)
     text = re.sub(rf"\btools/({commands})\b(?![-/])", rf"{typed} \1", "\n".join(lines) + blank + rest)
     # the program stands behind the command that is typed
     return text.replace("./kubelet_replay (KUBELET_REPLAY", "the program (KUBELET_REPLAY") \
@@ -88,7 +97,7 @@ def run_program(name: str, found: words.Words, caller: Caller) -> int:
         traces[0], copy, option = files.with_format(path)
         path = files.path_of(copy) if copy else path
     if kinds and path is None:
-        raise entry.Fault(f"{failing.WORD} wants one trace, not {len(traces)} (--help says more)")
+        raise entry.Fault(f"{FAIL_ON} wants one trace, not {len(traces)} (--help says more)")
     if kinds:
         return failing.run([name, *traces, *rest, *option], path, copy, caller.name, kinds)
     return files.run_beside(programs.path(), [name, *traces, *rest, *option], path, copy, caller.name)
@@ -97,13 +106,13 @@ def run_program(name: str, found: words.Words, caller: Caller) -> int:
 def without_fail_on(rest: list[str]) -> tuple[list[str], dict[str, None] | None]:
     """The words for the program, and what a run is to fail on."""
     from replay_tools.plugin import failing
-    if failing.WORD not in rest:
+    if FAIL_ON not in rest:
         return rest, None
-    place = rest.index(failing.WORD)
+    place = rest.index(FAIL_ON)
     return rest[:place] + rest[place + 2 :], failing.kinds_of(rest[place + 1])
 
 
-def run_tool(name: str, command: words.Command, found: words.Words) -> int:
+def run_tool(name: str, command: tree.Command, found: words.Words) -> int:
     """Runs a tool, with the words that it takes in place of kubectl's; its status."""
     if name == "what-if":
         report = open_trace(found.file) if found.file else None
@@ -118,7 +127,7 @@ def run_tool(name: str, command: words.Command, found: words.Words) -> int:
     return tree.run(name, [*found.rest, *pods, *trace])
 
 
-def keys(command: words.Command, found: words.Words, report: IO[bytes]) -> tuple[list[str], IO[bytes]]:
+def keys(command: tree.Command, found: words.Words, report: IO[bytes]) -> tuple[list[str], IO[bytes]]:
     """The pods that are meant, and the report, which was read where a namespace alone says which."""
     named = words.pods_meant(command, found)
     if named is not None:

@@ -4,54 +4,51 @@ from __future__ import annotations
 
 from collections.abc import Iterable
 
+from replay_tools import entry, tree
 from replay_tools.plugin import files, words, workload
 
 # kubectl's directives: the shell offers no files, or its files
 NO_FILES, FILES = 4, 0
-MEASURES = ("worst", "restarts", "unready", "evicted")
-FAILURES = ("evicted", "restarted", "unready")
-# words whose value is no file
-COUNTS = ("--workers", "--processes", "--scheduler", "--top", "--node", "--every", "--look", "--ticks", "--for",
-          "--kubelet", "--crictl", "--eviction-pause", "--each", "--keep", "--most", "--since", "--at", "--recorders",
-          "--year", "--zone", "--logs", "--ship", *words.SELECTOR)
-OF_CLUSTER = ("--context", "--recorders")
-# of the tools that ask a cluster, and take no file
-CLUSTER_WORDS = {"fetch": ("--all", "--at", "--into", "--most", "--since", *OF_CLUSTER), "nodes": OF_CLUSTER}
 
 
-def candidates(given: list[str], is_of_kubectl: bool = True) -> tuple[list[str], int]:
+def answer(given: list[str], is_of_kubectl: bool) -> str:
+    """The candidates for the last word, a line for each, and the directive, as kubectl reads them."""
+    found, directive = candidates(given, is_of_kubectl)
+    return "".join(f"{name}\n" for name in found) + f":{directive}\n"
+
+
+def candidates(given: list[str], is_of_kubectl: bool) -> tuple[list[str], int]:
     """The candidates for the last word, and the directive."""
     *before, last = given or [""]
-    if not before:
-        return beginning(words.COMMANDS, last), NO_FILES
-    if before == ["help"]:
-        return beginning(words.COMMANDS, last), NO_FILES
-    command = words.COMMANDS.get(before[0])
+    if before in ([], ["help"]):
+        return beginning(tree.COMMANDS, last), NO_FILES
+    name, rest = before[0], before[1:]
+    command = tree.COMMANDS.get(name)
     if command is None:
         return [], NO_FILES
-    found = words.words_of(command, before[1:], is_of_kubectl)
+    if command.subcommands and not rest:
+        return beginning(command.subcommands, last), NO_FILES
+    found, parser = words.words_of(name, rest, is_of_kubectl), words.parser_of(name, rest)
     if found.waiting in words.NAMESPACE:
         return beginning(namespaces(found), last), NO_FILES
-    if found.waiting == "--fail-on":
-        return beginning(FAILURES, last), NO_FILES
+    if found.waiting in parser.choices:
+        return beginning(parser.choices[found.waiting], last), NO_FILES
     if found.waiting:
-        is_address = (before[0], found.waiting) == ("record", "--events")
-        return [], NO_FILES if is_address or found.waiting in (*COUNTS, *words.CONTEXT) else FILES
-    if before[0] == "fleet":
-        return fleet_words(before, last)
-    if before[0] in CLUSTER_WORDS:
-        if before[-1] == "--into":
-            return [], FILES
-        return beginning(CLUSTER_WORDS[before[0]], last) if last.startswith("-") else [], NO_FILES
+        return [], FILES if found.waiting in (*parser.of_files, *words.FILE) else NO_FILES
     if last.startswith("-"):
-        of_pods = words.NAMESPACE + (words.EVERYWHERE + words.CONTEXT) * is_of_kubectl
-        own = of_pods * (command.pods != "none") + words.FILE * command.takes_file
-        return beginning((*own, *command.valued, *command.flags), last), NO_FILES
+        return beginning(options(command, parser, is_of_kubectl), last), NO_FILES
     if command.pods == "none" or command.pods == "one" and found.plain:
-        return [], FILES if before[0] in ("run", "check", "explain", "page") else NO_FILES
-    if before[0] == "story" and not keys(found) and not found.files:
+        return [], FILES if command.names_files else NO_FILES
+    if name == "story" and not keys(found) and not found.files:
         return beginning(workload.candidates(found, last), last), NO_FILES
     return beginning(pods(found, last), last), NO_FILES
+
+
+def options(command: tree.Command, parser: entry.Words, is_of_kubectl: bool) -> Iterable[str]:
+    """The words of a command that begin with a dash: its own, and those that say which pods and which file."""
+    of_pods = words.NAMESPACE + (words.EVERYWHERE + words.CONTEXT) * is_of_kubectl
+    yield from of_pods * (command.pods != "none") + words.FILE * command.takes_file
+    yield from (*parser.names(with_value=True), *parser.names(with_value=False))
 
 
 def beginning(names: Iterable[str], start: str) -> list[str]:
@@ -80,17 +77,3 @@ def pods(found: words.Words, last: str) -> list[str]:
     namespace = found.namespace or words.current_namespace(found.context)
     before = f"{head}/" if slash else ""
     return [before + key.partition("/")[2] for key in named if key.startswith(namespace + "/")]
-
-
-def fleet_words(before: list[str], last: str) -> tuple[list[str], int]:
-    """What may follow among the words of tools/fleet."""
-    if len(before) == 1:
-        return beginning(("run", "worst"), last), NO_FILES
-    if before[-1] == "--by":
-        return beginning(MEASURES, last), NO_FILES
-    if before[-1] in COUNTS:
-        return [], NO_FILES
-    if last.startswith("-"):
-        own = ("--out", "--processes", "--scheduler", "--parquet", "--anew") * (before[1] == "run")
-        return beginning((*own, "--by", "--top", "--metrics"), last), NO_FILES
-    return [], FILES

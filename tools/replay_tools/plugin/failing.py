@@ -8,12 +8,12 @@ from collections.abc import Iterable
 from typing import IO, TYPE_CHECKING
 
 from replay_tools import asking, entry, program as programs, report as reports, traces
+from replay_tools.commands.run import FAIL_ON, KINDS
 from replay_tools.plugin import files
 
 if TYPE_CHECKING:
     from replay_tools import kubelet as kubelets
 
-WORD = "--fail-on"
 # the program has 0 to 3
 STATUS = 4
 MOST_NAMED = 3
@@ -24,7 +24,7 @@ def kinds_of(value: str) -> dict[str, None]:
     kinds = [kind for kind in value.split(",") if kind]
     wrong = [kind for kind in kinds if kind not in FOUND]
     if wrong or not kinds:
-        raise entry.Fault(f"{WORD} takes {', '.join(FOUND)}, one or more with a comma between them, not '{value}'")
+        raise entry.Fault(f"{FAIL_ON} takes {', '.join(FOUND)}, one or more with a comma between them, not '{value}'")
     return dict.fromkeys(kinds)
 
 
@@ -45,7 +45,7 @@ def run(words: list[str], path: str, given: IO[bytes] | None, caller: str, kinds
     said = [(kind, FOUND[kind](found, kubelet)) for kind in kinds]
     for kind, pods in said:
         if pods:
-            print(f"{caller}: {WORD} {kind}: {named(pods)}", file=sys.stderr)
+            print(f"{caller}: {FAIL_ON} {kind}: {named(pods)}", file=sys.stderr)
     return STATUS if any(pods for _, pods in said) else 0
 
 
@@ -93,4 +93,4 @@ def keys(pods: Iterable[reports.Pod]) -> list[str]:
     return list(dict.fromkeys(pod.key for pod in pods))
 
 
-FOUND = {"evicted": evicted, "restarted": restarted, "unready": unready}
+FOUND = dict(zip(KINDS, (evicted, restarted, unready)))

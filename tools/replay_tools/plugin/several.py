@@ -22,7 +22,7 @@ def is_pattern(file: str) -> bool:
     return glob.has_magic(file) and not os.path.exists(file)
 
 
-def run(name: str, command: words.Command, found: words.Words) -> int:
+def run(name: str, command: tree.Command, found: words.Words) -> int:
     """Runs a tool on several traces; its status."""
     pods = found.plain if command.pods == "none" else words.pods_meant(command, found)
     if pods is None:

@@ -1,4 +1,4 @@
-"""Words as kubectl takes them: a namespace, a file, names of pods; and the commands that take them."""
+"""Words as kubectl takes them: a namespace, a file, names of pods."""
 
 from __future__ import annotations
 
@@ -7,8 +7,7 @@ import subprocess
 from collections.abc import Callable
 from dataclasses import dataclass, field
 
-from replay_tools import entry
-from replay_tools.clock import Clock
+from replay_tools import entry, tree
 from replay_tools.joined import asked, files
 
 NAMESPACE, FILE = ("-n", "--namespace"), ("-f", "--filename")
@@ -17,51 +16,9 @@ POD_TYPES = ("pod", "pods", "po")
 SECONDS_OF_KUBECTL = 10
 
 
-@dataclass(frozen=True)
-class Command:
-    """One of the plugin's commands. Pods are how many it takes, as "none", "one" or "any"; valued are the words of its
-    tool that have a value; flags are those without one."""
-
-    says: str
-    pods: str = "none"
-    takes_file: bool = True
-    valued: tuple[str, ...] = ()
-    flags: tuple[str, ...] = ()
-    lists_pods: bool = False
-    """without a pod it lists those of a namespace"""
-    takes_several: bool = False
-    """it tells of several traces, and of those of a cluster's node"""
-
-
 RECORDERS = "--recorders"
 SELECTOR, FOLLOW = ("-l", "--selector"), "--follow"
-CLOCKS = tuple(f"--{clock.value}" for clock in Clock)
 SEVERAL = (asked.TRACES, *asked.VALUED, RECORDERS)
-RECORDER_VALUED = ("--node", "--every", "--look", "--ticks", "--for", "--kubelet", "--curl", "--node-line",
-                   "--crictl", "--eviction-pause", "--into", "--each", "--keep", "--most", "--logs", "--metrics",
-                   "--events", "--ship")
-RECORDER_FLAGS = ("--check", "--standard", "--extended", "--simulate")
-IMPORTER_VALUED = ("--journal", "--pods", "--events", "--audit", "--node", "--into", "--each", "--year", "--zone",
-                   "--since", "--context")
-COMMANDS = {
-    "record": Command("record a node", takes_file=False, valued=RECORDER_VALUED, flags=RECORDER_FLAGS),
-    "run": Command("the report of a trace", valued=("--workers", "--fail-on"), flags=("--extended",)),
-    "check": Command("whether a file is a trace", flags=("--extended",)),
-    "explain": Command("what a refusal means", flags=("--extended", "--line")),
-    "story": Command("one pod's story", "one", valued=("--trace", *SEVERAL, *SELECTOR, FOLLOW),
-                     flags=(*CLOCKS, "--without-why"), lists_pods=True, takes_several=True),
-    "why": Command("what the trace holds around each event of one pod", "one", valued=("--trace", *SEVERAL),
-                   flags=CLOCKS, takes_several=True),
-    "page": Command("a page of a node", valued=SEVERAL, flags=CLOCKS, takes_several=True),
-    "timeline": Command("a picture of pods", "any", valued=("--trace", *SEVERAL), flags=CLOCKS, takes_several=True),
-    "json": Command("a report as JSON lines, or tables of SQLite", valued=("--sqlite", "--trace", *SEVERAL),
-                    takes_several=True),
-    "what-if": Command("a trace replayed with an edit"),
-    "import": Command("a trace out of a kubelet's journal", takes_file=False, valued=IMPORTER_VALUED),
-    "fleet": Command("the traces of many nodes", takes_file=False),
-    "fetch": Command("the traces of a cluster's nodes", takes_file=False),
-    "nodes": Command("which nodes of a cluster record", takes_file=False),
-}
 
 
 @dataclass
@@ -89,12 +46,23 @@ class Words:
         return next((value for word, value in zip(self.rest[-2::-1], self.rest[:0:-1]) if word == name), None)
 
 
-def words_of(command: Command, given: list[str], is_of_kubectl: bool = True) -> Words:
+def parser_of(name: str, given: list[str]) -> entry.Words:
+    """The words that a command takes here, with those that it has beside its tool's own."""
+    command, parser = tree.COMMANDS[name], tree.parser_of(name, given)
+    if command.takes_several:
+        parser.valued(RECORDERS)
+    if name == "story":
+        parser.add_argument(*SELECTOR)
+    return parser
+
+
+def words_of(name: str, given: list[str], is_of_kubectl: bool = True) -> Words:
     """The words of a command. Where kubectl is not what runs it there is no context, and pods are those of all
     namespaces where none is named."""
+    command, valued = tree.COMMANDS[name], parser_of(name, given).names(with_value=True)
     found, given = Words(), list(given)
     while given:
-        take(command, given, found)
+        take(command, valued, given, found)
     if command.takes_several and found.files:
         # the shell puts several words in place of a pattern
         more = [word for word in found.plain if word.endswith(files.ENDINGS) and os.path.isfile(word)]
@@ -107,10 +75,10 @@ def words_of(command: Command, given: list[str], is_of_kubectl: bool = True) -> 
     return found
 
 
-def take(command: Command, given: list[str], found: Words) -> None:
+def take(command: tree.Command, valued: tuple[str, ...], given: list[str], found: Words) -> None:
     """Takes a word, and its value where it has one."""
     word = given.pop(0)
-    name, value = parts_of(word, command)
+    name, value = parts_of(word, command, valued)
     if word in EVERYWHERE and command.pods != "none":
         found.is_everywhere = True
         return
@@ -134,12 +102,12 @@ def take(command: Command, given: list[str], found: Words) -> None:
         found.rest += [name, value]
 
 
-def parts_of(word: str, command: Command) -> tuple[str | None, str | None]:
+def parts_of(word: str, command: tree.Command, valued: tuple[str, ...]) -> tuple[str | None, str | None]:
     """The name of a word that has a value, and the value that stands in the same word; None where it has none."""
     name, equals, value = word.partition("=")
-    if name in (*NAMESPACE, *FILE, *command.valued, *CONTEXT[: command.pods != "none"]):
+    if name in (*NAMESPACE, *FILE, *valued, *CONTEXT[: command.pods != "none"]):
         return name, value if equals else None
-    short = (NAMESPACE[0], FILE[0], *SELECTOR[: SELECTOR[0] in command.valued])
+    short = (NAMESPACE[0], FILE[0], *SELECTOR[: SELECTOR[0] in valued])
     if word[:2] in short and not word.startswith("--"):
         return word[:2], word[2:].removeprefix("=")
     return None, None
@@ -156,7 +124,7 @@ def key_of(name: str, given: str | None, otherwise: Callable[[], str]) -> str:
     return f"{given or otherwise()}/{tail if slash else name}"
 
 
-def pods_meant(command: Command, found: Words) -> list[str] | None:
+def pods_meant(command: tree.Command, found: Words) -> list[str] | None:
     """The pods that words name for a tool; None where they name a namespace alone, whose pods the tool does not list
     itself. A name without a namespace is for the tool to find among all, where all are meant."""
     if found.is_everywhere:

@@ -104,6 +104,8 @@ NUMBERS = {"--every": 86400, "--look": 3600, "--ticks": MOST_TICKS, "--for": 316
 LASTING = ("--each", "--keep", "--most", "--ship")
 TEXTS = ("--node", "--kubelet", "--curl", "--crictl", "--node-line", "--eviction-pause", "--metrics", "--events",
          "--into", *LASTING, *NUMBERS)
+# those whose value is a file or a folder
+FILES = ("--curl", "--node-line", "--metrics", "--into")
 SWITCHES = ("--standard", "--extended", "--simulate", "--check")
 MOST_PAUSE = 2 ** 31 - 1
 UNITS = {"s": 1, "m": 60, "h": 3600, "d": 86400}
