@@ -21,15 +21,3 @@ def container($wanted; $name; f):
                 | .containers[] |= (if .name == $name then f else . end)));
 
 def tick(f): if .kind == "tick" then f else . end;
-
-# of the lines that `asks` has written, the first pod or container that is not there, what it is missing from, and what
-# is there in its place
-def missing:
-  [inputs | fromjson? | arrays | select(.[0] == "DEBUG:") | .[1] | objects | .["what-if"] | objects] as $asked
-  | first(
-      ($asked | map(select(has("container") | not)) | group_by(.pod)[]
-       | select(all(.is != .pod)) | [.[0].pod, "", map(.is // empty)]),
-      ($asked | map(select(has("container"))) | group_by([.pod, .container])[]
-       | select(all(.container as $name | .has | index([$name]) | not))
-       | [.[0].container, .[0].pod, (map(.has[]) | unique)]))
-  | .[0], .[1], .[2][];

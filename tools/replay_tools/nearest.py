@@ -1,24 +1,16 @@
-"""Writes in one line the names that are most like a name, of names of standard input.
-
-    nearest.py NAME < NAMES
-"""
+"""What to write in place of a name that is not there."""
 
 from __future__ import annotations
 
 import difflib
-import sys
 
 MOST = 10
 
 
-def main(name: str) -> str:
-    names = sys.stdin.read().split("\n")[:-1]
+def words(name: str, names: list[str]) -> str:
+    """The names that are most like a name, of those that there are, or these."""
     near = difflib.get_close_matches(name, names, 3)
     if near:
         return f"the nearest: {', '.join(near)}"
     listed = ", ".join(names[:MOST]) + (" .." if len(names) > MOST else "")
     return f"there are {listed}" if names else "there is none"
-
-
-if __name__ == "__main__":
-    print(main(sys.argv[1]))

@@ -448,7 +448,7 @@ def test_missing_commands():
     for tool, words, missing in (
         ("record", [], "python3"), ("record", [], "crictl"), ("record", [], "kubectl"),
         ("record", ["--kubelet", "https://127.0.0.1:10250"], "crictl"),
-        ("what-if", ["."], "jq"), ("what-if", ["."], "diff"),
+        ("what-if", ["."], "jq"), ("what-if", ["."], "diff"), ("what-if", ["."], "python3"),
         ("story", ["a/b"], "python3"), ("timeline", [], "python3"),
         ("json", [], "python3"), ("why", ["a/b"], "python3"), ("page", [], "python3"), ("explain", [], "python3"),
         ("fleet", [], "python3"), ("kubelet-replay", [], "python3"), ("kubectl-replay", [], "python3"),

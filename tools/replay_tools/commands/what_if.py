@@ -1,19 +1,57 @@
-"""Replays a trace as it is and with an edit: the script tools/what-if."""
+"""Replays a trace as it is and with an edit, and shows which lines of the reports differ."""
 
 from __future__ import annotations
 
-import os
-import subprocess
+import signal
+import sys
 
-from replay_tools import entry, program as programs
+from replay_tools import entry
 
-SCRIPT = os.path.join(programs.TOP, "tools", "what-if")
+HELP = """\
+usage: tools/what-if EDIT < TRACE
+
+Replays the trace, and the trace with EDIT applied to each of its lines, and writes the lines in which the reports
+differ: with - those of the trace as it is, with + those with the edit. EDIT is a jq program, for which there are
+  node(f)                   f changes the node line
+  pod("KEY"; f)             f changes the manifest of the pod NAMESPACE/NAME
+  container("KEY"; "C"; f)  f changes its container C, an init container or an app container
+  tick(f)                   f changes each tick line
+where KEY stands for each pod of that name in turn, if one came again,
+as in
+  tools/what-if 'node(.evictionHard["memory.available"] = "500Mi")' < TRACE
+  tools/what-if 'container("shop/web"; "app"; .livenessProbe.failureThreshold = 5)' < TRACE
+
+An edit of a pod or a container that the trace has not is refused, with the nearest names, and so is what has more than
+64 MiB, the most that a trace has: standard input, what it is unpacked, what the edit makes of it.
+
+It needs python3, jq, diff and ./kubelet_replay (KUBELET_REPLAY names another program). tools/explain tells in full what
+a refusal means. It leaves out what the edit would have changed on the node itself: what was recorded stays, so a pod
+that is evicted in the edited replay alone goes on using memory, and a container that a laxer probe spares still exits
+when it did. Of a line that the edit changes numbers above 2^53 are rounded.
+
+Status 0: done, with a difference or without one; 1: no memory, no place on the disk, or standard output takes no more;
+2: a bad word, an edit that is no jq program or fails, a trace that is refused, as it is or edited; 127: a command is
+missing.
+"""
 
 
 def parser() -> entry.Words:
-    return entry.Words(subprocess.run([SCRIPT, "--help"], stdout=subprocess.PIPE, text=True, check=True).stdout)
+    taken = entry.Words(HELP)
+    taken.add_argument("edit")
+    return taken
 
 
 def main(words: list[str]) -> int:
-    from replay_tools.plugin import files
-    files.become(SCRIPT, words)
+    if words[:1] in (["-h"], ["--help"]):
+        raise entry.Help(HELP)
+    # an edit may have anything in it, and is no word of options
+    if words and words[0].startswith("-"):
+        raise entry.Fault(f"{words[0]} is no word of it (--help says more)")
+    if len(words) != 1:
+        raise entry.Fault(f"it takes one edit, not {len(words)} (--help says more)")
+    from replay_tools import edited
+    # what is kept goes with an end that is asked for, too
+    for number in (signal.SIGTERM, signal.SIGHUP):
+        signal.signal(number, lambda *_: sys.exit(130))
+    sys.stdout.write(edited.difference(words[0]))
+    return 0
