@@ -16,12 +16,16 @@ DURATION = re.compile(r"0|(?:\d+[hms])+", re.ASCII)
 SECONDS = {"h": 3600, "m": 60, "s": 1}
 
 
+class Wrong(ValueError):
+    """A value of a trace is not of the kind that the formats have there."""
+
+
 def quantity(value: int | str) -> int:
-    """The thousandths of a unit of a quantity, a text or a whole number of units. Raises ValueError."""
+    """The thousandths of a unit of a quantity, a text or a whole number of units. Raises Wrong."""
     if isinstance(value, int) and not isinstance(value, bool):
         return min(1000 * value, GREATEST)
     if not isinstance(value, str):
-        raise ValueError
+        raise Wrong
     return quantity_of_text(value)
 
 
@@ -29,7 +33,7 @@ def quantity(value: int | str) -> int:
 def quantity_of_text(text: str) -> int:
     found = QUANTITY.fullmatch(text)
     if not found:
-        raise ValueError
+        raise Wrong
     number, suffix, power = found.groups()
     factor = Fraction(10) ** int(power) if power else FACTORS[suffix]
     return min(-(-Fraction(number.rstrip(".")) * factor * 1000 // 1), GREATEST)
@@ -43,14 +47,17 @@ def limit(value: int | str, capacity: int | None) -> int | None:
 
 
 def hundredths(value: str) -> int:
-    """The hundredths of a percent of a text that ends with %."""
-    return int(Fraction(value[:-1]) * 100)
+    """The hundredths of a percent of a text that ends with %. Raises Wrong."""
+    try:
+        return int(Fraction(value[:-1]) * 100)
+    except (ValueError, ZeroDivisionError):
+        raise Wrong from None
 
 
 def duration(value: str) -> int:
-    """The seconds of a duration. Raises ValueError."""
+    """The seconds of a duration. Raises Wrong."""
     if not isinstance(value, str) or not DURATION.fullmatch(value):
-        raise ValueError
+        raise Wrong
     return sum(int(number) * SECONDS[unit] for number, unit in re.findall(r"(\d+)([hms])", value))
 
 

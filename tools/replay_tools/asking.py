@@ -7,8 +7,8 @@ from collections.abc import Callable
 from dataclasses import dataclass
 from typing import Any, TYPE_CHECKING
 
-from replay_tools import (clock, endings, entry, kubelet as kubelets, naming, overview, report as reports, summary,
-                          traces, why as why_ticks, why_text)
+from replay_tools import (amounts, clock, endings, entry, kubelet as kubelets, naming, overview, report as reports,
+                          summary, traces, why as why_ticks, why_text)
 from replay_tools.joined import asked, known
 
 if TYPE_CHECKING:
@@ -125,7 +125,7 @@ def trace_of(report: reports.Report, path: str, watch: Callable[..., Any] | None
             known.tell_known(report, trace.follows()["at"])
     except traces.TraceFault as fault:
         raise entry.Fault(str(fault)) from None
-    except (ValueError, TypeError, KeyError, AttributeError):
+    except amounts.Wrong:
         raise entry.Fault(f"{path} has a tick line that is none (tools/explain says which)") from None
     return trace
 
@@ -168,5 +168,5 @@ def of_whole_ticks(gather: Callable[..., Any]) -> Any:
     """What is gathered of a trace, whose ticks are looked at only then."""
     try:
         return gather()
-    except (ValueError, TypeError, KeyError, AttributeError):
+    except amounts.Wrong:
         raise entry.Fault("the trace has a tick line that is none (tools/explain says which)") from None

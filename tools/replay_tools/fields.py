@@ -1,4 +1,4 @@
-"""Fields of lines of a trace by their kinds. null counts as absent, and another kind raises ValueError."""
+"""Fields of lines of a trace by their kinds. null counts as absent, and another kind raises Wrong."""
 
 from __future__ import annotations
 
@@ -6,6 +6,7 @@ from dataclasses import dataclass
 from typing import Any
 
 from replay_tools import amounts
+from replay_tools.amounts import Wrong
 
 
 @dataclass(frozen=True)
@@ -29,31 +30,39 @@ def list_at(found: dict[str, Any], name: str) -> list[dict[str, Any]]:
     if value is None:
         return []
     if not isinstance(value, list):
-        raise ValueError(name)
+        raise Wrong(name)
     for item in value:
         if not isinstance(item, dict):
-            raise ValueError(name)
+            raise Wrong(name)
     return value
 
 
 def dict_at(found: dict[str, Any], name: str) -> dict[str, Any]:
     value = value_at(found, name, {})
     if not isinstance(value, dict):
-        raise ValueError(name)
+        raise Wrong(name)
+    return value
+
+
+def object_at(found: dict[str, Any], name: str) -> dict[str, Any]:
+    """An object that has to be there."""
+    value = found.get(name)
+    if not isinstance(value, dict):
+        raise Wrong(name)
     return value
 
 
 def number_at(found: dict[str, Any], name: str, otherwise: int) -> int:
     value = value_at(found, name, otherwise)
     if not isinstance(value, int) or isinstance(value, bool):
-        raise ValueError(name)
+        raise Wrong(name)
     return value
 
 
 def text_at(found: dict[str, Any], name: str, otherwise: str | None = None) -> str:
     value = value_at(found, name, otherwise)
     if not isinstance(value, str):
-        raise ValueError(name)
+        raise Wrong(name)
     return value
 
 

@@ -27,7 +27,7 @@ def memory_in(resources: Any) -> int | None:
     value = limits.get("memory") if isinstance(limits, dict) else None
     try:
         return None if value is None else amounts.quantity(value) or None
-    except (ValueError, TypeError):
+    except amounts.Wrong:
         return None
 
 

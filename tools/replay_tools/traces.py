@@ -9,8 +9,9 @@ from dataclasses import dataclass, field
 from typing import Any, TYPE_CHECKING
 
 from replay_tools import amounts, first_bytes, outside, packed
+from replay_tools.amounts import Wrong
 from replay_tools.decided import Decision, Deletion, decisions_of, take_words
-from replay_tools.fields import Bounds, bounds_of, dict_at, list_at, number_at, text_at, value_at
+from replay_tools.fields import Bounds, bounds_of, dict_at, list_at, number_at, object_at, text_at, value_at
 from replay_tools.limits import memory_in
 from replay_tools.reasons import Reasons, guesses_code
 from replay_tools.said import SaidOfPods
@@ -116,8 +117,13 @@ class Lines:
 
     def read(self, begin: int, end: int) -> dict[str, Any]:
         """The JSON value of a line; its entries are kept, where it is a tick's."""
-        found = json.loads(self.text[begin:end].decode())
-        if isinstance(found, dict) and found.get("kind") == "tick":
+        try:
+            found = json.loads(self.text[begin:end].decode())
+        except (ValueError, RecursionError):
+            raise Wrong("line") from None
+        if not isinstance(found, dict):
+            raise Wrong("line")
+        if found.get("kind") == "tick":
             self.newest = begin, entries_of(found)
         return found
 
@@ -290,7 +296,7 @@ def listing_of(found: dict[str, Any]) -> Listing:
     if isinstance(state, int) and 0 <= state < len(STATES):
         state = STATES[state]
     if state not in STATES:
-        raise ValueError("state")
+        raise Wrong("state")
     code = number_at(found, "exitCode", 0) if state == "CONTAINER_EXITED" and not guesses_code(found) else None
     return Listing(number_at(found, "attempt", 0), state, code)
 
@@ -330,7 +336,7 @@ def trace_of(text: bytes, path: str, watch: Callable[..., Any] | None = None) ->
             trace = trace_with(trace, present, lines, begin, end)
             if watch is not None and len(trace.ticks) > before:
                 watch(trace, present)
-        except (ValueError, TypeError, KeyError, AttributeError, RecursionError):
+        except Wrong:
             raise TraceFault(f"{path}: line {number} is no line of a trace there "
                              "(tools/explain says what it lacks)") from None
     if trace is None:
@@ -341,50 +347,58 @@ def trace_of(text: bytes, path: str, watch: Callable[..., Any] | None = None) ->
 def trace_with(trace: Trace | None, present: dict[str, Pod], lines: Lines, begin: int, end: int) -> Trace:
     """The trace with one more line; present has its pods by key."""
     found = lines.read(begin, end)
-    kind = found["kind"]
+    kind = found.get("kind")
     if (trace is None) != (kind == "node"):
-        raise ValueError("kind")
+        raise Wrong("kind")
     if kind == "node":
         lines.booted_at = outside.moment(found.get("bootedAt"))
         return Trace(text_at(found, "name"), found, thresholds_of(found))
     if kind == "pod":
-        pod = pod_of(len(trace.pods), found["pod"], len(trace.ticks))
+        pod = pod_of(len(trace.pods), object_at(found, "pod"), len(trace.ticks))
         if pod.key in present:
-            raise ValueError("pod")
+            raise Wrong("pod")
         pod.uid = outside.text_of(found.get("uid"))
         pod.is_spared = trace.heeds_words() and found.get("spared") is True
         present[pod.key] = pod
         trace.pods.append(pod)
     elif kind == "gone":
-        present.pop(found["pod"]).gone = len(trace.ticks)
+        pod_that_goes(found, present).gone = len(trace.ticks)
     elif kind == "tick":
         add_tick(trace, present, tick_of(found, lines, begin, end))
         trace.ticks[-1].is_judged = not (trace.heeds_words() and found.get("judged") is False)
         take_words(trace, present)
         trace.decisions += decisions_of(trace, found)
-        trace.reasons.take(lines.text[begin:end], found["at"], trace.ticks[-1].entries, present)
+        trace.reasons.take(lines.text[begin:end], trace.ticks[-1].at, trace.ticks[-1].entries, present)
         trace.said.take(lines.text[begin:end], trace.ticks[-1].entries, present)
     else:
-        raise ValueError("kind")
+        raise Wrong("kind")
     return trace
+
+
+def pod_that_goes(found: dict[str, Any], present: dict[str, Pod]) -> Pod:
+    """The pod that a line says is gone, which is present no more."""
+    key = text_at(found, "pod")
+    if key not in present:
+        raise Wrong("pod")
+    return present.pop(key)
 
 
 def add_tick(trace: Trace, present: dict[str, Pod], tick: Tick) -> None:
     if (trace.ticks and tick.at <= trace.ticks[-1].at) or not tick.entries.keys() <= present.keys():
-        raise ValueError("tick")
+        raise Wrong("tick")
     trace.places[tick.at] = len(trace.ticks)
     trace.ticks.append(tick)
 
 
 def tick_of(found: dict[str, Any], lines: Lines, begin: int, end: int) -> Tick:
-    return Tick(found["at"] + 0, lines, begin, end, samples(found, "signals"), samples(found, "afterReclaim"))
+    at = found.get("at")
+    if not isinstance(at, (int, float)) or isinstance(at, bool):
+        raise Wrong("at")
+    return Tick(at, lines, begin, end, samples(found, "signals"), samples(found, "afterReclaim"))
 
 
 def entries_of(found: dict[str, Any]) -> dict[str, dict[str, Any]]:
-    entries = {entry.get("pod"): entry for entry in list_at(found, "pods")}
-    if not all(isinstance(key, str) for key in entries):
-        raise ValueError("pod")
-    return entries
+    return {text_at(entry, "pod"): entry for entry in list_at(found, "pods")}
 
 
 def samples(found: dict[str, Any], name: str) -> dict[str, int]:
@@ -392,7 +406,7 @@ def samples(found: dict[str, Any], name: str) -> dict[str, int]:
 
 
 def pod_of(number: int, manifest: dict[str, Any], first: int) -> Pod:
-    metadata, spec = manifest["metadata"], manifest["spec"]
+    metadata, spec = object_at(manifest, "metadata"), object_at(manifest, "spec")
     key = f"{text_at(metadata, 'namespace', 'default')}/{text_at(metadata, 'name')}"
     containers = [container_of(found, "sidecar" if value_at(found, "restartPolicy") == "Always" else "init")
                   for found in list_at(spec, "initContainers")]
@@ -403,7 +417,8 @@ def pod_of(number: int, manifest: dict[str, Any], first: int) -> Pod:
 
 
 def container_of(found: dict[str, Any], role: str) -> Container:
-    probes = {kind: probe_of(found[f"{kind}Probe"]) for kind in PROBES if value_at(found, f"{kind}Probe") is not None}
+    probes = {kind: probe_of(dict_at(found, f"{kind}Probe")) for kind in PROBES
+              if value_at(found, f"{kind}Probe") is not None}
     resources = dict_at(found, "resources")
     requests = {resource: amounts.quantity(value) for named in ("limits", "requests")
                 for resource, value in dict_at(resources, named).items()
@@ -423,7 +438,8 @@ def thresholds_of(settings: dict[str, Any]) -> list[Threshold]:
     """The thresholds that a node line sets, in the order in which they are served."""
     capacity = {signal: amounts.quantity(value) for signal, value in dict_at(settings, "capacity").items()
                 if value is not None}
-    hard, soft = value_at(settings, "evictionHard", DEFAULT_HARD), dict_at(settings, "evictionSoft")
+    hard = DEFAULT_HARD if value_at(settings, "evictionHard") is None else dict_at(settings, "evictionHard")
+    soft = dict_at(settings, "evictionSoft")
     graces, reclaims = dict_at(settings, "evictionSoftGracePeriod"), dict_at(settings, "evictionMinimumReclaim")
     found = []
     for signal in SIGNALS:
@@ -432,7 +448,7 @@ def thresholds_of(settings: dict[str, Any]) -> list[Threshold]:
             text = value_at(limits, signal)
             amount = None if text is None or is_off(text) else amounts.limit(text, capacity.get(signal))
             if amount is not None:
-                grace = amounts.duration(graces[signal]) if kind == "soft" else 0
+                grace = amounts.duration(text_at(graces, signal)) if kind == "soft" else 0
                 found.append(Threshold(signal, kind, str(text), amount, reclaim, grace))
     return found
 

@@ -11,7 +11,7 @@ from dataclasses import dataclass, field
 from typing import Any
 
 from replay_tools import endings, outside, report as reports, traces
-from replay_tools.fields import Bounds, bounds_of
+from replay_tools.fields import Bounds, bounds_of, text_at
 
 # an exit behind a run this long, in seconds, begins the count of exits anew
 LONG_RUN = 600
@@ -209,16 +209,17 @@ class PodTicks:
         # most ticks list what the one before did, and to read that takes long
         if entry.get("containers") != self.written:
             self.written = entry.get("containers")
-            listed = {found.get("name"): found for found in traces.list_at(entry, "containers")}
+            listed = {text_at(found, "name"): found for found in traces.list_at(entry, "containers")}
             for name, (moments, kept) in self.listings.items():
                 listing = traces.listing_of(listed[name]) if name in listed else None
                 if listing != (kept[-1] if kept else None):
                     moments.append(at)
                     kept.append(listing)
         for found in traces.list_at(entry, "probes") if "probes" in entry else ():
-            moments, results = self.results.setdefault((found.get("container"), found.get("probe")), ([], []))
+            probe = text_at(found, "container"), text_at(found, "probe")
+            moments, results = self.results.setdefault(probe, ([], []))
             moments.append(at)
-            results.append(sys.intern(found["result"]) if "result" in found else None)
+            results.append(sys.intern(text_at(found, "result")) if "result" in found else None)
 
     def listed(self, name: str, at: int) -> Listed:
         moments, kept = self.listings[name]

@@ -14,6 +14,8 @@ import xml.dom.minidom
 
 from checks import TOOLS, TOP, expect, expect_refused, read, run
 
+from replay_tools import asking, entry
+
 REPORT = f"{TOP}/examples/liveness_kill.report"
 FAR, LATER = 10 ** 30, 2 ** 40 - 1
 LONGER = "9" * 5000
@@ -103,6 +105,34 @@ def test_traces_out_of_range():
                           ["page"], ["why", "shop/web"]):
                 answer = made.run(*words, "--traces", f"{made.path}/bad.trace")
                 expect(f"{words[0]} with a moment that is {name}", (answer[0], answer[2]), (0, ""))
+
+
+def test_values_of_no_kind():
+    """A value of another kind than the formats have is told as the line's fault; a fault of the tools' own is not."""
+    trace, report = (read(f"{TOP}/examples/liveness_kill.{kind}") for kind in ("trace", "report"))
+    with Made() as made:
+        for was, odd in (('"pod":"shop/web-0"', '"pod":["shop/web-0"]'), ('"name":"web"', '"name":["web"]'),
+                         ('"container":"web"', '"container":{}'), ('"result":"failure"', '"result":[]'),
+                         ('"kind":"node"', '"kind":"node","capacity":{"memory.available":"1Gi"},'
+                          '"evictionHard":{"memory.available":"1/0%"}'),
+                         ('"kind":"node"', '"kind":"node","evictionHard":5')):
+            expect(f"{was} is in the trace", was in trace, True)
+            path = made.put("odd.trace", trace.replace(was, odd))
+            # what has no use for the results of probes does not look at them
+            of_probe = "container" in was or "result" in was
+            for words in (["why", "shop/web-0", "--trace"], ["page"], *[["json", "--trace"]] * (not of_probe)):
+                answer = made.run(*words, path, given=report)
+                expect_refused(f"{words[0]} of {odd}", answer, 2, "(tools/explain says wh")
+    for fault in (KeyError, TypeError, AttributeError, ValueError):
+        def fail(kind=fault):
+            raise kind("a fault of the tools' own")
+        try:
+            asking.of_whole_ticks(fail)
+            expect(f"{fault.__name__} of the tools' own", "nothing", "raised")
+        except entry.Fault as told:
+            expect(f"{fault.__name__} of the tools' own", str(told), "raised as it is")
+        except fault:
+            expect(f"{fault.__name__} of the tools' own", True, True)
 
 
 def test_a_trace_that_speaks_for_another_node():

@@ -14,7 +14,7 @@ import subprocess
 from collections.abc import Iterator
 from typing import Any
 
-from replay_tools import (endings, entry, kubelet as kubelets, outside, packed, program as programs, records,
+from replay_tools import (amounts, endings, entry, kubelet as kubelets, outside, packed, program as programs, records,
                           report as reports, summary, traces)
 
 LONGEST_INPUT = 64 << 20
@@ -91,7 +91,7 @@ def beside(text: bytes, report: reports.Report) -> tuple[traces.Trace | None, ku
         traces.check_belongs(trace, report, "the trace")
         endings.tell_left(trace, report)
         return trace, kubelets.beside(trace, report)
-    except (traces.TraceFault, ValueError, TypeError, KeyError, AttributeError):
+    except (traces.TraceFault, amounts.Wrong):
         return None, None
 
 

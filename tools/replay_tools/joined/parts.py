@@ -10,7 +10,8 @@ from collections.abc import Callable
 from dataclasses import dataclass
 from typing import Any, TYPE_CHECKING
 
-from replay_tools import entry, first_bytes, packed, program as programs, records, report as reports, summary, traces
+from replay_tools import (amounts, entry, first_bytes, packed, program as programs, records, report as reports,
+                          summary, traces)
 from replay_tools.joined import files
 
 if TYPE_CHECKING:
@@ -226,7 +227,7 @@ def read_part(source: files.Source, text: bytes, made: bytes) -> Part:
         traces.check_belongs(trace, report, "it")
     except traces.TraceFault as fault:
         raise Unusable(str(fault)) from None
-    except (ValueError, TypeError, KeyError, AttributeError):
+    except amounts.Wrong:
         raise Unusable("it has a tick line that is none (tools/explain says which)") from None
     if not trace.ticks:
         raise Unusable("it has no tick")

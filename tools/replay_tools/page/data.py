@@ -5,8 +5,8 @@ from __future__ import annotations
 
 from typing import Any
 
-from replay_tools import (events, kubelet as kubelets, reasons, records, report as reports, summary as summing, telling,
-                          traces, why, why_text)
+from replay_tools import (amounts, events, kubelet as kubelets, reasons, records, report as reports,
+                          summary as summing, telling, traces, why, why_text)
 from replay_tools.clock import Clock
 from replay_tools.page import used
 
@@ -394,6 +394,8 @@ def result_runs(span: Span, moments: list[int], results: list[str]) -> list[int]
     flat: list[int] = []
     last = 0
     for at, result in zip(moments, results):
+        if result not in RESULTS:
+            raise amounts.Wrong("result")
         at, said = span.of(at), RESULTS.index(result)
         if flat and flat[-1] == said and (flat[-2] == 1 or at - last == flat[-3]):
             flat[-3], flat[-2] = at - last, flat[-2] + 1

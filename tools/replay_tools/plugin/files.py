@@ -17,10 +17,6 @@ from replay_tools.joined import files as traces_of
 LONGEST_LINE = 1 << 21
 PIECE = 1 << 16
 REPORT = b"node "
-# files without names, which go when nobody holds them
-KEPT = []
-# how the operator knows what was copied, by the copy's path
-NAMES = {}
 
 
 def is_report(path: str) -> bool:
@@ -48,9 +44,7 @@ def plain(path: str) -> str:
         return path
     except packed.Damaged as fault:
         raise entry.Fault(f"{path}: {fault}") from None
-    copy = path_of(kept(text))
-    NAMES[copy] = shown(path)
-    return copy
+    return path_of(kept(text))
 
 
 def open_report(path: str | None) -> IO[bytes]:
@@ -81,7 +75,7 @@ def no_room(said: str) -> entry.Fault:
 
 def replayed(path: str) -> IO[bytes]:
     """The report of a trace, as a file without a name."""
-    path = plain(path)
+    named, path = shown(path), plain(path)
     program, report = programs.path(), temporary()
     option = format_words(path)
     words = ["run", path, *option]
@@ -94,8 +88,8 @@ def replayed(path: str) -> IO[bytes]:
         if said == "write failed":
             raise no_room("it takes no more")
         if done.returncode == 2:
-            raise entry.Fault(f"{shown(path)} is refused: {said}", means=meaning(path, bool(option)))
-        raise entry.Fault(f"{shown(path)} can't be replayed: {said}", done.returncode if done.returncode == 127 else 1)
+            raise entry.Fault(f"{named} is refused: {said}", means=meaning(path, bool(option)))
+        raise entry.Fault(f"{named} can't be replayed: {said}", done.returncode if done.returncode == 127 else 1)
     report.seek(0)
     return report
 
@@ -157,7 +151,6 @@ def kept(text: bytes) -> IO[bytes]:
         copy.seek(0)
     except OSError as fault:
         raise no_room(fault.strerror) from None
-    KEPT.append(copy)
     return copy
 
 
@@ -246,14 +239,16 @@ def hand_on(source: IO[bytes]) -> None:
 
 
 def path_of(file: IO[bytes]) -> str:
-    """The path of an open file without a name, also for the programs that this one starts or becomes."""
-    os.set_inheritable(file.fileno(), True)
-    return f"/proc/{os.getpid()}/fd/{file.fileno()}"
+    """The path of an open file without a name, as long as this process lasts, also for the programs that this one
+    starts or becomes."""
+    descriptor = os.dup(file.fileno())
+    os.set_inheritable(descriptor, True)
+    return f"/proc/{os.getpid()}/fd/{descriptor}"
 
 
 def shown(path: str) -> str:
     """A path as the operator knows it."""
-    return NAMES.get(path) or ("standard input" if path.startswith(f"/proc/{os.getpid()}/fd/") else path)
+    return "standard input" if path.startswith(f"/proc/{os.getpid()}/fd/") else path
 
 
 def kept_input() -> str:

@@ -27,7 +27,7 @@ class Nearness:
         try:
             self.thresholds = thresholds_of(node_line)
             self.transition = amounts.duration(node_line.get(TRANSITION) or "0") or DEFAULT_TRANSITION_SECONDS
-        except (ValueError, TypeError, KeyError, AttributeError):
+        except amounts.Wrong:
             self.thresholds = []
 
     def sample(self, signals: dict[str, int], moment: float) -> None:
