@@ -2,6 +2,7 @@
 
 from __future__ import annotations
 
+import functools
 from argparse import Namespace
 from collections.abc import Callable
 from dataclasses import dataclass
@@ -57,7 +58,7 @@ def given(found: Namespace, gather: Callable[..., Any] | None = None) -> Given:
     if several is not None and trace is not None:
         endings.tell_left(trace, report)
         if ticks is not None:
-            of_whole_ticks(lambda: ticks.take_all(trace))
+            of_whole_ticks(functools.partial(ticks.take_all, trace))
     return Given(report, trace, several, ticks)
 
 
@@ -121,8 +122,9 @@ def trace_of(report: reports.Report, path: str, watch: Callable[..., Any] | None
         trace = traces.read_trace(path, watch)
         traces.check_belongs(trace, report, path)
         endings.tell_left(trace, report)
-        if trace.follows():
-            known.tell_known(report, trace.follows()["at"])
+        follows = trace.follows()
+        if follows is not None:
+            known.tell_known(report, follows["at"])
     except traces.TraceFault as fault:
         raise entry.Fault(str(fault)) from None
     except amounts.Wrong:
@@ -132,7 +134,7 @@ def trace_of(report: reports.Report, path: str, watch: Callable[..., Any] | None
 
 def kubelet_beside(trace: traces.Trace | None, report: reports.Report) -> kubelets.Kubelet | None:
     """What the kubelet did, beside the report; None without a trace that says so."""
-    return None if trace is None else of_whole_ticks(lambda: kubelets.beside(trace, report))
+    return None if trace is None else of_whole_ticks(functools.partial(kubelets.beside, trace, report))
 
 
 def without_line(kubelet: kubelets.Kubelet | None, key: str, show: Callable[[int], str]) -> str:
@@ -140,11 +142,11 @@ def without_line(kubelet: kubelets.Kubelet | None, key: str, show: Callable[[int
     return kubelets.no_line_text(key, kubelet.of_no_line(key), show) if kubelet is not None else ""
 
 
-def why(given_to: Given, pods: list[reports.Pod], show: Callable[[int], str], kubelet: kubelets.Kubelet | None,
+def why(given_to: Given, trace: traces.Trace, pods: list[reports.Pod], show: Callable[[int], str], kubelet: kubelets.Kubelet | None,
         with_worst: bool = False) -> str:
     """What the trace holds around the events of some pods, those of moments that are near, and what the kubelet did to
     them, as text; with the worst of each, where no story stands before it."""
-    trace, report = given_to.trace, given_to.report
+    report = given_to.report
 
     def head(pod: reports.Pod) -> str:
         line = worst_line(given_to, pod, show, kubelet) + "\n" if with_worst else ""

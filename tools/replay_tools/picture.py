@@ -46,8 +46,8 @@ class Picture:
         inner = escape(words) + (f"<title>{escape(title)}</title>" if title else "")
         self.parts.append(f'<text x="{x:.1f}" y="{y:.1f}" text-anchor="{anchor}"{mark}>{inner}</text>')
 
-    def bar(self, since: int, until: int | None, y: float, height: int, colour: str, title: str) -> None:
-        left = self.x(since)
+    def bar(self, since: int | None, until: int | None, y: float, height: int, colour: str, title: str) -> None:
+        left = self.x(self.first if since is None else since)
         right = self.x(until) if until is not None else WIDTH - RIGHT
         self.parts.append(f'<rect x="{left:.1f}" y="{y:.1f}" width="{max(right - left, 1.0):.1f}" height="{height}" '
                           f'fill="{COLOURS[colour]}"><title>{escape(title)}</title></rect>')
@@ -72,7 +72,7 @@ class Picture:
 
     def span_words(self, span: reports.Span | reasons.Wait) -> str:
         until = "the end" if span.until is None else self.moment(span.until)
-        return f"{self.moment(span.since)} to {until}"
+        return f"{self.moment(self.first if span.since is None else span.since)} to {until}"
 
 
 def width_of(name: str) -> float:
@@ -278,7 +278,7 @@ def pod_lanes(picture: Picture, report: reports.Report, pod: reports.Pod, kubele
     label(picture, y + STRIP + 1, "Ready", "small")
     for span in reports.ready_spans(pod):
         if until is not None and span.until is None:
-            span.until = max(until, span.since)
+            span.until = max(until, span.since or 0)
         picture.bar(span.since, span.until, y, STRIP, "Ready" if span.value == "True" else "Not ready",
                     f"Ready {span.value}: {picture.span_words(span)}")
     top = y

@@ -29,7 +29,7 @@ def restarts(report: reports.Report, pod: reports.Pod, show: Show, trace: traces
 
     def add(event: reports.Event, attempt: str, by: str) -> None:
         led = "; ".join(causes.get((event.container, attempt), ["not in the report"]))
-        rows.append((event.at, [show(event.at), event.container, attempt, by, led + beside_words(pod, event, show)]))
+        rows.append((event.at, [show(event.at), event.container or "-", attempt, by, led + beside_words(pod, event, show)]))
 
     for event in pod.events:
         name, rest = event.container, event.rest
@@ -139,7 +139,8 @@ def story(given: asking.Given, pod: reports.Pod, show: Show, kubelet: kubelets.K
     ended = reports.end_of(pod)
     reason = "" if pod.reason == "-" else f" ({pod.reason})"
     is_evicted = kubelet is not None and (pod.reason == "Evicted" or kubelet.fact(pod.number) is not None)
-    is_by_rules = is_evicted and not kubelet.names and endings.ended_by_kubelet(report, pod) is None
+    names = kubelet is not None and kubelet.names
+    is_by_rules = is_evicted and not names and endings.ended_by_kubelet(report, pod) is None
     by_rules = "by the rules " if is_by_rules else ""
     lines = [f"{pod.key} on {report.node}{reports.number_words(report, pod)}: {by_rules}{pod.phase}{reason}, {pod.qos}",
              *kubelets.lines_of(kubelet, pod.number, show),

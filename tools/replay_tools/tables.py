@@ -49,7 +49,7 @@ def columns(kind: str) -> list[str]:
 
 
 def create_tables(connection: sqlite3.Connection, kinds: tuple[str, ...] = tuple(TABLES)) -> None:
-    for name, written in map(TABLES.get, kinds):
+    for name, written in (TABLES[kind] for kind in kinds):
         connection.execute(f"CREATE TABLE {name} (report INTEGER NOT NULL, {written})")
 
 

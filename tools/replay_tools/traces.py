@@ -392,7 +392,9 @@ def add_tick(trace: Trace, present: dict[str, Pod], tick: Tick) -> None:
 
 def tick_of(found: dict[str, Any], lines: Lines, begin: int, end: int) -> Tick:
     at = found.get("at")
-    if not isinstance(at, (int, float)) or isinstance(at, bool):
+    if isinstance(at, float) and at.is_integer():
+        at = int(at)
+    if not isinstance(at, int) or isinstance(at, bool):
         raise Wrong("at")
     return Tick(at, lines, begin, end, samples(found, "signals"), samples(found, "afterReclaim"))
 

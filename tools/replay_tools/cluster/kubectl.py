@@ -33,8 +33,8 @@ def answer(words: list[str], most: int, seconds: float, take: Callable[[bytes], 
     finally:
         process.kill()
         process.wait()
-        process.stdout.close()
-        process.stderr.close()
+        for stream in filter(None, (process.stdout, process.stderr)):
+            stream.close()
     if status != 0:
         lines = [line.strip() for line in said.decode("utf-8", "replace").split("\n")
                  if line.strip() and not line.startswith(ENDED)]
@@ -55,7 +55,7 @@ def handed_on(process: subprocess.Popen, most: int, until: float, take: Callable
     """Hands on what a process writes, until a moment of the clock; gives what it said last on standard error."""
     size, said = 0, b""
     with selectors.DefaultSelector() as selector:
-        for stream in (process.stdout, process.stderr):
+        for stream in filter(None, (process.stdout, process.stderr)):
             selector.register(stream, selectors.EVENT_READ)
         while selector.get_map():
             left = until - time.monotonic()

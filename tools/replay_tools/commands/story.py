@@ -112,6 +112,6 @@ def main(words: list[str]) -> int:
     pods = asking.pods_named(report, key, others)
     told = [story_text.story(given, pod, show, kubelet) for pod in pods]
     if trace and not found.without_why:
-        told.append(asking.why(given, pods, show, kubelet))
+        told.append(asking.why(given, trace, pods, show, kubelet))
     sys.stdout.write("\n".join(filter(None, [*told, others])))
     return 0

@@ -65,5 +65,6 @@ def main(words: list[str]) -> int:
     pods = asking.pods_named(report, key, others)
     head = told.head_lines(given.several, show) if given.several else []
     sys.stdout.write("\n".join(filter(None, ["".join(f"{line}\n" for line in head),
-                                             asking.why(given, pods, show, kubelet, with_worst=True), others])))
+                                             asking.why(given, trace, pods, show, kubelet,
+                                                        with_worst=True), others])))
     return 0

@@ -29,7 +29,8 @@ def value_of(text: str) -> Any:
 
 
 def skip(text: str, at: Any) -> Any:
-    return SPACE.match(text, at).end()
+    found = SPACE.match(text, at)
+    return at if found is None else found.end()
 
 
 def span_of(text: str, path: tuple[Any, ...]) -> Any:

@@ -56,11 +56,16 @@ def source_of(path: str, is_named: bool) -> Source:
 def parts_of(name: str) -> tuple[str | None, int | None, int]:
     """The node, the begin and the number that a name says; None for what it does not say."""
     parts = NAME.fullmatch(name)
+    begun = None if parts is None else begun_of(parts["stamp"])
+    return (None, None, 1) if parts is None or begun is None else (parts["node"], begun, int(parts["number"] or 1))
+
+
+def begun_of(stamp: str) -> int | None:
+    """The moment of a stamp; None where there is no such time."""
     try:
-        begun = outside.moment(calendar.timegm(time.strptime(parts["stamp"], STAMP))) if parts else None
+        return outside.moment(calendar.timegm(time.strptime(stamp, STAMP)))
     except ValueError:
-        begun = None
-    return (None, None, 1) if begun is None else (parts["node"], begun, int(parts["number"] or 1))
+        return None
 
 
 def sources_of(asked: asked.Asked) -> list[Source]:

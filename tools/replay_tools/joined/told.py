@@ -4,7 +4,7 @@ happened nearest to the moment that was asked for."""
 from __future__ import annotations
 
 from collections.abc import Callable
-from typing import TYPE_CHECKING
+from typing import TYPE_CHECKING, TypeVar
 
 from replay_tools import entry, telling
 from replay_tools.joined import asked
@@ -13,6 +13,7 @@ if TYPE_CHECKING:
     from replay_tools import kubelet as kubelets, report as reports, traces
     from replay_tools.joined import join
 
+Told = TypeVar("Told")
 MOST_LISTED = 4
 
 
@@ -41,20 +42,26 @@ def nearest_lines(several: join.Joined, pod: reports.Pod, restarts: list[tuple[i
     at = several.asked.at
     if at is None:
         return []
-    near = [row for row in restarts if abs(row[0] - at) <= asked.NEAR]
-    if near:
-        moment, (_, name, attempt, by, led) = min(near, key=lambda row: abs(row[0] - at))
+    near = nearest_of(restarts, at)
+    if near is not None:
+        moment, (_, name, attempt, by, led) = near
         does = "restart ordered" if by == "ordered" else "restarted"
         return [f"nearest to {show(at)}: {name} {does} at {show(moment)}, after attempt {attempt}, led to by: {led}"]
     bad = [(fact.decision.at, "the kubelet evicted it")] if fact is not None else []
     bad += [(event.at, bad_words(event, fact is not None, several.trace)) for event in pod.events
             if event.word in ("evicted", "kill", "died", "unready")]
-    bad = [each for each in bad if abs(each[0] - at) <= asked.NEAR]
+    nearest = nearest_of(bad, at)
     within = f"within {asked.NEAR} s of {show(at)}"
-    if not bad:
+    if nearest is None:
         return [f"no restart, kill, death or eviction {within}"]
-    moment, what = min(bad, key=lambda each: abs(each[0] - at))
+    moment, what = nearest
     return [f"no restart {within}; nearest to it, at {show(moment)}: {what}"]
+
+
+def nearest_of(rows: list[tuple[int, Told]], at: int) -> tuple[int, Told] | None:
+    """The first of the rows with moments that are nearest to a moment; None where none is near it."""
+    near = [row for row in rows if abs(row[0] - at) <= asked.NEAR]
+    return min(near, key=lambda row: abs(row[0] - at), default=None)
 
 
 def bad_words(event: reports.Event, is_beside: bool, trace: traces.Trace | None) -> str:

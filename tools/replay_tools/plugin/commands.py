@@ -96,9 +96,9 @@ def run_program(name: str, found: words.Words, caller: Caller) -> int:
     if path and "--extended" not in rest:
         traces[0], copy, option = files.with_format(path)
         path = files.path_of(copy) if copy else path
-    if kinds and path is None:
-        raise entry.Fault(f"{FAIL_ON} wants one trace, not {len(traces)} (--help says more)")
     if kinds:
+        if path is None:
+            raise entry.Fault(f"{FAIL_ON} wants one trace, not {len(traces)} (--help says more)")
         return failing.run([name, *traces, *rest, *option], path, copy, caller.name, kinds)
     return files.run_beside(programs.path(), [name, *traces, *rest, *option], path, copy, caller.name)
 
@@ -119,7 +119,7 @@ def run_tool(name: str, command: tree.Command, found: words.Words) -> int:
     else:
         report = files.open_report(found.file)
     pods = found.plain
-    if command.pods != "none":
+    if command.pods != "none" and report is not None:
         pods, report = keys(command, found, report)
     trace = trace_words(name, found, pods)
     if report is not None:
@@ -130,8 +130,8 @@ def run_tool(name: str, command: tree.Command, found: words.Words) -> int:
 def keys(command: tree.Command, found: words.Words, report: IO[bytes]) -> tuple[list[str], IO[bytes]]:
     """The pods that are meant, and the report, which was read where a namespace alone says which."""
     named = words.pods_meant(command, found)
-    if named is not None:
-        return named, report
+    if named is not None or found.namespace is None:
+        return named or [], report
     report = files.whole(report, "standard input" if found.file is None else "the report")
     named = files.pods_in(report, found.namespace)
     if not named:

@@ -182,7 +182,7 @@ def key_of(line: str) -> str:
     return f"{metadata.get('namespace') or 'default'}/{metadata['name']}"
 
 
-def run_beside(program: str, words: list[str], path: str, given: IO[bytes] | None, caller: str,
+def run_beside(program: str, words: list[str], path: str | None, given: IO[bytes] | None, caller: str,
                output: IO[bytes] | None = None) -> Any:
     """Runs the program on a trace, with a file as its standard input, and one as its standard output where that is not
     this one's; its status. Where it refuses the trace, what that means is said in one more line."""
@@ -195,7 +195,7 @@ def run_beside(program: str, words: list[str], path: str, given: IO[bytes] | Non
                                    stderr=said)
     except OSError as fault:
         raise entry.Fault(f"{program} is missing or can't be started: {fault.strerror}", 127) from None
-    if to_pipe:
+    if process.stdout is not None:
         hand_on(process.stdout)
     status = process.wait()
     if said is not None:

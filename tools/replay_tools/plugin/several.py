@@ -37,8 +37,8 @@ def run(name: str, command: tree.Command, found: words.Words) -> int:
     node = found.value("--node")
     if node is None:
         raise entry.Fault("it wants -f FILE or FOLDER for traces that are here, or --node NODE for those of a cluster")
-    return run_fetched(found, node, lambda folder: tree.run(
-        name, [*without(rest, words.RECORDERS), *pods, asked.TRACES, folder]))
+    before = [*without(rest, words.RECORDERS), *pods, asked.TRACES]
+    return run_fetched(found, node, lambda folder: tree.run(name, [*before, folder]))
 
 
 def without(rest: list[str], name: str) -> list[str]:

@@ -81,8 +81,8 @@ def run(found: words.Words, is_of_kubectl: bool) -> int:
         raise files.no_room(fault.strerror) from None
     with folder as path:
         came = fetching.fetched(cluster, chosen, path, fetching.Wanted(first, last))
-        parts = [told_of(one, path, (since, at, now), members) for one in came]
-        parts = [part for part in parts if part is not None]
+        told_parts = (told_of(one, path, (since, at, now), members) for one in came)
+        parts = [part for part in told_parts if part is not None]
         if not any(part.pods for part in parts):
             raise entry.Fault(f"{target.words()}: nothing of it was recorded then on {named(list(members.nodes))}", 1)
         is_list = target.kind is None and target.selector is None

@@ -170,10 +170,10 @@ def split(arguments: list[str]) -> dict[str, Any]:
     return given
 
 
-def number(given: dict[str, Any], word: str, default: int | None) -> int | None:
+def number(given: dict[str, Any], word: str) -> int | None:
     text = given.get(word)
     if text is None:
-        return default
+        return None
     if not re.fullmatch("[1-9][0-9]{0,7}", text) or int(text) > NUMBERS[word]:
         what = "number" if word in ("--ticks", "--logs") else "number of seconds"
         raise BadWord(f"{word} takes a whole {what} from 1 to {NUMBERS[word]}, not '{text}'")
@@ -291,9 +291,9 @@ def words_of(arguments: list[str]) -> Words:
     if kubelet is not None and kubelet != ALONE and not re.fullmatch("https?://[^/ ]+/?", kubelet):
         raise BadWord(f"--kubelet takes a URL as https://127.0.0.1:10250, or none, not '{kubelet}'")
     return Words(node, kubelet.rstrip("/") if kubelet else None, curl_file, node_line(given),
-                 number(given, "--every", 10), number(given, "--look", 1), number(given, "--ticks", MOST_TICKS),
-                 number(given, "--for", None), trace_format(given), "--check" in given, into(given, node),
-                 command(given, "--crictl", "crictl", "chroot /host crictl"), number(given, "--logs", 0),
+                 number(given, "--every") or 10, number(given, "--look") or 1, number(given, "--ticks") or MOST_TICKS,
+                 number(given, "--for"), trace_format(given), "--check" in given, into(given, node),
+                 command(given, "--crictl", "crictl", "chroot /host crictl"), number(given, "--logs") or 0,
                  metrics_file(given), events_api(given))
 
 
