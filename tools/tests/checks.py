@@ -10,7 +10,9 @@ TOOLS = os.path.dirname(HERE)
 TOP = os.path.dirname(TOOLS)
 # the tools' package, stand-ins, and the modules of bench/
 sys.path += [TOOLS, f"{HERE}/commands", f"{TOP}/bench/lib", f"{TOP}/bench/lib/real_node"]
-REPLAY = os.environ.get("KUBELET_REPLAY", f"{TOP}/kubelet_replay")
+WITHOUT_PROGRAM = "--without-program" in sys.argv[1:]
+# in place of the program one that says that it was asked
+REPLAY = f"{HERE}/commands/no_program" if WITHOUT_PROGRAM else os.environ.get("KUBELET_REPLAY", f"{TOP}/kubelet_replay")
 # a recorder that goes on by mistake ends all the same
 LONGEST = 60
 

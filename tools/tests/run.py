@@ -1,8 +1,10 @@
 """Runs the tests of the tools: each with recorded answers, known reports or words alone. README.md says what is kept
-here. With `--write` it writes what the tools answer in place of what was kept, to be looked at; other words choose the
-tests whose names have one of them."""
+here. With `--write` it writes what the tools answer in place of what was kept, to be looked at; with
+`--without-program` it leaves out the tests that ask the program; other words choose the tests whose names have one of
+them."""
 
 import contextlib
+import io
 import os
 import re
 import shutil
@@ -61,7 +63,7 @@ import test_tests
 import test_used
 import test_why
 import test_workloads
-from checks import HERE, REPLAY, TOOLS, TOP, expect, expect_kept, expect_refused, read, run
+from checks import HERE, REPLAY, TOOLS, WITHOUT_PROGRAM, TOP, expect, expect_kept, expect_refused, read, run
 
 import ending
 import processes
@@ -485,6 +487,21 @@ def run_test(name, test):
                 os.waitpid(identity, 0)
 
 
+def run_without_program(name, test):
+    """Runs a test, and whether it asked the program: then nothing of it counts."""
+    before, said = (checks.passed, checks.failed), io.StringIO()
+    with tempfile.TemporaryDirectory(dir=os.environ.get("TMPDIR")) as folder:
+        os.environ["ASKED"] = f"{folder}/asked"
+        with contextlib.redirect_stdout(said):
+            run_test(name, test)
+        asked = os.path.exists(f"{folder}/asked")
+    if asked:
+        checks.passed, checks.failed = before
+    else:
+        sys.stdout.write(said.getvalue())
+    return asked
+
+
 def main():
     with tempfile.TemporaryDirectory(ignore_cleanup_errors=True) as room:
         # others than this user look into some folders of the tests
@@ -493,18 +510,25 @@ def main():
         return run_tests()
 
 
+def writes_reports():
+    first = subprocess.run([REPLAY], input=b'{"kind":"node","name":"n1"}\n', capture_output=True, check=False)
+    return first.returncode == 0 and first.stdout.startswith(b"node n1 ")
+
+
 def run_tests():
     began = time.monotonic()
     # it may have to be built first, which takes longer than any test may
-    first = subprocess.run([REPLAY], input=b'{"kind":"node","name":"n1"}\n', capture_output=True, check=False)
-    if first.returncode != 0 or not first.stdout.startswith(b"node n1 "):
+    if not WITHOUT_PROGRAM and not writes_reports():
         print(f"tools/test: {REPLAY} does not write whole reports", file=sys.stderr)
         return 1
-    wanted = [word for word in sys.argv[1:] if word != "--write"]
+    wanted = [word for word in sys.argv[1:] if word not in ("--write", "--without-program")]
+    left_out = 0
     for module in (sys.modules[__name__], *MODULES):
         for name, test in list(vars(module).items()):
             if name.startswith("test_") and callable(test) and (not wanted or any(word in name for word in wanted)):
-                run_test(name, test)
+                left_out += bool((run_without_program if WITHOUT_PROGRAM else run_test)(name, test))
+    if WITHOUT_PROGRAM:
+        print(f"left out, since they ask the program: {left_out}")
     print(f"{time.monotonic() - began:.0f} s", file=sys.stderr)
     print(f"{checks.passed} passed, {checks.failed} failed")
     return 1 if checks.failed else 0

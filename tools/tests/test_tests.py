@@ -34,6 +34,38 @@ sys.exit(run.main())
 """
 
 
+ASKS = """
+import sys, types
+_, tests, _ = sys.argv
+sys.argv = ["run.py", "--without-program", "test_one_that_"]
+sys.path.insert(0, tests)
+import run, checks
+
+def test_one_that_asks():
+    checks.expect("the report", checks.replayed('{"kind":"node"}\\n')[0], 0)
+
+def test_one_that_asks_nothing():
+    checks.expect("one that asks nothing", 1, 1)
+
+def test_one_that_fails():
+    checks.expect("one that fails", 1, 2)
+
+module = types.ModuleType("module")
+vars(module).update({name: value for name, value in list(globals().items()) if name.startswith("test_")})
+run.MODULES = (module,)
+sys.exit(run.main())
+"""
+
+
+def test_without_the_program():
+    """Those that ask the program are left out, and count neither way."""
+    done = subprocess.run([sys.executable, "-c", ASKS, HERE, "-"], capture_output=True, text=True, check=False,
+                          env={**os.environ, "KUBELET_REPLAY": "/nonexistent/program"})
+    said = [line for line in done.stdout.splitlines() if not line.startswith(" ")]
+    expect("tests without the program", (done.returncode, said),
+           (1, ["FAILED one that fails", "left out, since they ask the program: 1", "1 passed, 1 failed"]))
+
+
 def test_that_a_test_ends_alone():
     """One that raises fails, what it has started is ended, and the tests behind it run."""
     folder = tempfile.mkdtemp()
