@@ -34,6 +34,8 @@ def memory_in(resources: Any) -> int | None:
 def limit_of(event: reports.Event, trace: traces.Trace) -> Limit | None:
     """The memory limit under which an instance died: as its container has it by then where that was changed in place,
     else as the manifest has it, else that of the whole pod."""
+    if event.number is None or event.container is None:
+        return None
     pod = trace.pods[event.number]
     changed = memory_in(trace.listed_as(pod, event.container, trace.places[event.at]).get("resources"))
     if changed is not None:

@@ -39,7 +39,7 @@ class File:
 
     @property
     def begun(self) -> int:
-        return files.parts_of(self.name)[1]
+        return files.parts_of(self.name)[1] or 0
 
 
 @dataclass

@@ -48,7 +48,9 @@ def known_ends(paths: list[str]) -> dict[str, int]:
     ends = {}
     for path in paths:
         follows = own_follows(path)
-        named = by_name.get(plain_name(follows["trace"]), []) if follows else []
+        if follows is None:
+            continue
+        named = by_name.get(plain_name(follows["trace"]), [])
         beside = [other for other in named if os.path.dirname(other) == os.path.dirname(path)]
         for other in beside or named:
             if other != path:

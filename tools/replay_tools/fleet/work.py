@@ -107,7 +107,7 @@ def span_of(text: bytes) -> tuple[int, int] | None:
     return None if first is None or last is None else (first["at"], last["at"])
 
 
-def lines_from(text: bytes) -> Iterator[bytes | None]:
+def lines_from(text: bytes) -> Iterator[bytes]:
     begin = 0
     while begin < len(text):
         end = text.find(b"\n", begin)
@@ -116,7 +116,7 @@ def lines_from(text: bytes) -> Iterator[bytes | None]:
         begin = end + 1
 
 
-def lines_back(text: bytes) -> Iterator[bytes | None]:
+def lines_back(text: bytes) -> Iterator[bytes]:
     end = len(text)
     while end > 0:
         begin = text.rfind(b"\n", 0, end) + 1

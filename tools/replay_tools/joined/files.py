@@ -119,14 +119,14 @@ def listed(names: list[str]) -> str:
 
 def of_time(found: list[Source], asked: asked.Asked) -> list[Source]:
     """Those that may have something of the time that is asked for: each lasts to the begin of the next at most."""
-    dated = sorted((source for source in found if source.begun is not None),
-                   key=lambda source: (source.begun, source.number))
-    ends = [source.begun for source in dated[1:]] + [None]
-    kept = [source for source, end in zip(dated, ends)
+    dated = sorted(((source.begun, source) for source in found if source.begun is not None),
+                   key=lambda each: (each[0], each[1].number))
+    ends = [*(begun for begun, _ in dated[1:]), None]
+    kept = [source for (begun, source), end in zip(dated, ends)
             if (asked.first is None or end is None or end >= asked.first)
-            and (asked.last is None or source.begun <= asked.last)]
-    if dated and not kept:
+            and (asked.last is None or begun <= asked.last)]
+    if dated and not kept and asked.last is not None:
         at = reports.moment_text(asked.last, asked.is_utc)
-        first = reports.moment_text(dated[0].begun, asked.is_utc)
+        first = reports.moment_text(dated[0][0], asked.is_utc)
         raise entry.Fault(f"there is no trace by {at}: the first begins at {first}")
     return kept + [source for source in found if source.begun is None]

@@ -219,9 +219,10 @@ def read_part(source: files.Source, text: bytes, made: bytes) -> Part:
     except reports.ReportFault as fault:
         raise Unusable(str(fault).replace("standard input", "it")) from None
     if made is text:
-        if not report.tick_count:
+        first, last = records.first_moment(report), summary.last_moment(report)
+        if first is None or last is None:
             raise Unusable("it has no tick")
-        return Part(source, None, report, records.first_moment(report), summary.last_moment(report))
+        return Part(source, None, report, first, last)
     try:
         trace = traces.trace_of(text, "it")
         traces.check_belongs(trace, report, "it")

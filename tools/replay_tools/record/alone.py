@@ -33,10 +33,11 @@ def containers_of(text: Answer) -> list[tuple[int, tuple[str, str, str], str]]:
 def container_of(item: Any) -> Optional[tuple[int, tuple[str, str, str], str]]:
     """A container that a kubelet has made, or None."""
     labels = item.get("labels") or {}
-    uid, namespace, pod, name = (labels.get(f"{LABEL}{each}") for each in (
-        "pod.uid", "pod.namespace", "pod.name", "container.name"))
-    if not all(isinstance(each, str) and each for each in (uid, namespace, pod, name)):
+    found = (labels.get(f"{LABEL}{each}") for each in ("pod.uid", "pod.namespace", "pod.name", "container.name"))
+    named = [each for each in found if isinstance(each, str) and each]
+    if len(named) != 4:
         return None
+    uid, namespace, pod, name = named
     return int(item.get("createdAt") or 0), (uid, namespace, pod), name
 
 

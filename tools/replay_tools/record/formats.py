@@ -58,10 +58,9 @@ def quantity_fault(value: Any) -> str | None:
         if is_whole(value) and 0 <= value < 2 ** 64:
             return None
         return f"{shown(value)} is no whole number of units: a fraction is a text, as 500m"
-    fault = text_fault(value, "quantity", QUANTITY)
-    if fault:
+    fault, parts = text_fault(value, "quantity", QUANTITY), QUANTITY.fullmatch(str(value))
+    if fault or parts is None:
         return fault
-    parts = QUANTITY.fullmatch(str(value))
     if sum(character.isdigit() for character in parts["number"]) > 17:
         return f"{shown(value)} has more than 17 digits"
     if int(parts["power"] or 0) > 18:

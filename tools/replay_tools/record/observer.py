@@ -2,6 +2,7 @@
 
 from __future__ import annotations
 
+import functools
 from collections.abc import Callable
 from dataclasses import replace
 from typing import Any, TYPE_CHECKING
@@ -126,7 +127,7 @@ class Observer:
         if self.wants_pods(moment) or (listed is not None and self.may_have_changed_pods(listed, moment)):
             seen.pods = self.attempt(PODS, moment, lambda: self.take_pods(moment))
         if listed is not None:
-            seen.instances = self.attempt(RUNTIME, moment, lambda: self.resolved(listed, moment))
+            seen.instances = self.attempt(RUNTIME, moment, functools.partial(self.resolved, listed, moment))
             self.moved_at = self.moved_at if seen.instances == self.instances and not self.missed_at else moment
             self.instances = seen.instances
         if self.wants_summary(seen.pods, moment):

@@ -39,9 +39,9 @@ def counters_of(text: Answer) -> dict[tuple[str, str, str], dict[str, int]]:
     counters: dict[tuple[str, str, str], dict[str, int]] = {}
     for series in SERIES.finditer(text.encode() if isinstance(text, str) else text):
         labels = dict(LABEL.findall(decoded(series["labels"])))
-        probe, result = PROBE_WORDS.get(labels.get("probe_type")), RESULT_WORDS.get(labels.get("result"))
+        probe, result = PROBE_WORDS.get(labels.get("probe_type", "")), RESULT_WORDS.get(labels.get("result", ""))
         if probe and result:
-            of_probe = counters.setdefault((labels.get("pod_uid"), labels.get("container"), probe), {})
+            of_probe = counters.setdefault((labels.get("pod_uid", ""), labels.get("container", ""), probe), {})
             of_probe[result] = int(float(series["value"]))
     return counters
 
