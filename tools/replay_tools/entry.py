@@ -191,9 +191,13 @@ def run(tool: str, main: Callable[[], int]) -> int:
         return 1
     sys.stdout = standard_output()
     try:
-        # start holds an interrupt back until it is heard here
-        signal.pthread_sigmask(signal.SIG_UNBLOCK, [signal.SIGINT])
-        return main()
+        try:
+            # start holds an interrupt back until it is heard here
+            signal.pthread_sigmask(signal.SIG_UNBLOCK, [signal.SIGINT])
+            return main()
+        finally:
+            # behind the tool's end Python would tell of one
+            signal.pthread_sigmask(signal.SIG_BLOCK, [signal.SIGINT])
     except KeyboardInterrupt:
         return 130
 
