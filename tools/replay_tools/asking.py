@@ -142,8 +142,8 @@ def without_line(kubelet: kubelets.Kubelet | None, key: str, show: Callable[[int
     return kubelets.no_line_text(key, kubelet.of_no_line(key), show) if kubelet is not None else ""
 
 
-def why(given_to: Given, trace: traces.Trace, pods: list[reports.Pod], show: Callable[[int], str], kubelet: kubelets.Kubelet | None,
-        with_worst: bool = False) -> str:
+def why(given_to: Given, trace: traces.Trace, pods: list[reports.Pod], show: Callable[[int], str],
+        kubelet: kubelets.Kubelet | None, with_worst: bool = False) -> str:
     """What the trace holds around the events of some pods, those of moments that are near, and what the kubelet did to
     them, as text; with the worst of each, where no story stands before it."""
     report = given_to.report

@@ -29,7 +29,8 @@ def restarts(report: reports.Report, pod: reports.Pod, show: Show, trace: traces
 
     def add(event: reports.Event, attempt: str, by: str) -> None:
         led = "; ".join(causes.get((event.container, attempt), ["not in the report"]))
-        rows.append((event.at, [show(event.at), event.container or "-", attempt, by, led + beside_words(pod, event, show)]))
+        led += beside_words(pod, event, show)
+        rows.append((event.at, [show(event.at), event.container or "-", attempt, by, led]))
 
     for event in pod.events:
         name, rest = event.container, event.rest

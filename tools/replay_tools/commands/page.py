@@ -49,6 +49,7 @@ def main(words: list[str]) -> int:
     from replay_tools import asking, why
     from replay_tools.page import build
     given = asking.given(found, lambda report: why.Ticks(moments={eviction.at for eviction in report.evictions}))
+    ticks, show = given.ticks or why.Ticks(), asking.clock_of(found, given)
     sys.stdout.write(asking.of_whole_ticks(
-        lambda: build.page_of(given.report, given.trace, given.ticks or why.Ticks(), asking.clock_of(found, given), given.since)))
+        lambda: build.page_of(given.report, given.trace, ticks, show, given.since)))
     return 0
