@@ -86,12 +86,14 @@ def evictions(report: reports.Report, pod: reports.Pod, show: Show) -> list[list
 
 def events(report: reports.Report, pod: reports.Pod, show: Show, kubelet: kubelets.Kubelet | None,
            trace: traces.Trace | None, is_near: Callable[[int], bool]) -> list[str]:
-    """The lines of a table of the events of the pod, those of moments that are near, of what the kubelet did to it, of
-    its deletion, and of what happened to the node."""
+    """The lines of a table of the events of the pod, those of moments that are near, of what was said of it, of what
+    the kubelet did to it, of its deletion, and of what happened to the node."""
     rows = [(at, ["-", "-", what]) for at, what, _ in (node_rows(trace, report, pod, show) if trace else ())]
     for event in pod.events:
         attempt, what = event_words(event, kubelet is not None, trace)
         rows.append((event.at, [event.container or "-", attempt or "-", what + beside_words(pod, event, show)]))
+    rows += [(said.at, [said.container or "-", "-", said.words()])
+             for said in (trace.said.of(pod.number) if trace else ())]
     fact = kubelet and kubelet.fact(pod.number)
     if fact:
         rows.append((fact.decision.at, ["-", "-", kubelets.event_words(fact.decision)]))

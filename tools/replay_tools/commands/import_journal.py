@@ -31,8 +31,9 @@ the log it says what to run on the node. It wants the rights to get nodes/proxy 
 
 What the journal does not have is not made up. An exit without its code has "guessed":["exitCode"], a start or an exit
 that is known by the second of the kubelet's look "moment", an instance that no line names, but exclusion, "container",
-and a pod whose manifest is made of lines or of its owner "manifest". At its end it says on standard error what the
-journal had and what it lacked, by kind.
+one that ran before a hole of the journal, and of whose pod no line behind that speaks, "state", and a pod whose
+manifest is made of lines or of its owner "manifest". At its end it says on standard error what the journal had and what
+it lacked, by kind.
 
 It needs python3, for YAML python3-yaml, for NODE kubectl. It leaves out pods' use of the node, which no journal has,
 so the rules evict nobody and judge no threshold; the kubelet's own evictions are told as what they are.

@@ -40,7 +40,7 @@ read up to its last whole line. What can't be used is refused, and of a folder l
 With --follow it tells what happens as tools/record --into records it into FOLDER, in a line each, until it is
 interrupted: from now on, or since a moment. It is told ten seconds later, since a recorder writes what it saw last, and
 may write it otherwise for some seconds; where a source of it is silent for longer than that, it may do so later too. A
-pod may be named by the beginning of its name, up to a -.
+pod may be named by the beginning of its name, up to a -. That the node is not Ready, or was started anew, is told too.
 
 It needs python3, and with --traces or --follow ./kubelet_replay (KUBELET_REPLAY names another program). It takes the
 story from the report, and leaves out what a report does not have:
