@@ -75,8 +75,9 @@ class SaidOfPods:
         """What is said once more, as in a trace that follows, is said once."""
         self.of_pod.setdefault(number, {})[said] = None
 
-    def of(self, number: int) -> list[Said]:
-        return sorted(self.of_pod.get(number, ()), key=lambda said: said.at)
+    def of(self, number: Optional[int]) -> list[Said]:
+        """What was said of a pod, by its moments; nothing of what is no pod's."""
+        return [] if number is None else sorted(self.of_pod.get(number, ()), key=lambda said: said.at)
 
     def output_before(self, event: reports.Event, probe: str) -> Optional[str]:
         """What a probe put out when it failed last up to an event, where that is known."""

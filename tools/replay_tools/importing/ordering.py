@@ -62,8 +62,9 @@ class Source:
         return fact
 
     def exact(self, moment: float | None, said: float, seconds: int) -> float | None:
-        is_behind = moment is not None and self.turned_at - 1 <= moment <= said + 1
-        return moment + seconds if is_behind else moment
+        if moment is None or not self.turned_at - 1 <= moment <= said + 1:
+            return moment
+        return moment + seconds
 
 
 def in_order(readers: list[Reader]) -> Iterator[facts.Fact]:

@@ -32,6 +32,9 @@ class Silence:
     is_hole: bool = False
     is_told: bool = False
 
+    def rank(self) -> tuple[bool, float]:
+        return self.is_told, self.until - self.since
+
 
 class Silences:
     """Those that are not forgotten yet."""
@@ -70,7 +73,7 @@ class Silences:
     def between(self, since: float, until: float) -> Optional[Silence]:
         """The time in which a line between two moments was lost: one that is told, or else the longest."""
         found = [each for each in self.found if since <= each.since and each.until <= until + LOOK_SECONDS]
-        return max(found, key=lambda each: (each.is_told, each.until - each.since), default=None)
+        return max(found, key=Silence.rank) if found else None
 
     def open_from(self, horizon: float) -> float:
         """Up to when all is settled, of what is so far behind the newest line: what a silence is, the lines behind it

@@ -67,8 +67,11 @@ class ImportedTimeline(Timeline):
         texts = []
         for pod in self.present:
             found = self.steady.get(pod.uid)
-            is_steady = found is not None and found.made == STEADY and pod.uid not in once and pod.key not in rows
-            texts.append(found.text if is_steady else self.text_of(pod, rows, pod.uid in once))
+            is_told_once = pod.uid in once
+            if found is not None and found.made == STEADY and not is_told_once and pod.key not in rows:
+                texts.append(found.text)
+            else:
+                texts.append(self.text_of(pod, rows, is_told_once))
         line = self.line_with([], second, tick, signals)
         return line_of_text(line.replace(NO_PODS, PODS.format(",".join(filter(None, texts))), 1))
 
