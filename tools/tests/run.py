@@ -427,7 +427,7 @@ def test_versions():
         for tool in ("story", "what-if"):
             shutil.copy(f"{TOOLS}/{tool}", f"{top}/tools")
             for changes, said in (("# Changes\n\n## Not released yet\n", more), ("# Changes\n\n## 1.2.3\n", "")):
-                for name, text in (("VERSION", "1.2.3\n"), ("CHANGELOG.md", changes)):
+                for name, text in (("tools/replay_tools/VERSION", "1.2.3\n"), ("CHANGELOG.md", changes)):
                     with open(f"{top}/{name}", "w", encoding="utf-8") as file:
                         file.write(text)
                 expect(f"{tool} --version of changes {said}", run([f"{top}/tools/{tool}", "--version"]), (
