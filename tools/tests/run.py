@@ -417,6 +417,8 @@ def test_versions():
     version, more = read(f"{TOP}/VERSION"), ", and what is not released yet"
     if "\n## Not released yet" in read(f"{TOP}/CHANGELOG.md"):
         version = version.replace("\n", f"{more}\n")
+    for name, path in (("VERSION", "VERSION"), ("report.schema.json", "docs/report.schema.json")):
+        expect(f"the package's own {name}", read(f"{TOOLS}/replay_tools/{name}"), read(f"{TOP}/{path}"))
     for tool in ("record", "story", "timeline", "what-if", "json", "why", "page", "fleet", "explain", "import",
                  "kubelet-replay", "kubectl-replay", "kubectl_complete-replay"):
         for word in ("--version", "-V"):
