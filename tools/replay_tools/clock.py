@@ -9,9 +9,6 @@ from enum import Enum
 
 from replay_tools import entry, report as reports
 
-# what is greater counts from 1970, as the moments of a recording do
-LEAST_DATED = 10 ** 8
-
 
 class Clock(Enum):
     SECONDS = "seconds"
@@ -38,4 +35,4 @@ def clock_of(found: Namespace, last: int | None, is_dated: bool = False) -> Cloc
         raise entry.Fault(f"{named} exclude each other (--help says more)")
     if asked:
         return asked[0]
-    return Clock.UTC if is_dated or (last or 0) > LEAST_DATED else Clock.SECONDS
+    return Clock.UTC if is_dated or (last or 0) > reports.LEAST_DATED else Clock.SECONDS

@@ -18,13 +18,13 @@ def by_rules(report: reports.Report) -> list[reports.Eviction]:
 
 
 def heeds_rounds(trace: traces.Trace, report: reports.Report) -> bool:
-    """Whether the report's program heeds which ticks are judged and which pods are spared: then the rules name pods,
-    none of them in a tick that is not judged, and none that is spared."""
+    """Whether the report's program heeds which ticks are judged and which pods are spared: then the rules name or evict
+    no pod in a tick that is not judged, and none that is spared."""
     if report.heeds_rounds is None:
         spared = {pod.number for pod in trace.pods if pod.is_spared}
-        report.heeds_rounds = report.names_pods and all(
+        report.heeds_rounds = all(
             event.number not in spared and trace.ticks[trace.places[event.at]].is_judged
-            for event in report.events if event.word == "names")
+            for event in report.events if event.word in ("names", "evicted"))
     return report.heeds_rounds
 
 

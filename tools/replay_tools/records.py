@@ -49,7 +49,7 @@ def records_of(report: reports.Report, kubelet: kubelets.Kubelet | None = None, 
 
 def first_moment(report: reports.Report) -> int | None:
     """The first moment that the report names, which is that of the first tick; None without a tick."""
-    named = [event.at for event in report.events] + [condition.at for condition in report.conditions]
+    named = [event.at for event in report.events] + reports.node_moments(report)
     named += [reports.first_tick(pod) for pod in report.pods if reports.has_ticks(report, pod)]
     return min(named) if report.tick_count else None
 

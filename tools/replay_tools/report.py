@@ -11,6 +11,8 @@ from typing import Any
 
 from replay_tools import events, outside
 
+# what is greater counts from 1970, as the moments of a recording do
+LEAST_DATED = 10 ** 8
 CONDITIONS = ("MemoryPressure", "DiskPressure", "PIDPressure")
 POD_CONDITIONS = ("PodScheduled", "Initialized", "ContainersReady", "Ready")
 # the last moment that has a date of four digits
@@ -484,5 +486,13 @@ class Thresholds:
 
 def moments(report: Report) -> list[int]:
     """Every moment that a report names."""
-    named = [event.at for event in report.events] + [condition.at for condition in report.conditions]
+    named = [event.at for event in report.events] + node_moments(report)
     return named + [condition.at for pod in report.pods for condition in pod.conditions]
+
+
+def node_moments(report: Report) -> list[int]:
+    """The moments of the node's conditions. Without a tick that the node judged they have 0, which is none of a
+    recording, whose moments count from 1970."""
+    shown = [event.at for event in report.events] + [first_tick(pod) for pod in report.pods if has_ticks(report, pod)]
+    is_dated = min(shown, default=0) > LEAST_DATED
+    return [condition.at for condition in report.conditions if condition.at or not is_dated]

@@ -26,7 +26,7 @@ class Span:
         if trace and trace.ticks:
             self.first, self.last = trace.ticks[0].at, trace.ticks[-1].at
         else:
-            named = [event.at for event in report.events] + [condition.at for condition in report.conditions]
+            named = [event.at for event in report.events] + reports.node_moments(report)
             for pod in report.pods:
                 if reports.has_ticks(report, pod):
                     named += [condition.at for condition in pod.conditions]
