@@ -209,7 +209,7 @@ def faults_of(line, before):
         yield from node.config_faults(line, True)
         yield from node.without_graces(line, before)
     elif kind == "pod":
-        yield from (found for _, found in manifest.faults_of(line))
+        yield from (found for _, found in manifest.faults_of(line, before.version))
     elif kind == "tick":
         for faults in tick.FAULTS.values():
             yield from faults(line, before)

@@ -21,8 +21,8 @@ MOST_SECONDS = 2**31 - 1
 AS_KUBECTL = "take the manifest as kubectl get pod -o json prints it"
 
 
-def faults_of(line: dict[str, Any]) -> Iterator[tuple[int, Found]]:
-    """Each fault of a pod line with its number; the first is the program's answer."""
+def faults_of(line: dict[str, Any], version: int) -> Iterator[tuple[int, Found]]:
+    """Each fault of a pod line with its number, in a text of a version; the first is the program's answer."""
     for path, wanted in ((("pod",), "the whole manifest, as kubectl get pod -o json prints it"),
                          (("pod", "metadata"), "an object with the pod's name"),
                          (("pod", "spec"), "an object with the pod's containers")):
@@ -34,7 +34,7 @@ def faults_of(line: dict[str, Any]) -> Iterator[tuple[int, Found]]:
             yield fault
             return
     yield from spec_faults(line["pod"]["spec"])
-    if not isinstance(line.get("spared"), (bool, type(None))):
+    if version == 3 and not isinstance(line.get("spared"), (bool, type(None))):
         yield WRONG_KIND, is_(("spared",), line["spared"], "it is true or false, without quotes")
 
 

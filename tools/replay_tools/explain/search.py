@@ -55,7 +55,7 @@ def of_line(line: dict[str, Any], before: Before, verdict: Verdict, is_extended:
     if number == 34:
         return out_of_turn(line, before)
     if number == 35:
-        return first_of_manifest(line, verdict.manifest)
+        return first_of_manifest(line, before, verdict.manifest)
     if number == 36:
         return node.config_faults(line, is_extended)
     if number == 37:
@@ -70,9 +70,9 @@ def of_line(line: dict[str, Any], before: Before, verdict: Verdict, is_extended:
     return itertools.islice(found(line, before), None if number == 46 else 1) if found else ()
 
 
-def first_of_manifest(line: dict[str, Any], number: int) -> Any:
+def first_of_manifest(line: dict[str, Any], before: Before, number: int) -> Any:
     """The first fault of the manifest, where it is the one that the program has found."""
-    first = next(manifest.faults_of(line), None)
+    first = next(manifest.faults_of(line, before.version), None)
     return [first[1]] if first and first[0] == number else []
 
 
