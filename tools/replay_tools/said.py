@@ -20,8 +20,8 @@ MOST = 2 ** 31 - 1
 
 @dataclass(frozen=True)
 class Said:
-    """One thing that was said: when, of which container, if of one, the reason's word, what it is about (a probe, or why
-    an instance was ended), the grace of an end, how often, and the message."""
+    """One thing that was said: when, of which container, if of one, the reason's word, what it is about (a probe, or
+    why an instance was ended), the grace of an end, how often, and the message."""
 
     at: int
     container: Optional[str]

@@ -68,7 +68,8 @@ def test_explanations():
 
 
 def test_words_of_recordings():
-    """The fields that the extended format has of pods that are ended, spared or named, where the program refuses one."""
+    """The fields that the extended format has of pods that are ended, spared or named, where the program refuses
+    one."""
     node = '{"kind":"node","version":3,"name":"n1"%s}\n'
     pod = '{"kind":"pod"%s,"pod":{"metadata":{"name":"a"},"spec":{"containers":[{"name":"c"}]}}}\n'
     tick = '{"kind":"tick","at":1%s,"pods":[{"pod":"default/a"%s}]}\n'

@@ -366,7 +366,8 @@ def test_fleet_parquet():
         expect_refused("fleet without pyarrow", run(words), 127, "pyarrow is missing")
         expect("fleet without pyarrow leaves nothing", os.listdir(folder), ["traces"])
         python, settings = sys.executable, {"PYTHONPATH": f"{KEPT}/stand_in"}
-    expect("fleet --parquet", run([python, *words], **settings)[::2], (0, ""))
+    begun = [python, f"{TOOLS}/replay_tools/__main__.py", "fleet"]
+    expect("fleet --parquet", run([*begun, *words[1:]], **settings)[::2], (0, ""))
     show = ("import sys, pyarrow.parquet as parquet\n"
             "print([list(row.values()) for row in parquet.read_table(sys.argv[1]).to_pylist()])")
     connection = sqlite3.connect(f"{folder}/fleet.db")
