@@ -376,11 +376,11 @@ def test_fleet_parquet():
         shown = run([python, "-c", show, f"{folder}/set/{table}.parquet"], **settings)[1]
         expect(f"fleet --parquet: {table}", shown, f"{rows}\n")
     connection.close()
-    expect("fleet --parquet over its tables", run([python, *words], **settings)[::2], (0, ""))
+    expect("fleet --parquet over its tables", run([*begun, *words[1:]], **settings)[::2], (0, ""))
     expect("fleet --parquet leaves nothing behind", len(os.listdir(f"{folder}/set")), len(TABLES))
     with open(f"{folder}/set/pods.parquet", "w") as file:
         file.write("something else\n")
-    expect_refused("fleet --parquet over another file", run([python, *words], **settings), 2,
+    expect_refused("fleet --parquet over another file", run([*begun, *words[1:]], **settings), 2,
                    "set/pods.parquet is there and is no table of tools/fleet")
     expect("the other file stays", read(f"{folder}/set/pods.parquet"), "something else\n")
     shutil.rmtree(folder)
@@ -403,13 +403,13 @@ def test_fleet_on_dask():
         os.environ.update(settings, WAIT=wait)
         cluster = fleet_runs.Cluster(python, workers, tempfile.mkdtemp(dir=folder))
         try:
-            check(lambda database: [python, *words, database, "--scheduler", cluster.address], cluster, folder)
+            check(lambda database: [python, f"{TOOLS}/replay_tools/__main__.py", "fleet", *words[1:], database, "--scheduler", cluster.address], cluster, folder)
         finally:
             cluster.end()
             for name in (*settings, "WAIT"):
                 del os.environ[name]
     os.environ["KUBELET_REPLAY"] = REPLAY
-    answer = run([python, *words, f"{folder}/none.db", "--scheduler", cluster.address])
+    answer = run([python, f"{TOOLS}/replay_tools/__main__.py", "fleet", *words[1:], f"{folder}/none.db", "--scheduler", cluster.address])
     expect_refused("fleet: a scheduler that does not answer", answer, 2, "does not answer")
     expect("it leaves nothing", glob.glob(f"{folder}/none.db*"), [])
     shutil.rmtree(folder)

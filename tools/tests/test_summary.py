@@ -12,7 +12,7 @@ import tempfile
 from checks import HERE, TOOLS, TOP, expect, expect_refused, read, replayed, run
 from joined_plays import Folder
 
-from replay_tools import records, report as reports, summary, traces
+from replay_tools import helps, records, report as reports, summary, traces
 
 KEPT = f"{HERE}/summaries"
 TRACE, REPORT = f"{KEPT}/trace", f"{KEPT}/report"
@@ -110,7 +110,7 @@ def test_all_say_the_same():
 def test_the_order_is_said():
     """In each help, in the same words, as the tools themselves have it."""
     for tool in ("story", "why", "page", "json", "fleet"):
-        expect(f"{tool} --help says the order", summary.ORDER in run([f"{TOOLS}/{tool}", "--help"])[1], True)
+        expect(f"{tool} --help says the order", helps.ORDER in run([f"{TOOLS}/{tool}", "--help"])[1], True)
     places = [summary.Worst(kind).place for kind in KINDS]
     expect("the order of the kinds", places, sorted(places))
 
