@@ -397,19 +397,20 @@ def test_fleet_on_dask():
         expect_refused("fleet without distributed", answer, 127, "python3-distributed")
         shutil.rmtree(folder)
         return
+    begun = [python, f"{TOOLS}/replay_tools/__main__.py", "fleet", *words[1:]]
     settings = {**COUNTED, "RUNS": f"{folder}/runs", "HOLD": f"{folder}/hold"}
     run([*words, f"{folder}/one.db", "--processes", "1"], **settings)
     for workers, wait, check in ((3, "0.03", check_workers_that_end), (1, "0.1", check_scheduler_that_closes)):
         os.environ.update(settings, WAIT=wait)
         cluster = fleet_runs.Cluster(python, workers, tempfile.mkdtemp(dir=folder))
         try:
-            check(lambda database: [python, f"{TOOLS}/replay_tools/__main__.py", "fleet", *words[1:], database, "--scheduler", cluster.address], cluster, folder)
+            check(lambda database: [*begun, database, "--scheduler", cluster.address], cluster, folder)
         finally:
             cluster.end()
             for name in (*settings, "WAIT"):
                 del os.environ[name]
     os.environ["KUBELET_REPLAY"] = REPLAY
-    answer = run([python, f"{TOOLS}/replay_tools/__main__.py", "fleet", *words[1:], f"{folder}/none.db", "--scheduler", cluster.address])
+    answer = run([*begun, f"{folder}/none.db", "--scheduler", cluster.address])
     expect_refused("fleet: a scheduler that does not answer", answer, 2, "does not answer")
     expect("it leaves nothing", glob.glob(f"{folder}/none.db*"), [])
     shutil.rmtree(folder)
