@@ -2,7 +2,7 @@
 //! none, or are not of the common shape.
 
 use crate::said::{
-    add_key, add_listing, add_moment, add_result, add_samples, add_usage, line_said,
+    add_key, add_listing, add_moment, add_result, add_samples, add_truth, add_usage, line_said,
 };
 use json_fields::{TapeItems, TapeValue};
 use json_lines::{
@@ -10,7 +10,7 @@ use json_lines::{
 };
 use std::alloc::{AllocError, Global};
 use std::thread::{Threads, map_chunks};
-use tick_lines::{entries_text, entry_text, listing_text, result_text, samples_text};
+use tick_lines::{entry_text, line_text, listing_text, result_text, samples_text};
 
 /// Who has read a line.
 #[derive(Clone, Copy, Debug, PartialEq, Eq)]
@@ -103,15 +103,16 @@ fn tape_said(alloc: Global, value: &TapeValue<'_, '_>) -> Result<Option<String>,
     };
     let mut text = String::new(alloc);
     add_moment(&mut text, Some(at))?;
-    let Some(entries) = entries_text(value) else {
+    let Some(line) = line_text(value) else {
         return Ok(None);
     };
-    if !add_entries(&mut text, entries)? {
+    let Some(samples) = samples_text(alloc, &line)? else {
+        return Ok(None);
+    };
+    if !add_entries(&mut text, line.entries)? {
         return Ok(None);
     }
-    let Some(samples) = samples_text(alloc, value)? else {
-        return Ok(None);
-    };
+    add_truth(&mut text, "unjudged", line.unjudged)?;
     add_samples(&mut text, samples.signals, samples.after_reclaim)?;
     Ok(Some(text))
 }

@@ -44,8 +44,12 @@ pub(crate) fn add_usage(text: &mut String, usage: Option<Usage>) -> Result<(), A
     write!(text, "\n  uses {usage:?}")
 }
 
-/// Adds what an entry says in such a member, where it says something: the faster reader reads no such entry.
-fn add_truth(text: &mut String, name: &str, member: TruthMember) -> Result<(), AllocError> {
+/// Adds what a line or an entry says in such a member, where it says something: the faster reader reads no such entry.
+pub(crate) fn add_truth(
+    text: &mut String,
+    name: &str,
+    member: TruthMember,
+) -> Result<(), AllocError> {
     if member == TruthMember::No {
         return Ok(());
     }

@@ -12,6 +12,7 @@ mod probing;
 mod reason;
 mod samples;
 mod tape;
+mod tape_line;
 mod truth;
 mod usage;
 mod value;
@@ -22,9 +23,7 @@ pub use line::{TickLine, entries_of, tick_line_of};
 pub use listing::{ListedInstance, Listing};
 pub use probing::ProbeResult;
 pub use reason::ReasonMember;
-pub use tape::{
-    EntryText, LineSamples, ListingText, ResultText, entries_text, entry_text, listing_text,
-    result_text, samples_text,
-};
+pub use tape::{EntryText, ListingText, ResultText, entry_text, listing_text, result_text};
+pub use tape_line::{LineSamples, LineText, line_text, samples_text};
 pub use truth::{TruthMember, truth_of};
 pub use value::TickValue;

@@ -1,38 +1,33 @@
-//! What a tick line says, read from the tape of its tokens without a copy of its texts. Where one of these answers
-//! none, the line has a fault, or a shape that is left to `tick_line_of`.
+//! What the entries of a tick line say, read from the tape of its tokens without a copy of its texts. Where one of
+//! these answers none, the line has a fault, or a shape that is left to `tick_line_of`.
 
-ghost use Rattle.std.specs.Prelude.{◌≡◌, IsTrue, List, Some, option_map, Ok, IfOk, IfSome, codes};
+ghost use Rattle.std.specs.Prelude.{◌≡◌, IsTrue, List, Some, option_map, Ok, IfSome};
 ghost use Rattle.json.specs.Token.{Token};
 ghost use Rattle.json.specs.Value.{value_view};
 ghost use Rattle.serde_json.specs.Data.{Data};
 ghost use Rattle.json_fields.specs.state.Borrowed.{data_of};
-ghost use Rattle.json_fields.specs.rule.Fields.{field_at, present};
+ghost use Rattle.json_fields.specs.rule.Fields.{present};
 ghost use Rattle.json_fields.specs.state.Tape.{data_at, IsNextMember};
 ghost use Rattle.tick_lines.specs.rule.Fields.{items_of, quantity_at};
 ghost use Rattle.tick_lines.specs.rule.Listings.{attempt_of, state_of, listing_of};
 ghost use Rattle.tick_lines.specs.rule.Results.{result_of};
-ghost use Rattle.tick_lines.specs.rule.Samples.{samples_of};
-ghost use Rattle.tick_lines.specs.rule.Truths.{denial_of};
 ghost use Rattle.tick_lines.specs.state.Tape.{text_in, code_in, probe_in, outcome_in, left_in, listing_as, result_as};
 ghost use Rattle.tick_lines.specs.state.Tape.{truth_in, reason_in};
 ghost use Rattle.tick_lines.specs.declared.reason.ReasonMember.TheVariants.{Missing};
 ghost use Rattle.tick_lines.specs.declared.truth.TruthMember.TheVariants.{No};
-ghost use Rattle.tick_lines.specs.state.Tape.{ListingRead, ResultRead, UsageRead, EntryRead, IsEntry, HasSamples};
+ghost use Rattle.tick_lines.specs.state.Tape.{ListingRead, ResultRead, UsageRead, EntryRead, IsEntry};
 ghost use Rattle.tick_lines.specs.rule.Usages.{usage_in, usage_of};
 
 use crate::fields::quantity_at;
 use crate::listing::{ListedInstance, attempt_of, code_of, state_of};
 use crate::probing::{outcome_named, probe_named};
-use crate::samples::samples_of;
-use crate::truth::{TruthMember, denial_of, truth_of};
+use crate::truth::{TruthMember, truth_of};
 use json::Value;
-use json_fields::{MemberNames, Scope, TapeItems, TapeValue};
+use json_fields::{TapeItems, TapeValue};
 use manifest::{Outcome, ProbeKind};
 use observations::Usage;
 use quantity::Quantity;
-use signals::BySignal;
 use state_diff::CriState;
-use std::alloc::{AllocError, Global};
 
 /// A container's listing, whose name is that of the line.
 #[derive(Clone, Copy)]
@@ -65,15 +60,6 @@ pub struct EntryText<'t, 'a> {
     pub results: Option<TapeItems<'t, 'a>>,
     /// What the pod used, where the entry has a sample of it.
     pub usage: Option<Usage>,
-}
-
-/// The samples of a tick line.
-#[derive(Drop)]
-pub struct LineSamples {
-    /// What the node has left of each resource, as in `TickLine`.
-    pub signals: BySignal<Option<Quantity>>,
-    /// What it has left after images and dead containers were deleted, as in `TickLine`.
-    pub after_reclaim: BySignal<Option<Quantity>>,
 }
 
 /// What was read of a listing's members: of one that has to be there nothing, where it is missing, null or at fault. A
@@ -114,7 +100,7 @@ const NOTHING_READ: Usage = Usage {
 };
 
 /// What a member holds, where null counts as absent; none where it is an array or an object.
-fn scalar_here<'a>(value: &TapeValue<'_, 'a>) -> Option<Option<Value<'a>>>
+pub(crate) fn scalar_here<'a>(value: &TapeValue<'_, 'a>) -> Option<Option<Value<'a>>>
     ensures { IfSome result (λ found.
         option_map (λ v. data_of (value_view v)) found ≡ present (Some (data_at value.now))) }
 {
@@ -178,7 +164,7 @@ fn outcome_here(value: &TapeValue<'_, '_>) -> Option<Outcome>
 }
 
 /// The items that a member holds, if it is not null.
-fn items_here<'t, 'a>(value: &TapeValue<'t, 'a>) -> Option<Option<TapeItems<'t, 'a>>>
+pub(crate) fn items_here<'t, 'a>(value: &TapeValue<'t, 'a>) -> Option<Option<TapeItems<'t, 'a>>>
     ensures { IfSome result (λ items. items_of (present (Some (data_at value.now))) ≡ Ok (left_in items)) }
 {
     if value.is_null() {
@@ -413,85 +399,4 @@ pub fn entry_text<'t, 'a>(value: &TapeValue<'t, 'a>) -> Option<EntryText<'t, 'a>
         results: entry.results,
         usage: entry.usage,
     })
-}
-
-/// The pods' entries of a tick line, if it has some; they are still to be read.
-pub fn entries_text<'t, 'a>(value: &TapeValue<'t, 'a>) -> Option<Option<TapeItems<'t, 'a>>>
-    ensures { IfSome result (λ items. items_of (field_at (codes "pods") (data_at value.now)) ≡ Ok (left_in items)) }
-{
-    let Some(found) = value.field("pods") else {
-        return Some(None);
-    };
-    let items = found.items()?;
-    Some(Some(items))
-}
-
-/// Whether an object has members of the scope's names alone. One of another name may be null at its last place, for
-/// which the members are looked through: that is left to the other reader, so that it is done once.
-fn names_only_signals(scope: Scope, object: &TapeValue<'_, '_>) -> bool {
-    let Some(mut members) = object.members() else {
-        return true;
-    };
-    while let Some((name, _)) = members.next() {
-        if !scope.includes(name) {
-            return false;
-        }
-    }
-    true
-}
-
-/// The samples in an object that may be left out.
-fn samples_at(
-    alloc: Global,
-    scope: Scope,
-    value: &TapeValue<'_, '_>,
-    name: &str,
-) -> Result<Option<BySignal<Option<Quantity>>>, AllocError>
-    ensures { IfOk result (λ found. IfSome found (λ samples.
-        samples_of scope (field_at name.now (data_at value.now)) ≡ Ok samples)) }
-{
-    let Some(found) = value.field(name) else {
-        let none: Option<&Value<'_>> = None;
-        return Ok(samples_of(scope, none).ok());
-    };
-    if !names_only_signals(scope, &found) {
-        return Ok(None);
-    }
-    match found.flat(alloc)? {
-        Some(object) => Ok(samples_of(scope, Some(&object)).ok()),
-        None => Ok(None),
-    }
-}
-
-/// Whether the line says nothing of whether the node judges the tick, or that it does.
-fn is_judged(value: &TapeValue<'_, '_>) -> bool
-    ensures { IsTrue result → denial_of (field_at (codes "judged") (data_at value.now)) ≡ No }
-{
-    let Some(found) = value.scalar_at::<Global>("judged") else {
-        return false;
-    };
-    matches!(denial_of(found.as_ref()), TruthMember::No)
-}
-
-/// The samples of a tick line; none where it says that the node doesn't judge the tick. Its entries are read first,
-/// since a fault of theirs comes before one of a sample.
-pub fn samples_text(
-    alloc: Global,
-    value: &TapeValue<'_, '_>,
-) -> Result<Option<LineSamples>, AllocError>
-    ensures { IfOk result (λ found. IfSome found (HasSamples (data_at value.now))) }
-{
-    let Some(signals) = samples_at(alloc, Scope::Node, value, "signals")? else {
-        return Ok(None);
-    };
-    let Some(after_reclaim) = samples_at(alloc, Scope::FileSystems, value, "afterReclaim")? else {
-        return Ok(None);
-    };
-    if !is_judged(value) {
-        return Ok(None);
-    }
-    Ok(Some(LineSamples {
-        signals,
-        after_reclaim,
-    }))
 }

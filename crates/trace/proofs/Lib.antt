@@ -9,7 +9,7 @@ pub mod Placed
 pub mod Said
 pub mod Shape
 pub mod Shown
-pub mod Silent
+pub mod OtherKinds
 pub mod Sound
 pub mod Taken
 pub mod Versions

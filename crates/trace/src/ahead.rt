@@ -1,4 +1,4 @@
-//! Lines that are read ahead of their turn, each beside the pods that there are.
+//! Lines that are read ahead of their turn, each beside the pods that there are, and with words heeded or not.
 
 ghost use Rattle.std.specs.Prelude.{◌≡◌, ◌≢◌, ◌<◌, false, length, All, IfOk, IfSome, OnErr, OnOk};
 ghost use Rattle.json_lines.specs.state.Lines.{Tick, data_of, line_data};
@@ -9,9 +9,10 @@ ghost use Rattle.trace.specs.rule.Placing.{are_of_one_pod, has_twice};
 
 use crate::by_pod::entries_by_pod;
 use crate::fault::FaultKind;
-use crate::placing::{PlacedEntry, line_speaks, some_entry_repeats};
+use crate::placing::{PlacedEntry, some_entry_repeats};
 use crate::tape::shown_on_tape;
 use crate::tick::{observed, placed_by, some_code_missing};
+use crate::words::line_has_other_kind;
 use json_lines::{LONGEST_TAPE, LineBuffers, TextLine, TickRecord, other_line, text_line};
 use observations::TickObs;
 use roster::Roster;
@@ -41,6 +42,7 @@ fn unless_memory(kind: FaultKind) -> Result<(), AllocError>
 /// The tick that these entries show, unless one pod has two of them.
 fn shown_once(
     alloc: Global,
+    heeds: bool,
     at: u64,
     written: &TickLine,
     placed: &[PlacedEntry],
@@ -48,31 +50,32 @@ fn shown_once(
 ) -> Result<Option<TickObs>, AllocError>
     requires { All (λ e. e.pod < length roster.now.pods) placed.now }
     ensures { IfOk result (λ found. IfSome found (λ tick. (has_twice are_of_one_pod placed.now ≡ false)
-        × (tick ≡ observed false at written.now placed.now roster.now))) }
+        × (tick ≡ observed heeds at written.now placed.now roster.now))) }
 {
     let found = entries_by_pod(alloc, placed, roster.pods().len())?;
     if found.has_pod_twice {
         return Ok(None);
     }
-    Ok(Some(observed(alloc, false, at, written, placed, &found.first, roster)?))
+    let tick = observed(alloc, heeds, at, written, placed, &found.first, roster)?;
+    Ok(Some(tick))
 }
 
-/// The tick that a tick line shows of these pods, if nothing in it is at fault by itself, and it says nothing that
-/// depends on the version.
+/// The tick that a tick line shows of these pods, if nothing in it is at fault by itself.
 fn shown_by(
     alloc: Global,
+    heeds: bool,
     roster: &Roster,
     line: &TickRecord,
 ) -> Result<Option<TickObs>, AllocError>
-    ensures { IfOk result (λ found. IfSome found (IsShown roster.now (Tick line.now.at line.now.written))) }
+    ensures { IfOk result (λ found. IfSome found (IsShown heeds roster.now (Tick line.now.at line.now.written))) }
 {
     let (Some(at), Ok(written)) = (line.at, &line.written) else {
         return Ok(None);
     };
-    if line_speaks(written) {
+    if heeds && line_has_other_kind(written) {
         return Ok(None);
     }
-    let placed = match placed_by(alloc, false, roster, written) {
+    let placed = match placed_by(alloc, heeds, roster, written) {
         Ok(placed) => placed,
         Err(kind) => {
             unless_memory(kind)?;
@@ -82,14 +85,19 @@ fn shown_by(
     if some_entry_repeats(&placed) || some_code_missing(&placed) {
         return Ok(None);
     }
-    shown_once(alloc, at, written, &placed, roster)
+    shown_once(alloc, heeds, at, written, &placed, roster)
 }
 
 /// Reads a tick line ahead. The record is dropped here, by the thread that made it.
-fn tick_ahead(alloc: Global, roster: &Roster, line: TickRecord) -> Result<LineAhead, AllocError>
-    ensures { IfOk result (IsAhead roster.now (Tick line.at line.written)) }
+fn tick_ahead(
+    alloc: Global,
+    heeds: bool,
+    roster: &Roster,
+    line: TickRecord,
+) -> Result<LineAhead, AllocError>
+    ensures { IfOk result (IsAhead heeds roster.now (Tick line.at line.written)) }
 {
-    match shown_by(alloc, roster, &line)? {
+    match shown_by(alloc, heeds, roster, &line)? {
         Some(tick) => {
             drop(line);
             Ok(LineAhead::Shown(tick))
@@ -99,11 +107,16 @@ fn tick_ahead(alloc: Global, roster: &Roster, line: TickRecord) -> Result<LineAh
 }
 
 /// Reads ahead a line that says this.
-fn said_ahead(alloc: Global, roster: &Roster, said: TextLine) -> Result<LineAhead, AllocError>
-    ensures { IfOk result (IsAhead roster.now (data_of said)) }
+fn said_ahead(
+    alloc: Global,
+    heeds: bool,
+    roster: &Roster,
+    said: TextLine,
+) -> Result<LineAhead, AllocError>
+    ensures { IfOk result (IsAhead heeds roster.now (data_of said)) }
 {
     match said {
-        TextLine::Tick(tick) => tick_ahead(alloc, roster, tick),
+        TextLine::Tick(tick) => tick_ahead(alloc, heeds, roster, tick),
         said => Ok(LineAhead::Said(said)),
     }
 }
@@ -111,16 +124,18 @@ fn said_ahead(alloc: Global, roster: &Roster, said: TextLine) -> Result<LineAhea
 /// Reads a line ahead. An empty one, of which there may be many, is not looked at.
 pub(crate) fn line_ahead(
     alloc: Global,
+    heeds: bool,
     roster: &Roster,
     line: &[u8],
     buffers: &mut LineBuffers,
 ) -> Result<LineAhead, AllocError>
-    ensures { IfOk result (IsAhead roster.now (line_data line.now)) }
+    ensures { IfOk result (IsAhead heeds roster.now (line_data line.now)) }
 {
+    // Blank lines may come by the million. (docs/decisions/reading.md)
     if line.is_empty() {
         return Ok(LineAhead::Said(TextLine::Blank));
     }
-    match shown_on_tape(alloc, roster, line, buffers)? {
+    match shown_on_tape(alloc, heeds, roster, line, buffers)? {
         Some(Some(tick)) => Ok(LineAhead::Shown(tick)),
         found => {
             let said = if found.is_some() || line.len() > LONGEST_TAPE {
@@ -128,7 +143,7 @@ pub(crate) fn line_ahead(
             } else {
                 other_line(alloc, line)?
             };
-            said_ahead(alloc, roster, said)
+            said_ahead(alloc, heeds, roster, said)
         }
     }
 }
@@ -136,15 +151,16 @@ pub(crate) fn line_ahead(
 /// Reads each line ahead, in their order.
 pub(crate) fn read_each(
     alloc: Global,
+    heeds: bool,
     roster: &Roster,
     lines: &[&[u8]],
 ) -> Result<Vec<LineAhead>, AllocError>
-    ensures { IfOk result (λ reads. AreAhead roster.now lines.now reads.items) }
+    ensures { IfOk result (λ reads. AreAhead heeds roster.now lines.now reads.items) }
 {
     let mut buffers = LineBuffers::new(alloc);
     let mut reads = Vec::with_capacity(alloc, lines.len())?;
     for line in lines {
-        let read = line_ahead(alloc, roster, line, &mut buffers)?;
+        let read = line_ahead(alloc, heeds, roster, line, &mut buffers)?;
         reads.push(read)?;
     }
     Ok(reads)

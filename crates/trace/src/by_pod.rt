@@ -41,6 +41,8 @@ pub(crate) fn entries_by_pod(
     ensures twice { IfOk result (λ found. found.has_pod_twice ≡ has_twice are_of_one_pod entries.now) }
     ensures first { IfOk result (λ found. AreFirst entries.now pods found.first.items) }
 {
+    // One pass: a search for each pod would cost pods times entries in every tick.
+    // (docs/decisions/reading.md)
     let mut first = vec![in alloc; None; pods]?;
     let mut has_pod_twice = false;
     for (place, entry) in entries.iter().enumerate() {

@@ -29,6 +29,7 @@ mod text;
 mod tick;
 mod trace_so_far;
 mod windows;
+mod words;
 
 pub use fault::{FaultKind, LineFault};
 pub use node_config::{Format, NodeConfig, Version};

@@ -6,20 +6,19 @@ ghost use Rattle.json_fields.specs.state.Reading.{GivesExactly, GivesUnless, che
 ghost use Rattle.trace.specs.state.Memory.{is_memory};
 ghost use Rattle.trace.specs.rule.Placing.{number_in, container_number, placed_listing, placed_result, pod_numbered};
 ghost use Rattle.trace.specs.rule.Placing.{entry_of_pod, has_twice, are_of_one_container, is_of_probe};
-ghost use Rattle.trace.specs.state.Placing.{entries_of_pods, is_word, is_reason_said, speaks, some_speaks, line_speaks};
+ghost use Rattle.trace.specs.state.Placing.{entries_of_pods};
 ghost use Rattle.trace.specs.rule.Placing.{are_of_one_probe, repeats, sampled_or, without_sample};
 ghost use Rattle.trace.specs.rule.Placing.{sampling_of, reason_given, words_of, said_in, placed_entry, placed_of};
 ghost use Rattle.std.specs.List.{list_any};
 
 use crate::fault::FaultKind;
+use crate::words::says_so;
 use lists::Sequence;
 use manifest::{Outcome, PodSpec, ProbeKind};
 use observations::{EndReason, PodWords, Sampling, Usage};
 use roster::Roster;
 use std::alloc::Global;
-use tick_lines::{
-    ListedInstance, Listing, ProbeResult, ReasonMember, TickEntry, TickLine, TruthMember,
-};
+use tick_lines::{ListedInstance, Listing, ProbeResult, ReasonMember, TickEntry, TruthMember};
 
 /// A listing of the container with the number.
 #[derive(Clone, Copy)]
@@ -136,42 +135,6 @@ pub(crate) fn pod_numbered(pods: &[PodSpec], number: usize) -> Result<&PodSpec, 
     pods.get(number).ok_or(FaultKind::StrangerPod)
 }
 
-/// Whether the member is other than null and false, where there is one.
-fn is_word(member: TruthMember) -> bool
-    ensures { result ≡ is_word member }
-{
-    !matches!(member, TruthMember::No)
-}
-
-/// Whether the member is other than null, where there is one.
-fn is_reason_said(member: &ReasonMember) -> bool
-    ensures { result ≡ is_reason_said member.now }
-{
-    !matches!(member, ReasonMember::Missing)
-}
-
-/// Whether the entry has such a member `unsampled`, `deleting` or `failed`.
-fn speaks(entry: &TickEntry) -> bool
-    ensures { result ≡ speaks entry.now }
-{
-    is_word(entry.unsampled) || is_word(entry.deleting) || is_reason_said(&entry.failed)
-}
-
-/// Whether one of the entries has such a member.
-fn some_speaks(entries: &[TickEntry]) -> bool
-    ensures { result ≡ some_speaks entries.now }
-{
-    entries.iter().any(|e| speaks(e))
-}
-
-/// Whether the line says something that depends on the version: that the node doesn't judge the tick, or a word on a
-/// pod.
-pub(crate) fn line_speaks(written: &TickLine) -> bool
-    ensures { result ≡ line_speaks written.now }
-{
-    is_word(written.unjudged) || some_speaks(written.entries.as_slice())
-}
-
 /// A sample that came, or this where none did.
 pub(crate) fn sampled_or(other: Sampling, usage: Option<Usage>) -> Sampling
     ensures { result ≡ sampled_or other usage }
@@ -186,9 +149,10 @@ pub(crate) fn sampled_or(other: Sampling, usage: Option<Usage>) -> Sampling
 fn without_sample(heeds: bool, unsampled: TruthMember) -> Sampling
     ensures { result ≡ without_sample heeds unsampled }
 {
-    match unsampled {
-        TruthMember::Yes if heeds => Sampling::Unsampled,
-        _ => Sampling::Unsaid,
+    if heeds && says_so(unsampled) {
+        Sampling::Unsampled
+    } else {
+        Sampling::Unsaid
     }
 }
 
@@ -207,7 +171,7 @@ fn words_of(heeds: bool, deleting: TruthMember, failed: &ReasonMember) -> PodWor
     ensures { result ≡ words_of heeds deleting failed.now }
 {
     PodWords {
-        deleting: heeds && matches!(deleting, TruthMember::Yes),
+        deleting: heeds && says_so(deleting),
         failed: reason_given(heeds, failed),
     }
 }

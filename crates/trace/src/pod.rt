@@ -13,8 +13,8 @@ ghost use Rattle.trace.specs.rule.Written.{is_of_other_kind};
 ghost use Rattle.trace.specs.rule.Pod.{has_key, new_key, room_for_pod, manifest_of, pod_from, pod_of_line};
 
 use crate::fault::{FaultKind, refused_if};
-use crate::tick::{is_of_other_kind, says_so};
 use crate::trace_so_far::TraceSoFar;
+use crate::words::{is_of_other_kind, says_so};
 use json_fields::field;
 use manifest::PodSpec;
 use manifest_reader::{Field, ManifestFault, read_pod};

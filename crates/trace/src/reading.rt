@@ -10,7 +10,7 @@ ghost use Rattle.trace.specs.state.Ahead.{IsReadAhead, IsShown, may_stand};
 ghost use Rattle.trace.specs.state.Memory.{is_memory};
 ghost use Rattle.roster.specs.rule.Roll.{key_of_pod, number_of};
 ghost use Rattle.trace.specs.rule.Written.{is_foreign, node_in};
-ghost use Rattle.trace.specs.rule.TraceSoFar.{version_in, with_pod, without};
+ghost use Rattle.trace.specs.rule.TraceSoFar.{version_in, heeds, with_pod, without};
 ghost use Rattle.trace.specs.rule.Pod.{named_in};
 ghost use Rattle.trace.specs.state.Taken.{tick_line_at, value_at, any_line_at, said_at};
 ghost use Rattle.trace.specs.rule.Trace.{gone_in, kind_from, kind_of_line, with_node, with_new_pod, is_late, pod_in};
@@ -21,7 +21,7 @@ ghost use Rattle.trace.specs.state.Tick.{MayStandBehind};
 use crate::fault::{FaultKind, refused_if};
 use crate::pod::{new_key, pod_of_line, room_for_pod};
 use crate::tick::{is_backwards, moment_in, room, take_tick, with_tick};
-use crate::trace_so_far::{LineKind, TraceSoFar, Turn, heeds_unsampled};
+use crate::trace_so_far::{LineKind, TraceSoFar, Turn, heeds_words};
 use json_fields::{field, text_at};
 use json_lines::{TextLine, TickRecord, tick_record};
 use manifest::PodSpec;
@@ -181,7 +181,7 @@ fn pod_in(
 {
     refused_if(is_late(version, so_far), FaultKind::Order)?;
     room_for_pod(so_far)?;
-    pod_of_line(alloc, heeds_unsampled(so_far), line)
+    pod_of_line(alloc, heeds_words(so_far), line)
 }
 
 /// Takes a pod line.
@@ -338,7 +338,7 @@ fn take_tick_line(
 /// Whether a tick whose line was read ahead may stand behind the ticks so far.
 #[tactic(auto, unfolding(crate::specs::state::Ahead::may_stand))]
 fn may_stand(so_far: &TraceSoFar, tick: &TickObs) -> Result<(), FaultKind>
-    requires { IsReadAhead so_far.now.roll tick.now }
+    requires { IsReadAhead (heeds so_far.now) so_far.now.roll tick.now }
     ensures gives { GivesExactly (λ u. u) result (may_stand so_far.now tick.now) }
     ensures follows { OnOk result (MayStandBehind so_far.now tick.now) }
 {
@@ -350,8 +350,8 @@ fn may_stand(so_far: &TraceSoFar, tick: &TickObs) -> Result<(), FaultKind>
 
 /// Takes a tick whose line was read ahead, beside the pods that there are.
 pub(crate) fn take_shown(so_far: TraceSoFar, tick: TickObs) -> Result<TraceSoFar, FaultKind>
-    requires { IsReadAhead so_far.roll tick }
-    ensures { (said : LineData) → IsShown so_far.roll said tick
+    requires { IsReadAhead (heeds so_far) so_far.roll tick }
+    ensures { (said : LineData) → IsShown (heeds so_far) so_far.roll said tick
         → GivesUnless is_memory (λ r. r) result (any_line_at so_far said) }
 {
     match may_stand(&so_far, &tick) {

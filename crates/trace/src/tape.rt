@@ -1,7 +1,7 @@
 //! The tick that a line shows, read from the tape of its tokens beside the pods that there are: no text is copied, and
 //! names become numbers where they stand. Where one of these finds none, the line is read as a `TextLine`.
 
-ghost use Rattle.std.specs.Prelude.{◌≡◌, ◌++◌, ◌∷◌, [], true, length, List, IfOk, IfSome};
+ghost use Rattle.std.specs.Prelude.{◌≡◌, ◌++◌, ◌∷◌, [], Bool, true, length, List, IfOk, IfSome};
 ghost use Rattle.serde_json.specs.Data.{Data};
 ghost use Rattle.json_fields.specs.state.Tape.{data_at, items_in};
 ghost use Rattle.json_lines.specs.state.Lines.{Tick, line_data};
@@ -14,13 +14,14 @@ ghost use Rattle.trace.specs.state.Tape.{EntriesNoted};
 use crate::noted::{clear, note_listings, note_results};
 use crate::placing::{pod_numbered, sampled_or};
 use crate::slots::{no_pods, note_pod, with_others};
+use crate::words::{is_judged, is_of_other_kind};
 use json_fields::{TapeItems, TapeValue};
 use json_lines::{LineBuffers, tape_moment, tick_tape};
 use lists::Sequence;
 use observations::{ContainerObs, PodObs, Sampling, TickObs};
 use roster::Roster;
 use std::alloc::{AllocError, Global};
-use tick_lines::{entries_text, entry_text, samples_text};
+use tick_lines::{entry_text, line_text, samples_text};
 
 /// Notes what an entry shows of its pod, and says whether it could: not where the pod is not known, has an earlier
 /// entry, or something in the entry is at fault.
@@ -33,8 +34,9 @@ fn note_entry(
     slots: &mut Vec<Option<PodObs>>,
 ) -> Result<bool, AllocError>
     requires { length slots.old.items ≡ length roster.now.pods }
-    ensures { (ds : List Data) → EntriesNoted roster.now at ds slots.old.items → IfOk result (λ noted. noted ≡ true
-        → EntriesNoted roster.now at (ds ++ data_at value.now ∷ []) slots.new.items) }
+    ensures { (heeds : Bool) (ds : List Data) → EntriesNoted heeds roster.now at ds slots.old.items
+        → IfOk result (λ noted. noted ≡ true
+        → EntriesNoted heeds roster.now at (ds ++ data_at value.now ∷ []) slots.new.items) }
 {
     let Some(entry) = entry_text(value) else {
         return Ok(false);
@@ -63,8 +65,8 @@ fn note_entries(
     at: u64,
     mut items: TapeItems<'_, '_>,
 ) -> Result<Option<Vec<Option<PodObs>>>, AllocError>
-    ensures { IfOk result (λ found. IfSome found (λ slots.
-        EntriesNoted roster.now at (items_in items.entry) slots.items)) }
+    ensures { IfOk result (λ found. IfSome found (λ slots. (heeds : Bool)
+        → EntriesNoted heeds roster.now at (items_in items.entry) slots.items)) }
 {
     let mut containers = Vec::new(alloc);
     let mut slots = no_pods(alloc, roster.pods().len())?;
@@ -83,8 +85,8 @@ fn entries_noted(
     at: u64,
     items: Option<TapeItems<'_, '_>>,
 ) -> Result<Option<Vec<Option<PodObs>>>, AllocError>
-    ensures { IfOk result (λ found. IfSome found (λ slots.
-        EntriesNoted roster.now at (left_in items.entry) slots.items)) }
+    ensures { IfOk result (λ found. IfSome found (λ slots. (heeds : Bool)
+        → EntriesNoted heeds roster.now at (left_in items.entry) slots.items)) }
 {
     match items {
         Some(items) => note_entries(alloc, roster, at, items),
@@ -95,22 +97,28 @@ fn entries_noted(
 /// The tick that a tick line shows of these pods.
 fn shown_by_value(
     alloc: Global,
+    heeds: bool,
     roster: &Roster,
     value: &TapeValue<'_, '_>,
 ) -> Result<Option<TickObs>, AllocError>
     ensures { IfOk result (λ found. IfSome found
-        (IsShown roster.now (Tick (moment_at (data_at value.now)) (tick_line_of (data_at value.now))))) }
+        (IsShown heeds roster.now (Tick (moment_at (data_at value.now)) (tick_line_of (data_at value.now))))) }
 {
+    // The tape names no fault: whatever cannot be read here is left to the reader that does.
+    // (docs/decisions/reading.md)
     let Some(at) = tape_moment(value) else {
         return Ok(None);
     };
-    let Some(entries) = entries_text(value) else {
+    let Some(line) = line_text(value) else {
         return Ok(None);
     };
-    let Some(slots) = entries_noted(alloc, roster, at, entries)? else {
+    if is_of_other_kind(line.unjudged) {
+        return Ok(None);
+    }
+    let Some(samples) = samples_text(alloc, &line)? else {
         return Ok(None);
     };
-    let Some(samples) = samples_text(alloc, value)? else {
+    let Some(slots) = entries_noted(alloc, roster, at, line.entries)? else {
         return Ok(None);
     };
     let pods = with_others(alloc, at, slots, roster)?;
@@ -119,7 +127,7 @@ fn shown_by_value(
         pods: Sequence::from_vec(pods),
         signals: samples.signals,
         after_reclaim: samples.after_reclaim,
-        judged: true,
+        judged: is_judged(heeds, line.unjudged),
     }))
 }
 
@@ -127,15 +135,16 @@ fn shown_by_value(
 /// the common shape.
 pub(crate) fn shown_on_tape(
     alloc: Global,
+    heeds: bool,
     roster: &Roster,
     line: &[u8],
     buffers: &mut LineBuffers,
 ) -> Result<Option<Option<TickObs>>, AllocError>
     ensures { IfOk result (λ on_tape. IfSome on_tape (λ found.
-        IfSome found (IsShown roster.now (line_data line.now)))) }
+        IfSome found (IsShown heeds roster.now (line_data line.now)))) }
 {
     match tick_tape(alloc, line, buffers)? {
-        Some(tape) => Ok(Some(shown_by_value(alloc, roster, &TapeValue::root(&tape))?)),
+        Some(tape) => Ok(Some(shown_by_value(alloc, heeds, roster, &TapeValue::root(&tape))?)),
         None => Ok(None),
     }
 }

@@ -1,22 +1,24 @@
 //! Reading a whole trace, window by window.
 
-ghost use Rattle.std.specs.Prelude.{◌≡◌, ◌<◌, ◌≤◌, ◌+◌, ◌^◌, ◌∷◌, [], drop, length, map, IfNone, IfOk, IfSome, IsTrue};
+ghost use Rattle.std.specs.Prelude.{◌≡◌, ◌<◌, ◌≤◌, ◌+◌, ◌^◌, ◌∷◌, [], drop, length, map, IfNone, IfOk, IfSome};
+ghost use Rattle.std.specs.Prelude.{Bool, IsTrue};
 ghost use Rattle.std.specs.List.{prefix_len};
 ghost use Rattle.std.specs.Vec.Iter.{into_iter_items};
 ghost use Rattle.json_fields.specs.state.Reading.{GivesExactly, GivesUnless};
 ghost use Rattle.json_lines.specs.rule.Lines.{is_blank, lines_of};
 ghost use Rattle.json_lines.specs.state.Lines.{Blank, LineData, line_data};
 ghost use Rattle.roster.specs.rule.Roll.{Roll};
-ghost use Rattle.trace.specs.state.Ahead.{AreAhead, IsAhead, KeepsPods};
+ghost use Rattle.trace.specs.state.Ahead.{AreAhead, IsAhead, IsFresh, KeepsPods};
 ghost use Rattle.trace.specs.state.Memory.{is_memory, GivesAt};
 ghost use Rattle.trace.specs.state.Sound.{AreAcceptable, AreRising, HasShape, LeaveInThree};
 ghost use Rattle.trace.specs.state.Taken.{any_line_at, lines_at};
 ghost use Rattle.trace.specs.rule.Trace.{at_line, finished, nothing, trace_of};
+ghost use Rattle.trace.specs.rule.TraceSoFar.{heeds};
 
 use crate::ahead::{LineAhead, line_ahead};
 use crate::fault::{FaultKind, LineFault};
 use crate::reading::{take_line, take_shown};
-use crate::trace_so_far::{Trace, TraceSoFar};
+use crate::trace_so_far::{Trace, TraceSoFar, heeds_words};
 use crate::windows::{
     OneThread, SMALLEST_WINDOW, WindowAhead, WindowReader, Workers, window_behind,
 };
@@ -47,7 +49,8 @@ fn take_anew(alloc: Global, so_far: TraceSoFar, line: &[u8]) -> Result<TraceSoFa
     ensures { GivesUnless is_memory (λ r. r) result (any_line_at so_far (line_data line.now)) }
 {
     let mut buffers = LineBuffers::new(alloc);
-    match line_ahead(alloc, &so_far.roster, line, &mut buffers) {
+    let heeds = heeds_words(&so_far);
+    match line_ahead(alloc, heeds, &so_far.roster, line, &mut buffers) {
         Ok(LineAhead::Shown(tick)) => take_shown(so_far, tick),
         Ok(LineAhead::Said(said)) => take_line(alloc, so_far, &said),
         Err(error) => {
@@ -65,7 +68,8 @@ fn take_ahead(
     read: LineAhead,
     is_fresh: bool,
 ) -> Result<TraceSoFar, FaultKind>
-    requires { (roll : Roll) × IsAhead roll (line_data line.now) read × (IsTrue is_fresh → so_far.roll ≡ roll) }
+    requires { (heeds : Bool) × (roll : Roll) × IsAhead heeds roll (line_data line.now) read
+        × (IsTrue is_fresh → IsFresh so_far heeds roll) }
     ensures { GivesUnless is_memory (λ r. r) result (any_line_at so_far (line_data line.now)) }
 {
     match read {
@@ -80,7 +84,8 @@ fn take_ahead(
 
 /// Whether the pods are the same after the line as before it.
 fn keeps_pods(read: &LineAhead) -> bool
-    ensures { IsTrue result → (roll : Roll) (said : LineData) → IsAhead roll said read.now → KeepsPods said }
+    ensures { IsTrue result → (heeds : Bool) (roll : Roll) (said : LineData) → IsAhead heeds roll said read.now
+        → KeepsPods said }
 {
     !matches!(read, LineAhead::Said(TextLine::Json(_)))
 }
@@ -88,7 +93,7 @@ fn keeps_pods(read: &LineAhead) -> bool
 /// Whether the lines behind this one were read beside the pods that there are then, if this one was.
 fn stays_fresh(is_fresh: bool, read: &LineAhead) -> bool
     ensures { IsTrue result → IsTrue is_fresh
-        × ((roll : Roll) (said : LineData) → IsAhead roll said read.now → KeepsPods said) }
+        × ((heeds : Bool) (roll : Roll) (said : LineData) → IsAhead heeds roll said read.now → KeepsPods said) }
 {
     is_fresh && keeps_pods(read)
 }
@@ -102,9 +107,10 @@ fn take_next(
     read: LineAhead,
     is_fresh: bool,
 ) -> Result<(TraceSoFar, bool), LineFault>
-    requires { (roll : Roll) × IsAhead roll (line_data line.now) read × (IsTrue is_fresh → so_far.roll ≡ roll) }
+    requires { (heeds : Bool) × (roll : Roll) × IsAhead heeds roll (line_data line.now) read
+        × (IsTrue is_fresh → IsFresh so_far heeds roll) }
     ensures gives { GivesAt (λ r. r.0) result (at_line number (any_line_at so_far (line_data line.now))) }
-    ensures fresh { IfOk result (λ r. IsTrue r.1 → IsTrue is_fresh × (r.0.roll ≡ so_far.roll)) }
+    ensures fresh { IfOk result (λ r. IsTrue r.1 → IsTrue is_fresh × IsFresh r.0 (heeds so_far) so_far.roll) }
 {
     let stays_fresh = stays_fresh(is_fresh, &read);
     match take_ahead(alloc, so_far, line, read, is_fresh) {
@@ -123,7 +129,8 @@ fn next_read(reads: &mut IntoIter<LineAhead>) -> Option<LineAhead>
 
 /// Whether a line was blank.
 fn was_blank(read: &LineAhead) -> bool
-    ensures { IsTrue result → (roll : Roll) (said : LineData) → IsAhead roll said read.now → said ≡ Blank }
+    ensures { IsTrue result → (heeds : Bool) (roll : Roll) (said : LineData) → IsAhead heeds roll said read.now
+        → said ≡ Blank }
 {
     matches!(read, LineAhead::Said(TextLine::Blank))
 }
@@ -147,7 +154,7 @@ fn take_lines(
     reads: Vec<LineAhead>,
 ) -> Result<(TraceSoFar, bool), LineFault>
     requires few { first + length lines.now < 2 ^ 64 }
-    requires ahead { AreAhead so_far.roll lines.now reads.items }
+    requires ahead { AreAhead (heeds so_far) so_far.roll lines.now reads.items }
     ensures { GivesAt (λ r. r.0) result (lines_at first so_far (map (λ line. line_data line.now) lines.now)) }
 {
     let mut so_far = so_far;
@@ -254,7 +261,14 @@ fn read_windows<W: WindowReader>(
         let (blanks, read) = blanks_before(rest, ends_blank_line);
         number += blanks;
         let ticks = so_far.ticks.as_slice().len();
-        let Ok(window) = reader.window(alloc, &so_far.roster, read, bytes, ticks) else {
+        let Ok(window) = reader.window(
+            alloc,
+            heeds_words(&so_far),
+            &so_far.roster,
+            read,
+            bytes,
+            ticks,
+        ) else {
             drop(so_far);
             return Err(no_memory(number));
         };

@@ -8,19 +8,17 @@ ghost use Rattle.json_fields.specs.state.Reading.{GivesExactly, GivesUnless};
 ghost use Rattle.trace.specs.state.Memory.{is_memory};
 ghost use Rattle.trace.specs.rule.TraceSoFar.{with_tick};
 ghost use Rattle.trace.specs.state.ByPod.{AreFirst};
-ghost use Rattle.trace.specs.rule.Placing.{placed_of, is_doubled, repeats, says_so};
+ghost use Rattle.trace.specs.rule.Placing.{placed_of, is_doubled, repeats};
 ghost use Rattle.trace.specs.declared.fault.FaultKind.TheVariants.{Backwards, Doubled, ExitCode};
 ghost use Rattle.trace.specs.rule.Observed.{seen_in, outcome_in, results_in, listings_of, results_of, said_from};
 ghost use Rattle.trace.specs.rule.Observed.{seen_listed, containers_from, pod_observed, pods_from, observed};
-ghost use Rattle.trace.specs.rule.Observed.{is_judged, lacks_code, some_code_missing};
+ghost use Rattle.trace.specs.rule.Observed.{lacks_code, some_code_missing};
 ghost use Rattle.following.specs.rule.Backwards.{is_backwards};
 ghost use Rattle.following.specs.state.Followed.{EndBefore, ComesNext};
 ghost use Rattle.trace.specs.state.Pod.{container_counts};
 ghost use Rattle.trace.specs.state.Taken.{placed_at, tick_of, tick_after};
 ghost use Rattle.trace.specs.rule.Tick.{moment_from, room_for_tick, observed_in};
 ghost use Rattle.trace.specs.state.Tick.{MayStandBehind};
-ghost use Rattle.trace.specs.rule.Written.{is_of_other_kind, is_no_reason, has_other_kind, line_has_other_kind};
-ghost use Rattle.trace.specs.rule.Written.{heeded, written_in};
 
 use crate::by_pod::{EntriesByPod, entries_by_pod, entry_for};
 use crate::fault::{FaultKind, refused_if};
@@ -28,7 +26,8 @@ use crate::placing::{
     EntrySaid, PlacedEntry, PlacedListing, PlacedResult, check_placed, entries_of_pods,
     is_of_probe, place_each, some_entry_repeats,
 };
-use crate::trace_so_far::{TraceSoFar, heeds_unsampled};
+use crate::trace_so_far::{TraceSoFar, heeds_words};
+use crate::words::{is_judged, written_in};
 use json_lines::TickRecord;
 use lists::Sequence;
 use manifest::{ContainerSpec, Outcome, PodSpec, ProbeKind};
@@ -37,7 +36,7 @@ use quantity::END_OF_TIME;
 use roster::Roster;
 use state_diff::{CriState, Seen};
 use std::alloc::{AllocError, Global};
-use tick_lines::{ListedInstance, ReasonMember, TickEntry, TickLine, TickLineFault, TruthMember};
+use tick_lines::{ListedInstance, TickLine};
 
 fn moment_from(ticks: &[TickObs], written: Option<u64>) -> Result<u64, FaultKind>
     ensures { GivesExactly (λ n. n) result (moment_from ticks.now written) }
@@ -217,19 +216,6 @@ fn pods_observed(
     Ok(all)
 }
 
-pub(crate) fn says_so(member: TruthMember) -> bool
-    ensures { result ≡ says_so member }
-{
-    matches!(member, TruthMember::Yes)
-}
-
-/// Whether the node judges the tick: unless the line says that it doesn't and the version heeds that.
-fn is_judged(heeds: bool, written: &TickLine) -> bool
-    ensures { result ≡ is_judged heeds written.now }
-{
-    !(heeds && says_so(written.unjudged))
-}
-
 pub(crate) fn observed(
     alloc: Global,
     heeds: bool,
@@ -248,7 +234,7 @@ pub(crate) fn observed(
         pods: Sequence::from_vec(pods),
         signals: written.signals,
         after_reclaim: written.after_reclaim,
-        judged: is_judged(heeds, written),
+        judged: is_judged(heeds, written.unjudged),
     })
 }
 
@@ -270,61 +256,6 @@ pub(crate) fn some_code_missing(entries: &[PlacedEntry]) -> bool
     entries
         .iter()
         .any(|e| entry_lacks_code(e.listings.as_slice()))
-}
-
-pub(crate) fn is_of_other_kind(member: TruthMember) -> bool
-    ensures { result ≡ is_of_other_kind member }
-{
-    matches!(member, TruthMember::OfOtherKind)
-}
-
-fn is_no_reason(member: &ReasonMember) -> bool
-    ensures { result ≡ is_no_reason member.now }
-{
-    matches!(member, ReasonMember::OfOtherKind)
-}
-
-/// Whether a member `unsampled` or `deleting` of the entry is of another kind than a truth value, or its member
-/// `failed` is neither null nor a reason.
-fn is_of_no_kind(entry: &TickEntry) -> bool
-    ensures { result ≡ ((is_of_other_kind entry.now.unsampled || is_of_other_kind entry.now.deleting)
-        || is_no_reason entry.now.failed) }
-{
-    is_of_other_kind(entry.unsampled)
-        || is_of_other_kind(entry.deleting)
-        || is_no_reason(&entry.failed)
-}
-
-/// Whether one of the entries has such a member.
-fn has_other_kind(entries: &[TickEntry]) -> bool
-    ensures { result ≡ has_other_kind entries.now }
-{
-    entries.iter().any(|e| is_of_no_kind(e))
-}
-
-/// Whether one of these, or the line's member `judged`, is of another kind.
-fn line_has_other_kind(written: &TickLine) -> bool
-    ensures { result ≡ line_has_other_kind written.now }
-{
-    is_of_other_kind(written.unjudged) || has_other_kind(written.entries.as_slice())
-}
-
-/// Refuses these members where the version heeds them.
-fn heeded(heeds: bool, written: &TickLine) -> Result<&TickLine, FaultKind>
-    ensures { GivesExactly (λ t. t.now) result (heeded heeds written.now) }
-{
-    refused_if(heeds && line_has_other_kind(written), FaultKind::Usage)?;
-    Ok(written)
-}
-
-/// What a tick line says beside its moment.
-fn written_in(heeds: bool, said: &Result<TickLine, TickLineFault>) -> Result<&TickLine, FaultKind>
-    ensures { GivesExactly (λ t. t.now) result (written_in heeds said.now) }
-{
-    match said {
-        Ok(written) => heeded(heeds, written),
-        Err(fault) => Err(FaultKind::from(*fault)),
-    }
 }
 
 pub(crate) fn room(so_far: &TraceSoFar) -> Result<(), FaultKind>
@@ -372,6 +303,8 @@ pub(crate) fn placed_by(
 {
     match placed_entries(alloc, heeds, roster, written) {
         Err(FaultKind::OutOfMemory) => {
+            // A second pass that takes no memory, so that a fault is never told as out of memory.
+            // (docs/decisions/reading.md)
             check_placed(heeds, roster, written.entries.as_slice())?;
             Err(FaultKind::OutOfMemory)
         }
@@ -459,7 +392,7 @@ fn observed_in(
     let by_pod = by_pod(alloc, so_far, placed)?;
     let tick = observed(
         alloc,
-        heeds_unsampled(so_far),
+        heeds_words(so_far),
         at,
         written,
         placed,
@@ -502,7 +435,7 @@ fn tick_of(alloc: Global, so_far: &TraceSoFar, line: &TickRecord) -> Result<Tick
 {
     room(so_far)?;
     let at = moment_in(so_far, line.at)?;
-    let heeds = heeds_unsampled(so_far);
+    let heeds = heeds_words(so_far);
     let written = written_in(heeds, &line.written)?;
     let placed = placed_of(alloc, heeds, so_far, written)?;
     observed_in(alloc, so_far, at, written, &placed)

@@ -58,8 +58,8 @@ impl Model for TraceSoFar {
     ghost invariant = { λ r. HasFollowed r.ticks (container_counts r.roster.pods) r.following };
 }
 
-/// Whether an entry may say that its pod has no sample: in version 3 alone.
-pub(crate) fn heeds_unsampled(so_far: &TraceSoFar) -> bool
+/// Whether the words of tick lines are heeded: in version 3 alone.
+pub(crate) fn heeds_words(so_far: &TraceSoFar) -> bool
     ensures { result ≡ heeds so_far.now }
 {
     match &so_far.node {

@@ -68,17 +68,18 @@ pub(crate) struct WindowAhead<'t> {
 fn read_shared<R: Threads + Sync>(
     rt: &R,
     alloc: Global,
+    heeds: bool,
     roster: &Roster,
     lines: &[&[u8]],
     workers: usize,
 ) -> Result<Vec<LineAhead>, AllocError>
     requires { 0 < workers }
-    ensures { IfOk result (λ reads. AreAhead roster.now lines.now reads.items) }
+    ensures { IfOk result (λ reads. AreAhead heeds roster.now lines.now reads.items) }
 {
     let size = lines.len().div_ceil(workers).max(1);
     let part = move |_: usize, part: &[&[u8]]| -> Result<Vec<LineAhead>, AllocError>
-        ensures { IfOk result (λ reads. AreAhead roster.entry.now part.entry.now reads.items) }
-    { read_each(alloc, roster, part) };
+        ensures { IfOk result (λ reads. AreAhead heeds roster.entry.now part.entry.now reads.items) }
+    { read_each(alloc, heeds, roster, part) };
     joined(alloc, map_chunks(rt, alloc, lines, size, &part)?)
 }
 
@@ -88,10 +89,11 @@ pub(crate) trait WindowReader {
     ghost can_read: { Self → Type 0 };
 
     /// The next window, of this many bytes or fewer and the end of its last line, behind this many ticks, read beside
-    /// these pods. It is never without a line where the text isn't empty.
+    /// these pods, and with words heeded or not. It is never without a line where the text isn't empty.
     fn window<'t>(
         &self,
         alloc: Global,
+        heeds: bool,
         roster: &Roster,
         text: &'t [u8],
         bytes: usize,
@@ -106,7 +108,7 @@ pub(crate) trait WindowReader {
             length window.lines.items + length window.rest.now ≤ length text.now) }
         ensures few { IfOk result (λ window. AreFew roster.now (length window.lines.items)) }
         ensures early { IfOk result (λ window. AreEarly roster.now ticks (length window.lines.items)) }
-        ensures ahead { IfOk result (λ window. AreAhead roster.now window.lines.items window.reads.items) };
+        ensures ahead { IfOk result (λ window. AreAhead heeds roster.now window.lines.items window.reads.items) };
 }
 
 /// This thread, which reads no more than 64 KiB at once.
@@ -118,6 +120,7 @@ impl WindowReader for OneThread {
     fn window<'t>(
         &self,
         alloc: Global,
+        heeds: bool,
         roster: &Roster,
         text: &'t [u8],
         _bytes: usize,
@@ -129,7 +132,7 @@ impl WindowReader for OneThread {
             SMALLEST_WINDOW,
             most_lines(roster, ticks),
         )?;
-        let reads = read_each(alloc, roster, &lines)?;
+        let reads = read_each(alloc, heeds, roster, &lines)?;
         Ok(WindowAhead { lines, reads, rest })
     }
 }
@@ -147,6 +150,7 @@ impl<R: Threads + Sync> WindowReader for Workers<'_, R> {
     fn window<'t>(
         &self,
         alloc: Global,
+        heeds: bool,
         roster: &Roster,
         text: &'t [u8],
         bytes: usize,
@@ -154,9 +158,9 @@ impl<R: Threads + Sync> WindowReader for Workers<'_, R> {
     ) -> Result<WindowAhead<'t>, AllocError> {
         let (lines, rest) = next_tick_lines(alloc, text, bytes, most_lines(roster, ticks))?;
         let reads = if bytes <= SMALLEST_WINDOW || text.len() - rest.len() < SMALLEST_WINDOW {
-            read_each(alloc, roster, &lines)?
+            read_each(alloc, heeds, roster, &lines)?
         } else {
-            read_shared(self.rt, alloc, roster, &lines, self.workers)?
+            read_shared(self.rt, alloc, heeds, roster, &lines, self.workers)?
         };
         Ok(WindowAhead { lines, reads, rest })
     }

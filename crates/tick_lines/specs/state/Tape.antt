@@ -4,7 +4,7 @@ use Rattle.std.specs.Prelude.{Ok, codes}
 use Rattle.json.specs.Token.{Token}
 use Rattle.json_fields.specs.rule.Fields.{field_at, text_at}
 use Rattle.json_fields.specs.rule.Reading.{some_or}
-use Rattle.json_fields.specs.state.Tape.{items_in, field_behind, IsRead}
+use Rattle.json_fields.specs.state.Tape.{data_at, items_in, field_behind, IsRead}
 use Rattle.manifest.specs.declared.outcome.Outcome.{Outcome}
 use Rattle.manifest.specs.declared.outcome.ProbeKind.{ProbeKind}
 use Rattle.observations.specs.declared.usage.Usage.{Usage}
@@ -17,7 +17,9 @@ use Rattle.tick_lines.specs.declared.listing.Listing.{Listing}
 use Rattle.tick_lines.specs.declared.probing.ProbeResult.{ProbeResult}
 use Rattle.tick_lines.specs.declared.tape.EntryMembers.{EntryMembers}
 use Rattle.tick_lines.specs.declared.tape.EntryText.{EntryText}
-use Rattle.tick_lines.specs.declared.tape.LineSamples.{LineSamples}
+use Rattle.tick_lines.specs.declared.tape_line.LineMembers.{LineMembers}
+use Rattle.tick_lines.specs.declared.tape_line.LineSamples.{LineSamples}
+use Rattle.tick_lines.specs.declared.tape_line.LineText.{LineText}
 use Rattle.tick_lines.specs.declared.tape.ListingMembers.{ListingMembers}
 use Rattle.tick_lines.specs.declared.tape.ListingText.{ListingText}
 use Rattle.tick_lines.specs.declared.tape.ResultMembers.{ResultMembers}
@@ -45,6 +47,14 @@ listing_as l = record { name = l.name.now; instance = l.instance }
 abbrev pub result_as : ResultText → ProbeResult
 result_as r = record { container = r.container.now; probe = r.probe; outcome = r.outcome }
 
+-- what a field holds; no value is a fault here
+abbrev pub found_in : Option Data → Result (Option Data) TickLineFault
+found_in found = Ok found
+
+-- whether it is false; no value is a fault here
+abbrev pub denial_in : Option Data → Result TruthMember TickLineFault
+denial_in found = Ok (denial_of found)
+
 -- what is read of an entry before its listings and results; it says neither that its pod has no sample nor that
 -- it is being deleted, nor that the node has ended it
 pub record IsEntry (d : Data) (e : EntryText) : Type 0 where
@@ -56,11 +66,17 @@ pub record IsEntry (d : Data) (e : EntryText) : Type 0 where
   pub deleting : truth_of (field_at (codes "deleting") d) ≡ No
   pub failed : reason_member_of (field_at (codes "failed") d) ≡ Missing
 
--- what is read of a line behind its entries; it doesn't say that the node does not judge the tick
-pub record HasSamples (d : Data) (l : LineSamples) : Type 0 where
-  pub signals : samples_of Node (field_at (codes "signals") d) ≡ Ok l.signals
-  pub after_reclaim : samples_of FileSystems (field_at (codes "afterReclaim") d) ≡ Ok l.after_reclaim
-  pub unjudged : denial_of (field_at (codes "judged") d) ≡ No
+-- what is read of a line before its entries and its samples
+pub record IsLine (d : Data) (l : LineText) : Type 0 where
+  pub entries : items_of (field_at (codes "pods") d) ≡ Ok (left_in l.entries)
+  pub signals : found_in (field_at (codes "signals") d) ≡ Ok (option_map data_at l.signals)
+  pub after_reclaim : found_in (field_at (codes "afterReclaim") d) ≡ Ok (option_map data_at l.after_reclaim)
+  pub unjudged : denial_in (field_at (codes "judged") d) ≡ Ok l.unjudged
+
+-- the samples of a line
+pub record HasSamples (l : LineText) (s : LineSamples) : Type 0 where
+  pub signals : samples_of Node (option_map data_at l.signals) ≡ Ok s.signals
+  pub after_reclaim : samples_of FileSystems (option_map data_at l.after_reclaim) ≡ Ok s.after_reclaim
 
 -- a text that has to be there
 abbrev pub text_in : Option Data → Result (List ℕ) TickLineFault
@@ -120,3 +136,10 @@ pub record EntryRead (d : Data) (left : List Token) (e : EntryMembers) : Type 0 
   pub unsampled : IsRead truth_in (codes "unsampled") d left No
   pub deleting : IsRead truth_in (codes "deleting") d left No
   pub failed : IsRead reason_in (codes "failed") d left Missing
+
+-- what was read of a line before the members that are left
+pub record LineRead (d : Data) (left : List Token) (l : LineMembers) : Type 0 where
+  pub entries : IsRead items_of (codes "pods") d left (left_in l.entries)
+  pub signals : IsRead found_in (codes "signals") d left (option_map data_at l.signals)
+  pub after_reclaim : IsRead found_in (codes "afterReclaim") d left (option_map data_at l.after_reclaim)
+  pub unjudged : IsRead denial_in (codes "judged") d left l.unjudged

@@ -41,7 +41,7 @@ use Rattle.trace.specs.rule.Observed.{said_from, entry_for, observed}
 use Rattle.trace.specs.rule.Placing.{has_twice, are_of_one_pod, number_in, sampling_of, entry_of_pod, placed_entry}
 use Rattle.trace.specs.rule.Placing.{placed_of, said_in, words_of, says_so}
 use Rattle.trace.specs.rule.Pod.{pod_from, spared_by}
-use Rattle.trace.specs.rule.TraceSoFar.{heeds_unsampled}
+use Rattle.trace.specs.rule.TraceSoFar.{heeds_words}
 use Rattle.trace.specs.rule.Written.{is_of_other_kind, line_has_other_kind, written_in}
 use Rattle.trace.specs.state.Laws.{Tells, sampling_shown_of, UsageShown, SaysUnsampled, UnsampledShown, SignalsShown}
 use Rattle.trace.specs.state.Laws.{DeletingShown, FailedShown, JudgedShown, SparedSaid}
@@ -142,24 +142,24 @@ says_none true None Yes e = (refl, refl, refl)
 says_none true None OfOtherKind e = absurd (cc)
 says_none false None unsampled e = absurd (cc)
 
-in_three : (version : Option Version) → heeds_unsampled version ≡ true → version ≡ Some Three
+in_three : (version : Option Version) → heeds_words version ≡ true → version ≡ Some Three
 in_three None e = absurd (cc)
 in_three (Some One) e = absurd (cc)
 in_three (Some Two) e = absurd (cc)
 in_three (Some Three) e = refl
 
 none_said : (version : Option Version) (entry : TickEntry) → version ≡ Some Three → entry.unsampled ≡ Yes
-    → entry.usage ≡ None → (said_in (heeds_unsampled version) entry).sampling ≡ Unsampled
+    → entry.usage ≡ None → (said_in (heeds_words version) entry).sampling ≡ Unsampled
 none_said version entry three says alone =
-    ap (λ (v : Option Version). (said_in (heeds_unsampled v) entry).sampling) three
+    ap (λ (v : Option Version). (said_in (heeds_words v) entry).sampling) three
     ∙ ap (λ (usage : Option Usage). sampling_of true usage entry.unsampled) alone
     ∙ ap (λ (unsampled : TruthMember). sampling_of true None unsampled) says
 
 told_by : (version : Option Version) (roll : Roll) (entries : List TickEntry) (es : List PlacedEntry) (n : ℕ)
-    → each (placed_entry (heeds_unsampled version) roll) entries ≡ Ok es → Tells es n Unsampled
+    → each (placed_entry (heeds_words version) roll) entries ≡ Ok es → Tells es n Unsampled
     → (version ≡ Some Three) × SaysUnsampled roll entries n
 told_by version roll entries es n all (k, entry, there, is, given) =
-    let heeds = heeds_unsampled version in
+    let heeds = heeds_words version in
     let w = item_of (placed_entry heeds roll) entries es k entry all there in
     let says = placed_says heeds roll w.0 entry w.2 in
     let none = says_none heeds w.0.usage w.0.unsampled (ap (λ (s : EntrySaid). s.sampling) says.1 ∙ given) in (
@@ -175,10 +175,10 @@ told_by version roll entries es n all (k, entry, there, is, given) =
     )
 
 tells_it : (version : Option Version) (roll : Roll) (entries : List TickEntry) (es : List PlacedEntry) (n : ℕ)
-    → each (placed_entry (heeds_unsampled version) roll) entries ≡ Ok es → version ≡ Some Three
+    → each (placed_entry (heeds_words version) roll) entries ≡ Ok es → version ≡ Some Three
     → SaysUnsampled roll entries n → Tells es n Unsampled
 tells_it version roll entries es n all three w =
-    let heeds = heeds_unsampled version in
+    let heeds = heeds_words version in
     let placed = read_of (placed_entry heeds roll) entries es w.k w.entry all w.here in
     let says = placed_says heeds roll w.entry placed.0 placed.2 in (
       w.k,
@@ -190,8 +190,8 @@ tells_it version roll entries es n all three w =
 
 pub unsampled_shown : UnsampledShown
 unsampled_shown version at written es roll n pod places once here present =
-    let all = all_read (heeds_unsampled version) roll written.entries es places in
-    let shown = shown_told (heeds_unsampled version) at written es roll n pod Unsampled (λ e. absurd (cc)) once here
+    let all = all_read (heeds_words version) roll written.entries es places in
+    let shown = shown_told (heeds_words version) at written es roll n pod Unsampled (λ e. absurd (cc)) once here
     present in (
       λ e. told_by version roll written.entries es n all (shown.0 e),
       λ is. shown.1 (tells_it version roll written.entries es n all is.0 is.1),
@@ -268,7 +268,7 @@ deleting_said false deleting failed e = absurd (cc)
 
 pub deleting_shown : DeletingShown
 deleting_shown version at written es roll n pod places once here present =
-    let heeds = heeds_unsampled version in
+    let heeds = heeds_words version in
     let shown = word_shown (λ (w : PodWords). w.deleting) true heeds at written es roll n pod (λ e. absurd (cc)) places
     once here present in (
       (λ e.
@@ -280,7 +280,7 @@ deleting_shown version at written es roll n pod places once here present =
         w.entry,
         w.here,
         w.known,
-        ap (λ (v : Option Version). (words_of (heeds_unsampled v) w.entry.deleting w.entry.failed).deleting) three
+        ap (λ (v : Option Version). (words_of (heeds_words v) w.entry.deleting w.entry.failed).deleting) three
             ∙ ap (λ (member : TruthMember). (words_of true member w.entry.failed).deleting) w.says,
       )),
     )
@@ -296,7 +296,7 @@ failed_said false deleting failed reason e = absurd (cc)
 
 pub failed_shown : FailedShown
 failed_shown version at written es roll n pod reason places once here present =
-    let heeds = heeds_unsampled version in
+    let heeds = heeds_words version in
     let shown = word_shown (λ (w : PodWords). w.failed) (Some reason) heeds at written es roll n pod
     (λ e. absurd (cc)) places once here present in (
       (λ e.
@@ -308,7 +308,7 @@ failed_shown version at written es roll n pod reason places once here present =
         w.entry,
         w.here,
         w.known,
-        ap (λ (v : Option Version). (words_of (heeds_unsampled v) w.entry.deleting w.entry.failed).failed) three
+        ap (λ (v : Option Version). (words_of (heeds_words v) w.entry.deleting w.entry.failed).failed) three
             ∙ ap (λ (member : ReasonMember). (words_of true w.entry.deleting member).failed) w.says,
       )),
     )
@@ -340,10 +340,10 @@ judged_said false unjudged e = absurd (cc)
 pub judged_shown : JudgedShown
 judged_shown version at written es roll = (
   (λ e.
-      let said = judged_said (heeds_unsampled version) written.unjudged e in
+      let said = judged_said (heeds_words version) written.unjudged e in
       (in_three version said.0, said.1)),
   (λ (three, says).
-      ap (λ (v : Option Version). not (heeds_unsampled v && says_so written.unjudged)) three
+      ap (λ (v : Option Version). not (heeds_words v && says_so written.unjudged)) three
       ∙ ap (λ (member : TruthMember). not (true && says_so member)) says),
 )
 
@@ -363,13 +363,13 @@ both_so false spared e = absurd (cc)
 
 pub spared_said : SparedSaid
 spared_said version d pod e =
-    let heeds = heeds_unsampled version in
+    let heeds = heeds_words version in
     let member = field_at (codes "spared") d in
     let read = bind_ok (pod_from (field_at (codes "pod") d)) (spared_by heeds (truth_of member)) pod e in
     let is = spared_as heeds (truth_of member) read.0 pod read.2 in (
       (λ so.
           let said = both_so heeds (truth_of member) (sym is ∙ so) in
           (in_three version said.0, (says_truth member).yes.0 said.1)),
-      (λ (three, says). is ∙ ap (λ (v : Option Version). heeds_unsampled v && says_so (truth_of member)) three
+      (λ (three, says). is ∙ ap (λ (v : Option Version). heeds_words v && says_so (truth_of member)) three
           ∙ ap (λ (said : TruthMember). true && says_so said) ((says_truth member).yes.1 says)),
     )

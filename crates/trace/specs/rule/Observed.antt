@@ -21,6 +21,7 @@ use Rattle.observations.specs.rule.Pods.{PodObs}
 use Rattle.observations.specs.declared.tick.TickObs.{TickObs}
 use Rattle.observations.specs.declared.usage.Sampling.TheVariants.{Unsaid}
 use Rattle.tick_lines.specs.declared.line.TickLine.{TickLine}
+use Rattle.tick_lines.specs.declared.truth.TruthMember.{TruthMember}
 use Rattle.roster.specs.rule.Roll.{Roll, is_present}
 use Rattle.trace.specs.rule.Placing.{is_of_probe, says_so}
 
@@ -96,8 +97,8 @@ pods_from at es departures n (p ∷ ps) =
     ∷ pods_from at es departures (n + 1) ps
 
 -- the node judges the tick, unless the line says that it doesn't and the version heeds that
-abbrev pub is_judged : Bool → TickLine → Bool
-is_judged heeds written = not (heeds && says_so written.unjudged)
+abbrev pub is_judged : Bool → TruthMember → Bool
+is_judged heeds unjudged = not (heeds && says_so unjudged)
 
 -- the whole tick: its entries, placed, and the line's samples of the node's signals, which it judges or doesn't
 abbrev pub observed : Bool → ℕ → TickLine → List PlacedEntry → Roll → TickObs
@@ -106,7 +107,7 @@ observed heeds at written placed roll = record {
   pods = pods_from at placed roll.departures 0 roll.pods;
   signals = written.signals;
   after_reclaim = written.after_reclaim;
-  judged = is_judged heeds written;
+  judged = is_judged heeds written.unjudged;
 }
 
 -- an exited instance is listed without an exit code

@@ -21,15 +21,15 @@ pub record TraceSoFar : Type 0 where
 abbrev pub version_in : TraceSoFar → Option Version
 version_in past = option_map (λ (node : NodeConfig). node.version) past.node
 
--- in version 3 an entry may say that its pod has no sample
-abbrev pub heeds_unsampled : Option Version → Bool
-heeds_unsampled None = false
-heeds_unsampled (Some One) = false
-heeds_unsampled (Some Two) = false
-heeds_unsampled (Some Three) = true
+-- the words of tick lines are heeded in version 3 alone
+abbrev pub heeds_words : Option Version → Bool
+heeds_words None = false
+heeds_words (Some One) = false
+heeds_words (Some Two) = false
+heeds_words (Some Three) = true
 
 abbrev pub heeds : TraceSoFar → Bool
-heeds past = heeds_unsampled (version_in past)
+heeds past = heeds_words (version_in past)
 
 abbrev pub of_node : TraceSoFar → NodeConfig → TraceSoFar
 of_node past node = record past { node = Some node }

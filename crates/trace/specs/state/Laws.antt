@@ -56,7 +56,7 @@ use Rattle.node_config.specs.declared.node.Format.{Format}
 use Rattle.node_config.specs.declared.node.Format.TheVariants.{Standard, Extended}
 use Rattle.node_config.specs.declared.node.Version.{Version}
 use Rattle.node_config.specs.declared.node.Version.TheVariants.{One, Two, Three}
-use Rattle.trace.specs.rule.TraceSoFar.{TraceSoFar, version_in, heeds_unsampled, heeds, of_node, with_pod, without}
+use Rattle.trace.specs.rule.TraceSoFar.{TraceSoFar, version_in, heeds_words, heeds, of_node, with_pod, without}
 use Rattle.trace.specs.rule.TraceSoFar.{with_tick}
 use Rattle.trace.specs.rule.Tick.{moment_of}
 use Rattle.trace.specs.rule.Trace.{json_of, kind_from, line_at, nothing, trace_of}
@@ -365,10 +365,10 @@ pub record SaysUnsampled (roll : Roll) (es : List TickEntry) (n : ℕ) : Type 0 
 -- pod's entry says so
 abbrev pub UnsampledShown : Type 0
 UnsampledShown = (version : Option Version) (at : ℕ) (written : TickLine) (es : List PlacedEntry) (roll : Roll) (n : ℕ)
-    (pod : PodSpec) → placed_of (heeds_unsampled version) roll written.entries ≡ Ok es
+    (pod : PodSpec) → placed_of (heeds_words version) roll written.entries ≡ Ok es
     → has_twice are_of_one_pod es ≡ false
     → slice_get roll.pods n ≡ Some pod → is_present roll.departures n ≡ true
-    → (sampling_shown_of (observed (heeds_unsampled version) at written es roll) n ≡ Some Unsampled
+    → (sampling_shown_of (observed (heeds_words version) at written es roll) n ≡ Some Unsampled
     ↔ ((version ≡ Some Three) × SaysUnsampled roll written.entries n))
 
 -- what the tick shows of whether the pod with the number is being deleted
@@ -387,10 +387,10 @@ pub record SaysDeleting (roll : Roll) (es : List TickEntry) (n : ℕ) : Type 0 w
 -- pod's entry says so
 abbrev pub DeletingShown : Type 0
 DeletingShown = (version : Option Version) (at : ℕ) (written : TickLine) (es : List PlacedEntry) (roll : Roll) (n : ℕ)
-    (pod : PodSpec) → placed_of (heeds_unsampled version) roll written.entries ≡ Ok es
+    (pod : PodSpec) → placed_of (heeds_words version) roll written.entries ≡ Ok es
     → has_twice are_of_one_pod es ≡ false
     → slice_get roll.pods n ≡ Some pod → is_present roll.departures n ≡ true
-    → (deleting_shown_of (observed (heeds_unsampled version) at written es roll) n ≡ Some true
+    → (deleting_shown_of (observed (heeds_words version) at written es roll) n ≡ Some true
     ↔ ((version ≡ Some Three) × SaysDeleting roll written.entries n))
 
 -- why the tick shows that the node has ended the pod with the number, if it does
@@ -409,22 +409,22 @@ pub record SaysFailed (roll : Roll) (es : List TickEntry) (n : ℕ) (reason : Li
 -- version 3 and the pod's entry says so
 abbrev pub FailedShown : Type 0
 FailedShown = (version : Option Version) (at : ℕ) (written : TickLine) (es : List PlacedEntry) (roll : Roll) (n : ℕ)
-    (pod : PodSpec) (reason : List ℕ) → placed_of (heeds_unsampled version) roll written.entries ≡ Ok es
+    (pod : PodSpec) (reason : List ℕ) → placed_of (heeds_words version) roll written.entries ≡ Ok es
     → has_twice are_of_one_pod es ≡ false
     → slice_get roll.pods n ≡ Some pod → is_present roll.departures n ≡ true
-    → (failed_shown_of (observed (heeds_unsampled version) at written es roll) n ≡ Some (Some reason)
+    → (failed_shown_of (observed (heeds_words version) at written es roll) n ≡ Some (Some reason)
     ↔ ((version ≡ Some Three) × SaysFailed roll written.entries n reason))
 
 -- a tick shows that the node doesn't judge it exactly where the text is of version 3 and the line says so
 abbrev pub JudgedShown : Type 0
 JudgedShown = (version : Option Version) (at : ℕ) (written : TickLine) (es : List PlacedEntry) (roll : Roll)
-    → ((observed (heeds_unsampled version) at written es roll).judged ≡ false
+    → ((observed (heeds_words version) at written es roll).judged ≡ false
     ↔ ((version ≡ Some Three) × (written.unjudged ≡ Yes)))
 
 -- the node spares a pod exactly where the text is of version 3 and the pod's line says so
 abbrev pub SparedSaid : Type 0
 SparedSaid = (version : Option Version) (d : Data) (pod : PodSpec)
-    → pod_of_line (heeds_unsampled version) d ≡ Ok pod
+    → pod_of_line (heeds_words version) d ≡ Ok pod
     → (pod.spared ≡ true ↔ ((version ≡ Some Three) × (field_at (codes "spared") d ≡ Some (boolean true))))
 
 -- what a tick shows of a signal is exactly the quantity that its line has under the signal's name

@@ -20,7 +20,7 @@ use Rattle.trace.specs.declared.placing.PlacedListing.{PlacedListing}
 use Rattle.trace.specs.declared.placing.PlacedResult.{PlacedResult}
 use Rattle.trace.specs.rule.Observed.{some_code_missing}
 use Rattle.trace.specs.rule.Placing.{placed_entry, placed_listing, placed_result, has_twice, are_of_one_pod, repeats}
-use Rattle.trace.specs.state.Placing.{is_word, is_reason_said}
+use Rattle.trace.specs.rule.Written.{is_of_other_kind, is_no_reason}
 use Rattle.trace.specs.state.Slots.{slots_from}
 
 abbrev pub of_item : {A : Type 0} → Result A TickLineFault → Result A FaultKind
@@ -33,23 +33,25 @@ listing_read pod d = of_item (listing_of d) >>= placed_listing pod
 abbrev pub result_read : PodSpec → Data → Result PlacedResult FaultKind
 result_read pod d = of_item (result_of d) >>= placed_result pod
 
-abbrev pub entry_read : Roll → Data → Result PlacedEntry FaultKind
-entry_read roll d = of_item (entry_of d) >>= placed_entry false roll
+abbrev pub entry_read : Bool → Roll → Data → Result PlacedEntry FaultKind
+entry_read heeds roll d = of_item (entry_of d) >>= placed_entry heeds roll
 
--- an item has a member `unsampled`, `deleting` or `failed` that says something, or is of another kind
-abbrev pub item_speaks : Data → Bool
-item_speaks d =
-    (is_word (truth_of (field_at (codes "unsampled") d)) || is_word (truth_of (field_at (codes "deleting") d)))
-    || is_reason_said (reason_member_of (field_at (codes "failed") d))
+-- an item has a member `unsampled`, `deleting` or `failed` of another kind
+abbrev pub item_has_other_kind : Data → Bool
+item_has_other_kind d =
+    (is_of_other_kind (truth_of (field_at (codes "unsampled") d))
+    || is_of_other_kind (truth_of (field_at (codes "deleting") d)))
+    || is_no_reason (reason_member_of (field_at (codes "failed") d))
 
--- These items were read as entries, each of another pod that is present and none at fault, and this is shown of the
--- pods. None has a word on its pod, so it is the same in each version.
-pub record EntriesNoted (roll : Roll) (at : ℕ) (ds : List Data) (slots : List (Option PodObs)) : Type 0 where
+-- these items were read as entries, each of another pod that is present and none at fault, and this is shown of the
+-- pods, where words are heeded or not
+pub record EntriesNoted (heeds : Bool) (roll : Roll) (at : ℕ) (ds : List Data) (slots : List (Option PodObs))
+    : Type 0 where
   pub entries : List PlacedEntry
-  pub read : each (entry_read roll) ds ≡ Ok entries
+  pub read : each (entry_read heeds roll) ds ≡ Ok entries
   pub once : has_twice are_of_one_pod entries ≡ false
   pub apart : list_any repeats entries ≡ false
   pub coded : some_code_missing entries ≡ false
-  pub silent : list_any item_speaks ds ≡ false
+  pub known : list_any item_has_other_kind ds ≡ false
   pub present : All (λ e. is_present roll.departures e.pod ≡ true) entries
   pub noted : slots ≡ slots_from at entries 0 roll.pods

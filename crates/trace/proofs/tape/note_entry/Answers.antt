@@ -16,9 +16,9 @@ note_pod-requires c =
     (found_present c.args.roster.now c.in-Some.entry.key.now c.in-Some-number_of.number (search rules)).1
 
 pub returns : goal.returns
-returns c ds before noted =
+returns c heeds ds before noted =
     let free = not_false c.note_pod.result noted in
-    let after = entry_noted c.args.roster.now c.args.at ds (data_at c.args.value.now) c.args.slots.now.items
+    let after = entry_noted heeds c.args.roster.now c.args.at ds (data_at c.args.value.now) c.args.slots.now.items
     c.note_pod.new.slots c.in-Some.entry c.in-Some-number_of.number c.in-Ok.pod.now c.note_listings.new.all.items
     c.note_results.new.all.items c.in_ok-shown.shown (c.note_listings.ensures c.if-not-note_listings.false)
     (λ ls is. c.note_results.ensures ls is c.if-not-note_results.false) before c.in-Some.ensures (search rules)
@@ -28,4 +28,4 @@ returns c ds before noted =
     (λ es e old is there shows. c.note_pod.ensures.noted c.args.at es c.args.roster.now.pods e c.in-Ok.pod.now
     (c.deref_mut.ensures.value ∙ old) is there shows free) in
     rw (written_over c.args.slots.now.len c.note_pod.new.slots c.args.slots.now.items (search rules)
-    (noted_length c.args.roster.now c.args.at _ c.note_pod.new.slots after ∙ sym c.requires)) after
+    (noted_length heeds c.args.roster.now c.args.at _ c.note_pod.new.slots after ∙ sym c.requires)) after

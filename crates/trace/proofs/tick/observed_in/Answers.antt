@@ -12,8 +12,8 @@ forwards-requires c =
     let past = c.args.so_far.now in
     let same : c.so_far.inside.roster ≡ past.roll = ap (λ (p : TraceSoFar). p.roll) c.so_far.view_is in
     let comes = subst (λ (r : Roll). ComesNext past.ticks (container_counts past.roll.pods)
-    (observed c.heeds_unsampled.result c.args.at c.args.written.now c.args.placed.now r)) (sym same)
-    (comes_next c.heeds_unsampled.result past.ticks c.args.at c.args.written.now c.args.placed.now past.roll
+    (observed c.heeds_words.result c.args.at c.args.written.now c.args.placed.now r)) (sym same)
+    (comes_next c.heeds_words.result past.ticks c.args.at c.args.written.now c.args.placed.now past.roll
     c.requires.later) in
     subst (ComesNext past.ticks (container_counts past.roll.pods)) (sym c.in_ok-tick.ensures) comes
 
@@ -22,8 +22,8 @@ returns-clause-follows c =
     let past = c.args.so_far.now in
     let same : c.so_far.inside.roster ≡ past.roll = ap (λ (p : TraceSoFar). p.roll) c.so_far.view_is in
     let comes = subst (λ (r : Roll). ComesNext past.ticks (container_counts past.roll.pods)
-    (observed c.heeds_unsampled.result c.args.at c.args.written.now c.args.placed.now r)) (sym same)
-    (comes_next c.heeds_unsampled.result past.ticks c.args.at c.args.written.now c.args.placed.now past.roll
+    (observed c.heeds_words.result c.args.at c.args.written.now c.args.placed.now r)) (sym same)
+    (comes_next c.heeds_words.result past.ticks c.args.at c.args.written.now c.args.placed.now past.roll
     c.requires.later) in
     record {
       comes_next = subst (ComesNext past.ticks (container_counts past.roll.pods)) (sym c.in_ok-tick.ensures) comes;

@@ -11,7 +11,7 @@ returns g c =
     let count : length c.in_ok-map_chunks.field-0.items
     ≡ length c.args.lines.now / c.max-size.result + min 1 (length c.args.lines.now % c.max-size.result) =
     search rules in
-    shared_zipped (λ line read. IsAhead c.args.roster.now (line_data line.now) read) (λ reads. reads.items)
+    shared_zipped (λ line read. IsAhead c.args.heeds c.args.roster.now (line_data line.now) read) (λ reads. reads.items)
     (λ reads. reads.items) c.max-size.result c.args.lines.now c.in_ok-map_chunks.field-0.items c.joined.result
     c.joined.ensures.reads c.joined.ensures.every (λ n d lt.
     let part = (c.in_ok-map_chunks.ensures.each n d lt).1 in
