@@ -121,6 +121,7 @@ fn add_events_of_node(events: &mut Vec<Event>, ticks: &[TickEvents]) -> Result<(
 fn sort_by_moment(alloc: Global, events: &mut [Event]) -> Result<(), AllocError>
     ensures { OnOk result (IsInOrder events.old events.new) }
 {
+    // Stable: within a tick the order of the pods' numbers stays. (docs/decisions/rounds.md)
     events.sort_by_key(alloc, |event| event.at)
 }
 

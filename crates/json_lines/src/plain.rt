@@ -58,7 +58,7 @@ impl Tries {
         }
     }
 
-    /// Whether the next line is tried; if not, it is left untried.
+    /// Whether the next line is tried; if not, it counts as one that was left untried.
     pub(crate) fn tries_next(&mut self) -> bool {
         if self.untried == 0 {
             return true;

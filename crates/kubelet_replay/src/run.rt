@@ -4,8 +4,8 @@ ghost use Rattle.std.specs.Prelude.{◌≡◌, ◌+◌, ◌^◌, ◌<◌, ◌≤
 ghost use Rattle.node_config.specs.declared.node.Format.TheVariants.{Standard};
 ghost use Rattle.worker_count.specs.rule.Limit.{most_workers};
 ghost use Rattle.kubelet_replay.specs.rule.Run.{failed_reads, failed_writes, HasRead, IsReportIn, IsReportOfText};
-ghost use Rattle.kubelet_replay.specs.state.Run.{read_fault_of, text_as, RefusesText, Refuses, IsWritten, fault_of};
-ghost use Rattle.kubelet_replay.specs.state.Run.{read_as, made};
+ghost use Rattle.kubelet_replay.specs.state.Run.{read_fault_of, fault_of, text_or_fault, trace_or_fault};
+ghost use Rattle.kubelet_replay.specs.state.Run.{report_or_fault, RefusesText, Refuses, IsWritten};
 ghost use Rattle.kubelet_replay.specs.rule.Run.{IsRefusalIn, IsRefusal, IsCheckIn, IsCheckOfText, check_line, Writes};
 ghost use Rattle.kubelet_replay.specs.rule.Run.{TakesWithin, IsReplayGated, Gates};
 ghost use Rattle.kubelet_replay.specs.declared.fault.RunFault.TheVariants.{OutOfMemory};
@@ -32,8 +32,8 @@ fn read_fault_of(fault: ReadAllFault) -> RunFault
 }
 
 /// The text that was read, or why none was.
-fn text_as(read: Result<Vec<u8>, ReadAllFault>) -> Result<Vec<u8>, RunFault>
-    ensures { result ≡ text_as read }
+fn text_or_fault(read: Result<Vec<u8>, ReadAllFault>) -> Result<Vec<u8>, RunFault>
+    ensures { result ≡ text_or_fault read }
 {
     match read {
         Ok(text) => Ok(text),
@@ -49,7 +49,9 @@ fn read_text<R: Source>(alloc: Global, input: &mut R) -> Result<Vec<u8>, RunFaul
     ensures memory { IsErrOf result OutOfMemory → TakesWithin (R.left input.old) (R.left input.new) }
     ensures counted { R.failures input.new ≡ R.failures input.old + failed_reads result }
 {
-    text_as(read_all(alloc, input, LONGEST_INPUT))
+    // What the answer is, a function without memory says, so no fault can be told as another.
+    // (docs/decisions/program.md)
+    text_or_fault(read_all(alloc, input, LONGEST_INPUT))
 }
 
 fn fault_of(fault: LineFault) -> RunFault
@@ -62,8 +64,8 @@ fn fault_of(fault: LineFault) -> RunFault
 }
 
 /// The trace that was read, or why the text has none.
-fn read_as(read: Result<Trace, LineFault>) -> Result<Trace, RunFault>
-    ensures { result ≡ read_as read }
+fn trace_or_fault(read: Result<Trace, LineFault>) -> Result<Trace, RunFault>
+    ensures { result ≡ trace_or_fault read }
 {
     match read {
         Ok(trace) => Ok(trace),
@@ -72,8 +74,8 @@ fn read_as(read: Result<Trace, LineFault>) -> Result<Trace, RunFault>
 }
 
 /// The text that was made, or that memory was refused.
-fn made(text: Result<String, AllocError>) -> Result<String, RunFault>
-    ensures { result ≡ made text }
+fn report_or_fault(text: Result<String, AllocError>) -> Result<String, RunFault>
+    ensures { result ≡ report_or_fault text }
 {
     match text {
         Ok(text) => Ok(text),
@@ -93,8 +95,8 @@ fn report_of_text_by_steps(
     ensures ok { IfOk result (λ report. IsReportIn format text.now (string_bytes report)) }
     ensures err { IfErr result (RefusesText format text.now) }
 {
-    let trace = read_as(read_trace(alloc, format, text))?;
-    made(report_by_steps(alloc, trace, workers, steps))
+    let trace = trace_or_fault(read_trace(alloc, format, text))?;
+    report_or_fault(report_by_steps(alloc, trace, workers, steps))
 }
 
 fn report_of_text_by_workers<R: Spawner, G: Gate>(
@@ -111,8 +113,8 @@ fn report_of_text_by_workers<R: Spawner, G: Gate>(
     ensures err { IfErr result (RefusesText format text.now) }
     ensures gated { OnOk result (IsReplayGated (G.left gate.now) format text.now) }
 {
-    let trace = read_as(read_trace_by_workers(rt, alloc, format, text, workers))?;
-    made(report_by_workers(rt, alloc, trace, workers, gate))
+    let trace = trace_or_fault(read_trace_by_workers(rt, alloc, format, text, workers))?;
+    report_or_fault(report_by_workers(rt, alloc, trace, workers, gate))
 }
 
 /// The line of a text that is a trace.
@@ -126,9 +128,9 @@ fn check_of_text(alloc: Global, format: Format, text: &[u8]) -> Result<String, R
     ensures ok { IfOk result (λ line. IsCheckIn format text.now (string_bytes line)) }
     ensures err { IfErr result (RefusesText format text.now) }
 {
-    let trace = read_as(read_trace(alloc, format, text))?;
+    let trace = trace_or_fault(read_trace(alloc, format, text))?;
     let (pods, ticks) = (trace.pods.as_slice().len(), trace.ticks.as_slice().len());
-    made(check_line(alloc, pods, ticks))
+    report_or_fault(check_line(alloc, pods, ticks))
 }
 
 fn write_text<W: Sink>(output: &mut W, text: &str) -> Result<(), RunFault>

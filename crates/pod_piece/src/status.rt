@@ -33,11 +33,11 @@ fn disrupts(reason: &str) -> bool
 /// Containers", "Resource sharing within containers".)
 #[derive(Clone, Copy, Debug, PartialEq, Eq)]
 pub struct EffectiveRequests {
-    /// Of a CPU.
+    /// The CPUs, in thousandths of one.
     pub cpu: u128,
-    /// Of a byte.
+    /// The memory, in thousandths of a byte.
     pub memory: u128,
-    /// Of a byte.
+    /// The storage on the node's own file systems, in thousandths of a byte.
     pub ephemeral_storage: u128,
 }
 

@@ -69,6 +69,8 @@ fn pool<
     ensures gated { OnOk result (AreGated (G.left gate.now) pieces.items) }
     ensures refused { IfErr result (IsRefusalOf (G.left gate.now)) }
 {
+    // All memory is taken before the first piece is dealt, so a refusal gives pieces and share
+    // back. (docs/decisions/rounds.md)
     let Ok(buffers) = make_buffers::<D, U, E, O>(alloc, pieces.len(), workers) else {
         return Err(PoolFault::NoRoom(pieces, share));
     };
@@ -120,6 +122,7 @@ pub fn update_all<U: Ledger + Send, E: Ledger + Send, O: Ledger + Send, R: Spawn
     ensures gated { OnOk result (AreGated (G.left gate.now) pieces.items) }
     ensures refused { IfErr result (IsRefusalOf (G.left gate.now)) }
 {
+    // A further worker would find nothing to do. (docs/decisions/rounds.md)
     let workers = busy(workers, pieces.len());
     pool::<Brand, U, E, O, R, G>(rt, alloc, pieces, book, share, workers, gate)
 }

@@ -20,7 +20,7 @@ use std::sync::ledger::Ledger;
 use std::sync::{Mutex, Wait};
 use totals::Totals;
 
-/// Looks at the events of each piece's round: by them it adds something.
+/// For the proof alone: what each piece adds is a value, so that the sum of them all is one too.
 fn look_over(pieces: &[PodPiece])
     ensures { (additions : List SomeTotals) × AreAdditionsOf pieces.now additions }
 {
@@ -57,11 +57,15 @@ pub(crate) fn settle<D: Deal, U: Ledger, E: Ledger, O: Ledger, R: Wait>(
     share.join(theirs);
     let mut done = done;
     let mut uncounted = uncounted;
+    // A worker that met a full book had one part of the share alone; the whole share tells that
+    // there is room. (docs/decisions/rounds.md)
     'entered: while let Some(piece) = uncounted.pop() {
         let more = Totals::of_round(&piece);
         book.lock(rt).add_whole(more, &mut share);
         done.push_reserved(piece);
     }
+    // The deques hold the pieces themselves, since two threads cannot write in one table.
+    // (docs/decisions/rounds.md)
     let pieces = in_order::<D>(done);
     look_over(&pieces);
     (pieces, share)

@@ -130,10 +130,12 @@ impl Fault {
         }
     }
 
-    /// Tells the user, and gives the status of the program.
-    pub(crate) fn told(&self, rt: &(impl Print + Eprint + AllocGlobal)) -> ExitCode
+    /// Tells the user, and gives the status with which the program exits.
+    pub(crate) fn exit_code(&self, rt: &(impl Print + Eprint + AllocGlobal)) -> ExitCode
         ensures { EndsWith self.now (exit_status result) }
     {
+        // The status is an equation, which what was printed enters alone.
+        // (docs/decisions/program.md)
         let printed = self.tell(rt);
         ExitCode::from(self.status(printed))
     }

@@ -245,7 +245,7 @@ fn main(rt: HostRuntime) -> ExitCode {
         Ok(()) => ExitCode::SUCCESS,
         Err(fault) => {
             progress.clear();
-            let code = fault.told(&rt);
+            let code = fault.exit_code(&rt);
             drop(fault);
             code
         }

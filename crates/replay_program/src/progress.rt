@@ -82,6 +82,8 @@ impl<E: Eprint + Sync> Gate for Progress<'_, E> {
     }
 
     fn update(&self, piece: &mut PodPiece) -> Result<(), AllocError> {
+        // The gate counts, so that no contract and no byte of a report changes by it.
+        // (docs/decisions/program.md)
         if piece.status().number == 0 {
             self.add_tick();
         }

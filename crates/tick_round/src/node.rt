@@ -111,7 +111,7 @@ impl<U: Ledger, E: Ledger, O: Ledger> Node<U, E, O> {
         ensures halted { IsErrOf result Halted ↔ (self.old ≡ None) }
     {
         match self.running.take() {
-            Some(running) => match running.after_alone(tick) {
+            Some(running) => match running.advance_alone(tick) {
                 Ok(next) => {
                     drop(self.running.replace(next));
                     Ok(())
@@ -143,7 +143,7 @@ impl<U: Ledger, E: Ledger, O: Ledger> Node<U, E, O> {
         ensures halted { IsErrOf result Halted ↔ (self.old ≡ None) }
     {
         match self.running.take() {
-            Some(running) => match running.after_played(tick, workers, steps) {
+            Some(running) => match running.advance_played(tick, workers, steps) {
                 Ok((next, finished)) => {
                     drop(self.running.replace(next));
                     Ok(finished)
@@ -190,7 +190,7 @@ impl<U: Ledger + Send, E: Ledger + Send, O: Ledger + Send> Node<U, E, O> {
         ensures halted { IsErrOf result Halted ↔ (self.old ≡ None) }
     {
         match self.running.take() {
-            Some(running) => match running.after(rt, tick, workers, gate) {
+            Some(running) => match running.advance(rt, tick, workers, gate) {
                 Ok(next) => {
                     drop(self.running.replace(next));
                     Ok(())
@@ -222,7 +222,7 @@ impl<U: Ledger + Send, E: Ledger + Send, O: Ledger + Send> Node<U, E, O> {
         ensures halted { IsErrOf result Halted ↔ (self.old ≡ None) }
     {
         match self.running.take() {
-            Some(running) => match running.after_all(rt, ticks, workers, gate) {
+            Some(running) => match running.advance_all(rt, ticks, workers, gate) {
                 Ok(next) => {
                     drop(self.running.replace(next));
                     Ok(())

@@ -107,7 +107,7 @@ impl<U: Ledger, E: Ledger, O: Ledger> Running<U, E, O> {
             → OnOk result (HasTaken (pods ++ pod ∷ []) ticks self.new) }
         ensures err { OnErr result (self.new ≡ self.old) }
     {
-        // A pod has at most 16 containers, and so few events in a tick.
+        // For the proof alone: a pod has at most 16 containers, and so few events in a tick.
         let _containers = pod.containers.as_slice();
         self.pods.arrive(pod)?;
         Ok(())
@@ -169,7 +169,7 @@ impl<U: Ledger, E: Ledger, O: Ledger> Running<U, E, O> {
             pods: pods.open(),
             waiting: 0,
         };
-        match stretch.take(tick) {
+        match stretch.take_tick(tick) {
             Ok(()) => Ok((stretch, book)),
             Err(fault) => {
                 drop((stretch, book));
@@ -223,7 +223,7 @@ impl<U: Ledger, E: Ledger, O: Ledger> Running<U, E, O> {
     }
 
     /// The node after one more tick, on one thread. A refused growth of memory drops the node.
-    pub(crate) fn after_alone(self, tick: TickObs) -> Result<Running<U, E, O>, AllocError>
+    pub(crate) fn advance_alone(self, tick: TickObs) -> Result<Running<U, E, O>, AllocError>
         requires { Fits self tick }
         ensures { IfOk result (IsNextBy (tick ∷ []) self) }
     {
@@ -239,7 +239,7 @@ impl<U: Ledger, E: Ledger, O: Ledger> Running<U, E, O> {
 
     /// The node after one more tick, whose round this many workers play by these steps, and the places, among the pods
     /// that are present, of those that each of them finished. A refused growth of memory drops the node.
-    pub(crate) fn after_played(
+    pub(crate) fn advance_played(
         self,
         tick: TickObs,
         workers: usize,
@@ -286,7 +286,7 @@ impl<U: Ledger, E: Ledger, O: Ledger> Running<U, E, O> {
 impl<U: Ledger + Send, E: Ledger + Send, O: Ledger + Send> Running<U, E, O> {
     /// The node after one more tick, whose pods this many workers update by the gate. A refused growth of memory drops
     /// the node.
-    pub(crate) fn after<R: Spawner, G: Gate>(
+    pub(crate) fn advance<R: Spawner, G: Gate>(
         self,
         rt: &R,
         tick: TickObs,
@@ -312,7 +312,7 @@ impl<U: Ledger + Send, E: Ledger + Send, O: Ledger + Send> Running<U, E, O> {
 
     /// The node after this tick and as many more as one round takes, whose pods this many workers update. A refused
     /// growth of memory drops the node.
-    pub(crate) fn after_some<R: Spawner, G: Gate>(
+    pub(crate) fn advance_some<R: Spawner, G: Gate>(
         self,
         rt: &R,
         tick: TickObs,
@@ -340,7 +340,7 @@ impl<U: Ledger + Send, E: Ledger + Send, O: Ledger + Send> Running<U, E, O> {
 
     /// The node after these ticks, whose pods this many workers update, in rounds of one tick or of several. A refused
     /// growth of memory drops the node.
-    pub(crate) fn after_all<R: Spawner, G: Gate>(
+    pub(crate) fn advance_all<R: Spawner, G: Gate>(
         self,
         rt: &R,
         ticks: Vec<TickObs>,
@@ -359,7 +359,7 @@ impl<U: Ledger + Send, E: Ledger + Send, O: Ledger + Send> Running<U, E, O> {
             let Some(tick) = rest.next() else {
                 return Ok(running);
             };
-            running = running.after_some(rt, tick, &mut rest, workers, gate)?;
+            running = running.advance_some(rt, tick, &mut rest, workers, gate)?;
         }
         Ok(running)
     }

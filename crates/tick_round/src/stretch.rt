@@ -73,7 +73,7 @@ fn count_present(pods: &[Option<PodObs>]) -> usize {
 
 impl Stretch {
     /// Takes the samples of a tick, and hands each pod that is present what the tick shows of it.
-    pub(crate) fn take(&mut self, tick: TickObs) -> Result<(), AllocError>
+    pub(crate) fn take_tick(&mut self, tick: TickObs) -> Result<(), AllocError>
         requires { AreNext self.old.pods.pieces tick.pods }
         ensures { OnOk result (Takes tick self.old self.new) }
     {
@@ -98,7 +98,7 @@ impl Stretch {
     }
 
     /// Nobody is evicted by the last tick, in which no threshold is heeded: another one may come.
-    fn pass(&mut self) -> Result<(), AllocError>
+    fn evict_nobody(&mut self) -> Result<(), AllocError>
         ensures { OnOk result (IsPassed self.old self.new) }
     {
         self.begun.evictions.push(None)
@@ -108,6 +108,8 @@ impl Stretch {
     fn has_room(&self) -> bool
         ensures { IsTrue result ↔ HasRoom self.now }
     {
+        // Whether a threshold is heeded depends on no pod, so up to then none depends on another.
+        // (docs/decisions/rounds.md)
         self.begun.heeded.is_none() && self.waiting < MOST_WAITING
     }
 
@@ -127,8 +129,8 @@ impl Stretch {
             let Some(tick) = more.next() else {
                 return Ok(());
             };
-            self.pass()?;
-            self.take(tick)?;
+            self.evict_nobody()?;
+            self.take_tick(tick)?;
         }
         Ok(())
     }
@@ -254,6 +256,8 @@ impl Round {
             pods,
             waiting: _,
         } = self;
+        // Another tick may follow only a whole node: where memory is refused here it is gone.
+        // (docs/decisions/rounds.md)
         match pods.with(back) {
             Ok(pods) => close(begun, pods, book),
             Err(fault) => {

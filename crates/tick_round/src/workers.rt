@@ -30,6 +30,8 @@ fn worth_their_start(workers: usize, updates: usize) -> usize
     ensures some { 0 < result }
     ensures most { result ≤ workers }
 {
+    // With a thread for each worker a tick of 256 pods took 1.2 times as long as with one.
+    // (docs/decisions/rounds.md)
     (updates / UPDATES_A_WORKER).clamp(1, workers)
 }
 

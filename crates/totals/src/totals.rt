@@ -87,7 +87,7 @@ impl Totals {
         ensures addition { IsAdditionOf piece.now result }
         ensures low { IsLowAddition result }
     {
-        // A pod has few containers, so an update of it makes few events.
+        // For the proof alone: a pod has few containers, so an update of it makes few events.
         let _containers = piece.pod().containers.as_slice();
         let updates = piece.round_length() as u64;
         if updates == 0 {
@@ -123,7 +123,7 @@ impl Entry {
         ensures entry { IsEntryOf piece.now result }
         ensures low { IsLow result }
     {
-        // A pod has few containers, so an update of it makes few events.
+        // For the proof alone: a pod has few containers, so an update of it makes few events.
         let _containers = piece.pod().containers.as_slice();
         Entry::of(piece.events())
     }

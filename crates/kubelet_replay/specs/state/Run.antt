@@ -22,14 +22,14 @@ abbrev pub fault_of : LineFault → RunFault
 fault_of fault = run_fault fault.kind fault
 
 -- the trace that was read, or why there is none
-abbrev pub read_as : Result Trace LineFault → Result Trace RunFault
-read_as (Ok trace) = Ok trace
-read_as (Err fault) = Err (fault_of fault)
+abbrev pub trace_or_fault : Result Trace LineFault → Result Trace RunFault
+trace_or_fault (Ok trace) = Ok trace
+trace_or_fault (Err fault) = Err (fault_of fault)
 
 -- the text that was made, or that memory was refused
-abbrev pub made : {V A : Type 0} → Result V A → Result V RunFault
-made (Ok text) = Ok text
-made (Err refused) = Err OutOfMemory
+abbrev pub report_or_fault : {V A : Type 0} → Result V A → Result V RunFault
+report_or_fault (Ok text) = Ok text
+report_or_fault (Err refused) = Err OutOfMemory
 
 -- why the input was not read
 abbrev pub read_fault_of : ReadAllFault → RunFault
@@ -38,9 +38,9 @@ read_fault_of stream.TooLong = TooLong
 read_fault_of stream.OutOfMemory = OutOfMemory
 
 -- the text that was read, or why there is none
-abbrev pub text_as : {V : Type 0} → Result V ReadAllFault → Result V RunFault
-text_as (Ok text) = Ok text
-text_as (Err fault) = Err (read_fault_of fault)
+abbrev pub text_or_fault : {V : Type 0} → Result V ReadAllFault → Result V RunFault
+text_or_fault (Ok text) = Ok text
+text_or_fault (Err fault) = Err (read_fault_of fault)
 
 -- the input is refused as it is read
 abbrev pub Refuses : Option (List ℕ) → RunFault → Type 0

@@ -7,9 +7,9 @@ use Rattle.tick_round.proofs.running.Running.begin.Goals as goal
 pub returns-in-Ok-clause-is_open : goal.returns-in-Ok-clause-is_open
 returns-in-Ok-clause-is_open g c =
     let i = c.self.inside in
-    subst (λ (s : State). IsOpen s [] c.args.tick c.take.new.self) c.self.view_is
-    (first_open (state i.config i.signals i.pods i.evictions i.events.items i.book i.last) c.args.tick _ c.take.new.self
-    (record {
+    subst (λ (s : State). IsOpen s [] c.args.tick c.take_tick.new.self) c.self.view_is
+    (first_open (state i.config i.signals i.pods i.evictions i.events.items i.book i.last) c.args.tick _
+    c.take_tick.new.self (record {
       config = refl;
       signals = refl;
       ticks = c.new.ensures.items;

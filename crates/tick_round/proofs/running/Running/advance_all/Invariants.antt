@@ -1,6 +1,6 @@
 use Rattle.std.proofs.Common.{◌+◌, ◌≤◌, length}
 use Rattle.tick_round.specs.state.Stretch.{HasTakenSome}
-use Rattle.tick_round.proofs.running.Running.after_all.Given as goal
+use Rattle.tick_round.proofs.running.Running.advance_all.Given as goal
 
 abbrev pub invariant-loop : goal.invariant-loop
 invariant-loop g l = record {

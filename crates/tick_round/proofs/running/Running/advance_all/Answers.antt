@@ -2,7 +2,7 @@ use Rattle.std.proofs.Common.{◌∷◌, List, length, ap, arith, sym, subst}
 use Rattle.observations.specs.declared.tick.TickObs.{TickObs}
 use Rattle.tick_round.specs.state.Stretch.{HasTakenSome}
 use Rattle.tick_round.proofs.Rest.{none_taken, some_more, all_taken, all_gated}
-use Rattle.tick_round.proofs.running.Running.after_all.Goals as goal
+use Rattle.tick_round.proofs.running.Running.advance_all.Goals as goal
 
 pub loop-init : goal.loop-init
 loop-init g c = record {
@@ -17,7 +17,7 @@ loop-init g c = record {
 pub loop-preserved : goal.loop-preserved
 loop-preserved g c =
     let left = c.in-Some.tick ∷ c.next.new.self.rest.items in
-    let rest = c.after_some.new.more.rest.items in
+    let rest = c.advance_some.new.more.rest.items in
     record {
       some = some_more (g.G.Gate.left c.args.gate.now) c.args.ticks.items left rest c.args.self c.loop.running
           c.in_ok-running.running

@@ -4,7 +4,7 @@ use Rattle.observations.specs.rule.Pods.{PodObs}
 use Rattle.eviction.specs.state.Pausing.{Kept}
 use Rattle.eviction.specs.rule.Replay.{pauses, unless_paused}
 use Rattle.node_pods.specs.state.Pods.{pods_of, handed_each}
-use Rattle.tick_round.proofs.stretch.Stretch.take.Goals as goal
+use Rattle.tick_round.proofs.stretch.Stretch.take_tick.Goals as goal
 
 pub returns : goal.returns
 returns c =

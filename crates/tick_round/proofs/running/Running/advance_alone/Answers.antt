@@ -1,7 +1,7 @@
 use Rattle.std.proofs.Common.{[], ◌∷◌}
 use Rattle.tick_round.proofs.Opens.{can_end, may_end, fit_one}
 use Rattle.tick_round.proofs.Out.{may_update}
-use Rattle.tick_round.proofs.running.Running.after_alone.Goals as goal
+use Rattle.tick_round.proofs.running.Running.advance_alone.Goals as goal
 
 pub update_alone-requires-after_bounds : goal.update_alone-requires-after_bounds
 update_alone-requires-after_bounds g c κs within =

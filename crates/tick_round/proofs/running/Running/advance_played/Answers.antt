@@ -5,7 +5,7 @@ use Rattle.tick_round.proofs.Out.{may_update}
 use Rattle.tick_round.proofs.Rounds.{all_by}
 use Rattle.tick_round.proofs.Single.{one_waits, one_added, one_each}
 use Rattle.pod_piece.specs.rule.Piece.{Piece}
-use Rattle.tick_round.proofs.running.Running.after_played.Goals as goal
+use Rattle.tick_round.proofs.running.Running.advance_played.Goals as goal
 
 pub update_by_steps-requires-clause-may : goal.update_by_steps-requires-clause-may
 update_by_steps-requires-clause-may g c =

@@ -6,7 +6,7 @@ use Rattle.tick_round.proofs.Out.{may_update}
 use Rattle.tick_round.proofs.Rest.{has_taken_some, fewer}
 use Rattle.tick_round.proofs.Rounds.{are_numbered}
 use Rattle.tick_round.specs.state.Stretch.{handed_all}
-use Rattle.tick_round.proofs.running.Running.after_some.Goals as goal
+use Rattle.tick_round.proofs.running.Running.advance_some.Goals as goal
 
 pub update_by_workers-requires-clause-may : goal.update_by_workers-requires-clause-may
 update_by_workers-requires-clause-may g c κs within =

@@ -5,7 +5,7 @@ use Rattle.tick_round.proofs.Opens.{can_end, may_end, fit_one}
 use Rattle.tick_round.proofs.Out.{may_update}
 use Rattle.tick_round.proofs.Rounds.{are_numbered}
 use Rattle.tick_round.specs.state.Stretch.{handed_all}
-use Rattle.tick_round.proofs.running.Running.after.Goals as goal
+use Rattle.tick_round.proofs.running.Running.advance.Goals as goal
 
 pub update_by_workers-requires-clause-may : goal.update_by_workers-requires-clause-may
 update_by_workers-requires-clause-may g c κs within =
