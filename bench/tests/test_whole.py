@@ -1,0 +1,102 @@
+"""Tests of ./test, over a kit and scripts that only say what they were asked."""
+import os
+import shutil
+import subprocess
+import tempfile
+
+from common import TOP, Case, write
+
+PARTS = ("version", "theorem", "calls", "planted", "architecture", "texts", "test", "lint", "cases", "commands", "edges",
+         "refused_memory", "release", "try_release")
+PART = """\
+#!/bin/sh
+echo "ran ${0##*/} $*"
+[ "${0##*/}" != "$FAILS" ]
+"""
+# it says what the kit says, and waits until the program was tried where that is to come before its end
+KIT = """\
+#!/bin/sh
+mkdir -p crates/replay_program/out
+echo program >crates/replay_program/out/replay_program
+echo "rt: trace proved"
+echo "rt: replay_program $PROGRAM"
+for _ in $WAITS; do
+    [ -f tried ] || sleep 0.1
+done
+[ ! -f tried ] || echo "rt: the program was tried by then"
+echo "rt: calls_tests proved"
+echo "47 passed, $FAULTS failed"
+exit "$FAULTS"
+"""
+
+
+class Whole(Case):
+    """A copy of ./test beside scripts that say that they ran."""
+
+    def setUp(self):
+        self.top = self.enterContext(tempfile.TemporaryDirectory())
+        for folder in ("bench/lib", "tools", "kit"):
+            os.makedirs(f"{self.top}/{folder}")
+        shutil.copy(f"{TOP}/test", self.top)
+        shutil.copy(f"{TOP}/bench/lib/current.sh", f"{self.top}/bench/lib")
+        for name in PARTS:
+            self.put(f"bench/{name}", PART)
+        self.put("bench/edges", PART.replace("\n[", "\ntouch tried\n[", 1))
+        self.put("tools/test", PART)
+        self.put("kit/rt", KIT)
+        for example, copy in (("a.trace", "traces/examples/a.trace"), ("a.report", "traces/examples/a.report"),
+                              ("extended/a.trace", "traces/extended/a.trace"),
+                              ("manifests/a.json", "manifests/a.json")):
+            for path in (f"examples/{example}", f"crates/case_runner/data/{copy}"):
+                os.makedirs(os.path.dirname(f"{self.top}/{path}"), exist_ok=True)
+                write("an example\n", self.top, path)
+
+    def put(self, path, text):
+        write(text, self.top, path)
+        os.chmod(f"{self.top}/{path}", 0o755)
+
+    def run_copy(self, program="proved", faults=0, fails="", waits=50, *words):
+        done = subprocess.run([f"{self.top}/test", *words], stdin=subprocess.DEVNULL, capture_output=True, text=True,
+                              check=False, env={**os.environ, "PATH": f"{self.top}/kit:{os.environ['PATH']}",
+                                                "PROGRAM": program, "FAULTS": str(faults), "FAILS": fails,
+                                                "WAITS": "w " * waits})
+        return done.returncode, done.stdout.splitlines(), done.stderr
+
+    def ran(self, said):
+        return [line.split()[1] for line in said if line.startswith("ran ")]
+
+    def test_all_passes(self):
+        status, said, fault = self.run_copy()
+        self.assertEqual((status, fault, said[-1]), (0, "", "47 passed, 0 failed"))
+        self.assertIn("rt: the program was tried by then", said)
+        # what is said quietly is not shown
+        self.assertEqual(self.ran(said), [*(name for name in PARTS[:-2] if name != "theorem"), "try_release", "test"])
+
+    def test_a_program_that_is_kept(self):
+        """Nothing says when it is there, so it is tried behind the proofs."""
+        status, said, _ = self.run_copy("is kept", waits=0)
+        self.assertEqual((status, said[-1]), (0, "47 passed, 0 failed"))
+        self.assertNotIn("rt: the program was tried by then", said)
+        self.assertGreater(said.index("ran cases " + self.program()), said.index("rt: calls_tests proved"))
+
+    def program(self):
+        return f"{os.path.realpath(self.top)}/crates/replay_program/out/replay_program"
+
+    def test_a_part_that_fails(self):
+        for name in ("cases", "edges", "version", "release", "test"):
+            with self.subTest(name):
+                status, said, _ = self.run_copy(fails=name)
+                count = 2 if name == "test" else 1
+                self.assertEqual((status, said[-1]), (1, f"47 passed, {count} failed"))
+                self.assertIn("test: what the parts that failed told at their ends:", said)
+
+    def test_proofs_that_fail(self):
+        status, said, _ = self.run_copy(faults=1)
+        self.assertEqual((status, said[-1]), (1, "47 passed, 1 failed"))
+        self.assertIn("test: the program's release and the tools were not tried, since the proofs failed", said)
+        self.assertNotIn("release", self.ran(said))
+
+    def test_without_tools(self):
+        status, said, _ = self.run_copy("proved", 0, "", 50, "--without-tools")
+        self.assertEqual((status, said[-1]), (0, "47 passed, 0 failed"))
+        self.assertEqual([name for name in self.ran(said) if name in ("lint", "test")], ["test"])
