@@ -16,10 +16,12 @@ FAR = 30
 GONE_FAR = 300
 KINDS = {"starts": "started", "exits with their codes": "died", "kills by a liveness probe": "kill", "ready": "ready",
          "unready": "unready", "evictions by the rules": "evicted", "evictions told as a fact": "told",
-         "pods that went": "gone"}
+         "pods ended as evicted": "ended", "pods that went": "gone"}
 END = "ends"
 EVICTED = re.compile(r"[IWEF](\d\d)(\d\d) (\d\d):(\d\d):(\d\d)\.\d+.*eviction manager: pod ([^_ ]+)_(\S+?)\((\S+)\) "
                      r"is evicted successfully")
+RANKED = re.compile(r"eviction manager: pods ranked for eviction: (.*)")
+UID = re.compile(r"\(([^()]+)\)")
 EXIT = re.compile(r"^\S+ \S+ \S+ \S+ \S+ /tasks/exit (\{.*\})$", re.MULTILINE)
 
 
@@ -53,6 +55,20 @@ def evictions_of(log, year):
     """Each eviction that the kubelet's log has: (uid, fact)."""
     for *moment, name, namespace, uid in EVICTED.findall(log):
         yield uid, Fact(f"{namespace}/{name}", "-", "evicted", calendar.timegm((year, *map(int, moment))))
+
+
+def pressed_of(log):
+    """The uids of the pods that were evicted since the node was short of something: those of a ranking. What goes by a
+    limit of its own is in none."""
+    ranked, found = set(), set()
+    for line in log.splitlines():
+        ranking, evicted = RANKED.search(line), EVICTED.search(line)
+        if ranking:
+            ranked = set(UID.findall(ranking[1]))
+        elif evicted and evicted[8] in ranked:
+            found.add(evicted[8])
+            ranked = set()
+    return found
 
 
 def has_run(status):
@@ -101,10 +117,11 @@ def real_facts(shown, log, exits):
     year = time.gmtime(json.loads(shown.split("\n", 1)[0])["at"]).tm_year
     evicted = dict(evictions_of(log, year))
     kills = [fact for fact in kill_facts(log, year) if fact.what.endswith("liveness")]
-    ends = list(ends_of(statuses, exits, evicted))
+    ends, pressed = list(ends_of(statuses, exits, evicted)), pressed_of(log)
     return [*(fact for fact in instance_facts(statuses, exits) if fact not in ends), *ready_facts(statuses),
             *(Fact(fact.pod, fact.container, fact.what.replace("died", END), fact.moment) for fact in ends),
-            *unready_by_eviction(statuses, evicted), *map(unnumbered, kills), *evicted.values(),
+            *unready_by_eviction(statuses, evicted), *map(unnumbered, kills),
+            *(fact for uid, fact in evicted.items() if uid in pressed),
             *(Fact(fact.pod, "-", "told", fact.moment) for fact in evicted.values()), *going_facts(shown, evicted)]
 
 
@@ -126,6 +143,9 @@ def said_facts(report, trace):
         if gone is not None:
             # the last tick with it: its line stands behind that
             facts.append(Fact(pod.key, "-", "gone", trace.ticks[gone - 1].at))
+        end = reports.end_of(pod)
+        if end is not None and end[1] == "Evicted":
+            facts.append(Fact(pod.key, "-", "ended", end[0]))
     facts += [Fact(eviction.pod, "-", "evicted", eviction.at) for eviction in by_rules(report, trace)]
     return facts + [Fact(each.pod, "-", "told", each.at) for each in trace.decisions if each.kind == "evicted"]
 
@@ -191,10 +211,11 @@ def words_of(fact, words):
     return f"{at(fact.moment)} {fact.pod} {fact.container} {fact.what}: {words}"
 
 
-def rows_of(real, said, begun, ended):
+def counts_of_facts(real, said, begun, ended, kinds=None):
     """A row for each kind, over what happened while it was recorded."""
     real = [fact for fact in real if begun <= fact.moment <= ended]
-    return [row_of(name, kind, real, said) for name, kind in KINDS.items()]
+    real += [Fact(fact.pod, fact.container, "ended", fact.moment) for fact in real if fact.what == "told"]
+    return [row_of(name, kind, real, said) for name, kind in (kinds or KINDS).items()]
 
 
 def false_codes(real, said):
@@ -222,7 +243,7 @@ def counts_of(real, trace_path, report_text):
     """The rows of a recording beside what the kubelet did, and its false codes."""
     report, trace = read_run(trace_path, report_text)
     said = said_facts(report, trace)
-    return rows_of(real, said, trace.ticks[0].at, trace.ticks[-1].at), list(false_codes(real, said))
+    return counts_of_facts(real, said, trace.ticks[0].at, trace.ticks[-1].at), list(false_codes(real, said))
 
 
 HEAD = ("", "real", "within 2 s", "later", "missing", "false")

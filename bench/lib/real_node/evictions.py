@@ -1,21 +1,17 @@
-"""Runs a kubelet whose pods come by an API server, and evicts them; records it in both formats, and counts what it did
-beside what each report says."""
+"""Runs a kubelet whose pods come by an API server, and evicts them; records it in both formats, and keeps what it did."""
 
 import json
 import os
 import shutil
-import subprocess
 import sys
 import time
 
 import ending
-from beside import text_of
 from cluster import ADDRESS, ADMIN, KUBELET, RECORDER, Changes, Cluster
-from chained import show_chain
-from counted import counts_of, real_facts, table_of
 from deployed import Deployed
 from kit import PARTS, Kit, call, read, write
 from machine import NODE, Machine
+from outcome import is_ready, keep_about, show_run
 from scenario import RUNS
 
 COMMANDS = ("openssl", "ip", "mkfs.ext4", "mount", "umount")
@@ -23,9 +19,7 @@ RECORD = f"{PARTS}/../../../tools/record"
 DISK_BYTES = 4 * 2 ** 30
 MEMORY = "/sys/fs/cgroup/memory"
 # of the files below the folder those that a run keeps as its own
-KEPT = ("kubelet.log", "exits.log", "shown.jsonl")
-# each of these has to be in the report of the extended format within two seconds
-WANTED = ("starts", "exits with their codes", "evictions told as a fact")
+KEPT = ("kubelet.log", "exits.log", "shown.jsonl", "pods.json")
 
 
 def available():
@@ -145,32 +139,9 @@ def run_once(kit, scenario):
     return costs
 
 
-# --- what came of it ---
-
-
-def facts_of(folder):
-    """What the kubelet of a run did, which is kept as text too."""
-    real = real_facts(*(read(f"{folder}/{each}") for each in ("shown.jsonl", "kubelet.log", "exits.log")))
-    write(f"{folder}/shown", text_of(real))
-    return real
-
-
-def show_recording(real, folder, name, replay, show):
-    """Replays a recording and shows its counts; whether all that is wanted was found."""
-    trace = f"{folder}/{name}.trace"
-    words = [] if name == "standard" else ["--extended"]
-    with open(f"{folder}/{name}.report", "wb") as report:
-        subprocess.run([replay, "run", trace, *words], stdout=report, check=True)
-    rows, codes = counts_of(real, trace, read(f"{folder}/{name}.report"))
-    show(f"\n{os.path.basename(folder)}, {name}")
-    for line in [*table_of(rows), f"exits with a false code: {len(codes)}", *codes]:
-        show(f"  {line}")
-    write(f"{folder}/{name}.differences", "".join(f"{row.name}: {line}\n" for row in rows for line in row.differences))
-    return not codes and all(row.near == row.real and not row.false for row in rows if row.name in WANTED)
-
-
 def measured(folder, names, replay, show):
-    """Builds, and runs, records and counts each; whether all was found that is wanted of the extended format."""
+    """Builds, and runs, records and counts each; whether all was found that is wanted of the extended format. Without a
+    program that replays they are recorded, and counted another time."""
     os.makedirs(folder, exist_ok=True)
     kit = Kit(folder, has_api=True)
     ending.adopt_orphans()
@@ -183,13 +154,9 @@ def measured(folder, names, replay, show):
         raise
     works = True
     for name in names:
-        costs = run_once(kit, RUNS[name])
-        real = facts_of(f"{folder}/{name}")
-        if RUNS[name].is_deployed:
-            works = show_chain(real, f"{folder}/{name}", replay, show) and works
-        for recorder in RUNS[name].recorders:
-            found = show_recording(real, f"{folder}/{name}", recorder, replay, show)
-            works = works and (found or recorder == "standard")
-        for recorder, seconds in costs.items():
-            show(f"  {name}: recording {recorder} took {seconds:.2f} s of a processor in a minute")
+        keep_about(f"{folder}/{name}", name, run_once(kit, RUNS[name]))
+        if is_ready(replay):
+            works = show_run(f"{folder}/{name}", replay, show) and works
+        else:
+            show(f"{name} is recorded; once there is a program bench/real_node --again {folder}/{name} counts it")
     return works

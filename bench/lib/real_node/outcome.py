@@ -1,0 +1,99 @@
+"""What came of a run of bench/real_node --api that is kept: what each recorder's report and what is made of the
+kubelet's log have of what the kubelet did, as tables."""
+
+import json
+import os
+import subprocess
+import time
+
+from beside import text_of
+from chained import show_chain
+from counted import counts_of_facts, false_codes, read_run, real_facts, said_facts, table_of
+from from_log import at_level, compared, import_log, unknown_places
+from kit import read, write
+from restarts import restarts_of
+from scenario import RUNS
+
+# each of these has to be in the report of the extended format within two seconds
+WANTED = ("starts", "exits with their codes", "evictions told as a fact")
+# each of these is in no report that is none of the kubelet's
+UNWANTED = ("pods ended as evicted",)
+# the verbosity of managed clusters, and that of the run
+LEVELS = (2, 4)
+
+
+def is_ready(replay):
+    """Whether there is a program that replays."""
+    try:
+        return subprocess.run([replay, "--version"], stdin=subprocess.DEVNULL, capture_output=True,
+                              check=False).returncode == 0
+    except OSError:
+        return False
+
+
+def keep_about(folder, name, costs):
+    """What a kept run is, beside what it has."""
+    write(f"{folder}/about.json", json.dumps({"run": name, "costs": costs}, indent=1) + "\n")
+
+
+def facts_of(folder):
+    """What the kubelet of a run did, which is kept as text too."""
+    real = real_facts(*(read(f"{folder}/{each}") for each in ("shown.jsonl", "kubelet.log", "exits.log")))
+    write(f"{folder}/shown", text_of(real))
+    return real
+
+
+def show_recording(real, folder, name, replay, show):
+    """Replays a recording and shows its counts; whether all that is wanted was found."""
+    trace = f"{folder}/{name}.trace"
+    words = [] if name == "standard" else ["--extended"]
+    with open(f"{folder}/{name}.report", "wb") as file:
+        subprocess.run([replay, "run", trace, *words], stdout=file, check=True)
+    report, recorded = read_run(trace, read(f"{folder}/{name}.report"))
+    said = said_facts(report, recorded)
+    rows = counts_of_facts(real, said, recorded.ticks[0].at, recorded.ticks[-1].at)
+    codes, restarts = list(false_codes(real, said)), restarts_of(real, report, recorded)
+    show(f"\n{os.path.basename(folder)}, {name}")
+    for line in [*table_of(rows), f"exits with a false code: {len(codes)}", *codes, restarts.text(), *restarts.never]:
+        show(f"  {line}")
+    write_differences(f"{folder}/{name}", rows)
+    return (not codes and not restarts.never
+            and all(row.near == row.real and not row.false for row in rows if row.name in WANTED)
+            and all(not row.false for row in rows if row.name in UNWANTED))
+
+
+def show_import(real, folder, level, replay, show):
+    """Imports the log of a run, cut to a verbosity, and shows its counts; whether it says nothing that is false."""
+    log = read(f"{folder}/kubelet.log")
+    path = f"{folder}/imported-{level}"
+    year = time.gmtime(json.loads(read(f"{folder}/shown.jsonl").partition("\n")[0])["at"]).tm_year
+    import_log(at_level(log, level), read(f"{folder}/pods.json"), year, path, replay)
+    found = compared(real, path)
+    show(f"\n{os.path.basename(folder)}, imported at -v={level}")
+    for line in [*table_of(found.rows), f"{len(found.unmarked)} exits have a false code that is not marked",
+                 *(f"{fact.pod} {fact.container} {fact.what}" for fact in found.unmarked)]:
+        show(f"  {line}")
+    for place in unknown_places(log):
+        show(f"  the level of {place} is not known, and counts as 0")
+    write_differences(path, found.rows)
+    return not found.unmarked and not any(row.false for row in found.rows if row.name == "evictions by the rules")
+
+
+def write_differences(path, rows):
+    write(f"{path}.differences", "".join(f"{row.name}: {line}\n" for row in rows for line in row.differences))
+
+
+def show_run(folder, replay, show):
+    """Shows all of a kept run; whether all was found that is wanted of the extended format and of its log."""
+    about = json.loads(read(f"{folder}/about.json"))
+    scenario, real, works = RUNS[about["run"]], facts_of(folder), True
+    if scenario.is_deployed:
+        works = show_chain(real, folder, replay, show)
+    for recorder in scenario.recorders:
+        found = show_recording(real, folder, recorder, replay, show)
+        works = works and (found or recorder == "standard")
+    for level in LEVELS if scenario.recorders else ():
+        works = show_import(real, folder, level, replay, show) and works
+    for recorder, seconds in about["costs"].items():
+        show(f"  {about['run']}: recording {recorder} took {seconds:.2f} s of a processor in a minute")
+    return works
