@@ -2,8 +2,10 @@
 shown; what is done to its pods, and when. Its run is tried on a throw-away machine alone."""
 import json
 import os
+import subprocess
 import sys
 import tempfile
+from types import SimpleNamespace
 
 from common import TOP, Case, read, run, write
 
@@ -11,6 +13,7 @@ sys.path[:0] = [os.path.join(TOP, "bench/lib/real_node"), os.path.join(TOP, "too
 import chained  # noqa: E402
 import counted  # noqa: E402
 import deployed  # noqa: E402
+import evictions  # noqa: E402
 import from_log  # noqa: E402
 import restarts  # noqa: E402
 import scenario  # noqa: E402
@@ -332,6 +335,15 @@ class Scenarios(Case):
                 self.assertEqual(key in there, what != "create", f"{name}: {key} at {second}")
                 there = there - {key} if what == "delete" else there | {key}
         self.assertEqual(scenario.hard_memory(2 ** 34), {"evictionHard": {"memory.available": "11384Mi"}})
+
+    def test_recorders(self):
+        """What is started for each recorder takes its words."""
+        with tempfile.TemporaryDirectory() as folder:
+            os.mkdir(f"{folder}/hard")
+            recorders = evictions.Recorders(SimpleNamespace(folder=folder), None, scenario.RUNS["hard"])
+            for name in scenario.BOTH:
+                done = subprocess.run([*recorders.words(name), "--help"], capture_output=True, text=True, check=False)
+                self.assertEqual((done.returncode, done.stdout[:20], done.stderr), (0, "usage: tools/record ", ""), name)
 
     def test_words(self):
         for words in ((), ("--api",), ("--api", "folder", "hard", "other"), ("folder", "some"), ("a", "1", "2"),

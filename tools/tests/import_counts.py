@@ -74,21 +74,11 @@ def imported(folder, level, replay):
         return from_log.compared(facts, f"{made}/log")
 
 
-def added(rows):
-    """The rows of several runs as one."""
-    total = {}
-    for row in (row for of_run in rows for row in of_run):
-        before = total.get(row.name, counted.Row(row.name, 0, 0, 0, 0, 0, []))
-        total[row.name] = counted.Row(row.name, before.real + row.real, before.near + row.near,
-                                      before.later + row.later, before.missing + row.missing,
-                                      before.false + row.false, before.differences + row.differences)
-    return list(total.values())
-
-
 def table_of(folders, level, replay):
     """The counts of runs at a level, as lines of a table; and what differs."""
     found = [imported(folder, level, replay) for folder in folders]
-    rows, wrong = added(each.rows for each in found), [fact for each in found for fact in each.unmarked]
+    rows = counted.added(row for each in found for row in each.rows)
+    wrong = [fact for each in found for fact in each.unmarked]
     return counted.table_of(rows) + [f"{from_log.MARKED:38}{len(wrong)}"], [
         f"{row.name}: {difference}" for row in rows for difference in row.differences] + [
         f"{from_log.MARKED}: {fact.pod} {fact.container} {fact.what}" for fact in wrong]

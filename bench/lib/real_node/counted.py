@@ -246,6 +246,17 @@ def counts_of(real, trace_path, report_text):
     return counts_of_facts(real, said, trace.ticks[0].at, trace.ticks[-1].at), list(false_codes(real, said))
 
 
+def added(rows):
+    """Rows of several runs, of each kind one."""
+    total = {}
+    for row in rows:
+        before = total.get(row.name, Row(row.name, 0, 0, 0, 0, 0, []))
+        total[row.name] = Row(row.name, before.real + row.real, before.near + row.near, before.later + row.later,
+                              before.missing + row.missing, before.false + row.false,
+                              before.differences + row.differences)
+    return list(total.values())
+
+
 HEAD = ("", "real", "within 2 s", "later", "missing", "false")
 
 
@@ -253,3 +264,13 @@ def table_of(rows):
     """The counts as lines of a table."""
     cells = [HEAD, *((row.name, *map(str, (row.real, row.near, row.later, row.missing, row.false))) for row in rows)]
     return [f"{line[0]:26}" + "".join(f"{cell:>12}" for cell in line[1:]) for line in cells]
+
+
+def side_by_side(rows_by_source):
+    """What each source has within two seconds, of how many, and what it has alone, as lines of a table."""
+    names = dict.fromkeys(row.name for rows in rows_by_source.values() for row in rows)
+    cells = [("", *rows_by_source)]
+    for name in names:
+        found = [next((row for row in rows if row.name == name), None) for rows in rows_by_source.values()]
+        cells.append((name, *("" if row is None else f"{row.near} of {row.real}; {row.false}" for row in found)))
+    return [f"{line[0]:28}" + "".join(f"{cell:>20}" for cell in line[1:]).rstrip() for line in cells]

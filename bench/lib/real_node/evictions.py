@@ -11,7 +11,7 @@ from cluster import ADDRESS, ADMIN, KUBELET, RECORDER, Changes, Cluster
 from deployed import Deployed
 from kit import PARTS, Kit, call, read, write
 from machine import NODE, Machine
-from outcome import is_ready, keep_about, show_run
+from outcome import Outcome, is_ready, keep_about
 from scenario import RUNS
 
 COMMANDS = ("openssl", "ip", "mkfs.ext4", "mount", "umount")
@@ -84,9 +84,9 @@ class Recorders:
     def words(self, name):
         """What is run: the recorder of the extended format with its answers kept, the others as they are."""
         keeps = name == "extended" and self.scenario.keeps_answers
-        program = [f"{PARTS}/captured.py", f"{self.folder}/answers.jsonl"] if keeps else [RECORD]
+        program = [sys.executable, f"{PARTS}/captured.py", f"{self.folder}/answers.jsonl"] if keeps else [RECORD]
         source = [] if name == "kubectl" else ["--kubelet", KUBELET, "--curl", f"{self.machine.folder}/curl.conf"]
-        return [sys.executable, *program, "--node", NODE, "--for", str(self.scenario.seconds), *source,
+        return [*program, "--node", NODE, "--for", str(self.scenario.seconds), *source,
                 "--standard" if name == "standard" else "--extended"]
 
     def act(self, passed):
@@ -152,11 +152,11 @@ def measured(folder, names, replay, show):
         ending.hear_no_interrupts()
         ending.end_descendants()
         raise
-    works = True
+    outcome = Outcome(replay, show)
     for name in names:
         keep_about(f"{folder}/{name}", name, run_once(kit, RUNS[name]))
         if is_ready(replay):
-            works = show_run(f"{folder}/{name}", replay, show) and works
+            outcome.add(f"{folder}/{name}")
         else:
             show(f"{name} is recorded; once there is a program bench/real_node --again {folder}/{name} counts it")
-    return works
+    return outcome.end()

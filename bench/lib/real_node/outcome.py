@@ -8,8 +8,9 @@ import time
 
 from beside import text_of
 from chained import show_chain
-from counted import counts_of_facts, false_codes, read_run, real_facts, said_facts, table_of
-from from_log import at_level, compared, import_log, unknown_places
+from counted import (added, counts_of_facts, false_codes, read_run, real_facts, said_facts, side_by_side,
+                     table_of)
+from from_log import MARKED, at_level, compared, import_log, unknown_places
 from kit import read, write
 from restarts import restarts_of
 from scenario import RUNS
@@ -44,7 +45,7 @@ def facts_of(folder):
 
 
 def show_recording(real, folder, name, replay, show):
-    """Replays a recording and shows its counts; whether all that is wanted was found."""
+    """Replays a recording and shows its counts; its rows, and whether all that is wanted was found."""
     trace = f"{folder}/{name}.trace"
     words = [] if name == "standard" else ["--extended"]
     with open(f"{folder}/{name}.report", "wb") as file:
@@ -53,47 +54,79 @@ def show_recording(real, folder, name, replay, show):
     said = said_facts(report, recorded)
     rows = counts_of_facts(real, said, recorded.ticks[0].at, recorded.ticks[-1].at)
     codes, restarts = list(false_codes(real, said)), restarts_of(real, report, recorded)
-    show(f"\n{os.path.basename(folder)}, {name}")
-    for line in [*table_of(rows), f"exits with a false code: {len(codes)}", *codes, restarts.text(), *restarts.never]:
-        show(f"  {line}")
+    show_table(f"{os.path.basename(folder)}, {name}", rows, [
+        f"exits with a false code: {len(codes)}", *codes, restarts.text(), *restarts.never], show)
     write_differences(f"{folder}/{name}", rows)
-    return (not codes and not restarts.never
-            and all(row.near == row.real and not row.false for row in rows if row.name in WANTED)
-            and all(not row.false for row in rows if row.name in UNWANTED))
+    works = (not codes and not restarts.never
+             and all(row.near == row.real and not row.false for row in rows if row.name in WANTED)
+             and all(not row.false for row in rows if row.name in UNWANTED))
+    return rows, works or name == "standard"
 
 
 def show_import(real, folder, level, replay, show):
-    """Imports the log of a run, cut to a verbosity, and shows its counts; whether it says nothing that is false."""
-    log = read(f"{folder}/kubelet.log")
-    path = f"{folder}/imported-{level}"
+    """Imports the log of a run, cut to a verbosity, and shows its counts; its rows, and whether it says nothing that is
+    false."""
+    log, path = read(f"{folder}/kubelet.log"), f"{folder}/imported-{level}"
     year = time.gmtime(json.loads(read(f"{folder}/shown.jsonl").partition("\n")[0])["at"]).tm_year
     import_log(at_level(log, level), read(f"{folder}/pods.json"), year, path, replay)
     found = compared(real, path)
-    show(f"\n{os.path.basename(folder)}, imported at -v={level}")
-    for line in [*table_of(found.rows), f"{len(found.unmarked)} exits have a false code that is not marked",
-                 *(f"{fact.pod} {fact.container} {fact.what}" for fact in found.unmarked)]:
-        show(f"  {line}")
-    for place in unknown_places(log):
-        show(f"  the level of {place} is not known, and counts as 0")
+    show_table(f"{os.path.basename(folder)}, imported at -v={level}", found.rows, [
+        f"{MARKED}: {len(found.unmarked)}", *(f"{fact.pod} {fact.container} {fact.what}" for fact in found.unmarked),
+        *(f"the level of {place} is not known, and counts as 0" for place in unknown_places(log))], show)
     write_differences(path, found.rows)
-    return not found.unmarked and not any(row.false for row in found.rows if row.name == "evictions by the rules")
+    works = not found.unmarked and not any(row.false for row in found.rows if row.name == "evictions by the rules")
+    return found.rows, works
+
+
+def show_table(title, rows, more, show):
+    show(f"\n{title}")
+    for line in [*table_of(rows), *more]:
+        show(f"  {line}")
 
 
 def write_differences(path, rows):
     write(f"{path}.differences", "".join(f"{row.name}: {line}\n" for row in rows for line in row.differences))
 
 
-def show_run(folder, replay, show):
-    """Shows all of a kept run; whether all was found that is wanted of the extended format and of its log."""
-    about = json.loads(read(f"{folder}/about.json"))
-    scenario, real, works = RUNS[about["run"]], facts_of(folder), True
-    if scenario.is_deployed:
-        works = show_chain(real, folder, replay, show)
-    for recorder in scenario.recorders:
-        found = show_recording(real, folder, recorder, replay, show)
-        works = works and (found or recorder == "standard")
-    for level in LEVELS if scenario.recorders else ():
-        works = show_import(real, folder, level, replay, show) and works
-    for recorder, seconds in about["costs"].items():
-        show(f"  {about['run']}: recording {recorder} took {seconds:.2f} s of a processor in a minute")
-    return works
+class Outcome:
+    """The rows of all runs that were shown, by what they were counted in, and whether all that is wanted was found."""
+
+    def __init__(self, replay, show):
+        self.replay, self.show = replay, show
+        self.rows, self.works, self.runs = {}, True, 0
+
+    def add(self, folder):
+        """Shows all of a kept run."""
+        about = json.loads(read(f"{folder}/about.json"))
+        scenario, real = RUNS[about["run"]], facts_of(folder)
+        if scenario.is_deployed:
+            self.works = show_chain(real, folder, self.replay, self.show) and self.works
+        for recorder in scenario.recorders:
+            self.take(recorder, show_recording(real, folder, recorder, self.replay, self.show))
+        for level in LEVELS if scenario.recorders else ():
+            self.take(f"-v={level}", show_import(real, folder, level, self.replay, self.show))
+        for recorder, seconds in about["costs"].items():
+            self.show(f"  {about['run']}: recording {recorder} took {seconds:.2f} s of a processor in a minute")
+        self.runs += 1
+
+    def take(self, source, found):
+        rows, works = found
+        self.rows.setdefault(source, []).append(rows)
+        self.works = self.works and works
+
+    def end(self):
+        """Shows the sources beside each other; whether all that is wanted was found."""
+        if self.rows:
+            self.show(f"\n{self.runs} run{'s' if self.runs > 1 else ''}: within 2 s, of how many; in the report alone")
+            for line in side_by_side({source: added(row for rows in of_runs for row in rows)
+                                      for source, of_runs in self.rows.items()}):
+                self.show(f"  {line}")
+        return self.works
+
+
+def show_runs(folders, replay, show):
+    """Shows kept runs; whether all was found that is wanted of the extended format and of their logs."""
+    outcome = Outcome(replay, show)
+    for folder in folders:
+        outcome.add(folder)
+    return outcome.end()
