@@ -13,6 +13,7 @@ import time
 
 from checks import HERE, REPLAY, TOP, expect, expect_kept, read, run, wait_until
 
+import test_connections
 import beside
 import counted
 import ending
@@ -113,6 +114,25 @@ def test_captured_answers():
     again = run([f"{HERE}/commands/played_record", *words], **{**settings, "RECORDING": folder})
     expect("trimmed: the trace of the recording", again, (0, trace, ""))
     shutil.rmtree(folder)
+
+
+def test_captured_kubelet():
+    """A kubelet at an address is asked by one connection, and what it answers is kept as what curl would give."""
+    if not test_connections.has_openssl():
+        return
+    place = test_connections.Place()
+    kubelet = test_connections.Kubelet(place.folder)
+    curl = place.curl_file(f'header = "Authorization: {test_connections.TOKEN}"\ninsecure\n')
+    words = ["--node", "worker-3", "--extended", "--kubelet", kubelet.url, "--curl", curl, "--for", "2"]
+    status, trace, said = run([sys.executable, f"{PARTS}/captured.py", f"{place.folder}/answers.jsonl", *words],
+                              **place.settings)
+    expect("captured of an address: the trace", (status, trace[:14], said), (0, '{"kind":"node"', ""))
+    expect("captured of an address: connections", (kubelet.connections, place.asked()["curl"]), (1, 0))
+    kept = [json.loads(line) for line in read(f"{place.folder}/answers.jsonl").splitlines()]
+    kinds = {trimmed.kind_of(entry["words"]) for entry in kept if "answer" in entry}
+    expect("captured of an address: each kind", kinds >= {"pods", "summary", "probes", "configz", "ps"}, True)
+    kubelet.end()
+    place.remove()
 
 
 def test_trimmed_answers():

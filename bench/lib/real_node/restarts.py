@@ -35,14 +35,14 @@ def starts_of(real):
 
 
 def leaves_soon(trace, number, moment):
-    """Whether a trace says that a pod is being deleted, was ended by the node or is gone within seconds."""
+    """Whether a trace says that a pod was deleted, ended by the node or gone within seconds of a moment."""
     pod, ends = trace.pods[number], []
     if number in trace.deletions:
         ends.append(trace.deletions[number].at)
     ends += [each.at for each in (*trace.decisions, *trace.failed.values()) if each.number == number]
     if pod.gone is not None:
         ends.append(trace.ticks[pod.gone - 1].at)
-    return any(end <= moment + SOON for end in ends)
+    return any(abs(end - moment) <= SOON for end in ends)
 
 
 def restarts_of(real, report, trace):
