@@ -105,6 +105,10 @@ class Recorders:
                     minutes = (time.monotonic() - self.begun[name]) / 60
                     found[name] = (usage.ru_utime + usage.ru_stime) / minutes
             time.sleep(0.1)
+        for name, process in self.processes.items():
+            if process.returncode != 0:
+                print(f"real_node: the recorder {name} did not end well; {self.folder}/{name}.log says more",
+                      file=sys.stderr)
         return found
 
 
