@@ -192,11 +192,13 @@ def of_kind(facts, kind):
     return [fact for fact in facts if fact.what.split()[0] == kind]
 
 
-def row_of(name, kind, real, said):
-    """A kind's counts. An exit behind an eviction may be said, and need not be."""
-    ends = [Fact(fact.pod, fact.container, fact.what.replace(END, "died"), fact.moment) for fact in of_kind(real, END)]
+def row_of(name, kind, real, said, edge=()):
+    """A kind's counts. An exit behind an eviction, and what happened at an edge of the recording, before its first tick
+    or behind its last one, may be said, and need not be."""
+    may_be = [Fact(fact.pod, fact.container, fact.what.replace(END, "died"), fact.moment) for fact in of_kind(real, END)]
+    may_be += of_kind(edge, kind)
     real, said = of_kind(real, kind), of_kind(said, kind)
-    both = matched(real + ends, said)
+    both = matched(real + may_be, said)
     found = {here: there for here, there in both.items() if here < len(real)}
     apart = {here: said[there].moment - real[here].moment for here, there in found.items()}
     near = sum(abs(seconds) <= NEAR for seconds in apart.values())
@@ -213,9 +215,10 @@ def words_of(fact, words):
 
 def counts_of_facts(real, said, begun, ended, kinds=None):
     """A row for each kind, over what happened while it was recorded."""
-    real = [fact for fact in real if begun <= fact.moment <= ended]
-    real += [Fact(fact.pod, fact.container, "ended", fact.moment) for fact in real if fact.what == "told"]
-    return [row_of(name, kind, real, said) for name, kind in (kinds or KINDS).items()]
+    real = [*real, *(Fact(fact.pod, fact.container, "ended", fact.moment) for fact in real if fact.what == "told")]
+    within = [fact for fact in real if begun <= fact.moment <= ended]
+    edge = [fact for fact in real if fact not in within]
+    return [row_of(name, kind, within, said, edge) for name, kind in (kinds or KINDS).items()]
 
 
 def false_codes(real, said):
