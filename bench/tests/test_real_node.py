@@ -125,21 +125,26 @@ class Counted(Case):
         self.assertEqual(counted.exits_of(exits_text()), {"a0": (BEGIN + 7, 137)})
 
     def test_evictions_of_the_log(self):
-        self.assertEqual(list(counted.evictions_of(LOG, 2026)), [("1", Fact("shop/a", "-", "evicted", BEGIN + 6))])
+        """At the moment of the ranking, by which the kubelet decides."""
+        self.assertEqual(list(counted.evictions_of(LOG, 2026)), [
+            counted.Evicted("1", Fact("shop/a", "-", "evicted", BEGIN + 5), True)])
 
     def test_evictions_by_a_limit_of_the_pods_own(self):
-        """What is in no ranking is not told by the rules, and an eviction takes one ranking."""
+        """What is in no ranking is evicted when the log says it, and an eviction takes one ranking."""
         line = "I0101 00:00:0{0}.500000    9 eviction_manager.go:574] eviction manager: pod {1}_shop({2}) is evicted " \
                "successfully\n"
-        self.assertEqual(counted.pressed_of(line.format(1, "b", "2") + LOG + line.format(8, "b", "2")), {"1", "2"})
-        self.assertEqual(counted.pressed_of(line.format(1, "a", "1") + line.format(2, "b", "2")), set())
-        self.assertEqual(counted.pressed_of(LOG.partition("\n")[0] + "\n" + line.format(6, "a", "1") +
-                                            line.format(7, "b", "2")), {"1"})
+        first = LOG.partition("\n")[0] + "\n"
+        for log, wanted in ((LOG + line.format(8, "b", "2"), [("1", 5, True), ("2", 7, True)]),
+                            (line.format(1, "b", "2") + LOG, [("2", 1, False), ("1", 5, True)]),
+                            (first + line.format(6, "a", "1") + line.format(8, "b", "2"),
+                             [("1", 5, True), ("2", 8, False)])):
+            found = [(each.uid, each.fact.moment - BEGIN, each.is_ranked) for each in counted.evictions_of(log, 2026)]
+            self.assertEqual(found, wanted)
 
     def test_pods_that_went(self):
         """One that was evicted goes by that, and one that the kubelet refused was never there."""
-        evicted = dict(counted.evictions_of(LOG, 2026))
-        self.assertEqual(list(counted.going_facts(shown_text(), evicted)), [Fact("shop/a", "-", "gone", BEGIN + 6)])
+        evicted = {each.uid: each.fact for each in counted.evictions_of(LOG, 2026)}
+        self.assertEqual(list(counted.going_facts(shown_text(), evicted)), [Fact("shop/a", "-", "gone", BEGIN + 5)])
 
     def test_counts(self):
         rows, codes = self.rows()
@@ -343,7 +348,8 @@ class Scenarios(Case):
             recorders = evictions.Recorders(SimpleNamespace(folder=folder), None, scenario.RUNS["hard"])
             for name in scenario.BOTH:
                 done = subprocess.run([*recorders.words(name), "--help"], capture_output=True, text=True, check=False)
-                self.assertEqual((done.returncode, done.stdout[:20], done.stderr), (0, "usage: tools/record ", ""), name)
+                said = done.returncode, done.stdout[:20], done.stderr
+                self.assertEqual(said, (0, "usage: tools/record ", ""), name)
 
     def test_words(self):
         for words in ((), ("--api",), ("--api", "folder", "hard", "other"), ("folder", "some"), ("a", "1", "2"),

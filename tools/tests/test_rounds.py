@@ -97,8 +97,9 @@ def test_samples_in_a_wait():
     samples = {-1: 4096, 20: 90, 29: 150, 38: 90, 50: 4096}
     expect("rounds within the wait", judged_behind_an_eviction(samples, **hard), (0, [0, 20, 29, 50]))
     expect("rounds within the wait, reclaim", judged_behind_an_eviction(samples, **reclaim), (0, [0, 20, 50]))
-    expect("rounds within the wait, reclaimed",
-           judged_behind_an_eviction({-1: 4096, 20: 90, 29: 170, 38: 150, 50: 4096}, **reclaim), (0, [0, 20, 29, 38, 50]))
+    samples = {-1: 4096, 20: 90, 29: 170, 38: 150, 50: 4096}
+    expect("rounds within the wait, reclaimed", judged_behind_an_eviction(samples, **reclaim),
+           (0, [0, 20, 29, 38, 50]))
 
 
 def test_grace_within_a_wait():

@@ -18,9 +18,9 @@ KINDS = {"starts": "started", "exits with their codes": "died", "kills by a live
          "unready": "unready", "evictions by the rules": "evicted", "evictions told as a fact": "told",
          "pods ended as evicted": "ended", "pods that went": "gone"}
 END = "ends"
-EVICTED = re.compile(r"[IWEF](\d\d)(\d\d) (\d\d):(\d\d):(\d\d)\.\d+.*eviction manager: pod ([^_ ]+)_(\S+?)\((\S+)\) "
-                     r"is evicted successfully")
-RANKED = re.compile(r"eviction manager: pods ranked for eviction: (.*)")
+MOMENT = r"^[IWEF](\d\d)(\d\d) (\d\d):(\d\d):(\d\d)\.\d+.*eviction manager: "
+EVICTED = re.compile(MOMENT + r"pod ([^_ ]+)_(\S+?)\((\S+)\) is evicted successfully")
+RANKED = re.compile(MOMENT + r"pods ranked for eviction: (.*)")
 UID = re.compile(r"\(([^()]+)\)")
 EXIT = re.compile(r"^\S+ \S+ \S+ \S+ \S+ /tasks/exit (\{.*\})$", re.MULTILINE)
 
@@ -51,24 +51,32 @@ def exits_of(text):
     return found
 
 
+@dataclass
+class Evicted:
+    """A pod that the kubelet evicted: by its uid when it decided that, and whether by a ranking of the pods since the
+    node was short of something, or for a limit of the pod's own."""
+    uid: str
+    fact: Fact
+    is_ranked: bool
+
+
 def evictions_of(log, year):
-    """Each eviction that the kubelet's log has: (uid, fact)."""
-    for *moment, name, namespace, uid in EVICTED.findall(log):
-        yield uid, Fact(f"{namespace}/{name}", "-", "evicted", calendar.timegm((year, *map(int, moment))))
-
-
-def pressed_of(log):
-    """The uids of the pods that were evicted since the node was short of something: those of a ranking. What goes by a
-    limit of its own is in none."""
-    ranked, found = set(), set()
+    """Each eviction that the kubelet's log has. Behind a ranking the kubelet evicts one pod, which it says once the
+    pod's containers have been stopped."""
+    ranked, ranked_at = set(), None
     for line in log.splitlines():
-        ranking, evicted = RANKED.search(line), EVICTED.search(line)
+        ranking, evicted = RANKED.match(line), EVICTED.match(line)
         if ranking:
-            ranked = set(UID.findall(ranking[1]))
-        elif evicted and evicted[8] in ranked:
-            found.add(evicted[8])
-            ranked = set()
-    return found
+            ranked, ranked_at = set(UID.findall(ranking[6])), moment_of(ranking, year)
+        elif evicted:
+            name, namespace, uid = evicted.groups()[5:]
+            moment = ranked_at if uid in ranked else moment_of(evicted, year)
+            yield Evicted(uid, Fact(f"{namespace}/{name}", "-", "evicted", moment), uid in ranked)
+            ranked = set() if uid in ranked else ranked
+
+
+def moment_of(line, year):
+    return calendar.timegm((year, *map(int, line.groups()[:5])))
 
 
 def has_run(status):
@@ -115,13 +123,14 @@ def real_facts(shown, log, exits):
     """All that the kubelet did, of /pods, its log, and the runtime's exits."""
     statuses, exits = list(statuses_of(shown)), exits_of(exits)
     year = time.gmtime(json.loads(shown.split("\n", 1)[0])["at"]).tm_year
-    evicted = dict(evictions_of(log, year))
+    all_evicted = list(evictions_of(log, year))
+    evicted = {each.uid: each.fact for each in all_evicted}
     kills = [fact for fact in kill_facts(log, year) if fact.what.endswith("liveness")]
-    ends, pressed = list(ends_of(statuses, exits, evicted)), pressed_of(log)
+    ends = list(ends_of(statuses, exits, evicted))
     return [*(fact for fact in instance_facts(statuses, exits) if fact not in ends), *ready_facts(statuses),
             *(Fact(fact.pod, fact.container, fact.what.replace("died", END), fact.moment) for fact in ends),
             *unready_by_eviction(statuses, evicted), *map(unnumbered, kills),
-            *(fact for uid, fact in evicted.items() if uid in pressed),
+            *(each.fact for each in all_evicted if each.is_ranked),
             *(Fact(fact.pod, "-", "told", fact.moment) for fact in evicted.values()), *going_facts(shown, evicted)]
 
 
@@ -195,8 +204,8 @@ def of_kind(facts, kind):
 def row_of(name, kind, real, said, edge=()):
     """A kind's counts. An exit behind an eviction, and what happened at an edge of the recording, before its first tick
     or behind its last one, may be said, and need not be."""
-    may_be = [Fact(fact.pod, fact.container, fact.what.replace(END, "died"), fact.moment) for fact in of_kind(real, END)]
-    may_be += of_kind(edge, kind)
+    may_be = [Fact(fact.pod, fact.container, fact.what.replace(END, "died"), fact.moment)
+              for fact in of_kind(real, END)] + of_kind(edge, kind)
     real, said = of_kind(real, kind), of_kind(said, kind)
     both = matched(real + may_be, said)
     found = {here: there for here, there in both.items() if here < len(real)}

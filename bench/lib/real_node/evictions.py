@@ -1,4 +1,4 @@
-"""Runs a kubelet whose pods come by an API server, and evicts them; records it in both formats, and keeps what it did."""
+"""Runs a kubelet whose pods come by an API server, and evicts them; records it in both formats, and keeps it."""
 
 import json
 import os

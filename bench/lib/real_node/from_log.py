@@ -60,7 +60,7 @@ def unknown_places(log):
 
 
 def import_log(log, pods, year, path, replay):
-    """Imports a log with the pods' manifests, as texts, and replays what is made: PATH.trace, PATH.report, PATH.said."""
+    """Imports a log with the pods' manifests, as texts, and replays it: PATH.trace, PATH.report, PATH.said."""
     write(f"{path}.log", log)
     write(f"{path}.pods", pods)
     with open(f"{path}.trace", "wb") as trace, open(f"{path}.said", "wb") as said:

@@ -19,8 +19,8 @@ from scenario import RUNS
 WANTED = ("starts", "exits with their codes", "evictions told as a fact")
 # each of these is in no report that is none of the kubelet's
 UNWANTED = ("pods ended as evicted",)
-# the verbosity of managed clusters, and that of the run
-LEVELS = (2, 4)
+# from the verbosity of managed clusters to that of the run
+LEVELS = (2, 3, 4)
 
 
 def is_ready(replay):

@@ -20,8 +20,8 @@ class Restarts:
     never: list
 
     def text(self):
-        return (f"restarts in the report: {self.all}; came: {self.came}; of pods that were deleted, ended or gone within "
-                f"{SOON} s: {self.leaving}; at the end of the recording: {self.late}; never came: {len(self.never)}")
+        return (f"restarts ordered: {self.all}; came: {self.came}; the pod left within {SOON} s: {self.leaving}; "
+                f"as the recording ended: {self.late}; never came: {len(self.never)}")
 
 
 def starts_of(real):
