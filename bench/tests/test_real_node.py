@@ -2,8 +2,10 @@
 shown; what is done to its pods, and when. Its run is tried on a throw-away machine alone."""
 import json
 import os
+import subprocess
 import sys
 import tempfile
+from types import SimpleNamespace
 
 from common import TOP, Case, read, run, write
 
@@ -11,6 +13,9 @@ sys.path[:0] = [os.path.join(TOP, "bench/lib/real_node"), os.path.join(TOP, "too
 import chained  # noqa: E402
 import counted  # noqa: E402
 import deployed  # noqa: E402
+import evictions  # noqa: E402
+import from_log  # noqa: E402
+import restarts  # noqa: E402
 import scenario  # noqa: E402
 from beside import Fact  # noqa: E402
 from cluster import Changes  # noqa: E402
@@ -52,6 +57,7 @@ eviction {BEGIN + 5} shop/a memory.available hard 0
 totals updates=6 events=9 orders=1
 """
 LOG = """\
+I0101 00:00:05.500000    9 eviction_manager.go:574] eviction manager: pods ranked for eviction: a_shop(1), b_shop(2)
 I0101 00:00:06.500000    9 eviction_manager.go:574] eviction manager: pod a_shop(1) is evicted successfully
 I0101 00:00:07.500000    9 eviction_manager.go:574] eviction manager: pods ranked for eviction: b_shop(2)
 I0101 00:00:08.000000    9 event.go:291] "Event occurred" object="shop/b" kind="Pod" apiVersion="v1" type="Normal" \
@@ -119,12 +125,26 @@ class Counted(Case):
         self.assertEqual(counted.exits_of(exits_text()), {"a0": (BEGIN + 7, 137)})
 
     def test_evictions_of_the_log(self):
-        self.assertEqual(list(counted.evictions_of(LOG, 2026)), [("1", Fact("shop/a", "-", "evicted", BEGIN + 6))])
+        """At the moment of the ranking, by which the kubelet decides."""
+        self.assertEqual(list(counted.evictions_of(LOG, 2026)), [
+            counted.Evicted("1", Fact("shop/a", "-", "evicted", BEGIN + 5), True)])
+
+    def test_evictions_by_a_limit_of_the_pods_own(self):
+        """What is in no ranking is evicted when the log says it, and an eviction takes one ranking."""
+        line = "I0101 00:00:0{0}.500000    9 eviction_manager.go:574] eviction manager: pod {1}_shop({2}) is evicted " \
+               "successfully\n"
+        first = LOG.partition("\n")[0] + "\n"
+        for log, wanted in ((LOG + line.format(8, "b", "2"), [("1", 5, True), ("2", 7, True)]),
+                            (line.format(1, "b", "2") + LOG, [("2", 1, False), ("1", 5, True)]),
+                            (first + line.format(6, "a", "1") + line.format(8, "b", "2"),
+                             [("1", 5, True), ("2", 8, False)])):
+            found = [(each.uid, each.fact.moment - BEGIN, each.is_ranked) for each in counted.evictions_of(log, 2026)]
+            self.assertEqual(found, wanted)
 
     def test_pods_that_went(self):
         """One that was evicted goes by that, and one that the kubelet refused was never there."""
-        evicted = dict(counted.evictions_of(LOG, 2026))
-        self.assertEqual(list(counted.going_facts(shown_text(), evicted)), [Fact("shop/a", "-", "gone", BEGIN + 6)])
+        evicted = {each.uid: each.fact for each in counted.evictions_of(LOG, 2026)}
+        self.assertEqual(list(counted.going_facts(shown_text(), evicted)), [Fact("shop/a", "-", "gone", BEGIN + 5)])
 
     def test_counts(self):
         rows, codes = self.rows()
@@ -133,7 +153,7 @@ class Counted(Case):
             "starts": (2, 2, 0, 0, 0), "exits with their codes": (1, 0, 0, 1, 1),
             "kills by a liveness probe": (1, 0, 0, 1, 0), "ready": (2, 2, 0, 0, 0), "unready": (2, 2, 0, 0, 0),
             "evictions by the rules": (1, 1, 0, 0, 0), "evictions told as a fact": (1, 1, 0, 0, 0),
-            "pods that went": (1, 1, 0, 0, 0)})
+            "pods ended as evicted": (1, 1, 0, 0, 0), "pods that went": (1, 1, 0, 0, 0)})
         self.assertEqual(codes, ["00:00:09 shop/b app died 0 137: it was died 0 0"])
         self.assertEqual(rows[1].differences, [
             "00:00:09 shop/b app died 0 0: missing", "00:00:09 shop/b app died 0 137: in the report alone"])
@@ -166,6 +186,66 @@ class Counted(Case):
         self.assertEqual([line.split() for line in lines], [
             ["real", "within", "2", "s", "later", "missing", "false"], ["starts", "12", "11", "1", "0", "2"]])
         self.assertEqual(len(set(map(len, lines))), 1)
+
+
+class Restarts(Case):
+    """A pod whose container exits at 10 and at 40, which is deleted at 70, in a trace up to a last moment."""
+    report = "\n".join(["node n1 pods=1 ticks=4", *(
+        f"event {BEGIN + moment} shop/a app {what}" for moment, what in (
+            (10, "died 0 1"), (10, "restart 0"), (40, "died 1 1"), (40, "restart 1"))),
+        "pod 0 shop/a phase=Running reason=- qos=BestEffort",
+        *(f"condition 0 {name} True {BEGIN}" for name in ("PodScheduled", "Initialized", "ContainersReady", "Ready")),
+        "container 0 app state=Terminated code=1 restarts=1 ready=false started=false",
+        *(f"nodecondition {name} False {BEGIN}" for name in ("MemoryPressure", "DiskPressure", "PIDPressure")),
+        "totals updates=4 events=4 orders=2\n"])
+
+    def found(self, starts, deleted=70, last=99):
+        pod = {"kind": "pod", "pod": {"metadata": {"name": "a", "namespace": "shop"},
+                                      "spec": {"containers": [{"name": "app"}]}}}
+        ticks = [(0, "RUNNING", {}), (10, "EXITED", {"exitCode": 1}), (40, "EXITED", {"exitCode": 1, "attempt": 1}),
+                 (last, "EXITED", {"exitCode": 1, "attempt": 1})]
+        lines = [NODE, pod, *({"kind": "tick", "at": BEGIN + at, "pods": [
+            {**listed("a", state, **fields), **({"deleting": True} if at >= deleted else {})}]}
+            for at, state, fields in ticks)]
+        real = [Fact("shop/a", "app", what, BEGIN + moment) for moment, what in starts]
+        with tempfile.TemporaryDirectory() as folder:
+            write("".join(json.dumps(line) + "\n" for line in lines), folder, "trace")
+            found = restarts.restarts_of(real, *counted.read_run(f"{folder}/trace", self.report))
+        return found.all, found.came, found.leaving, found.late, found.never
+
+    def test_those_that_came(self):
+        """A start belongs to one restart; the first start of the next pod of the name is none."""
+        self.assertEqual(self.found([(0, "started 0"), (11, "started 1"), (41, "started 2")]), (2, 2, 0, 0, []))
+        never = ["00:00:40 shop/a app restart 1"]
+        self.assertEqual(self.found([(11, "started 1"), (42, "started 0")]), (2, 1, 0, 0, never))
+        self.assertEqual(self.found([(39, "started 1")]), (2, 1, 0, 0, never))
+
+    def test_those_that_could_not(self):
+        """The pod is deleted within 15 s, or the recording ends."""
+        self.assertEqual(self.found([(11, "started 1")], deleted=50, last=54), (2, 1, 1, 0, []))
+        self.assertEqual(self.found([(11, "started 1")], last=54), (2, 1, 0, 1, []))
+
+
+class FromALog(Case):
+    def test_levels(self):
+        """A message has the lines that continue it, and what ends a failure is told at 1."""
+        head = "I0101 00:00:01.000000    9 {}] {}\n"
+        said = [head.format("kubelet.go:1898", "SyncLoop (ADD)"), head.format("exec.go:62", "Exec probe response: a"),
+                "b\n", head.format("kubelet.go:1284", "Image garbage collection succeeded"),
+                head.format("kubelet.go:1274", "Image garbage collection failed once"),
+                head.format("kubelet.go:1284", "Image garbage collection succeeded")]
+        self.assertEqual(from_log.at_level("".join(said), 2), "".join(said[:1] + said[4:]))
+        self.assertEqual(from_log.at_level("".join(said), 4), "".join(said))
+        self.assertEqual(from_log.unknown_places(said[0] + head.format("new.go:7", "what")), ["new.go:7"])
+
+    def test_codes(self):
+        """A code that is not the kubelet's is marked, or is said."""
+        entry = {"name": "app", "attempt": 0, "guessed": ["exitCode"]}
+        trace = json.dumps({"kind": "tick", "pods": [{"pod": "shop/a", "containers": [entry]}]}) + "\n"
+        real = [Fact("shop/b", "app", "died 0 1", 5), Fact("shop/c", "app", "ends 0 137", 6)]
+        said = [Fact("shop/a", "app", "died 0 137", 4), Fact("shop/b", "app", "died 0 137", 5),
+                Fact("shop/c", "app", "died 0 137", 6)]
+        self.assertEqual(from_log.unmarked(said, real, trace), said[1:2])
 
 
 class Chained(Case):
@@ -261,7 +341,18 @@ class Scenarios(Case):
                 there = there - {key} if what == "delete" else there | {key}
         self.assertEqual(scenario.hard_memory(2 ** 34), {"evictionHard": {"memory.available": "11384Mi"}})
 
+    def test_recorders(self):
+        """What is started for each recorder takes its words."""
+        with tempfile.TemporaryDirectory() as folder:
+            os.mkdir(f"{folder}/hard")
+            recorders = evictions.Recorders(SimpleNamespace(folder=folder), None, scenario.RUNS["hard"])
+            for name in scenario.BOTH:
+                done = subprocess.run([*recorders.words(name), "--help"], capture_output=True, text=True, check=False)
+                said = done.returncode, done.stdout[:20], done.stderr
+                self.assertEqual(said, (0, "usage: tools/record ", ""), name)
+
     def test_words(self):
-        for words in ((), ("--api",), ("--api", "folder", "hard", "other"), ("folder", "some"), ("a", "1", "2")):
+        for words in ((), ("--api",), ("--api", "folder", "hard", "other"), ("folder", "some"), ("a", "1", "2"),
+                      ("--again",), ("--again", "/nowhere")):
             code, out, said = run("real_node", *words)
             self.assertEqual((code, out, said.count("\n")), (2, "", 1), words)

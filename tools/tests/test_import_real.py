@@ -6,15 +6,17 @@ import tempfile
 
 from checks import HERE, REPLAY, TOOLS, TOP, expect, expect_kept, read, run
 
+import counted
+import from_log
 import import_counts
 
 RECORDING = f"{HERE}/recordings/imported_journal"
 PAGE = f"{TOP}/docs/import.md"
 LEVELS = (2, 4)
 # each of these is in the trace within two seconds, of so many of a hundred
-WANTED = {2: {"starts": 95, import_counts.GUESSED: 90, "kills by a liveness probe": 98, "ready": 95, "unready": 95,
+WANTED = {2: {"starts": 95, from_log.ANY_CODE: 90, "kills by a liveness probe": 98, "ready": 95, "unready": 95,
               "evictions told as a fact": 100},
-          4: {"starts": 99, import_counts.GUESSED: 98, "exits with their codes": 96, "kills by a liveness probe": 98,
+          4: {"starts": 99, from_log.ANY_CODE: 98, "exits with their codes": 96, "kills by a liveness probe": 98,
               "ready": 98, "unready": 95, "evictions told as a fact": 100}}
 
 
@@ -26,14 +28,15 @@ def test_import_of_a_real_log():
     _, _, after = rest.partition("<!-- end of the counts -->\n")
     tables = []
     for level in LEVELS:
-        rows, wrong = import_counts.imported(RECORDING, level, REPLAY)
-        rows = import_counts.added([rows])
-        for row in rows:
+        found = import_counts.imported(RECORDING, level, REPLAY)
+        for row in found.rows:
             share = WANTED[level].get(row.name)
             if share is not None:
                 expect(f"import at -v={level}: {row.name}", 100 * row.near >= share * row.real, True)
-        expect(f"import at -v={level}: {import_counts.MARKED}", wrong, [])
-        tables += [f"-v={level}", *import_counts.counted.table_of(rows), ""]
+        expect(f"import at -v={level}: {from_log.MARKED}", found.unmarked, [])
+        false = [row.false for row in found.rows if row.name == "evictions by the rules"]
+        expect(f"import at -v={level}: evictions by the rules", false, [0])
+        tables += [f"-v={level}", *counted.table_of(found.rows), ""]
     kept = "\n".join(tables).rstrip()
     expect_kept("import: the counts in docs", f"{before}<!-- the counts -->\n```\n{kept}\n```\n"
                 f"<!-- end of the counts -->\n{after}", PAGE)
@@ -42,8 +45,7 @@ def test_import_of_a_real_log():
 def test_tools_over_an_imported_trace():
     """Each tool takes it; of an eviction the rules have nothing to say, since no journal has thresholds."""
     with tempfile.TemporaryDirectory() as folder:
-        log = import_counts.at_level(import_counts.read_lzma(f"{RECORDING}/kubelet.log.xz"),
-                                     import_counts.levels_of(RECORDING), 2)
+        log = from_log.at_level(import_counts.read_lzma(f"{RECORDING}/kubelet.log.xz"), 2)
         status, trace, _ = run([f"{TOOLS}/import", "--pods", f"{RECORDING}/pods.json", "--year", "2026"], log)
         path = f"{folder}/node.trace"
         with open(path, "w", encoding="utf-8") as file:

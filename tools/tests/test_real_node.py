@@ -13,14 +13,20 @@ import time
 
 from checks import HERE, REPLAY, TOP, expect, expect_kept, read, run, wait_until
 
+import test_connections
 import beside
 import counted
 import ending
+import restarts
 import trimmed
 
 PARTS = f"{TOP}/bench/lib/real_node"
 RECORDING = f"{HERE}/recordings/real_node"
-EVICTIONS = f"{HERE}/recordings/real_evictions"
+KEPT_RUNS = ("real_evictions", "real_soft_run")
+# five minutes of answers take some seconds, and more on a machine that is busy
+LONGEST_PLAY = 600
+# a pod that came again while the one before it under its name ran on
+LATE = {("real_soft_run", "starts"): 1}
 PAGE = f"{TOP}/docs/real.md"
 KINDS = {"starts": "started", "exits": "died", "kills by a liveness probe": "kill", "ready": "ready",
          "unready": "unready"}
@@ -72,26 +78,57 @@ def test_real_counts():
                " ".join(read(f"{TOP}/docs/{page}.md").split()), True)
 
 
-def test_real_evictions():
-    """What a kubelet did whose pods came by an API server is counted anew, as docs/real.md has it: each start and exit
-    is in the report, and each eviction is told."""
+def played(recording):
+    """The trace of a recording's answers, as a file of a folder; the folder, the status and the path."""
     folder = tempfile.mkdtemp()
-    status, trace, _ = run([f"{HERE}/commands/played_record", *read(f"{EVICTIONS}/words").split()], RUN=folder,
-                           PATH=f"{HERE}/commands:{os.environ['PATH']}", RECORDING=EVICTIONS)
+    status, trace, _ = run([f"{HERE}/commands/played_record", *read(f"{recording}/words").split()],
+                           longest=LONGEST_PLAY, RUN=folder, PATH=f"{HERE}/commands:{os.environ['PATH']}",
+                           RECORDING=recording)
     with open(f"{folder}/trace", "w", encoding="utf-8") as file:
         file.write(trace)
-    rows, codes = counted.counts_of(recorded_facts(EVICTIONS), f"{folder}/trace", read(f"{EVICTIONS}/report"))
+    return folder, status, f"{folder}/trace"
+
+
+def counted_anew(recording):
+    """The rows of a recording, its restarts and the exits with a false code."""
+    folder, status, path = played(recording)
+    real, (report, trace) = recorded_facts(recording), counted.read_run(path, read(f"{recording}/report"))
+    said = counted.said_facts(report, trace)
+    rows = counted.counts_of_facts(real, said, trace.ticks[0].at, trace.ticks[-1].at)
     shutil.rmtree(folder)
-    expect("real evictions: the recording", (status, codes), (0, []))
-    table = "\n".join(counted.table_of(rows))
-    before, _, rest = read(PAGE).partition("<!-- the counts -->\n")
-    _, _, after = rest.partition("<!-- end of the counts -->\n")
-    expect_kept("real evictions: the counts in docs", f"{before}<!-- the counts -->\n```\n{table}\n```\n"
-                f"<!-- end of the counts -->\n{after}", PAGE)
-    by_name = {row.name: row for row in rows}
-    for name in ("starts", "exits with their codes", "evictions told as a fact"):
-        row = by_name[name]
-        expect(f"real evictions: {name}", (row.near, row.false), (row.real, 0))
+    expect(f"{recording}: it is played", status, 0)
+    return rows, restarts.restarts_of(real, report, trace), list(counted.false_codes(real, said))
+
+
+def test_real_evictions():
+    """What a kubelet did whose pods came by an API server is counted anew, as docs/real.md has it: each start and exit
+    is in the report, each eviction is told, and nobody else is ended."""
+    for name in KEPT_RUNS:
+        rows, ordered, codes = counted_anew(f"{HERE}/recordings/{name}")
+        expect(f"{name}: false codes", codes, [])
+        table = "\n".join([*counted.table_of(rows), ordered.text(), *ordered.never])
+        before, _, rest = read(PAGE).partition(f"<!-- the counts of {name} -->\n")
+        _, _, after = rest.partition("<!-- end of the counts -->\n")
+        expect_kept(f"{name}: the counts in docs", f"{before}<!-- the counts of {name} -->\n```\n{table}\n```\n"
+                    f"<!-- end of the counts -->\n{after}", PAGE)
+        by_name = {row.name: row for row in rows}
+        for kind in ("starts", "exits with their codes", "evictions told as a fact", "pods ended as evicted"):
+            row = by_name[kind]
+            expect(f"{name}: {kind}", (row.near, row.false), (row.real - LATE.get((name, kind), 0), 0))
+
+
+def test_real_rounds():
+    """Each round of the kubelet's log has a judged tick, within a second of its sample, and no other tick is judged but
+    the first one. The log is that of a run with a grace period, whose rounds stand in a file."""
+    recording = f"{HERE}/recordings/real_soft_run"
+    folder, _, path = played(recording)
+    ticks = [json.loads(line) for line in read(path).splitlines() if '"kind":"tick"' in line]
+    shutil.rmtree(folder)
+    judged = [tick["at"] for tick in ticks if tick.get("judged") is not False]
+    made = [int(line) for line in read(f"{recording}/rounds").split() if int(line) > judged[0]]
+    expect("real rounds: as many", len(judged) - 1, len(made))
+    apart = [at for at, round_at in zip(judged[1:], made) if abs(at - round_at) > 1]
+    expect("real rounds: at their moments", apart, [])
 
 
 # --- the answers that a run keeps ---
@@ -113,6 +150,25 @@ def test_captured_answers():
     again = run([f"{HERE}/commands/played_record", *words], **{**settings, "RECORDING": folder})
     expect("trimmed: the trace of the recording", again, (0, trace, ""))
     shutil.rmtree(folder)
+
+
+def test_captured_kubelet():
+    """A kubelet at an address is asked by one connection, and what it answers is kept as what curl would give."""
+    if not test_connections.has_openssl():
+        return
+    place = test_connections.Place()
+    kubelet = test_connections.Kubelet(place.folder)
+    curl = place.curl_file(f'header = "Authorization: {test_connections.TOKEN}"\ninsecure\n')
+    words = ["--node", "worker-3", "--extended", "--kubelet", kubelet.url, "--curl", curl, "--for", "2"]
+    status, trace, said = run([sys.executable, f"{PARTS}/captured.py", f"{place.folder}/answers.jsonl", *words],
+                              **place.settings)
+    expect("captured of an address: the trace", (status, trace[:14], said), (0, '{"kind":"node"', ""))
+    expect("captured of an address: connections", (kubelet.connections, place.asked()["curl"]), (1, 0))
+    kept = [json.loads(line) for line in read(f"{place.folder}/answers.jsonl").splitlines()]
+    kinds = {trimmed.kind_of(entry["words"]) for entry in kept if "answer" in entry}
+    expect("captured of an address: each kind", kinds >= {"pods", "summary", "probes", "configz", "ps"}, True)
+    kubelet.end()
+    place.remove()
 
 
 def test_trimmed_answers():

@@ -76,21 +76,42 @@ def test_rounds_over_a_border():
         expect(f"judged, over a border: {follows}", [tick.get("judged") for tick in ticks], wanted)
 
 
+def judged_behind_an_eviction(samples, **configz):
+    """The judged ticks of a play whose kubelet evicts a pod at 21, by samples of the memory."""
+    play = low_play(samples={str(at): {"memory": value * 2 ** 20, "pods": {}} for at, value in samples.items()},
+                    configz=configz)
+    play["pods"]["shop/hog"] = {"evicted": 21, "spec": {"containers": [{"name": "app"}]}}
+    play["containers"].append({"id": "b0", "pod": "shop/hog", "name": "app", "attempt": 0, "created": -3,
+                               "started": -2, "exited": 22, "code": 137})
+    place = Into(play)
+    status, trace, _ = place.record("--extended", "--for", "70")
+    place.clean()
+    return status, judged_in(trace)[0]
+
+
 def test_samples_in_a_wait():
     """Behind an eviction a sample that is low enough for one is a round only if another follows soon; one that is not
-    is a round in any case, a reclaim included."""
-    reclaim = {"evictionMinimumReclaim": {"memory.available": "60Mi"}}
-    for more, wanted in (({}, [0, 20, 29, 50]), (reclaim, [0, 20, 50])):
-        samples = {"-1": 2 ** 32, "20": 90 * 2 ** 20, "29": 150 * 2 ** 20, "38": 90 * 2 ** 20, "50": 2 ** 32}
-        play = low_play(samples={at: {"memory": value, "pods": {}} for at, value in samples.items()},
-                        configz={"evictionHard": {"memory.available": "100Mi"}, **more})
-        play["pods"]["shop/hog"] = {"evicted": 21, "spec": {"containers": [{"name": "app"}]}}
-        play["containers"].append({"id": "b0", "pod": "shop/hog", "name": "app", "attempt": 0, "created": -3,
-                                   "started": -2, "exited": 22, "code": 137})
-        place = Into(play)
-        status, trace, _ = place.record("--extended", "--for", "70")
-        place.clean()
-        expect(f"rounds within the wait {more}", (status, judged_in(trace)[0]), (0, wanted))
+    is a round in any case, a reclaim included while that goes on."""
+    hard = {"evictionHard": {"memory.available": "100Mi"}}
+    reclaim = {**hard, "evictionMinimumReclaim": {"memory.available": "60Mi"}}
+    samples = {-1: 4096, 20: 90, 29: 150, 38: 90, 50: 4096}
+    expect("rounds within the wait", judged_behind_an_eviction(samples, **hard), (0, [0, 20, 29, 50]))
+    expect("rounds within the wait, reclaim", judged_behind_an_eviction(samples, **reclaim), (0, [0, 20, 50]))
+    samples = {-1: 4096, 20: 90, 29: 170, 38: 150, 50: 4096}
+    expect("rounds within the wait, reclaimed", judged_behind_an_eviction(samples, **reclaim),
+           (0, [0, 20, 29, 38, 50]))
+
+
+def test_grace_within_a_wait():
+    """Behind an eviction no pod is evicted while a grace period runs, so that a low sample is a round then."""
+    soft = {"evictionHard": {"memory.available": "10Mi"}, "evictionSoft": {"memory.available": "100Mi"},
+            "evictionSoftGracePeriod": {"memory.available": "15s"}}
+    expect("rounds within a grace period",
+           judged_behind_an_eviction({-1: 4096, 5: 90, 20: 90, 25: 150, 35: 90, 45: 90, 55: 90}, **soft),
+           (0, [0, 5, 20, 25, 35, 45, 55]))
+    expect("rounds behind a grace period",
+           judged_behind_an_eviction({-1: 4096, 5: 90, 20: 90, 24: 90, 34: 90, 45: 90, 55: 90}, **soft),
+           (0, [0, 5, 20, 55]))
 
 
 def low_play(**more):

@@ -4,11 +4,12 @@ import json
 import os
 import sys
 import time
+from dataclasses import replace
 
 HERE = os.path.dirname(os.path.realpath(__file__))
 sys.dont_write_bytecode = True
 sys.path.insert(0, os.path.join(HERE, "..", "..", "..", "tools"))
-from replay_tools.record import program, sources  # noqa: E402
+from replay_tools.record import answers, connections, program, sources  # noqa: E402
 
 
 class KeptClock:
@@ -26,21 +27,48 @@ class KeptClock:
         time.sleep(seconds)
 
 
+class KeptAnswers:
+    """Keeps what was asked, as the words of a command that asks it, with the answer or what failed."""
+
+    def __init__(self, file):
+        self.file = file
+
+    def keep(self, command, ask):
+        entry = {"at": round(time.time(), 3), "words": command}
+        try:
+            answer = ask()
+            entry["answer"] = answers.decoded(answer)
+            return answer
+        except sources.Failed as failed:
+            entry["failed"] = str(failed)
+            raise
+        finally:
+            self.file.write(json.dumps(entry) + "\n")
+
+    def run(self, command, seconds):
+        return self.keep(command, lambda: sources.run_command(command, seconds))
+
+
+class KeptKubelet(connections.Kubelet):
+    """A kubelet at its address, asked by one connection."""
+
+    def __init__(self, asked, kept):
+        super().__init__(asked.kubelet, asked.curl_file)
+        self.asked, self.answers = asked, kept
+
+    def endpoint(self, path):
+        return self.answers.keep(self.asked.endpoint_words(path), lambda: super(KeptKubelet, self).endpoint(path))
+
+
 def main(path, words):
     with open(path, "w", encoding="utf-8") as file:
-        def run(command, seconds):
-            """Asks as the recorder does, and keeps the answer or what failed."""
-            entry = {"at": round(time.time(), 3), "words": command}
-            try:
-                entry["answer"] = sources.run_command(command, seconds).decode("utf-8", "replace")
-                return entry["answer"]
-            except sources.Failed as failed:
-                entry["failed"] = str(failed)
-                raise
-            finally:
-                file.write(json.dumps(entry) + "\n")
+        kept = KeptAnswers(file)
 
-        return program.main(words, KeptClock(file), lambda *asked: sources.Sources(*asked, run=run))
+        def made(*asked):
+            found = sources.Sources(*asked, run=kept.run)
+            return found if found.kubelet is None else replace(found, keeps=KeptKubelet(found, kept))
+
+        return program.main(words, KeptClock(file), made)
 
 
 if __name__ == "__main__":

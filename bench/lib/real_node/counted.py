@@ -16,10 +16,12 @@ FAR = 30
 GONE_FAR = 300
 KINDS = {"starts": "started", "exits with their codes": "died", "kills by a liveness probe": "kill", "ready": "ready",
          "unready": "unready", "evictions by the rules": "evicted", "evictions told as a fact": "told",
-         "pods that went": "gone"}
+         "pods ended as evicted": "ended", "pods that went": "gone"}
 END = "ends"
-EVICTED = re.compile(r"[IWEF](\d\d)(\d\d) (\d\d):(\d\d):(\d\d)\.\d+.*eviction manager: pod ([^_ ]+)_(\S+?)\((\S+)\) "
-                     r"is evicted successfully")
+MOMENT = r"^[IWEF](\d\d)(\d\d) (\d\d):(\d\d):(\d\d)\.\d+.*eviction manager: "
+EVICTED = re.compile(MOMENT + r"pod ([^_ ]+)_(\S+?)\((\S+)\) is evicted successfully")
+RANKED = re.compile(MOMENT + r"pods ranked for eviction: (.*)")
+UID = re.compile(r"\(([^()]+)\)")
 EXIT = re.compile(r"^\S+ \S+ \S+ \S+ \S+ /tasks/exit (\{.*\})$", re.MULTILINE)
 
 
@@ -49,10 +51,32 @@ def exits_of(text):
     return found
 
 
+@dataclass
+class Evicted:
+    """A pod that the kubelet evicted: by its uid when it decided that, and whether by a ranking of the pods since the
+    node was short of something, or for a limit of the pod's own."""
+    uid: str
+    fact: Fact
+    is_ranked: bool
+
+
 def evictions_of(log, year):
-    """Each eviction that the kubelet's log has: (uid, fact)."""
-    for *moment, name, namespace, uid in EVICTED.findall(log):
-        yield uid, Fact(f"{namespace}/{name}", "-", "evicted", calendar.timegm((year, *map(int, moment))))
+    """Each eviction that the kubelet's log has. Behind a ranking the kubelet evicts one pod, which it says once the
+    pod's containers have been stopped."""
+    ranked, ranked_at = set(), None
+    for line in log.splitlines():
+        ranking, evicted = RANKED.match(line), EVICTED.match(line)
+        if ranking:
+            ranked, ranked_at = set(UID.findall(ranking[6])), moment_of(ranking, year)
+        elif evicted:
+            name, namespace, uid = evicted.groups()[5:]
+            moment = ranked_at if uid in ranked else moment_of(evicted, year)
+            yield Evicted(uid, Fact(f"{namespace}/{name}", "-", "evicted", moment), uid in ranked)
+            ranked = set() if uid in ranked else ranked
+
+
+def moment_of(line, year):
+    return calendar.timegm((year, *map(int, line.groups()[:5])))
 
 
 def has_run(status):
@@ -99,12 +123,14 @@ def real_facts(shown, log, exits):
     """All that the kubelet did, of /pods, its log, and the runtime's exits."""
     statuses, exits = list(statuses_of(shown)), exits_of(exits)
     year = time.gmtime(json.loads(shown.split("\n", 1)[0])["at"]).tm_year
-    evicted = dict(evictions_of(log, year))
+    all_evicted = list(evictions_of(log, year))
+    evicted = {each.uid: each.fact for each in all_evicted}
     kills = [fact for fact in kill_facts(log, year) if fact.what.endswith("liveness")]
     ends = list(ends_of(statuses, exits, evicted))
     return [*(fact for fact in instance_facts(statuses, exits) if fact not in ends), *ready_facts(statuses),
             *(Fact(fact.pod, fact.container, fact.what.replace("died", END), fact.moment) for fact in ends),
-            *unready_by_eviction(statuses, evicted), *map(unnumbered, kills), *evicted.values(),
+            *unready_by_eviction(statuses, evicted), *map(unnumbered, kills),
+            *(each.fact for each in all_evicted if each.is_ranked),
             *(Fact(fact.pod, "-", "told", fact.moment) for fact in evicted.values()), *going_facts(shown, evicted)]
 
 
@@ -126,6 +152,9 @@ def said_facts(report, trace):
         if gone is not None:
             # the last tick with it: its line stands behind that
             facts.append(Fact(pod.key, "-", "gone", trace.ticks[gone - 1].at))
+        end = reports.end_of(pod)
+        if end is not None and end[1] == "Evicted":
+            facts.append(Fact(pod.key, "-", "ended", end[0]))
     facts += [Fact(eviction.pod, "-", "evicted", eviction.at) for eviction in by_rules(report, trace)]
     return facts + [Fact(each.pod, "-", "told", each.at) for each in trace.decisions if each.kind == "evicted"]
 
@@ -172,11 +201,13 @@ def of_kind(facts, kind):
     return [fact for fact in facts if fact.what.split()[0] == kind]
 
 
-def row_of(name, kind, real, said):
-    """A kind's counts. An exit behind an eviction may be said, and need not be."""
-    ends = [Fact(fact.pod, fact.container, fact.what.replace(END, "died"), fact.moment) for fact in of_kind(real, END)]
+def row_of(name, kind, real, said, edge=()):
+    """A kind's counts. An exit behind an eviction, and what happened at an edge of the recording, before its first tick
+    or behind its last one, may be said, and need not be."""
+    may_be = [Fact(fact.pod, fact.container, fact.what.replace(END, "died"), fact.moment)
+              for fact in of_kind(real, END)] + of_kind(edge, kind)
     real, said = of_kind(real, kind), of_kind(said, kind)
-    both = matched(real + ends, said)
+    both = matched(real + may_be, said)
     found = {here: there for here, there in both.items() if here < len(real)}
     apart = {here: said[there].moment - real[here].moment for here, there in found.items()}
     near = sum(abs(seconds) <= NEAR for seconds in apart.values())
@@ -191,10 +222,12 @@ def words_of(fact, words):
     return f"{at(fact.moment)} {fact.pod} {fact.container} {fact.what}: {words}"
 
 
-def rows_of(real, said, begun, ended):
+def counts_of_facts(real, said, begun, ended, kinds=None):
     """A row for each kind, over what happened while it was recorded."""
-    real = [fact for fact in real if begun <= fact.moment <= ended]
-    return [row_of(name, kind, real, said) for name, kind in KINDS.items()]
+    real = [*real, *(Fact(fact.pod, fact.container, "ended", fact.moment) for fact in real if fact.what == "told")]
+    within = [fact for fact in real if begun <= fact.moment <= ended]
+    edge = [fact for fact in real if fact not in within]
+    return [row_of(name, kind, within, said, edge) for name, kind in (kinds or KINDS).items()]
 
 
 def false_codes(real, said):
@@ -222,7 +255,18 @@ def counts_of(real, trace_path, report_text):
     """The rows of a recording beside what the kubelet did, and its false codes."""
     report, trace = read_run(trace_path, report_text)
     said = said_facts(report, trace)
-    return rows_of(real, said, trace.ticks[0].at, trace.ticks[-1].at), list(false_codes(real, said))
+    return counts_of_facts(real, said, trace.ticks[0].at, trace.ticks[-1].at), list(false_codes(real, said))
+
+
+def added(rows):
+    """Rows of several runs, of each kind one."""
+    total = {}
+    for row in rows:
+        before = total.get(row.name, Row(row.name, 0, 0, 0, 0, 0, []))
+        total[row.name] = Row(row.name, before.real + row.real, before.near + row.near, before.later + row.later,
+                              before.missing + row.missing, before.false + row.false,
+                              before.differences + row.differences)
+    return list(total.values())
 
 
 HEAD = ("", "real", "within 2 s", "later", "missing", "false")
@@ -232,3 +276,13 @@ def table_of(rows):
     """The counts as lines of a table."""
     cells = [HEAD, *((row.name, *map(str, (row.real, row.near, row.later, row.missing, row.false))) for row in rows)]
     return [f"{line[0]:26}" + "".join(f"{cell:>12}" for cell in line[1:]) for line in cells]
+
+
+def side_by_side(rows_by_source):
+    """What each source has within two seconds, of how many, and what it has alone, as lines of a table."""
+    names = dict.fromkeys(row.name for rows in rows_by_source.values() for row in rows)
+    cells = [("", *rows_by_source)]
+    for name in names:
+        found = [next((row for row in rows if row.name == name), None) for rows in rows_by_source.values()]
+        cells.append((name, *("" if row is None else f"{row.near} of {row.real}; {row.false}" for row in found)))
+    return [f"{line[0]:28}" + "".join(f"{cell:>20}" for cell in line[1:]).rstrip() for line in cells]

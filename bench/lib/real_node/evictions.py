@@ -1,21 +1,17 @@
-"""Runs a kubelet whose pods come by an API server, and evicts them; records it in both formats, and counts what it did
-beside what each report says."""
+"""Runs a kubelet whose pods come by an API server, and evicts them; records it in both formats, and keeps it."""
 
 import json
 import os
 import shutil
-import subprocess
 import sys
 import time
 
 import ending
-from beside import text_of
 from cluster import ADDRESS, ADMIN, KUBELET, RECORDER, Changes, Cluster
-from chained import show_chain
-from counted import counts_of, real_facts, table_of
 from deployed import Deployed
 from kit import PARTS, Kit, call, read, write
 from machine import NODE, Machine
+from outcome import Outcome, is_ready, keep_about
 from scenario import RUNS
 
 COMMANDS = ("openssl", "ip", "mkfs.ext4", "mount", "umount")
@@ -23,9 +19,7 @@ RECORD = f"{PARTS}/../../../tools/record"
 DISK_BYTES = 4 * 2 ** 30
 MEMORY = "/sys/fs/cgroup/memory"
 # of the files below the folder those that a run keeps as its own
-KEPT = ("kubelet.log", "exits.log", "shown.jsonl")
-# each of these has to be in the report of the extended format within two seconds
-WANTED = ("starts", "exits with their codes", "evictions told as a fact")
+KEPT = ("kubelet.log", "exits.log", "shown.jsonl", "pods.json")
 
 
 def available():
@@ -90,9 +84,9 @@ class Recorders:
     def words(self, name):
         """What is run: the recorder of the extended format with its answers kept, the others as they are."""
         keeps = name == "extended" and self.scenario.keeps_answers
-        program = [f"{PARTS}/captured.py", f"{self.folder}/answers.jsonl"] if keeps else [RECORD]
+        program = [sys.executable, f"{PARTS}/captured.py", f"{self.folder}/answers.jsonl"] if keeps else [RECORD]
         source = [] if name == "kubectl" else ["--kubelet", KUBELET, "--curl", f"{self.machine.folder}/curl.conf"]
-        return [sys.executable, *program, "--node", NODE, "--for", str(self.scenario.seconds), *source,
+        return [*program, "--node", NODE, "--for", str(self.scenario.seconds), *source,
                 "--standard" if name == "standard" else "--extended"]
 
     def act(self, passed):
@@ -111,6 +105,10 @@ class Recorders:
                     minutes = (time.monotonic() - self.begun[name]) / 60
                     found[name] = (usage.ru_utime + usage.ru_stime) / minutes
             time.sleep(0.1)
+        for name, process in self.processes.items():
+            if process.returncode != 0:
+                print(f"real_node: the recorder {name} did not end well; {self.folder}/{name}.log says more",
+                      file=sys.stderr)
         return found
 
 
@@ -145,32 +143,9 @@ def run_once(kit, scenario):
     return costs
 
 
-# --- what came of it ---
-
-
-def facts_of(folder):
-    """What the kubelet of a run did, which is kept as text too."""
-    real = real_facts(*(read(f"{folder}/{each}") for each in ("shown.jsonl", "kubelet.log", "exits.log")))
-    write(f"{folder}/shown", text_of(real))
-    return real
-
-
-def show_recording(real, folder, name, replay, show):
-    """Replays a recording and shows its counts; whether all that is wanted was found."""
-    trace = f"{folder}/{name}.trace"
-    words = [] if name == "standard" else ["--extended"]
-    with open(f"{folder}/{name}.report", "wb") as report:
-        subprocess.run([replay, "run", trace, *words], stdout=report, check=True)
-    rows, codes = counts_of(real, trace, read(f"{folder}/{name}.report"))
-    show(f"\n{os.path.basename(folder)}, {name}")
-    for line in [*table_of(rows), f"exits with a false code: {len(codes)}", *codes]:
-        show(f"  {line}")
-    write(f"{folder}/{name}.differences", "".join(f"{row.name}: {line}\n" for row in rows for line in row.differences))
-    return not codes and all(row.near == row.real and not row.false for row in rows if row.name in WANTED)
-
-
 def measured(folder, names, replay, show):
-    """Builds, and runs, records and counts each; whether all was found that is wanted of the extended format."""
+    """Builds, and runs, records and counts each; whether all was found that is wanted of the extended format. Without a
+    program that replays they are recorded, and counted another time."""
     os.makedirs(folder, exist_ok=True)
     kit = Kit(folder, has_api=True)
     ending.adopt_orphans()
@@ -181,15 +156,11 @@ def measured(folder, names, replay, show):
         ending.hear_no_interrupts()
         ending.end_descendants()
         raise
-    works = True
+    outcome = Outcome(replay, show)
     for name in names:
-        costs = run_once(kit, RUNS[name])
-        real = facts_of(f"{folder}/{name}")
-        if RUNS[name].is_deployed:
-            works = show_chain(real, f"{folder}/{name}", replay, show) and works
-        for recorder in RUNS[name].recorders:
-            found = show_recording(real, f"{folder}/{name}", recorder, replay, show)
-            works = works and (found or recorder == "standard")
-        for recorder, seconds in costs.items():
-            show(f"  {name}: recording {recorder} took {seconds:.2f} s of a processor in a minute")
-    return works
+        keep_about(f"{folder}/{name}", name, run_once(kit, RUNS[name]))
+        if is_ready(replay):
+            outcome.add(f"{folder}/{name}")
+        else:
+            show(f"{name} is recorded; once there is a program bench/real_node --again {folder}/{name} counts it")
+    return outcome.end()

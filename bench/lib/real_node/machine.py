@@ -90,16 +90,21 @@ class Machine:
             return None
 
     def watch(self, seconds, act):
-        """Keeps twice a second what /pods shows, and lets `act` do what is due, by the seconds that have passed."""
-        begun = time.time()
+        """Keeps twice a second what /pods shows, and lets `act` do what is due, by the seconds that have passed. The
+        manifest of each pod is kept beside that."""
+        begun, manifests = time.time(), {}
         with open(f"{self.folder}/shown.jsonl", "w", encoding="utf-8") as file:
             while time.time() - begun < seconds:
                 act(time.time() - begun)
-                answer = self.asked("pods") or {}
+                answer = (self.asked("pods") or {}).get("items") or []
+                for pod in answer:
+                    manifests.setdefault(pod["metadata"]["uid"], {"kind": "Pod", **{
+                        name: pod[name] for name in ("metadata", "spec")}})
                 file.write(json.dumps({"at": round(time.time(), 2), "pods": [
                     {"metadata": {name: pod["metadata"].get(name) for name in ("name", "namespace", "uid")},
-                     "status": pod.get("status", {})} for pod in answer.get("items") or []]}) + "\n")
+                     "status": pod.get("status", {})} for pod in answer]}) + "\n")
                 time.sleep(0.5)
+        write(f"{self.folder}/pods.json", json.dumps({"kind": "PodList", "items": list(manifests.values())}))
 
     def each(self, names, *words):
         for name in names:

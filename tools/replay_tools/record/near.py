@@ -21,6 +21,8 @@ class Nearness:
         self.transition = DEFAULT_TRANSITION_SECONDS
         self.low: frozenset[str] = frozenset()
         self.pressed_at: float | None = None
+        # since when each threshold is below its limit, by its signal and kind
+        self.low_since: dict[tuple[str, str], float] = {}
 
     def know(self, node_line: dict[str, Any]) -> None:
         """The thresholds of a node line, and for how long its pressure lasts; none where it has faults."""
@@ -42,11 +44,25 @@ class Nearness:
         return frozenset(limit.signal for limit in self.thresholds
                          if limit.signal in signals and 1000 * signals[limit.signal] < limit.limit)
 
-    def may_evict_by(self, signals: dict[str, int]) -> bool:
-        """Whether the kubelet may evict a pod by these samples: one is below a threshold, or not above it by what is to
-        be reclaimed."""
-        return any(1000 * signals[limit.signal] < limit.limit + limit.reclaim for limit in self.thresholds
-                   if limit.signal in signals)
+    def see(self, signals: dict[str, int], moment: float) -> None:
+        """Takes a sample for each threshold. One that is due stays so up to what is to be reclaimed, and one whose grace
+        period runs up to its limit."""
+        for limit in self.thresholds:
+            if limit.signal in signals:
+                value, name = 1000 * signals[limit.signal], (limit.signal, limit.kind)
+                if value < limit.limit:
+                    self.low_since.setdefault(name, moment)
+                elif value >= limit.limit + limit.reclaim or not self.is_due(limit, moment):
+                    self.low_since.pop(name, None)
+
+    def is_due(self, limit: Threshold, moment: float) -> bool:
+        """Whether the kubelet may evict a pod for a threshold."""
+        since = self.low_since.get((limit.signal, limit.kind))
+        return since is not None and moment - since >= limit.grace
+
+    def may_evict(self, moment: float) -> bool:
+        """Whether the kubelet may evict a pod by the samples that were seen."""
+        return any(self.is_due(limit, moment) for limit in self.thresholds)
 
     def decide(self, moment: float) -> None:
         """The kubelet has evicted or refused a pod."""

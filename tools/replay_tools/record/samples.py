@@ -119,8 +119,9 @@ class Sampling:
             self.timeline.tells_rounds = self.format.says_gone and rounds.are_told(seen.summary.signals)
         if self.timeline.tells_rounds:
             values = {signal: sample.value for signal, sample in seen.summary.signals.items()}
-            near = self.timeline.near
-            evicted_at = self.timeline.evicted_last if near.may_evict_by(values) else None
+            near, newest = self.timeline.near, self.newest_moment(seen)
+            near.see(values, newest)
+            evicted_at = self.timeline.evicted_last if near.may_evict(newest) else None
             for moment in self.rounds.of(seen.summary.signals, near.below(values), evicted_at):
                 self.timeline.place_round(max(self.begun, min(moment, seen.end)))
 
