@@ -143,6 +143,44 @@ class Observed(Fact):
 
 
 @dataclass
+class HardThresholds(Fact):
+    """The hard thresholds of the configuration with which the kubelet was started: limits by signal."""
+    limits: dict[str, str]
+
+
+@dataclass
+class SoftThreshold(Fact):
+    """A soft threshold that is met, and whose grace period is not over."""
+    signal: str
+    limit: str
+    grace: str
+
+
+@dataclass
+class Flag(Fact):
+    """A flag of the kubelet's that may set thresholds, with its value."""
+    name: str
+    value: str
+
+
+@dataclass
+class Below(Fact):
+    """A round has a threshold among those that are met, or whose reclaim is not there yet: its limit, and what was
+    observed."""
+    signal: str
+    limit: int
+    observed: int
+    is_unreclaimed: bool = False
+
+
+@dataclass
+class Pressure(Fact):
+    """The conditions of the node that a round has met, or else those that are true by it."""
+    conditions: frozenset[str]
+    is_met: bool = False
+
+
+@dataclass
 class Reclaims(Fact):
     """The node is short of a resource, and the eviction manager begins to reclaim it."""
     resource: str

@@ -4,7 +4,6 @@ from __future__ import annotations
 
 from collections import Counter
 from collections.abc import Callable, Iterable, Iterator
-from dataclasses import dataclass, field
 from typing import Any, Optional
 
 from replay_tools import entry
@@ -17,6 +16,7 @@ from .lives import Life
 from .manifests import Manifests
 from .outputs import output_kept
 from .placing import LATE_SECONDS, TURNS, Placing
+from .thresholds import Round, Thresholds
 
 # what is placed waits so long for what later lines say of it
 HOLD_SECONDS = 600
@@ -37,13 +37,6 @@ MOST_RANKED = 10
 # the reasons of Events that are told; of failures of probes, kills and evictions there are lines
 TOLD = ("BackOff", "Failed", "FailedCreatePodSandBox", "FailedMount", "FailedPostStartHook", "FailedPreStopHook",
         "NodeNotReady", "Preempting", "ProbeWarning", "SandboxChanged", "TaintManagerEviction")
-
-
-@dataclass
-class Round:
-    """A round of the eviction manager: the moment of its first observation, and the signals of which it has one."""
-    at: float
-    signals: set[str] = field(default_factory=set)
 
 
 class Importer:
@@ -75,7 +68,7 @@ class Importer:
         self.process: Optional[int] = None
         # when the kubelet was started, where the journal has that
         self.started_at: Optional[float] = None
-        self.round = Round(0.0)
+        self.thresholds = Thresholds()
         self.resource: tuple[float, str] = (0.0, "")
         self.ranked: tuple[float, tuple[facts.Reference, ...]] = (0.0, ())
         self.messages: dict[str, str] = {}
@@ -90,7 +83,8 @@ class Importer:
             facts.Probed: self.on_probed, facts.Turnover: self.on_turnover, facts.Killing: self.on_killing,
             facts.Waits: self.on_waits, facts.Observed: self.on_observed, facts.Reclaims: self.on_reclaims,
             facts.Ranked: self.on_ranked, facts.Evicted: self.on_evicted, facts.Refused: self.on_refused,
-            facts.Happened: self.on_happened, facts.Begun: self.on_begun}
+            facts.Happened: self.on_happened, facts.Begun: self.on_begun,
+            **dict.fromkeys(self.thresholds.readers, self.thresholds.take)}
 
     # --- the stream ---
 
@@ -171,6 +165,7 @@ class Importer:
         is_anew = isinstance(fact, facts.Begun) or (isinstance(fact, facts.Process)
                                                     and self.process not in (None, fact.process))
         if silence is not None and silence.is_hole and not is_anew:
+            self.thresholds.pause()
             self.placing.hole(silence.since, silence.until)
 
     # --- pods ---
@@ -211,7 +206,6 @@ class Importer:
             self.say(f"{life.key} is left out: {life.pod.fault}")
             life.is_refused = True
         self.placing.count("pods without a manifest" if life.pod is None else "pods with a manifest", life.key)
-        life.is_spared = bool({pod.uid, pod.key} & self.manifests.spared)
         self.lives.append(life)
         self.by_key[life.key] = life
         if pod.uid is not None:
@@ -224,7 +218,6 @@ class Importer:
             return
         # what a kubelet that is started anew finds was there before
         life.was_added = life.was_added or not self.is_begin_of_process(fact.at)
-        life.is_spared = life.is_spared or fact.source == "file"
 
     def on_deleted(self, fact: facts.Deleted) -> None:
         life = self.known_life(fact.pod)
@@ -347,6 +340,7 @@ class Importer:
             self.placing.gap(self.before, fact.at)
             self.say(f"{int(fact.at)}: the kubelet was started anew; what happened shortly before is not known")
             self.started_at = fact.at
+            self.thresholds.begin(fact.at)
         self.process = fact.process
 
     def on_begun(self, fact: facts.Begun) -> None:
@@ -362,9 +356,11 @@ class Importer:
 
     def on_missing(self, fact: facts.Missing) -> None:
         self.placing.count("places where lines are missing")
+        self.thresholds.pause()
         self.placing.gap(self.before, fact.at)
 
     def on_turned_back(self, fact: facts.TurnedBack) -> None:
+        self.thresholds.pause()
         self.placing.gap(self.before, fact.at, fact.seconds)
         self.placing.count(TURNS)
         self.say(f"{int(fact.at) - fact.seconds}: the clock went back by {fact.seconds} s")
@@ -372,13 +368,16 @@ class Importer:
     def on_observed(self, fact: facts.Observed) -> None:
         """A round says first that it begins, and then, by less than a second, what it finds: that stands in one tick,
         of the moment of the first one. A round that finds nothing judges nothing."""
+        if fact.signal is None:
+            self.thresholds.end_round()
         if fact.signal is None or fact.available is None:
             return
-        if fact.signal in self.round.signals or fact.at - self.round.at > ROUND_SECONDS:
-            self.round = Round(fact.at)
-        self.round.signals.add(fact.signal)
+        if fact.signal in self.thresholds.round.signals or fact.at - self.thresholds.round.at > ROUND_SECONDS:
+            self.thresholds.end_round()
+            self.thresholds.round = Round(fact.at)
+        self.thresholds.round.signals.add(fact.signal)
         self.placing.count("observations")
-        self.placing.sample(self.round.at, fact.signal, fact.available)
+        self.placing.sample(self.thresholds.round.at, fact.signal, fact.available)
         if fact.capacity is not None:
             self.capacity[fact.signal] = fact.capacity
 

@@ -63,7 +63,6 @@ class Life:
         self.pod: Optional[recorded.Pod] = None
         self.is_template = False
         self.was_added = False
-        self.is_spared = False
         self.instances = Instances()
         self.probings: dict[tuple[str, str], Probing] = {}
         # what waits to be placed, and what is placed now

@@ -54,7 +54,6 @@ class Placing:
         # the ends of gaps of which it is not settled which pods are there behind them
         self.behind: list[float] = []
         self.silences = Silences()
-        self.spared: dict[str, bool] = {}
         self.templates: dict[str, bool] = {}
         self.gone_at: dict[str, int] = {}
         self.counts: Counter[str] = Counter()
@@ -88,7 +87,7 @@ class Placing:
     def arrive(self, life: Life) -> int:
         """The second of a pod's line, behind that in which the one before it under its name went."""
         self.count("pods")
-        self.spared[life.key], self.templates[life.key] = life.is_spared, life.is_template
+        self.templates[life.key] = life.is_template
         return self.timeline.place_arrival(life.pod, max(life.added_at, self.gone_at.get(life.key, -1) + 1.0))
 
     def depart(self, life: Life, moment: float) -> None:
@@ -177,11 +176,11 @@ class Placing:
         return self.tick_with_gap(line) if self.gaps else line
 
     def pod_with_members(self, fields: dict[str, Any]) -> str:
+        """A pod's line. No journal has what it uses, by which the rules would name it, so it is spared."""
         metadata = fields["pod"]["metadata"]
         key = f"{metadata['namespace']}/{metadata['name']}"
-        more = {"spared": True} if self.spared.get(key) else {}
         guessed = {"guessed": [marks.MANIFEST]} if self.templates.get(key) else {}
-        return line_of({**fields, **more, **guessed})
+        return line_of({**fields, "spared": True, **guessed})
 
     def tick_with_gap(self, line: str) -> str:
         """A tick's line with the gaps before it."""

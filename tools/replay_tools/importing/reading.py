@@ -17,8 +17,9 @@ from .runtimes import Runtime, moment_in
 
 WANTED = {word.encode() for word in (*printed.FORMS, *(f'"{word}' for word in keyed.FIRST_WORDS))}
 WANTED |= {b'"' + word.encode() + b'"' for word in keyed.FIRST_WORDS}
-# flags are many, and one of them is read
-FLAG, NODE_FLAG = b"FLAG:", b"FLAG: --hostname-override="
+# flags are many, and a few of them are read
+FLAG = b"FLAG:"
+READ_FLAGS = b"FLAG: --hostname-override=", b"FLAG: --eviction-", b"FLAG: --config="
 # where a header ends, at the earliest and at the latest, and how long a first word may be
 SHORTEST, LONGEST_HEADER, LONGEST_WORD = 24, 260, 64
 LETTERS = b"IWEF"
@@ -27,8 +28,8 @@ BEGIN = 3
 BEGINS = {word[:BEGIN] for word in WANTED}
 # how messages begin that begin as others do, and say nothing; and where klog's header has the process
 SILENT = (b"SyncLoop (RECONCILE", b"SyncLoop (SYNC)", b"SyncLoop (housekeeping", b"Error getting ",
-          b"Container runtime ", b"eviction manager: thresholds -", b"eviction manager: node conditions -",
-          b"eviction manager: no resources", b"Failed to remove container", b"Created an OOM event")
+          b"Container runtime ", b"eviction manager: no resources", b"Failed to remove container",
+          b"Creating hosts mount for container", b"Created an OOM event")
 PROCESS = slice(22, 29)
 SUPPRESSED = "Suppressed "
 # a clock that goes back by less stands still until its time comes again, and so often at most it goes back
@@ -47,7 +48,7 @@ def is_skipped(text: bytes) -> bool:
 def is_unwanted(text: bytes, place: int) -> bool:
     """Whether the message whose words stand at a place is of no form that is read."""
     word = text[place:place + LONGEST_WORD].partition(b" ")[0]
-    return word not in WANTED or (word == FLAG and not text.startswith(NODE_FLAG, place))
+    return word not in WANTED or (word == FLAG and not text.startswith(READ_FLAGS, place))
 
 
 def left_out(lines: Iterator[bytes]) -> Iterator[bytes | None]:
