@@ -8,7 +8,7 @@ from typing import Optional
 STARTED, DIED = "started", "died"
 
 
-@dataclass(unsafe_hash=True)
+@dataclass(frozen=True)
 class Reference:
     """A pod as a line names it: NAMESPACE/NAME and its uid, one of which may be unknown."""
     key: Optional[str] = None

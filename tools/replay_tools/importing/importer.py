@@ -16,12 +16,13 @@ from .lives import Life
 from .manifests import Manifests
 from .outputs import output_kept
 from .placing import LATE_SECONDS, TURNS, Placing
+from .silences import OF_KUBELET
 from .thresholds import Round, Thresholds
 
 # what is placed waits so long for what later lines say of it
 HOLD_SECONDS = 600
-# so often, in seconds of the journal
-SETTLE_SECONDS = 30
+# so often, in seconds of the journal, what is settled is placed, and what is over forgotten
+SETTLE_SECONDS, FORGET_SECONDS = 60, 300
 # what a new process of the kubelet finds in its first looks ran before it
 FIRST_LOOKS = 6
 # a process that says twice that it begins is one
@@ -64,7 +65,7 @@ class Importer:
         self.now = 0.0
         self.before = 0.0
         self.has_turned = False
-        self.settled_at = 0.0
+        self.settled_at = self.forgot_at = 0.0
         self.process: Optional[int] = None
         # when the kubelet was started, where the journal has that
         self.started_at: Optional[float] = None
@@ -97,9 +98,11 @@ class Importer:
                 self.placing.timeline.place_look(fact.at)
                 self.placing.written_at = int(fact.at)
                 self.settled_at = fact.at
-            self.kinds[type(fact).__name__] += 1
-            self.note_silence(fact)
-            self.handlers.get(type(fact), self.ignore)(fact)
+            kind = type(fact)
+            self.kinds[kind.__name__] += 1
+            if kind in OF_KUBELET:
+                self.note_silence(fact)
+            self.handlers.get(kind, self.ignore)(fact)
             if self.now - self.settled_at >= SETTLE_SECONDS:
                 yield from self.settle(self.placing.silences.open_from(self.now - self.hold))
         if self.begun is not None:
@@ -122,7 +125,9 @@ class Importer:
             life.settle(horizon, self.placing)
         self.placing.doubt(self.lives, float("inf") if is_end else horizon - LATE_SECONDS)
         yield from self.placing.due(float("inf") if is_end else horizon - LATE_SECONDS)
-        self.forget(horizon)
+        if self.now - self.forgot_at >= FORGET_SECONDS:
+            self.forgot_at = self.now
+            self.forget(horizon)
 
     def meet_running(self) -> None:
         """Pods whose statuses say that they ran before the journal begins, and of which it may say nothing."""
@@ -308,7 +313,7 @@ class Importer:
         life.instances.note_name(fact.container)
         life.add(fact.at, "result", (fact.container, fact.probe, fact.result))
         place = life.key, fact.container, fact.probe
-        said = fact.result, output_kept(fact.output)
+        said = fact.result, output_kept(fact.output) if fact.output else None
         if fact.result == "failure" and self.probed.get(place) != said:
             is_left_out = said[1] is None and bool(fact.output.strip())
             self.placing.say(life.key, fact.at, without_nones({

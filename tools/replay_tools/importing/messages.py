@@ -4,7 +4,7 @@ from __future__ import annotations
 
 import math
 import re
-from collections.abc import Iterator
+from collections.abc import Iterator, Mapping
 from dataclasses import dataclass, field
 from typing import Any
 
@@ -22,6 +22,7 @@ ESCAPE = re.compile(r"\\(u[0-9a-fA-F]{4}|x[0-9a-fA-F]{2}|.)")
 ESCAPED = {"n": "\n", "t": "\t", "r": "\r", '"': '"', "\\": "\\"}
 # a message goes on for so many lines, of which the others are not read
 MOST_CONTINUED = 40
+NO_KEYS: Mapping[str, Any] = {}
 
 
 @dataclass
@@ -30,7 +31,7 @@ class Message:
     at: float
     process: int
     text: str
-    keys: dict[str, Any] = field(default_factory=dict)
+    keys: Mapping[str, Any] = field(default_factory=dict)
     node: str = ""
     is_structured: bool = False
     is_own_moment: bool = False
@@ -86,7 +87,7 @@ def text_message(text: bytes, line: Line, klog: Klog) -> Message | None:
             return None
         moment = second + float(found[2])
     said = text[found.end():].decode("utf-8", "replace")
-    return Message(moment, int(found[3]), said, {}, line.node, False, line.moment is None)
+    return Message(moment, int(found[3]), said, NO_KEYS, line.node, False, line.moment is None)
 
 
 def messages_of(lines: Iterator[Line], klog: Klog) -> Iterator[Message | Line]:

@@ -2,6 +2,7 @@
 
 from __future__ import annotations
 
+import heapq
 import json
 import re
 from collections import Counter, defaultdict
@@ -49,7 +50,9 @@ class Placing:
         # which of the probes have their successes in the journal
         self.told_probes: set[str] = set()
         self.has_successes = False
-        self.beside: Rows = defaultdict(list)
+        # what is said of pods from a second on, in the order of these
+        self.beside: list[tuple[int, int, str, str, Any]] = []
+        self.said = 0
         self.gaps: list[tuple[int, dict[str, int]]] = []
         # the ends of gaps of which it is not settled which pods are there behind them
         self.behind: list[float] = []
@@ -77,12 +80,15 @@ class Placing:
 
     def has_room(self, life: Life) -> bool:
         """Whether a trace can have one more pod; of traces one behind the other each has those that are there."""
-        present = len(self.timeline.present) + sum(len(tick.arrivals) - len(tick.departures)
-                                                   for tick in self.timeline.ticks.values())
-        if (present if self.is_at_once else self.counts["pods"]) < MOST_PODS:
+        if (self.present() if self.is_at_once else self.counts["pods"]) < MOST_PODS:
             return True
         self.count("pods left out", life.key)
         return False
+
+    def present(self) -> int:
+        """How many pods are there behind all that is placed."""
+        return len(self.timeline.present) + sum(len(tick.arrivals) - len(tick.departures)
+                                                for tick in self.timeline.ticks.values())
 
     def arrive(self, life: Life) -> int:
         """The second of a pod's line, behind that in which the one before it under its name went."""
@@ -99,13 +105,18 @@ class Placing:
         assert pod.decision is not None
         second = self.timeline.place_decision(pod, pod.decision.moment, life)  # type: ignore[arg-type]
         ends = [self.timeline.last_placed.get((pod.uid, name, "listing"), second) for name in life.ended_since()]
-        self.beside[life.key].append((min([second, *ends]), FAILED, pod.decision.reason))
+        self.put_beside(life.key, min([second, *ends]), FAILED, pod.decision.reason)
         self.count(f"pods {pod.decision.kind}")
         return second
 
     def say(self, key: str, at: float, said: dict[str, Any]) -> None:
         """What the kubelet said of a pod, which stands in the first tick from then on."""
-        self.beside[key].append((int(at), SAID, {"at": int(at), **said}))
+        self.put_beside(key, int(at), SAID, {"at": int(at), **said})
+
+    def put_beside(self, key: str, second: int, member: str, value: Any) -> None:
+        """A member of a pod's entry, in the first tick from a second on."""
+        self.said += 1
+        heapq.heappush(self.beside, (second, self.said, key, member, value))
 
     def sample(self, at: float, signal: str, available: int) -> None:
         """A round of the eviction manager has its own observations, whose tick is judged."""
@@ -144,7 +155,7 @@ class Placing:
             self.behind.remove(until)
             for life in lives:
                 if life.arrived is not None and life.arrived < until and life.heard_at < until:
-                    self.beside[life.key].append((int(until), marks.STATE, None))
+                    self.put_beside(life.key, int(until), marks.STATE, None)
                     self.count(DOUBTED, life.key)
 
     # --- what is written ---
@@ -196,15 +207,20 @@ class Placing:
 
     def rows_due(self, at: int) -> Rows:
         """What was said of each pod up to a second, which is taken; a later tick has what is more than a line takes."""
-        due, left = {}, MOST_SAID_AT_ONCE
-        for key, rows in list(self.beside.items()):
-            taken = [row for row in rows if row[0] <= at and (row[1] != SAID or left > 0)]
-            if taken:
-                due[key] = taken
-                left -= min(sum(row[1] == SAID for row in taken), MOST_SAID)
-                self.beside[key] = [row for row in rows if row[0] > at or (row[1] == SAID and row not in taken)]
-            if not self.beside[key]:
-                del self.beside[key]
+        due: Rows = {}
+        left: list[tuple[int, int, str, str, Any]] = []
+        said = 0
+        while self.beside and self.beside[0][0] <= at:
+            row = heapq.heappop(self.beside)
+            second, _, key, member, value = row
+            if member == SAID and said == MOST_SAID_AT_ONCE:
+                left.append(row)
+                continue
+            rows = due.setdefault(key, [])
+            said += member == SAID and sum(each[1] == SAID for each in rows) < MOST_SAID
+            rows.append((second, member, value))
+        for row in left:
+            heapq.heappush(self.beside, row)
         return due
 
     @staticmethod

@@ -65,6 +65,6 @@ class Plain(Writer):
     def end(self) -> None:
         if self.node is not None:
             self.output.write(f"{shown(self.node(None))}\n")
-            for data in self.held:
-                self.output.write(data.decode())
         self.output.flush()
+        self.output.buffer.writelines(self.held)
+        self.output.buffer.flush()
