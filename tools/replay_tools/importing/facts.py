@@ -39,7 +39,8 @@ class NodeName(Fact):
 
 @dataclass
 class Missing(Fact):
-    """The journal says that it has not all lines up to here, or that the clock went forward."""
+    """A journal has not all lines since the one before it, where that is known, or the clock went forward."""
+    since: Optional[float] = None
 
 
 @dataclass

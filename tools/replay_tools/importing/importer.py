@@ -15,7 +15,7 @@ from . import facts
 from .lives import Life
 from .manifests import Manifests
 from .outputs import output_kept
-from .placing import LATE_SECONDS, TURNS, Placing
+from .placing import FILLED, LATE_SECONDS, TURNS, Placing
 from .silences import OF_KUBELET
 from .thresholds import Round, Thresholds
 
@@ -31,6 +31,8 @@ AGAIN_SECONDS = 60
 NEAR_SECONDS = 60
 # the observations of one round of the eviction manager follow each other within so many seconds
 ROUND_SECONDS = 1.0
+# the same line stands in two journals within so many seconds
+FILLED_SECONDS = 1.0
 MOST_LOOSE = 100_000
 LONGEST_MESSAGE = 4096
 EVICTED_WORD, RANKED_WORD = "Evicted", "RankedForEviction"
@@ -360,6 +362,10 @@ class Importer:
         self.node = fact.name
 
     def on_missing(self, fact: facts.Missing) -> None:
+        """Lines are missing in a journal; where another one has some of the kubelet's there, it has them all."""
+        if fact.since is not None and (self.placing.silences.newest or 0.0) > fact.since + FILLED_SECONDS:
+            self.placing.count(FILLED)
+            return
         self.placing.count("places where lines are missing")
         self.thresholds.pause()
         self.placing.gap(self.before, fact.at)

@@ -26,9 +26,9 @@ if TYPE_CHECKING:
 EVERY = 10
 # the seconds behind one in which something may still be placed
 LATE_SECONDS = 60
-# what is counted: holes that the journal of the kubelet alone shows, pods of which no line behind a gap speaks, and how
-# often the clock went back
-HOLES, DOUBTED, TURNS = "holes", "pods in doubt", "turns"
+# what is counted: holes that the journal of the kubelet alone shows, those of a journal that another one fills, pods of
+# which no line behind a gap speaks, and how often the clock went back
+HOLES, FILLED, DOUBTED, TURNS = "holes", "filled holes", "pods in doubt", "turns"
 # a member of a pod's entry: what the kubelet said
 SAID, FAILED = "said", "failed"
 # of a gap: by how many seconds the clock went back there

@@ -13,6 +13,7 @@ from .journals import Counts, Hole, Journal, Line
 from .messages import Message, messages_of
 from .moments import Klog
 from .ordering import in_order
+from .overlaps import Overlaps
 from .runtimes import Runtime, moment_in
 from .skipping import LONGEST_WORD, SKIPPING
 
@@ -59,16 +60,20 @@ class Processes:
 class Reader:
     """Reads one journal."""
 
-    def __init__(self, journal: Journal, klog: Klog, processes: Processes) -> None:
+    def __init__(self, journal: Journal, klog: Klog, processes: Processes, place: int, overlaps: Overlaps) -> None:
         self.journal = journal
         self.klog = klog
         self.processes = processes
+        # which of several it is, and what these have both
+        self.place = place
+        self.overlaps = overlaps
+        self.is_alone = len(overlaps.newest) == 1
         self.runtime = Runtime()
         self.process = -1
         self.node = ""
         self.now = 0.0
-        # the newest moment since the clock went back, and how often it did
-        self.newest = 0.0
+        # the newest moment since the clock went back, that of the item before, and how often it went back
+        self.newest = self.before = 0.0
         self.turns = 0
         # whether moments are klog's own
         self.uses_klog = False
@@ -90,8 +95,18 @@ class Reader:
                 since, self.newest, self.now = self.newest, moment, moment
                 yield facts.TurnedBack(moment, 0, since)
             elif moment is not None:
-                self.newest = max(self.newest, moment)
-            yield from read(item)
+                self.before, self.newest = self.newest, max(self.newest, moment)
+            if self.is_alone or moment is None or not self.is_repeated(item, moment):
+                yield from read(item)
+        self.overlaps.end(self.place)
+
+    def is_repeated(self, item: Any, moment: float) -> bool:
+        """Whether another journal has an item too, and it is read there."""
+        if isinstance(item, Hole):
+            return False
+        is_message = isinstance(item, Message)
+        key = (item.process, item.stamp, item.text, str(item.keys)) if is_message else (int(moment), item.text)
+        return self.overlaps.is_repeated(self.place, moment, key, is_message)
 
     def of_message(self, message: Message) -> Iterator[facts.Fact]:
         if message.at < self.now:
@@ -124,7 +139,7 @@ class Reader:
             is_forward = line.why == FORWARD
             self.journal.counts.forwards += is_forward
             self.journal.counts.holes += not is_forward
-            yield facts.Missing(self.moment_of(line))
+            yield facts.Missing(self.moment_of(line), None if is_forward else self.before)
             return
         yield from self.runtime.facts_of(line)
 
@@ -135,8 +150,8 @@ class Reader:
 def read_all(journals: list[Journal], klog_of: Callable[[Journal], Klog], node: str | None) -> tuple[
         Iterator[facts.Fact], list[Reader]]:
     """The facts of several journals by their moments."""
-    processes = Processes(node, len(journals))
-    readers = [Reader(journal, klog_of(journal), processes) for journal in journals]
+    processes, overlaps = Processes(node, len(journals)), Overlaps(len(journals))
+    readers = [Reader(journal, klog_of(journal), processes, place, overlaps) for place, journal in enumerate(journals)]
     return in_order(readers), readers
 
 

@@ -1,5 +1,5 @@
-"""Which lines of a journal are not read: messages of klog's that are of no form that is known, or say nothing. Most of a
-log are these, so they are passed over before anything is taken apart."""
+"""Which lines of a journal are not read: messages of klog's that are of no form that is known, or say nothing. Most of
+a log are these, so they are passed over before anything is taken apart."""
 
 from __future__ import annotations
 

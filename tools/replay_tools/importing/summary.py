@@ -10,12 +10,13 @@ from typing import Any, TYPE_CHECKING
 from replay_tools import entry
 from replay_tools.traces import SIGNALS
 
-from .placing import DOUBTED, HOLES, TURNS
+from .placing import DOUBTED, FILLED, HOLES, TURNS
 from .thresholds import HARD, SOFT
 
 if TYPE_CHECKING:
     from .importer import Importer
     from .journals import Counts
+    from .overlaps import Overlaps
     from .reading import Reader
 
 # a kind of fact: what it is called, and what it means where there is none
@@ -52,7 +53,19 @@ def lines_of(importer: Importer, readers: list[Reader], counts: Counts, words: N
         year = time.gmtime(importer.begun or 0).tm_year
         said.append(f"its moments have neither a year nor a zone: taken as {words.year or year} and "
                     f"{words.zone or 'UTC'} (--year, --zone)")
-    return said + lacking(importer, kinds, placed) + of_counts(counts)
+    return said + of_overlaps(readers[0].overlaps) + lacking(importer, kinds, placed) + of_counts(counts)
+
+
+def of_overlaps(overlaps: Overlaps) -> list[str]:
+    """What several journals have both."""
+    said = []
+    if overlaps.repeated:
+        said.append(f"{entry.counted(overlaps.repeated, 'message')} that a journal has too which was read before: each "
+                    "counts once")
+    if overlaps.alone:
+        said.append(f"{entry.counted(overlaps.alone, 'message')} in one alone of journals that both have others of that "
+                    "time: they contradict each other, and what each has is taken")
+    return said
 
 
 def stamp(moment: float | None) -> str:
@@ -110,6 +123,9 @@ def of_holes(importer: Importer, placed: Counter[str]) -> list[str]:
     if placed[HOLES]:
         said.append(f"{entry.counted(placed[HOLES], 'time')} without a line of the kubelet's, which would have said "
                     "something there: lines are missing")
+    if placed[FILLED]:
+        said.append(f"{entry.counted(placed[FILLED], 'place')} where lines of a journal are missing, and another one "
+                    "has some")
     if placed[DOUBTED]:
         said.append(f"{entry.counted(placed[DOUBTED], 'pod')} of which no line behind a gap speaks "
                     f"({names_of(importer, DOUBTED)}): told as before it")
