@@ -120,7 +120,8 @@ class Manifests:
             return
         if key_of(*pod.key.split("/", 1)) is None:
             return
-        annotations = metadata.get("annotations") if isinstance(metadata.get("annotations"), dict) else {}
+        given = metadata.get("annotations")
+        annotations: dict[str, Any] = given if isinstance(given, dict) else {}
         uids = {pod.uid, str(annotations.get(HASH) or annotations.get(MIRROR) or pod.uid)}
         self.taken += 1
         self.by_uid.update(dict.fromkeys(uids - {"None"}, pod))
@@ -147,8 +148,8 @@ def read(path: str, what: str) -> Iterator[Any]:
         with open(path, "rb") as file:
             is_packed = file.read(2) == packed.GZIP
             file.seek(0)
-            source = gzip.GzipFile(fileobj=file) if is_packed else file
-            yield from documents_of(io.BufferedReader(source), path, what)  # type: ignore[arg-type, type-var]
+            source: Any = gzip.GzipFile(fileobj=file) if is_packed else file
+            yield from documents_of(io.BufferedReader(source), path, what)
     except packed.DAMAGES as fault:
         raise entry.Fault(f"{what}: '{path}' can't be read: {getattr(fault, 'strerror', None) or fault}") from None
 

@@ -7,10 +7,12 @@ import json
 import re
 from collections import Counter, defaultdict
 from collections.abc import Iterator
+from dataclasses import replace
 from typing import Any, Optional, TYPE_CHECKING
 
 from replay_tools.record.formats import MOST_PODS, shown
 from replay_tools.record.lines import Format, extended, line_of
+from replay_tools.record.seen import Recorded
 from replay_tools.traces import SIGNALS
 
 from . import marks
@@ -18,6 +20,7 @@ from .silences import Silences
 from .steady import ImportedTimeline, Rows
 
 if TYPE_CHECKING:
+    from replay_tools.record.decisions import Decision
     from replay_tools.record.pods import Pod
 
     from .lives import Life
@@ -90,23 +93,24 @@ class Placing:
         return len(self.timeline.present) + sum(len(tick.arrivals) - len(tick.departures)
                                                 for tick in self.timeline.ticks.values())
 
-    def arrive(self, life: Life) -> int:
+    def arrive(self, life: Life, pod: Pod) -> int:
         """The second of a pod's line, behind that in which the one before it under its name went."""
         self.count("pods")
         self.templates[life.key] = life.is_template
-        return self.timeline.place_arrival(life.pod, max(life.added_at, self.gone_at.get(life.key, -1) + 1.0))
+        return self.timeline.place_arrival(pod, max(life.added_at, self.gone_at.get(life.key, -1) + 1.0))
 
-    def depart(self, life: Life, moment: float) -> None:
-        self.gone_at[life.key] = self.timeline.place_departure(life.pod, moment)
+    def depart(self, pod: Pod, moment: float) -> None:
+        self.gone_at[pod.key] = self.timeline.place_departure(pod, moment)
 
-    def decide(self, life: Life, pod: Pod) -> int:
+    def decide(self, life: Life, pod: Pod, decision: Decision) -> int:
         """What the kubelet did to a pod; the second of its tick. The node has ended the pod with the tick of the first
         exit behind which none of its containers started."""
-        assert pod.decision is not None
-        second = self.timeline.place_decision(pod, pod.decision.moment, life)  # type: ignore[arg-type]
-        ends = [self.timeline.last_placed.get((pod.uid, name, "listing"), second) for name in life.ended_since()]
-        self.put_beside(life.key, min([second, *ends]), FAILED, pod.decision.reason)
-        self.count(f"pods {pod.decision.kind}")
+        arrived = Recorded(pod, life.changes_from if life.arrived is None else life.arrived, life.changes_from)
+        second = self.timeline.place_decision(replace(pod, decision=decision), decision.moment or 0.0, arrived)
+        names = [(str(pod.uid), name, "listing") for name in life.ended_since()]
+        ends = [self.timeline.last_placed.get(name, second) for name in names]
+        self.put_beside(life.key, min([second, *ends]), FAILED, decision.reason)
+        self.count(f"pods {decision.kind}")
         return second
 
     def say(self, key: str, at: float, said: dict[str, Any]) -> None:

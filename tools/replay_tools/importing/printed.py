@@ -76,8 +76,9 @@ def of_container(message: Message) -> Iterator[facts.Fact]:
         yield facts.Known(message.at, found[2], pod, found[1])
         yield facts.Killing(message.at, found[2], pod, found[1], why=found[4])
     found = READINESS.match(message.text)
-    if found is not None and (pod := placed_in(found[1])) is not None and id_of(found[2]) is not None:
-        yield facts.Known(message.at, found[2], pod)
+    named = None if found is None else placed_in(found[1])
+    if found is not None and named is not None and id_of(found[2]) is not None:
+        yield facts.Known(message.at, found[2], named)
 
 
 def of_made(message: Message) -> Iterator[facts.Fact]:
