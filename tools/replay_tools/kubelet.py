@@ -36,7 +36,7 @@ class Fact:
     causes: list = field(default_factory=list)
     """why they differ, as far as the trace shows: each as its parts, texts and moments as numbers"""
     is_imported: bool = False
-    """the trace was made of a journal, which has no thresholds"""
+    """the trace was made of a journal, which has not what pods use of the node"""
 
     @property
     def agrees(self) -> bool:
@@ -142,7 +142,7 @@ def add_causes(trace: traces.Trace, report: reports.Report, facts: list[Fact]) -
         if is_own_limit(fact.decision):
             fact.causes = [["it came to a limit of its own, which is no pressure of the node"]]
         elif fact.is_imported:
-            fact.causes = [["a journal has no thresholds, and not what pods use of the node"]]
+            fact.causes = [["no journal has what pods use of the node"]]
     others = [fact for fact in facts if fact.is_judged and not fact.agrees and trace.ticks]
     usages = why.usages_at(trace, {place_of(trace, fact) for fact in others})
     for fact in others:

@@ -205,7 +205,9 @@ def evicted_lines(evicted: why.Evicted, show: Callable[[int], str], is_kubelets:
     """The threshold of an eviction, its samples, and the pods in the order in which the rules rank them."""
     of_bytes = evicted.signal in traces.BYTE_SIGNALS
     lines = threshold_lines(evicted, of_bytes, show) + pause_lines(evicted, show, is_kubelets)
-    lines += sample_lines(evicted, of_bytes, show, is_kubelets)
+    lines += sample_lines(evicted, of_bytes, show, is_kubelets) if evicted.samples else ["no sample stands near it"]
+    if not evicted.candidates:
+        return [*lines, "each pod that was present is spared, so none is ranked"]
     with_requests = any(candidate.request is not None for candidate in evicted.candidates)
     rows = [candidate_row(place, candidate, of_bytes, show, victim_word(evicted))
             for place, candidate in enumerate(evicted.candidates, 1)]

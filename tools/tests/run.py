@@ -36,7 +36,9 @@ import test_hostile_nodes
 import test_hostile_traces
 import test_import
 import test_import_gaps
+import test_import_overlaps
 import test_import_real
+import test_import_thresholds
 import test_into
 import test_into_folder
 import test_into_kills
@@ -73,8 +75,8 @@ MODULES = (test_record, test_connections, test_plays, test_into, test_into_folde
            test_kubectl, test_command, test_explain, test_reasons, test_deploy, test_probes, test_answers,
            test_secrets, test_deletions, test_ends, test_members, test_rounds, test_into_kills, test_into_room,
            test_used, test_logs, test_ship, test_metrics, test_events, test_tests, test_hostile_nodes,
-           test_hostile_traces, test_import, test_import_gaps, test_import_real, test_summary, test_workloads,
-           test_follow, test_said)
+           test_hostile_traces, test_import, test_import_gaps, test_import_overlaps, test_import_real,
+           test_import_thresholds, test_summary, test_workloads, test_follow, test_said)
 RECORDINGS = f"{HERE}/recordings"
 COMMANDS = f"{HERE}/commands"
 

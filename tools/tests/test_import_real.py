@@ -43,7 +43,7 @@ def test_import_of_a_real_log():
 
 
 def test_tools_over_an_imported_trace():
-    """Each tool takes it; of an eviction the rules have nothing to say, since no journal has thresholds."""
+    """Each tool takes it; of an eviction the rules have nothing to say, since no journal has what pods use."""
     with tempfile.TemporaryDirectory() as folder:
         log = from_log.at_level(import_counts.read_lzma(f"{RECORDING}/kubelet.log.xz"), 2)
         status, trace, _ = run([f"{TOOLS}/import", "--pods", f"{RECORDING}/pods.json", "--year", "2026"], log)
@@ -51,7 +51,7 @@ def test_tools_over_an_imported_trace():
         with open(path, "w", encoding="utf-8") as file:
             file.write(trace)
         told = run([f"{TOOLS}/kubelet-replay", "story", "-f", path, "shop/livetrap"])
-        nothing = "the rules have nothing to say of it; a journal has no thresholds, and not what pods use of the node"
+        nothing = "the rules have nothing to say of it; no journal has what pods use of the node"
         expect("story of an imported trace", (status, told[0], told[2], nothing in told[1].split("\n")),
                (0, 0, "", True))
         for words in ("why -f TRACE shop/oomer", "page -f TRACE", "timeline -f TRACE", "json -f TRACE",

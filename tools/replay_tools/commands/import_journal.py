@@ -36,7 +36,7 @@ manifest is made of lines or of its owner "manifest". At its end it says on stan
 it lacked, by kind.
 
 It needs python3, for YAML python3-yaml, for NODE kubectl. It leaves out pods' use of the node, which no journal has,
-so the rules evict nobody and judge no threshold; the kubelet's own evictions are told as what they are.
+so each pod is spared, and the rules evict nobody; the kubelet's own evictions are told as what they are.
 
 Status 0: done; 1: nothing was understood, as of a file that is no journal, of several kubelets whose lines are mixed,
 or of manifests of another cluster, and nothing is written; the cluster gives no log; or what is made can't be written;

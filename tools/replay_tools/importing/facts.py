@@ -8,7 +8,7 @@ from typing import Optional
 STARTED, DIED = "started", "died"
 
 
-@dataclass(unsafe_hash=True)
+@dataclass(frozen=True)
 class Reference:
     """A pod as a line names it: NAMESPACE/NAME and its uid, one of which may be unknown."""
     key: Optional[str] = None
@@ -39,7 +39,8 @@ class NodeName(Fact):
 
 @dataclass
 class Missing(Fact):
-    """The journal says that it has not all lines up to here, or that the clock went forward."""
+    """A journal has not all lines since the one before it, where that is known, or the clock went forward."""
+    since: Optional[float] = None
 
 
 @dataclass
@@ -140,6 +141,44 @@ class Observed(Fact):
     signal: Optional[str] = None
     available: Optional[int] = None
     capacity: Optional[int] = None
+
+
+@dataclass
+class HardThresholds(Fact):
+    """The hard thresholds of the configuration with which the kubelet was started: limits by signal."""
+    limits: dict[str, str]
+
+
+@dataclass
+class SoftThreshold(Fact):
+    """A soft threshold that is met, and whose grace period is not over."""
+    signal: str
+    limit: str
+    grace: str
+
+
+@dataclass
+class Flag(Fact):
+    """A flag of the kubelet's that may set thresholds, with its value."""
+    name: str
+    value: str
+
+
+@dataclass
+class Below(Fact):
+    """A round has a threshold among those that are met, or whose reclaim is not there yet: its limit, and what was
+    observed."""
+    signal: str
+    limit: int
+    observed: int
+    is_unreclaimed: bool = False
+
+
+@dataclass
+class Pressure(Fact):
+    """The conditions of the node that a round has met, or else those that are true by it."""
+    conditions: frozenset[str]
+    is_met: bool = False
 
 
 @dataclass

@@ -12,14 +12,19 @@ from replay_tools.record.folder import Folder, Refused
 from replay_tools.record.formats import MOST_TICKS, shown
 from replay_tools.record.into import Traces
 
-from .placing import CLOCK_BACK
-from .writing import Ended, Writer
+from .placing import CLOCK_BACK, TICK_AT
+from .thresholds import MEMBERS
+from .writing import Ended, NodeLine, Writer
 
 # what is imported is not taken away for its age or its size
 KEPT_SECONDS, KEPT_BYTES = 1 << 36, 1 << 60
 # a tick behind a gap has this member
 GAP = '"gap":{'
 MOMENTS = ("at", "since", "until")
+
+
+def thresholds_in(node: dict[str, Any]) -> dict[str, Any]:
+    return {name: value for name, value in node.items() if name in MEMBERS}
 
 
 def set_back(value: Any, seconds: int) -> Any:
@@ -44,8 +49,15 @@ class Folded(Writer):
         self.traces: Optional[Traces] = None
         # by how much moments are earlier than they are given, since the clock went back
         self.back = 0
+        self.node: Optional[NodeLine] = None
+        # what the node line says of thresholds
+        self.thresholds: dict[str, Any] = {}
 
-    def begin(self, node: dict[str, Any]) -> None:
+    def begin(self, node: NodeLine) -> None:
+        self.node = node
+        self.begin_in(node(0))
+
+    def begin_in(self, node: dict[str, Any]) -> None:
         try:
             folder = Folder(self.path, node["name"], KEPT_SECONDS, KEPT_BYTES, self.say)
         except Refused as refused:
@@ -54,11 +66,28 @@ class Folded(Writer):
             raise entry.Fault(f"--into: '{self.path}' has traces of {node['name']} already: take an empty folder", 1)
         self.traces = Traces(folder, self.each, MOST_TICKS, self.say)
         self.traces.write([shown(node)])
+        self.thresholds = thresholds_in(node)
         self.is_begun = True
+
+    def know(self, second: int, is_behind_gap: bool) -> None:
+        """What the node line says at a second. Where the thresholds are others than those of the trace it ends, and the
+        next one begins with them; behind a gap one begins in any case."""
+        assert self.traces is not None and self.node is not None
+        node = self.node(second)
+        if thresholds_in(node) != self.thresholds:
+            self.thresholds = thresholds_in(node)
+            self.traces.write([shown(node)])
+            at = self.traces.standing.at
+            if self.traces.part is not None and at is not None and not is_behind_gap:
+                self.traces.turn(at)
 
     def write(self, lines: list[str], has_tick: bool) -> None:
         assert self.traces is not None
-        if any(GAP in line for line in lines):
+        has_gap = any(GAP in line for line in lines)
+        second = next((int(found[1]) for line in lines if (found := TICK_AT.match(line)) is not None), None)
+        if second is not None:
+            self.know(second, has_gap)
+        if has_gap:
             lines = self.begin_anew(lines)
         elif self.back:
             lines = self.by_the_clock(lines)

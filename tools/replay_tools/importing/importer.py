@@ -4,7 +4,6 @@ from __future__ import annotations
 
 from collections import Counter
 from collections.abc import Callable, Iterable, Iterator
-from dataclasses import dataclass, field
 from typing import Any, Optional
 
 from replay_tools import entry
@@ -16,12 +15,14 @@ from . import facts
 from .lives import Life
 from .manifests import Manifests
 from .outputs import output_kept
-from .placing import LATE_SECONDS, TURNS, Placing
+from .placing import FILLED, LATE_SECONDS, TURNS, Placing
+from .silences import OF_KUBELET
+from .thresholds import Round, Thresholds
 
 # what is placed waits so long for what later lines say of it
 HOLD_SECONDS = 600
-# so often, in seconds of the journal
-SETTLE_SECONDS = 30
+# so often, in seconds of the journal, what is settled is placed, and what is over forgotten
+SETTLE_SECONDS, FORGET_SECONDS = 60, 300
 # what a new process of the kubelet finds in its first looks ran before it
 FIRST_LOOKS = 6
 # a process that says twice that it begins is one
@@ -30,6 +31,8 @@ AGAIN_SECONDS = 60
 NEAR_SECONDS = 60
 # the observations of one round of the eviction manager follow each other within so many seconds
 ROUND_SECONDS = 1.0
+# the same line stands in two journals within so many seconds
+FILLED_SECONDS = 1.0
 MOST_LOOSE = 100_000
 LONGEST_MESSAGE = 4096
 EVICTED_WORD, RANKED_WORD = "Evicted", "RankedForEviction"
@@ -37,13 +40,6 @@ MOST_RANKED = 10
 # the reasons of Events that are told; of failures of probes, kills and evictions there are lines
 TOLD = ("BackOff", "Failed", "FailedCreatePodSandBox", "FailedMount", "FailedPostStartHook", "FailedPreStopHook",
         "NodeNotReady", "Preempting", "ProbeWarning", "SandboxChanged", "TaintManagerEviction")
-
-
-@dataclass
-class Round:
-    """A round of the eviction manager: the moment of its first observation, and the signals of which it has one."""
-    at: float
-    signals: set[str] = field(default_factory=set)
 
 
 class Importer:
@@ -71,11 +67,11 @@ class Importer:
         self.now = 0.0
         self.before = 0.0
         self.has_turned = False
-        self.settled_at = 0.0
+        self.settled_at = self.forgot_at = 0.0
         self.process: Optional[int] = None
         # when the kubelet was started, where the journal has that
         self.started_at: Optional[float] = None
-        self.round = Round(0.0)
+        self.thresholds = Thresholds()
         self.resource: tuple[float, str] = (0.0, "")
         self.ranked: tuple[float, tuple[facts.Reference, ...]] = (0.0, ())
         self.messages: dict[str, str] = {}
@@ -90,7 +86,8 @@ class Importer:
             facts.Probed: self.on_probed, facts.Turnover: self.on_turnover, facts.Killing: self.on_killing,
             facts.Waits: self.on_waits, facts.Observed: self.on_observed, facts.Reclaims: self.on_reclaims,
             facts.Ranked: self.on_ranked, facts.Evicted: self.on_evicted, facts.Refused: self.on_refused,
-            facts.Happened: self.on_happened, facts.Begun: self.on_begun}
+            facts.Happened: self.on_happened, facts.Begun: self.on_begun,
+            **dict.fromkeys(self.thresholds.readers, self.thresholds.take)}
 
     # --- the stream ---
 
@@ -103,9 +100,11 @@ class Importer:
                 self.placing.timeline.place_look(fact.at)
                 self.placing.written_at = int(fact.at)
                 self.settled_at = fact.at
-            self.kinds[type(fact).__name__] += 1
-            self.note_silence(fact)
-            self.handlers.get(type(fact), self.ignore)(fact)
+            kind = type(fact)
+            self.kinds[kind.__name__] += 1
+            if kind in OF_KUBELET:
+                self.note_silence(fact)
+            self.handlers.get(kind, self.ignore)(fact)
             if self.now - self.settled_at >= SETTLE_SECONDS:
                 yield from self.settle(self.placing.silences.open_from(self.now - self.hold))
         if self.begun is not None:
@@ -128,7 +127,9 @@ class Importer:
             life.settle(horizon, self.placing)
         self.placing.doubt(self.lives, float("inf") if is_end else horizon - LATE_SECONDS)
         yield from self.placing.due(float("inf") if is_end else horizon - LATE_SECONDS)
-        self.forget(horizon)
+        if self.now - self.forgot_at >= FORGET_SECONDS:
+            self.forgot_at = self.now
+            self.forget(horizon)
 
     def meet_running(self) -> None:
         """Pods whose statuses say that they ran before the journal begins, and of which it may say nothing."""
@@ -171,6 +172,7 @@ class Importer:
         is_anew = isinstance(fact, facts.Begun) or (isinstance(fact, facts.Process)
                                                     and self.process not in (None, fact.process))
         if silence is not None and silence.is_hole and not is_anew:
+            self.thresholds.pause()
             self.placing.hole(silence.since, silence.until)
 
     # --- pods ---
@@ -211,7 +213,6 @@ class Importer:
             self.say(f"{life.key} is left out: {life.pod.fault}")
             life.is_refused = True
         self.placing.count("pods without a manifest" if life.pod is None else "pods with a manifest", life.key)
-        life.is_spared = bool({pod.uid, pod.key} & self.manifests.spared)
         self.lives.append(life)
         self.by_key[life.key] = life
         if pod.uid is not None:
@@ -224,7 +225,6 @@ class Importer:
             return
         # what a kubelet that is started anew finds was there before
         life.was_added = life.was_added or not self.is_begin_of_process(fact.at)
-        life.is_spared = life.is_spared or fact.source == "file"
 
     def on_deleted(self, fact: facts.Deleted) -> None:
         life = self.known_life(fact.pod)
@@ -315,7 +315,7 @@ class Importer:
         life.instances.note_name(fact.container)
         life.add(fact.at, "result", (fact.container, fact.probe, fact.result))
         place = life.key, fact.container, fact.probe
-        said = fact.result, output_kept(fact.output)
+        said = fact.result, output_kept(fact.output) if fact.output else None
         if fact.result == "failure" and self.probed.get(place) != said:
             is_left_out = said[1] is None and bool(fact.output.strip())
             self.placing.say(life.key, fact.at, without_nones({
@@ -347,6 +347,7 @@ class Importer:
             self.placing.gap(self.before, fact.at)
             self.say(f"{int(fact.at)}: the kubelet was started anew; what happened shortly before is not known")
             self.started_at = fact.at
+            self.thresholds.begin(fact.at)
         self.process = fact.process
 
     def on_begun(self, fact: facts.Begun) -> None:
@@ -361,10 +362,16 @@ class Importer:
         self.node = fact.name
 
     def on_missing(self, fact: facts.Missing) -> None:
+        """Lines are missing in a journal; where another one has some of the kubelet's there, it has them all."""
+        if fact.since is not None and (self.placing.silences.newest or 0.0) > fact.since + FILLED_SECONDS:
+            self.placing.count(FILLED)
+            return
         self.placing.count("places where lines are missing")
+        self.thresholds.pause()
         self.placing.gap(self.before, fact.at)
 
     def on_turned_back(self, fact: facts.TurnedBack) -> None:
+        self.thresholds.pause()
         self.placing.gap(self.before, fact.at, fact.seconds)
         self.placing.count(TURNS)
         self.say(f"{int(fact.at) - fact.seconds}: the clock went back by {fact.seconds} s")
@@ -372,13 +379,16 @@ class Importer:
     def on_observed(self, fact: facts.Observed) -> None:
         """A round says first that it begins, and then, by less than a second, what it finds: that stands in one tick,
         of the moment of the first one. A round that finds nothing judges nothing."""
+        if fact.signal is None:
+            self.thresholds.end_round()
         if fact.signal is None or fact.available is None:
             return
-        if fact.signal in self.round.signals or fact.at - self.round.at > ROUND_SECONDS:
-            self.round = Round(fact.at)
-        self.round.signals.add(fact.signal)
+        if fact.signal in self.thresholds.round.signals or fact.at - self.thresholds.round.at > ROUND_SECONDS:
+            self.thresholds.end_round()
+            self.thresholds.round = Round(fact.at)
+        self.thresholds.round.signals.add(fact.signal)
         self.placing.count("observations")
-        self.placing.sample(self.round.at, fact.signal, fact.available)
+        self.placing.sample(self.thresholds.round.at, fact.signal, fact.available)
         if fact.capacity is not None:
             self.capacity[fact.signal] = fact.capacity
 

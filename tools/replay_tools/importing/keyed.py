@@ -9,9 +9,9 @@ from typing import Any
 
 from replay_tools import outside
 
-from . import facts
+from . import configured, facts
 from .messages import Message
-from .printed import TYPES, amount, patched, waits_in
+from .printed import TYPES, UNRECLAIMED, amount, below, patched, waits_in
 from .references import container_at, id_of, reference_of, references_of
 from .statuses import code_of, of_printed, of_status
 
@@ -131,6 +131,31 @@ def of_observed(message: Message) -> Iterator[facts.Fact]:
     yield facts.Observed(message.at, signal if isinstance(signal, str) else None, available, capacity)
 
 
+def of_list(message: Message) -> Iterator[facts.Fact]:
+    """What a round tells of, by the name of a list."""
+    if "observations" in str(message.keys.get("log")):
+        yield from of_observed(message)
+
+
+def of_below(message: Message) -> Iterator[facts.Fact]:
+    keys = message.keys
+    signal, limit, observed = str(keys.get("signal")), str(keys.get("quantity")), str(keys.get("resource"))
+    yield from below(message.at, signal, limit, observed, UNRECLAIMED in str(keys.get("log")))
+
+
+def of_pressure(message: Message) -> Iterator[facts.Fact]:
+    conditions = configured.conditions_of(message.keys.get("nodeCondition") or message.keys.get("nodeConditions"))
+    yield facts.Pressure(message.at, conditions, message.text.endswith("observed"))
+
+
+def of_soft(message: Message) -> Iterator[facts.Fact]:
+    yield from configured.soft_of(message.at, str(message.keys.get("threshold")))
+
+
+def of_configuration(message: Message) -> Iterator[facts.Fact]:
+    yield from configured.hard_of(message.at, message.keys.get("nodeConfig"))
+
+
 def of_round(message: Message) -> Iterator[facts.Fact]:
     yield facts.Observed(message.at)
 
@@ -193,6 +218,11 @@ FORMS: dict[str, Callable[[Message], Iterator[facts.Fact]]] = {
     "Killing container with a grace period": of_killing, "Message for Container of pod": of_reason,
     "Error syncing pod, skipping": of_error, "Patch status for pod": of_patch, "Event occurred": of_happened,
     "Eviction manager: observations": of_observed, "Eviction manager: synchronize housekeeping": of_round,
+    "Eviction manager:": of_list, "Eviction manager: threshold observed resource": of_below,
+    "Eviction manager: node conditions - observed": of_pressure,
+    "Eviction manager: node conditions - transition period not met": of_pressure,
+    "Eviction manager: eviction criteria not yet met": of_soft,
+    "Creating Container Manager object based on Node Config": of_configuration,
     "Eviction manager: attempting to reclaim": of_reclaim, "Eviction manager: pods ranked for eviction": of_ranked,
     "Eviction manager: pod is evicted successfully": of_evicted,
     "Eviction manager: pods successfully cleaned up": of_cleaned, "Failed to admit pod to node": of_refusal,

@@ -63,7 +63,6 @@ class Life:
         self.pod: Optional[recorded.Pod] = None
         self.is_template = False
         self.was_added = False
-        self.is_spared = False
         self.instances = Instances()
         self.probings: dict[tuple[str, str], Probing] = {}
         # what waits to be placed, and what is placed now
@@ -127,16 +126,17 @@ class Life:
         """Places all that happened up to a moment."""
         if self.is_over or self.is_refused or self.added_at > horizon:
             return
-        if self.arrived is None and not self.arrive(placing):
+        pod = self.pod if self.arrived is not None else self.arrive(placing)
+        if pod is None:
             return
         leaves_at = self.leaves_at()
         until = horizon if leaves_at is None else min(horizon, leaves_at)
         self.placed = self.items(until)
         for item in self.placed:
-            self.place(item, placing)
-        self.place_silent(None, until, placing)
-        self.decide(horizon, placing)
-        self.leave(horizon, placing)
+            self.place(pod, item, placing)
+        self.place_silent(pod, None, until, placing)
+        self.decide(pod, horizon, placing)
+        self.leave(pod, horizon, placing)
 
     def resolve(self, placing: Placing) -> None:
         """Finds the containers of its instances, and ends what ended in a hole of the journal: an instance behind which
@@ -152,28 +152,34 @@ class Life:
         if self.replaced_at is not None and not is_told:
             self.removed_at = placing.hole_between(self.heard_at, self.replaced_at)
 
-    def arrive(self, placing: Placing) -> bool:
-        """Its line, with a manifest, or with the containers that lines name where there is none."""
-        if self.pod is None:
-            names = list(dict.fromkeys([*self.instances.names, *(str(chain.name) for chain in self.instances.chains)]))
-            if not names:
-                return False
-            namespace, _, name = self.key.partition("/")
-            self.pod = recorded.pod_of({"metadata": {"namespace": namespace, "name": name},
-                                        "spec": {"containers": [{"name": each} for each in names]}})
-            self.is_template = True
+    def arrive(self, placing: Placing) -> Optional[recorded.Pod]:
+        """Its line, with a manifest, or with the containers that lines name where there is none; None where it has no
+        line yet, or no room."""
+        found = self.pod if self.pod is not None else self.made_pod()
+        if found is None:
+            return None
         if not placing.has_room(self):
             self.is_refused = True
-            return False
-        self.pod = replace(self.pod, uid=self.known_uid(), decision=None)
-        self.arrived = self.changes_from = placing.arrive(self)
-        for container in self.pod.containers():
+            return None
+        pod = self.pod = replace(found, uid=self.known_uid(), decision=None)
+        self.arrived = self.changes_from = placing.arrive(self, pod)
+        for container in pod.containers():
             for probe in PROBES:
-                if self.pod.has_probe(container, probe):
+                if pod.has_probe(container, probe):
                     self.probings[container, probe] = Probing(
-                        probe, self.pod.period(container, probe), self.pod.initial_delay(container, probe),
-                        self.pod.successes_wanted(container, probe))
-        return True
+                        probe, pod.period(container, probe), pod.initial_delay(container, probe),
+                        pod.successes_wanted(container, probe))
+        return pod
+
+    def made_pod(self) -> Optional[recorded.Pod]:
+        """A pod of the containers that lines name; None while they name none."""
+        names = list(dict.fromkeys([*self.instances.names, *(str(chain.name) for chain in self.instances.chains)]))
+        if not names:
+            return None
+        namespace, _, name = self.key.partition("/")
+        self.is_template = True
+        return recorded.pod_of({"metadata": {"namespace": namespace, "name": name},
+                                "spec": {"containers": [{"name": each} for each in names]}})
 
     def items(self, horizon: float) -> list[Item]:
         """What happened up to a moment and is not placed yet, in order."""
@@ -200,21 +206,21 @@ class Life:
             if not instance.has_ended:
                 yield Item(latest, ORDER["exit"], 0, "exit", (chain, instance))
 
-    def place(self, item: Item, placing: Placing) -> None:
+    def place(self, pod: recorded.Pod, item: Item, placing: Placing) -> None:
         if item.what == "wait":
             self.waits = {**self.waits, **item.value}
-            placing.timeline.place_waits(self.pod, item.at, self.waits)
+            placing.timeline.place_waits(pod, item.at, self.waits)
         elif item.what == "kill":
             self.place_kill(item.at, item.value[0], item.value[1], placing)
         elif item.what == "result":
-            self.place_result(item.at, item.value, placing)
+            self.place_result(pod, item.at, item.value, placing)
         else:
             chain, instance = item.value
-            self.place_silent(chain.name, item.at, placing)
+            self.place_silent(pod, chain.name, item.at, placing)
             if item.what == "start":
-                self.place_start(chain, instance, placing)
+                self.place_start(pod, chain, instance, placing)
             else:
-                self.place_exit(chain, instance, placing)
+                self.place_exit(pod, chain, instance, placing)
 
     def place_kill(self, at: float, instance: Instance, grace: int, placing: Placing) -> None:
         """The kubelet ends an instance, which stands at its own second."""
@@ -225,9 +231,9 @@ class Life:
             "grace": grace}))
         placing.timeline.place_look(at)
 
-    def place_start(self, chain: Chain, instance: Instance, placing: Placing) -> None:
+    def place_start(self, pod: recorded.Pod, chain: Chain, instance: Instance, placing: Placing) -> None:
         name = str(chain.name)
-        if self.pod is None or name not in self.pod.containers():
+        if name not in pod.containers():
             placing.count("containers that no manifest has", f"{self.key} {name}")
             instance.written = 0
             return
@@ -236,8 +242,7 @@ class Life:
         placing.mark(self, name, attempt, [marks.MOMENT] if instance.started is None or instance.is_met else [],
                      [marks.CONTAINER] if instance.is_found else [])
         moment = max(instance.begin or 0, self.arrived or 0)
-        placing.timeline.place_container(self.pod, name, [Change(moment, Listing(attempt, RUNNING))], [],
-                                         self.changes_from)
+        placing.timeline.place_container(pod, name, [Change(moment, Listing(attempt, RUNNING))], [], self.changes_from)
         self.started[name] = moment
         # behind a startup that has not passed no other probe comes
         first = (STARTUP,) if (name, STARTUP) in self.probings else PROBES
@@ -250,19 +255,19 @@ class Life:
             if container == name and probe in probes:
                 probing.start(self.started.get(name, seen), seen)
 
-    def place_exit(self, chain: Chain, instance: Instance, placing: Placing) -> None:
+    def place_exit(self, pod: recorded.Pod, chain: Chain, instance: Instance, placing: Placing) -> None:
         name = str(chain.name)
         instance.has_ended = True
-        if self.pod is None or name not in self.pod.containers() or instance.written is None:
+        if name not in pod.containers() or instance.written is None:
             return
-        code, is_guessed = self.code_of(chain, instance)
+        code, is_guessed = self.code_of(pod, chain, instance)
         placing.mark(self, name, instance.written, [marks.CODE] if is_guessed else [],
                      [marks.MOMENT] if instance.finished is None else [])
         placing.count("exits without their code" if is_guessed else "exits with their code")
         reason = None if instance.reason is None else reason_of({"reason": instance.reason})
         listing = Listing(instance.written, EXITED, code, reason)
         make = Change if instance.killing is not None or not is_guessed else ByItself
-        placing.timeline.place_container(self.pod, name, [make(instance.end or 0, listing)], [], self.changes_from)
+        placing.timeline.place_container(pod, name, [make(instance.end or 0, listing)], [], self.changes_from)
         self.end_probes(name)
 
     def end_probes(self, name: str) -> None:
@@ -270,16 +275,15 @@ class Life:
             if container == name:
                 probing.end()
 
-    def code_of(self, chain: Chain, instance: Instance) -> tuple[int, bool]:
+    def code_of(self, pod: recorded.Pod, chain: Chain, instance: Instance) -> tuple[int, bool]:
         """The code of an exit, and whether it is guessed: then it is 0 where what came behind it says so, else that of
         an instance that is lost, which the rules take as a failure."""
         if instance.code is not None:
             return instance.code, False
         has_next = chain.newest is not instance
-        assert self.pod is not None
-        names, policy = self.pod.containers(), self.pod.manifest["spec"].get("restartPolicy") or "Always"
+        names, policy = pod.containers(), pod.manifest["spec"].get("restartPolicy") or "Always"
         place = names.index(str(chain.name))
-        is_init = place < len(self.pod.manifest["spec"].get("initContainers") or [])
+        is_init = place < len(pod.manifest["spec"].get("initContainers") or [])
         is_passed = is_init and any(names.index(str(other.name)) > place for other in self.instances.chains
                                     if other.name in names and (other.newest.seen or 0) >= (instance.gone or 0))
         is_left_so = policy == "OnFailure" and self.deleted_at is None and self.decision is None and not is_init
@@ -288,24 +292,24 @@ class Life:
 
     # --- probes ---
 
-    def place_result(self, at: float, result: tuple[str, str, str], placing: Placing) -> None:
+    def place_result(self, pod: recorded.Pod, at: float, result: tuple[str, str, str], placing: Placing) -> None:
         """A result that a line has, behind those without one."""
         container, probe, found = result
         probing = self.probings.get((container, probe))
         if probing is None:
             return
-        self.place_silent(container, at, placing)
+        self.place_silent(pod, container, at, placing)
         if probing.take(found, at):
-            self.place_results(container, iter([Result(at, probe, found)]), placing)
+            self.place_results(pod, container, iter([Result(at, probe, found)]), placing)
 
-    def place_silent(self, name: Optional[str], until: float, placing: Placing) -> None:
+    def place_silent(self, pod: recorded.Pod, name: Optional[str], until: float, placing: Placing) -> None:
         """The successes that have no line, of one container or of all, up to a moment: those whose line would stand
         before it, though late."""
         for (container, probe), probing in self.probings.items():
             if name in (None, container) and placing.is_silent(probe):
                 self.set_phase(container, probe, probing)
                 found = probing.silent(until - probing.period / 2, placing.timeline.gaps)
-                self.place_results(container, found, placing)
+                self.place_results(pod, container, found, placing)
 
     def set_phase(self, container: str, probe: str, probing: Probing) -> None:
         """A probe comes at a period of its own, which the next line that it has shows too."""
@@ -318,25 +322,25 @@ class Life:
             if probing.due is not None:
                 probing.due = probing.first_behind(probing.due - probing.period / 2)
 
-    def place_results(self, container: str, results: Iterator[Result], placing: Placing) -> None:
+    def place_results(self, pod: recorded.Pod, container: str, results: Iterator[Result], placing: Placing) -> None:
         for result in results:
-            placing.timeline.place_container(self.pod, container, [], [result], self.changes_from)
+            placing.timeline.place_container(pod, container, [], [result], self.changes_from)
             if result.probe == STARTUP and result.result == SUCCESS:
                 self.begin_probes(container, (LIVENESS, READINESS), result.moment)
 
     # --- its end ---
 
-    def decide(self, horizon: float, placing: Placing) -> None:
+    def decide(self, pod: recorded.Pod, horizon: float, placing: Placing) -> None:
         """The kubelet told it to go, or evicted it."""
         if self.deleted_at is not None and self.deleted_at <= horizon and not self.is_deleting:
             self.is_deleting = True
             moment = max(self.deleted_at, float(self.arrived or 0))
-            placing.timeline.place_deletion(self.pod, moment)
+            placing.timeline.place_deletion(pod, moment)
             placing.timeline.place_look(moment)
-        if self.decision is None or self.pod is None or self.is_decided or (self.decision.moment or 0) > horizon:
+        if self.decision is None or self.is_decided or (self.decision.moment or 0) > horizon:
             return
         self.is_decided = True
-        second = placing.decide(self, replace(self.pod, decision=self.decision))
+        second = placing.decide(self, pod, self.decision)
         if self.decision.kind == EVICTED:
             self.changes_from = second + 1
 
@@ -360,11 +364,11 @@ class Life:
         # what is deleted by force exits behind that
         return max([at, *(end for end in ends if end is not None and at < end <= at + GOING_SECONDS)])
 
-    def leave(self, horizon: float, placing: Placing) -> None:
+    def leave(self, pod: recorded.Pod, horizon: float, placing: Placing) -> None:
         at = self.leaves_at()
         if at is not None and at <= horizon:
             self.is_over = True
-            placing.depart(self, max(at, float(self.changes_from)))
+            placing.depart(pod, max(at, float(self.changes_from)))
 
     def forget(self, before: float) -> None:
         self.instances.forget(before)

@@ -32,9 +32,7 @@ OWNED = {"ReplicaSet": rf"-{SUFFIX}", "Deployment": rf"-[a-z0-9]{{5,10}}-{SUFFIX
          "DaemonSet": rf"-{SUFFIX}", "Job": rf"-(?:\d+-)?{SUFFIX}", "CronJob": rf"-\d{{8,10}}(?:-\d+)?-{SUFFIX}",
          "ReplicationController": rf"-{SUFFIX}"}
 LISTS = "items", "pods"
-MIRROR, SOURCE = "kubernetes.io/config.mirror", "kubernetes.io/config.source"
-HASH = "kubernetes.io/config.hash"
-CRITICAL = 2_000_000_000
+MIRROR, HASH = "kubernetes.io/config.mirror", "kubernetes.io/config.hash"
 
 
 @dataclass
@@ -43,7 +41,6 @@ class Manifests:
     by_uid: dict[str, recorded.Pod] = field(default_factory=dict)
     by_key: dict[str, recorded.Pod] = field(default_factory=dict)
     owners: list[tuple[str, re.Pattern[str], dict[str, Any]]] = field(default_factory=list)
-    spared: set[str] = field(default_factory=set)
     known: list[facts.Known] = field(default_factory=list)
     ended: dict[str, tuple[str, str]] = field(default_factory=dict)
     nodes: set[str] = field(default_factory=set)
@@ -123,10 +120,9 @@ class Manifests:
             return
         if key_of(*pod.key.split("/", 1)) is None:
             return
-        annotations = metadata.get("annotations") if isinstance(metadata.get("annotations"), dict) else {}
+        given = metadata.get("annotations")
+        annotations: dict[str, Any] = given if isinstance(given, dict) else {}
         uids = {pod.uid, str(annotations.get(HASH) or annotations.get(MIRROR) or pod.uid)}
-        if MIRROR in annotations or annotations.get(SOURCE) == "file" or is_critical(spec):
-            self.spared |= uids | {pod.key}
         self.taken += 1
         self.by_uid.update(dict.fromkeys(uids - {"None"}, pod))
         self.by_key[pod.key] = pod
@@ -142,10 +138,6 @@ class Manifests:
             self.ended[pod.uid] = status["reason"], str(status.get("message") or "")
 
 
-def is_critical(spec: dict[str, Any]) -> bool:
-    return (outside.whole(spec.get("priority")) or 0) >= CRITICAL
-
-
 # --- files ---
 
 
@@ -156,8 +148,8 @@ def read(path: str, what: str) -> Iterator[Any]:
         with open(path, "rb") as file:
             is_packed = file.read(2) == packed.GZIP
             file.seek(0)
-            source = gzip.GzipFile(fileobj=file) if is_packed else file
-            yield from documents_of(io.BufferedReader(source), path, what)  # type: ignore[arg-type, type-var]
+            source: Any = gzip.GzipFile(fileobj=file) if is_packed else file
+            yield from documents_of(io.BufferedReader(source), path, what)
     except packed.DAMAGES as fault:
         raise entry.Fault(f"{what}: '{path}' can't be read: {getattr(fault, 'strerror', None) or fault}") from None
 

@@ -4,7 +4,7 @@ from __future__ import annotations
 
 import math
 import re
-from collections.abc import Iterator
+from collections.abc import Iterator, Mapping
 from dataclasses import dataclass, field
 from typing import Any
 
@@ -22,6 +22,7 @@ ESCAPE = re.compile(r"\\(u[0-9a-fA-F]{4}|x[0-9a-fA-F]{2}|.)")
 ESCAPED = {"n": "\n", "t": "\t", "r": "\r", '"': '"', "\\": "\\"}
 # a message goes on for so many lines, of which the others are not read
 MOST_CONTINUED = 40
+NO_KEYS: Mapping[str, Any] = {}
 
 
 @dataclass
@@ -30,10 +31,12 @@ class Message:
     at: float
     process: int
     text: str
-    keys: dict[str, Any] = field(default_factory=dict)
+    keys: Mapping[str, Any] = field(default_factory=dict)
     node: str = ""
     is_structured: bool = False
     is_own_moment: bool = False
+    # klog's own moment, as it is written
+    stamp: tuple[Any, ...] = ()
 
 
 def unquoted(text: str) -> str:
@@ -71,7 +74,7 @@ def json_message(text: bytes, line: Line) -> Message | None:
     if moment is None or not math.isfinite(moment) or outside.moment(int(moment)) is None:
         return None
     keys = {name: value for name, value in record.items() if name not in ("ts", "caller", "msg", "v")}
-    return Message(moment, line.process, record["msg"], keys, line.node, True)
+    return Message(moment, line.process, record["msg"], keys, line.node, True, stamp=(stamp,))
 
 
 def text_message(text: bytes, line: Line, klog: Klog) -> Message | None:
@@ -79,14 +82,15 @@ def text_message(text: bytes, line: Line, klog: Klog) -> Message | None:
     found = HEADER.match(text)
     if found is None:
         return None
+    stamp = found.groups()
     moment = line.moment
     if moment is None:
-        second = klog.second_of(found[1])
+        second = klog.second_of(stamp[0])
         if second is None:
             return None
-        moment = second + float(found[2])
+        moment = second + float(stamp[1])
     said = text[found.end():].decode("utf-8", "replace")
-    return Message(moment, int(found[3]), said, {}, line.node, False, line.moment is None)
+    return Message(moment, int(stamp[2]), said, NO_KEYS, line.node, False, line.moment is None, stamp)
 
 
 def messages_of(lines: Iterator[Line], klog: Klog) -> Iterator[Message | Line]:

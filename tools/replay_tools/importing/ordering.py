@@ -13,6 +13,8 @@ if TYPE_CHECKING:
 
 # a journal that waits has waited for all that was said before the clock went back, when the others are so far beyond
 BEYOND_SECONDS = 60
+# by how much the moments of a line differ in the forms of a journal
+FORMS_SECONDS = 0.01
 
 
 class Source:
@@ -58,6 +60,8 @@ class Source:
             fact.finished = self.exact(fact.finished, said, seconds)
         if isinstance(fact, facts.TurnedBack):
             fact.since += seconds
+        elif isinstance(fact, facts.Missing) and fact.since is not None:
+            fact.since += seconds
         fact.at += seconds
         return fact
 
@@ -86,7 +90,10 @@ def in_order(readers: list[Reader]) -> Iterator[facts.Fact]:
 
 
 def moment_of_next(source: Source) -> float:
-    return 0.0 if source.head is None else source.head.at
+    """When its next fact comes. That lines are missing before a moment comes behind what others have at it."""
+    if source.head is None:
+        return 0.0
+    return source.head.at + (FORMS_SECONDS if isinstance(source.head, facts.Missing) else 0.0)
 
 
 def turned(sources: list[Source], waiting: list[facts.TurnedBack]) -> facts.TurnedBack:

@@ -2,14 +2,17 @@
 
 from __future__ import annotations
 
+import heapq
 import json
 import re
 from collections import Counter, defaultdict
 from collections.abc import Iterator
+from dataclasses import replace
 from typing import Any, Optional, TYPE_CHECKING
 
 from replay_tools.record.formats import MOST_PODS, shown
 from replay_tools.record.lines import Format, extended, line_of
+from replay_tools.record.seen import Recorded
 from replay_tools.traces import SIGNALS
 
 from . import marks
@@ -17,6 +20,7 @@ from .silences import Silences
 from .steady import ImportedTimeline, Rows
 
 if TYPE_CHECKING:
+    from replay_tools.record.decisions import Decision
     from replay_tools.record.pods import Pod
 
     from .lives import Life
@@ -25,9 +29,9 @@ if TYPE_CHECKING:
 EVERY = 10
 # the seconds behind one in which something may still be placed
 LATE_SECONDS = 60
-# what is counted: holes that the journal of the kubelet alone shows, pods of which no line behind a gap speaks, and how
-# often the clock went back
-HOLES, DOUBTED, TURNS = "holes", "pods in doubt", "turns"
+# what is counted: holes that the journal of the kubelet alone shows, those of a journal that another one fills, pods of
+# which no line behind a gap speaks, and how often the clock went back
+HOLES, FILLED, DOUBTED, TURNS = "holes", "filled holes", "pods in doubt", "turns"
 # a member of a pod's entry: what the kubelet said
 SAID, FAILED = "said", "failed"
 # of a gap: by how many seconds the clock went back there
@@ -49,12 +53,13 @@ class Placing:
         # which of the probes have their successes in the journal
         self.told_probes: set[str] = set()
         self.has_successes = False
-        self.beside: Rows = defaultdict(list)
+        # what is said of pods from a second on, in the order of these
+        self.beside: list[tuple[int, int, str, str, Any]] = []
+        self.said = 0
         self.gaps: list[tuple[int, dict[str, int]]] = []
         # the ends of gaps of which it is not settled which pods are there behind them
         self.behind: list[float] = []
         self.silences = Silences()
-        self.spared: dict[str, bool] = {}
         self.templates: dict[str, bool] = {}
         self.gone_at: dict[str, int] = {}
         self.counts: Counter[str] = Counter()
@@ -78,35 +83,44 @@ class Placing:
 
     def has_room(self, life: Life) -> bool:
         """Whether a trace can have one more pod; of traces one behind the other each has those that are there."""
-        present = len(self.timeline.present) + sum(len(tick.arrivals) - len(tick.departures)
-                                                   for tick in self.timeline.ticks.values())
-        if (present if self.is_at_once else self.counts["pods"]) < MOST_PODS:
+        if (self.present() if self.is_at_once else self.counts["pods"]) < MOST_PODS:
             return True
         self.count("pods left out", life.key)
         return False
 
-    def arrive(self, life: Life) -> int:
+    def present(self) -> int:
+        """How many pods are there behind all that is placed."""
+        return len(self.timeline.present) + sum(len(tick.arrivals) - len(tick.departures)
+                                                for tick in self.timeline.ticks.values())
+
+    def arrive(self, life: Life, pod: Pod) -> int:
         """The second of a pod's line, behind that in which the one before it under its name went."""
         self.count("pods")
-        self.spared[life.key], self.templates[life.key] = life.is_spared, life.is_template
-        return self.timeline.place_arrival(life.pod, max(life.added_at, self.gone_at.get(life.key, -1) + 1.0))
+        self.templates[life.key] = life.is_template
+        return self.timeline.place_arrival(pod, max(life.added_at, self.gone_at.get(life.key, -1) + 1.0))
 
-    def depart(self, life: Life, moment: float) -> None:
-        self.gone_at[life.key] = self.timeline.place_departure(life.pod, moment)
+    def depart(self, pod: Pod, moment: float) -> None:
+        self.gone_at[pod.key] = self.timeline.place_departure(pod, moment)
 
-    def decide(self, life: Life, pod: Pod) -> int:
+    def decide(self, life: Life, pod: Pod, decision: Decision) -> int:
         """What the kubelet did to a pod; the second of its tick. The node has ended the pod with the tick of the first
         exit behind which none of its containers started."""
-        assert pod.decision is not None
-        second = self.timeline.place_decision(pod, pod.decision.moment, life)  # type: ignore[arg-type]
-        ends = [self.timeline.last_placed.get((pod.uid, name, "listing"), second) for name in life.ended_since()]
-        self.beside[life.key].append((min([second, *ends]), FAILED, pod.decision.reason))
-        self.count(f"pods {pod.decision.kind}")
+        arrived = Recorded(pod, life.changes_from if life.arrived is None else life.arrived, life.changes_from)
+        second = self.timeline.place_decision(replace(pod, decision=decision), decision.moment or 0.0, arrived)
+        names = [(str(pod.uid), name, "listing") for name in life.ended_since()]
+        ends = [self.timeline.last_placed.get(name, second) for name in names]
+        self.put_beside(life.key, min([second, *ends]), FAILED, decision.reason)
+        self.count(f"pods {decision.kind}")
         return second
 
     def say(self, key: str, at: float, said: dict[str, Any]) -> None:
         """What the kubelet said of a pod, which stands in the first tick from then on."""
-        self.beside[key].append((int(at), SAID, {"at": int(at), **said}))
+        self.put_beside(key, int(at), SAID, {"at": int(at), **said})
+
+    def put_beside(self, key: str, second: int, member: str, value: Any) -> None:
+        """A member of a pod's entry, in the first tick from a second on."""
+        self.said += 1
+        heapq.heappush(self.beside, (second, self.said, key, member, value))
 
     def sample(self, at: float, signal: str, available: int) -> None:
         """A round of the eviction manager has its own observations, whose tick is judged."""
@@ -145,7 +159,7 @@ class Placing:
             self.behind.remove(until)
             for life in lives:
                 if life.arrived is not None and life.arrived < until and life.heard_at < until:
-                    self.beside[life.key].append((int(until), marks.STATE, None))
+                    self.put_beside(life.key, int(until), marks.STATE, None)
                     self.count(DOUBTED, life.key)
 
     # --- what is written ---
@@ -177,11 +191,11 @@ class Placing:
         return self.tick_with_gap(line) if self.gaps else line
 
     def pod_with_members(self, fields: dict[str, Any]) -> str:
+        """A pod's line. No journal has what it uses, by which the rules would name it, so it is spared."""
         metadata = fields["pod"]["metadata"]
         key = f"{metadata['namespace']}/{metadata['name']}"
-        more = {"spared": True} if self.spared.get(key) else {}
         guessed = {"guessed": [marks.MANIFEST]} if self.templates.get(key) else {}
-        return line_of({**fields, **more, **guessed})
+        return line_of({**fields, "spared": True, **guessed})
 
     def tick_with_gap(self, line: str) -> str:
         """A tick's line with the gaps before it."""
@@ -197,15 +211,20 @@ class Placing:
 
     def rows_due(self, at: int) -> Rows:
         """What was said of each pod up to a second, which is taken; a later tick has what is more than a line takes."""
-        due, left = {}, MOST_SAID_AT_ONCE
-        for key, rows in list(self.beside.items()):
-            taken = [row for row in rows if row[0] <= at and (row[1] != SAID or left > 0)]
-            if taken:
-                due[key] = taken
-                left -= min(sum(row[1] == SAID for row in taken), MOST_SAID)
-                self.beside[key] = [row for row in rows if row[0] > at or (row[1] == SAID and row not in taken)]
-            if not self.beside[key]:
-                del self.beside[key]
+        due: Rows = {}
+        left: list[tuple[int, int, str, str, Any]] = []
+        said = 0
+        while self.beside and self.beside[0][0] <= at:
+            row = heapq.heappop(self.beside)
+            second, _, key, member, value = row
+            if member == SAID and said == MOST_SAID_AT_ONCE:
+                left.append(row)
+                continue
+            rows = due.setdefault(key, [])
+            said += member == SAID and sum(each[1] == SAID for each in rows) < MOST_SAID
+            rows.append((second, member, value))
+        for row in left:
+            heapq.heappush(self.beside, row)
         return due
 
     @staticmethod

@@ -7,8 +7,9 @@ import re
 from collections.abc import Callable, Iterator
 
 from replay_tools import amounts, outside
+from replay_tools.traces import SIGNALS
 
-from . import facts
+from . import configured, facts
 from .messages import Message
 from .references import id_of, placed, placed_in
 from .statuses import of_printed, of_status
@@ -25,6 +26,9 @@ WAITING = re.compile(r'failed to "(\w+)" for "([^"]*)" with (\w+): "((?:[^"\\]|\
 MADE = re.compile(r"container: ([a-z0-9][-a-z0-9]{0,62})/([-.a-z0-9]{1,253})/([a-z0-9][-a-z0-9]{0,62}) podIPs: ")
 PATCH = re.compile(r'Patch status for pod "([^"]*)" with (?=")')
 OBSERVED = re.compile(r"observations: signal=([\w.]+), available: ([^,\s]+), capacity: ([^,\s]+)")
+BELOW = re.compile(r"thresholds - [a-z ]{1,60}: threshold \[signal=([\w.]+), quantity=(\S+)\] observed (\S+)")
+PRESSURE = re.compile(r"node conditions - (observed|transition period not met): (\[[A-Za-z ]{0,200}\])")
+NOT_YET_MET, UNRECLAIMED = "eviction criteria not yet met", "reclaim not satisfied"
 RESOURCE = re.compile(r"attempting to reclaim ([-\w]+)")
 REFUSED = re.compile(r"Failed to admit pod (\S+) - node has conditions: \[([A-Za-z, ]{0,200})\]")
 SANDBOX = re.compile(r'Created PodSandbox "(\w+)" for pod "([^"]*)"')
@@ -72,8 +76,9 @@ def of_container(message: Message) -> Iterator[facts.Fact]:
         yield facts.Known(message.at, found[2], pod, found[1])
         yield facts.Killing(message.at, found[2], pod, found[1], why=found[4])
     found = READINESS.match(message.text)
-    if found is not None and (pod := placed_in(found[1])) is not None and id_of(found[2]) is not None:
-        yield facts.Known(message.at, found[2], pod)
+    named = None if found is None else placed_in(found[1])
+    if found is not None and named is not None and id_of(found[2]) is not None:
+        yield facts.Known(message.at, found[2], named)
 
 
 def of_made(message: Message) -> Iterator[facts.Fact]:
@@ -126,6 +131,12 @@ def of_eviction(message: Message) -> Iterator[facts.Fact]:
     text = message.text
     if (found := OBSERVED.search(text)) is not None:
         yield facts.Observed(message.at, found[1], amount(found[2]), amount(found[3]))
+    elif (found := BELOW.search(text)) is not None:
+        yield from below(message.at, found[1], found[2], found[3], UNRECLAIMED in text)
+    elif (found := PRESSURE.search(text)) is not None:
+        yield facts.Pressure(message.at, configured.conditions_of(found[2]), found[1] == "observed")
+    elif NOT_YET_MET in text:
+        yield from configured.soft_of(message.at, text)
     elif (found := RESOURCE.search(text)) is not None:
         yield facts.Reclaims(message.at, found[1])
     elif "synchronize housekeeping" in text:
@@ -136,6 +147,18 @@ def of_eviction(message: Message) -> Iterator[facts.Fact]:
         yield from (facts.Evicted(message.at, pod) for pod in placed(text))
     elif "successfully cleaned up" in text:
         yield from (facts.Evicted(message.at, pod, True) for pod in placed(text))
+
+
+def below(at: float, signal: str, limit: str, observed: str, is_unreclaimed: bool) -> Iterator[facts.Fact]:
+    """A threshold of a list that a round tells of."""
+    least, found = amount(limit), amount(observed)
+    if signal in SIGNALS and least is not None and found is not None:
+        yield facts.Below(at, signal, least, found, is_unreclaimed)
+
+
+def of_configuration(message: Message) -> Iterator[facts.Fact]:
+    if message.text.startswith("Creating Container Manager object"):
+        yield from configured.hard_of(message.at, message.text)
 
 
 def amount(text: str) -> int | None:
@@ -157,6 +180,11 @@ def of_sandbox(message: Message) -> Iterator[facts.Fact]:
     found = SANDBOX.match(message.text)
     if found is not None and id_of(found[1]) is not None:
         yield facts.Known(message.at, found[1], placed_in(found[2]) or facts.Reference(), is_sandbox=True)
+
+
+def of_flag(message: Message) -> Iterator[facts.Fact]:
+    yield from of_node(message)
+    yield from configured.flag_of(message.at, message.text)
 
 
 def of_node(message: Message) -> Iterator[facts.Fact]:
@@ -188,5 +216,5 @@ FORMS: dict[str, Callable[[Message], Iterator[facts.Fact]]] = {
     "SyncLoop": of_loop, "Readiness": of_probe, "Liveness": of_probe, "Startup": of_probe, "Killing": of_killing,
     "Container": of_container, "container:": of_made, "Error": of_error, "Pod": of_pod, "Status": of_pod,
     "Ignoring": of_pod, "Patch": of_patch, "eviction": of_eviction, "Failed": of_refusal, "Created": of_sandbox,
-    "FLAG:": of_node, "Attempting": of_node, "Successfully": of_node, "Started": of_started, "killContainer": of_named,
-    "failed": of_named, "Got": of_kernel}
+    "FLAG:": of_flag, "Creating": of_configuration, "Attempting": of_node, "Successfully": of_node,
+    "Started": of_started, "killContainer": of_named, "failed": of_named, "Got": of_kernel}

@@ -19,7 +19,7 @@ from .journals import STANDARD_INPUT, Counts, Journal, merged
 from .moments import Klog
 from .placing import Placing
 from .progress import Progress
-from .writing import Ended, Plain, Writer
+from .writing import Ended, NodeLine, Plain, Writer
 
 
 MOST_NOTES = 100
@@ -75,7 +75,7 @@ def imported(words: Namespace) -> int:
         for lines, has_tick in importer.take_all(progress.over(stream)):
             if not writer.is_begun:
                 refuse_strangers(importer)
-                writer.begin(summary.node_line(importer, name_of(words, importer, known)))
+                writer.begin(node_line_of(importer, name_of(words, importer, known)))
             writer.write(lines, has_tick)
         refuse_nothing(importer, journals)
         progress.end()
@@ -151,6 +151,11 @@ def name_of(words: Namespace, importer: Importer, known: manifests.Manifests) ->
     if name is None or not outside.is_name(name):
         raise entry.Fault("no line names the node: give --node NAME")
     return str(name)
+
+
+def node_line_of(importer: Importer, name: str) -> NodeLine:
+    """The node line, asked for as it is to be written."""
+    return lambda second: summary.node_line(importer, name, second)
 
 
 def refuse_nothing(importer: Importer, journals: list[Journal]) -> None:

@@ -9,67 +9,20 @@ from replay_tools import entry
 
 from . import facts, keyed, printed
 from .holes import FORWARD
-from .journals import Counts, Hole, Journal, Line, Skipping
+from .journals import Counts, Hole, Journal, Line
 from .messages import Message, messages_of
 from .moments import Klog
 from .ordering import in_order
+from .overlaps import Overlaps
 from .runtimes import Runtime, moment_in
+from .skipping import LONGEST_WORD, SKIPPING
 
-WANTED = {word.encode() for word in (*printed.FORMS, *(f'"{word}' for word in keyed.FIRST_WORDS))}
-WANTED |= {b'"' + word.encode() + b'"' for word in keyed.FIRST_WORDS}
-# flags are many, and one of them is read
-FLAG, NODE_FLAG = b"FLAG:", b"FLAG: --hostname-override="
-# where a header ends, at the earliest and at the latest, and how long a first word may be
-SHORTEST, LONGEST_HEADER, LONGEST_WORD = 24, 260, 64
-LETTERS = b"IWEF"
-# the first bytes of a word tell of most that they are none of these
-BEGIN = 3
-BEGINS = {word[:BEGIN] for word in WANTED}
-# how messages begin that begin as others do, and say nothing; and where klog's header has the process
-SILENT = (b"SyncLoop (RECONCILE", b"SyncLoop (SYNC)", b"SyncLoop (housekeeping", b"Error getting ",
-          b"Container runtime ", b"eviction manager: thresholds -", b"eviction manager: node conditions -",
-          b"eviction manager: no resources", b"Failed to remove container", b"Created an OOM event")
-PROCESS = slice(22, 29)
 SUPPRESSED = "Suppressed "
 # a clock that goes back by less stands still until its time comes again, and so often at most it goes back
 BACK_SECONDS = 60
 MOST_TURNS = 100
 # how often a process may say something again behind another one
 MOST_RETURNS = 4
-
-
-def is_skipped(text: bytes) -> bool:
-    """Whether a line is a message of klog's that is of no form that is read, by its first word."""
-    place = text.find(b"] ", SHORTEST, LONGEST_HEADER) + 2
-    return place >= SHORTEST and text[0] in LETTERS and is_unwanted(text, place)
-
-
-def is_unwanted(text: bytes, place: int) -> bool:
-    """Whether the message whose words stand at a place is of no form that is read."""
-    word = text[place:place + LONGEST_WORD].partition(b" ")[0]
-    return word not in WANTED or (word == FLAG and not text.startswith(NODE_FLAG, place))
-
-
-def left_out(lines: Iterator[bytes]) -> Iterator[bytes | None]:
-    """Lines as a process writes them, with None for one or more that are skipped: most are, so each is looked at by as
-    little as tells that. A silent one is skipped where its process is that of the line before it that is not."""
-    is_behind_skipped, process = False, b""
-    for text in lines:
-        place = text.find(b"] ", SHORTEST, LONGEST_HEADER) + 2
-        if (place > 1 and text[place:place + BEGIN] not in BEGINS and text[0] in LETTERS) or is_skipped(text) or (
-                text.startswith(SILENT, place) and text[PROCESS] == process):
-            is_behind_skipped = True
-            continue
-        if is_behind_skipped:
-            is_behind_skipped = False
-            yield None
-        process = text[PROCESS]
-        yield text
-    if is_behind_skipped:
-        yield None
-
-
-SKIPPING = Skipping(is_skipped, is_unwanted, left_out)
 
 
 class Processes:
@@ -107,16 +60,20 @@ class Processes:
 class Reader:
     """Reads one journal."""
 
-    def __init__(self, journal: Journal, klog: Klog, processes: Processes) -> None:
+    def __init__(self, journal: Journal, klog: Klog, processes: Processes, place: int, overlaps: Overlaps) -> None:
         self.journal = journal
         self.klog = klog
         self.processes = processes
+        # which of several it is, and what these have both
+        self.place = place
+        self.overlaps = overlaps
+        self.is_alone = len(overlaps.newest) == 1
         self.runtime = Runtime()
         self.process = -1
         self.node = ""
         self.now = 0.0
-        # the newest moment since the clock went back, and how often it did
-        self.newest = 0.0
+        # the newest moment since the clock went back, that of the item before, and how often it went back
+        self.newest = self.before = 0.0
         self.turns = 0
         # whether moments are klog's own
         self.uses_klog = False
@@ -138,8 +95,18 @@ class Reader:
                 since, self.newest, self.now = self.newest, moment, moment
                 yield facts.TurnedBack(moment, 0, since)
             elif moment is not None:
-                self.newest = max(self.newest, moment)
-            yield from read(item)
+                self.before, self.newest = self.newest, max(self.newest, moment)
+            if self.is_alone or moment is None or not self.is_repeated(item, moment):
+                yield from read(item)
+        self.overlaps.end(self.place)
+
+    def is_repeated(self, item: Any, moment: float) -> bool:
+        """Whether another journal has an item too, and it is read there."""
+        if isinstance(item, Hole):
+            return False
+        is_message = isinstance(item, Message)
+        key = (item.process, item.stamp, item.text, str(item.keys)) if is_message else (int(moment), item.text)
+        return self.overlaps.is_repeated(self.place, moment, key, is_message)
 
     def of_message(self, message: Message) -> Iterator[facts.Fact]:
         if message.at < self.now:
@@ -153,7 +120,7 @@ class Reader:
         if message.is_structured:
             reader = keyed.FORMS.get(message.text)
         else:
-            reader = printed.FORMS.get(message.text.split(" ", 1)[0])
+            reader = printed.FORMS.get(message.text[:LONGEST_WORD].partition(" ")[0])
         if reader is not None:
             yield from reader(message)
 
@@ -172,7 +139,7 @@ class Reader:
             is_forward = line.why == FORWARD
             self.journal.counts.forwards += is_forward
             self.journal.counts.holes += not is_forward
-            yield facts.Missing(self.moment_of(line))
+            yield facts.Missing(self.moment_of(line), None if is_forward else self.before)
             return
         yield from self.runtime.facts_of(line)
 
@@ -183,8 +150,8 @@ class Reader:
 def read_all(journals: list[Journal], klog_of: Callable[[Journal], Klog], node: str | None) -> tuple[
         Iterator[facts.Fact], list[Reader]]:
     """The facts of several journals by their moments."""
-    processes = Processes(node, len(journals))
-    readers = [Reader(journal, klog_of(journal), processes) for journal in journals]
+    processes, overlaps = Processes(node, len(journals)), Overlaps(len(journals))
+    readers = [Reader(journal, klog_of(journal), processes, place, overlaps) for place, journal in enumerate(journals)]
     return in_order(readers), readers
 
 

@@ -2,6 +2,7 @@
 
 from __future__ import annotations
 
+import functools
 import re
 from collections.abc import Iterator
 from typing import Any
@@ -10,10 +11,13 @@ from replay_tools import outside
 
 from .facts import Reference
 
+# texts of which it is kept which pods they name: how many, and how long they are
+MOST_KEPT, LONGEST_KEPT = 1000, 400
 # n_ns(uid), as printf messages name a pod; a name has no underscore
 LONGEST_NAME = 253
 NAMED = "-.abcdefghijklmnopqrstuvwxyz0123456789"
 BEHIND_NAME = re.compile(r"_([a-z0-9][-a-z0-9]{0,62})\(([-0-9A-Za-z]{1,64})\)")
+LONGEST_UID = 64
 UID = re.compile(r"[-0-9A-Za-z]{1,64}")
 KEYED = re.compile(r"[a-z0-9][-a-z0-9]{0,62}/[a-z0-9][-.a-z0-9]{0,252}")
 ID = re.compile(r"[0-9a-f]{12,64}")
@@ -34,6 +38,12 @@ def placed(text: str) -> Iterator[Reference]:
 
 def placed_in(text: str) -> Reference | None:
     """The first pod of a text."""
+    return placed_in_short(text) if len(text) <= LONGEST_KEPT else next(all_placed(text), None)
+
+
+@functools.lru_cache(MOST_KEPT)
+def placed_in_short(text: str) -> Reference | None:
+    """The same of a text that has little else than the pod: most messages name one of a few so."""
     return next(all_placed(text), None)
 
 
@@ -50,14 +60,25 @@ def all_placed(text: str) -> Iterator[Reference | None]:
 
 def reference_of(value: Any, uid: Any = None) -> Reference | None:
     """A pod of a message with keys: ns/n, n_ns(uid), or an object with both names."""
-    uid = uid if isinstance(uid, str) and UID.fullmatch(uid) else None
+    uid = uid if isinstance(uid, str) and len(uid) <= LONGEST_UID else None
     if isinstance(value, dict):
-        key = key_of(value.get("namespace"), value.get("name"))
-    elif isinstance(value, str) and (found := placed_in(value)) is not None:
+        return reference_with(key_of(value.get("namespace"), value.get("name")), uid)
+    text = str(value or "")
+    return reference_in_short(text, uid) if len(text) <= LONGEST_KEPT else None
+
+
+@functools.lru_cache(MOST_KEPT)
+def reference_in_short(text: str, uid: str | None) -> Reference | None:
+    found = next(all_placed(text), None)
+    if found is not None:
         return found
-    else:
-        namespace, slash, name = str(value or "").partition("/")
-        key = key_of(namespace, name) if slash else None
+    namespace, slash, name = text.partition("/")
+    return reference_with(key_of(namespace, name) if slash else None, uid)
+
+
+def reference_with(key: str | None, uid: str | None) -> Reference | None:
+    """A pod of its key and its uid, where that is one."""
+    uid = uid if uid is not None and UID.fullmatch(uid) else None
     return None if key is None and uid is None else Reference(key, uid)
 
 

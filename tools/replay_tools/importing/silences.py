@@ -45,8 +45,8 @@ class Silences:
         self.found: list[Silence] = []
 
     def take(self, fact: facts.Fact) -> Optional[Silence]:
-        """Takes a fact; the time before it in which the kubelet said nothing, where it is long."""
-        if type(fact) not in OF_KUBELET or (isinstance(fact, facts.Turned) and fact.is_exact):
+        """Takes a fact of the kubelet's; the time before it in which it said nothing, where it is long."""
+        if isinstance(fact, facts.Turned) and fact.is_exact:
             return None
         since, self.newest = self.newest, fact.at
         found = None

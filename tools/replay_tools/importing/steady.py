@@ -45,6 +45,8 @@ class ImportedTimeline(Timeline):
         # a tick is judged where the journal has a round of the eviction manager
         self.tells_rounds = True
         self.steady: dict[str, Steady] = {}
+        # the texts of those that were made often enough
+        self.texts: dict[str, str] = {}
         # times of which nothing is known: the seconds between which no tick stands
         self.gaps: list[tuple[int, int]] = []
 
@@ -64,14 +66,9 @@ class ImportedTimeline(Timeline):
         """The line of a tick, put together of the texts of entries."""
         rows = self.rows_due(second)
         once = {*(place[0] for place in self.results), *self.deleted, *self.failed}
-        texts = []
-        for pod in self.present:
-            found = self.steady.get(pod.uid)
-            is_told_once = pod.uid in once
-            if found is not None and found.made == STEADY and not is_told_once and pod.key not in rows:
-                texts.append(found.text)
-            else:
-                texts.append(self.text_of(pod, rows, is_told_once))
+        apart = once | {pod.uid for pod in self.present if pod.key in rows} if rows else once
+        texts = [self.texts[pod.uid] if pod.uid in self.texts and pod.uid not in apart
+                 else self.text_of(pod, rows, pod.uid in once) for pod in self.present]
         line = self.line_with([], second, tick, signals)
         return line_of_text(line.replace(NO_PODS, PODS.format(",".join(filter(None, texts))), 1))
 
@@ -82,6 +79,8 @@ class ImportedTimeline(Timeline):
             found.made += 1
             found.entry = self.entry(pod, None)
             found.text = "" if found.entry is None else shown(found.entry)
+            if found.made == STEADY:
+                self.texts[pod.uid] = found.text
         if is_once:
             self.forget(pod.uid)
         return shown(self.with_rows(pod.key, found.entry, rows)) if pod.key in rows else found.text
@@ -96,6 +95,7 @@ class ImportedTimeline(Timeline):
 
     def forget(self, uid: str) -> None:
         self.steady.pop(uid, None)
+        self.texts.pop(uid, None)
 
     def depart(self, pods: list[Pod]) -> None:
         super().depart(pods)

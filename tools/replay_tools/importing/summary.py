@@ -10,11 +10,13 @@ from typing import Any, TYPE_CHECKING
 from replay_tools import entry
 from replay_tools.traces import SIGNALS
 
-from .placing import DOUBTED, HOLES, TURNS
+from .placing import DOUBTED, FILLED, HOLES, TURNS
+from .thresholds import HARD, SOFT
 
 if TYPE_CHECKING:
     from .importer import Importer
     from .journals import Counts
+    from .overlaps import Overlaps
     from .reading import Reader
 
 # a kind of fact: what it is called, and what it means where there is none
@@ -29,12 +31,14 @@ KINDS = {
 NAMED = 3
 
 
-def node_line(importer: Importer, name: str) -> dict[str, Any]:
-    """The node line. No threshold stands in it: without the pods' use of the node the rules would evict whom they
-    should not."""
-    capacity = {signal: importer.capacity[signal] for signal in SIGNALS if signal in importer.capacity}
+def node_line(importer: Importer, name: str, second: int | None) -> dict[str, Any]:
+    """The node line of a trace that begins at a second, or of the one trace of all, with the thresholds that the
+    journal tells of."""
+    known = importer.capacity
+    thresholds = importer.thresholds.of_all(known)[0] if second is None else importer.thresholds.of(second, known)
+    capacity = {signal: known[signal] for signal in SIGNALS if signal in known}
     line: dict[str, Any] = {"kind": "node", "version": importer.placing.format.version, "name": name,
-                            "capacity": capacity, "evictionHard": {}, "evictionsRecorded": True, "imported": True}
+                            "capacity": capacity, **thresholds, "evictionsRecorded": True, "imported": True}
     return line | ({"recordsKubelet": True} if importer.process is not None else {})
 
 
@@ -49,7 +53,19 @@ def lines_of(importer: Importer, readers: list[Reader], counts: Counts, words: N
         year = time.gmtime(importer.begun or 0).tm_year
         said.append(f"its moments have neither a year nor a zone: taken as {words.year or year} and "
                     f"{words.zone or 'UTC'} (--year, --zone)")
-    return said + lacking(importer, kinds, placed) + of_counts(counts)
+    return said + of_overlaps(readers[0].overlaps) + lacking(importer, kinds, placed) + of_counts(counts)
+
+
+def of_overlaps(overlaps: Overlaps) -> list[str]:
+    """What several journals have both."""
+    said = []
+    if overlaps.repeated:
+        said.append(f"{entry.counted(overlaps.repeated, 'message')} that a journal has too which was read before: each "
+                    "counts once")
+    if overlaps.alone:
+        said.append(f"{entry.counted(overlaps.alone, 'message')} in one alone of journals that both have others of that "
+                    "time: they contradict each other, and what each has is taken")
+    return said
 
 
 def stamp(moment: float | None) -> str:
@@ -72,7 +88,24 @@ def lacking(importer: Importer, kinds: Counter[str], placed: Counter[str]) -> li
                         ("pods left out", "a trace has at most 256 at once")):
         if placed[what]:
             said.append(f"{placed[what]} {what} ({names_of(importer, what)}): {means}")
-    return said + of_holes(importer, placed) + ["no journal has pods' use of the node: the rules evict nobody"]
+    return said + of_holes(importer, placed) + of_thresholds(importer) + [
+        "no journal has what pods use of the node: each is spared, and the rules name none for an eviction"]
+
+
+def of_thresholds(importer: Importer) -> list[str]:
+    """The thresholds that the journal told of."""
+    members, has_others = importer.thresholds.of_all(importer.capacity)
+    limits = [f"{signal} {limit} ({kind})" for kind, name in (("hard", HARD), ("soft", SOFT))
+              for signal, limit in members.get(name, {}).items()]
+    without = ("no thresholds (a kubelet writes the hard ones as it starts, and from -v=3 on those that are met): no "
+               "conditions")
+    said = [f"thresholds: {', '.join(limits)}"] if limits else [without]
+    if "guessed" in members:
+        said.append(f"as the rounds show, and no line says: {', '.join(members['guessed'])}")
+    if has_others:
+        said.append("the kubelet was started anew with other thresholds: a trace alone has those that stayed, with "
+                    "--into each has its own")
+    return said
 
 
 def names_of(importer: Importer, what: str) -> str:
@@ -90,6 +123,9 @@ def of_holes(importer: Importer, placed: Counter[str]) -> list[str]:
     if placed[HOLES]:
         said.append(f"{entry.counted(placed[HOLES], 'time')} without a line of the kubelet's, which would have said "
                     "something there: lines are missing")
+    if placed[FILLED]:
+        said.append(f"{entry.counted(placed[FILLED], 'place')} where lines of a journal are missing, and another one "
+                    "has some")
     if placed[DOUBTED]:
         said.append(f"{entry.counted(placed[DOUBTED], 'pod')} of which no line behind a gap speaks "
                     f"({names_of(importer, DOUBTED)}): told as before it")

@@ -1,10 +1,12 @@
-"""Where the lines go: one trace on standard output, or what folding.py has."""
+"""Where the lines go: one trace on standard output, or what folding.py has. What a node line says a journal may tell
+behind what the trace has by then, so it is asked for when it is written."""
 
 from __future__ import annotations
 
+from collections.abc import Callable
 from typing import Any, Optional, TextIO
 
-from replay_tools.record.formats import MOST_BYTES, MOST_TICKS, shown
+from replay_tools.record.formats import LONGEST_LINE, MOST_BYTES, MOST_TICKS, shown
 
 
 class Ended(Exception):
@@ -16,12 +18,16 @@ class Ended(Exception):
         self.reason = reason
 
 
+# the node line of a trace that begins at a second, or of the one trace of all
+NodeLine = Callable[[Optional[int]], dict[str, Any]]
+
+
 class Writer:
-    """Takes the node line, then the lines of each second."""
+    """Takes what a node line says, then the lines of each second."""
 
     is_begun = False
 
-    def begin(self, node: dict[str, Any]) -> None:
+    def begin(self, node: NodeLine) -> None:
         raise NotImplementedError
 
     def write(self, lines: list[str], has_tick: bool) -> None:
@@ -32,28 +38,33 @@ class Writer:
 
 
 class Plain(Writer):
-    """One trace; it ends where it has as many ticks or bytes as a trace may have."""
+    """One trace, which is held until all that its node line says is known; it ends where it has as many ticks or bytes
+    as a trace may have."""
 
     def __init__(self, output: TextIO) -> None:
         self.output = output
         self.ticks_left = MOST_TICKS
-        self.bytes_left = MOST_BYTES
+        self.bytes_left = MOST_BYTES - LONGEST_LINE
+        self.held: list[bytes] = []
+        self.node: Optional[NodeLine] = None
 
-    def begin(self, node: dict[str, Any]) -> None:
+    def begin(self, node: NodeLine) -> None:
         self.is_begun = True
-        self.put([shown(node)])
+        self.node = node
 
     def write(self, lines: list[str], has_tick: bool) -> None:
         if has_tick and self.ticks_left == 0:
             raise Ended(0, f"the trace has reached {MOST_TICKS} ticks, the most that one takes")
         self.ticks_left -= has_tick
-        self.put(lines)
-
-    def put(self, lines: list[str]) -> None:
-        self.bytes_left -= sum(len(line.encode()) + 1 for line in lines)
+        data = "".join(f"{line}\n" for line in lines).encode()
+        self.bytes_left -= len(data)
         if self.bytes_left < 0:
             raise Ended(0, "the trace has reached 64 MiB, the most that one takes")
-        self.output.writelines(f"{line}\n" for line in lines)
+        self.held.append(data)
 
     def end(self) -> None:
+        if self.node is not None:
+            self.output.write(f"{shown(self.node(None))}\n")
         self.output.flush()
+        self.output.buffer.writelines(self.held)
+        self.output.buffer.flush()

@@ -1,0 +1,62 @@
+"""Which lines of a journal are not read: messages of klog's that are of no form that is known, or say nothing. Most of
+a log are these, so they are passed over before anything is taken apart."""
+
+from __future__ import annotations
+
+from collections.abc import Iterator
+from typing import Optional
+
+from . import keyed, printed
+from .journals import Skipping
+
+WANTED = {word.encode() for word in (*printed.FORMS, *(f'"{word}' for word in keyed.FIRST_WORDS))}
+WANTED |= {b'"' + word.encode() + b'"' for word in keyed.FIRST_WORDS}
+# flags are many, and a few of them are read
+FLAG = b"FLAG:"
+READ_FLAGS = b"FLAG: --hostname-override=", b"FLAG: --eviction-", b"FLAG: --config="
+# where a header ends, at the earliest and at the latest, and how long a first word may be
+SHORTEST, LONGEST_HEADER, LONGEST_WORD = 24, 260, 64
+LETTERS = b"IWEF"
+# the first bytes of a word tell of most that they are none of these
+BEGIN = 3
+BEGINS = {word[:BEGIN] for word in WANTED}
+# how messages begin that begin as others do, and say nothing
+SILENT = (b"SyncLoop (RECONCILE", b"SyncLoop (SYNC)", b"SyncLoop (housekeeping", b"Error getting ",
+          b"Container runtime ", b"eviction manager: no resources", b"Failed to remove container",
+          b"Created an OOM event")
+# where klog's header has the process
+PROCESS = slice(22, 29)
+
+
+def is_skipped(text: bytes) -> bool:
+    """Whether a line is a message of klog's that is of no form that is read, by its first word."""
+    place = text.find(b"] ", SHORTEST, LONGEST_HEADER) + 2
+    return place >= SHORTEST and text[0] in LETTERS and is_unwanted(text, place)
+
+
+def is_unwanted(text: bytes, place: int) -> bool:
+    """Whether the message whose words stand at a place is of no form that is read."""
+    word = text[place:place + LONGEST_WORD].partition(b" ")[0]
+    return word not in WANTED or (word == FLAG and not text.startswith(READ_FLAGS, place))
+
+
+def left_out(lines: Iterator[bytes]) -> Iterator[Optional[bytes]]:
+    """Lines as a process writes them, with None for one or more that are skipped: most are, so each is looked at by as
+    little as tells that. A silent one is skipped where its process is that of the line before it that is not."""
+    is_behind_skipped, process = False, b""
+    for text in lines:
+        place = text.find(b"] ", SHORTEST, LONGEST_HEADER) + 2
+        if (place > 1 and text[place:place + BEGIN] not in BEGINS and text[0] in LETTERS) or is_skipped(text) or (
+                text.startswith(SILENT, place) and text[PROCESS] == process):
+            is_behind_skipped = True
+            continue
+        if is_behind_skipped:
+            is_behind_skipped = False
+            yield None
+        process = text[PROCESS]
+        yield text
+    if is_behind_skipped:
+        yield None
+
+
+SKIPPING = Skipping(is_skipped, is_unwanted, left_out)
