@@ -2,11 +2,9 @@
 
 from __future__ import annotations
 
-import os
 import signal
 import sys
-from collections.abc import Callable, Iterator
-from contextlib import contextmanager
+from collections.abc import Callable
 from dataclasses import replace
 from typing import Any, TYPE_CHECKING
 
@@ -15,11 +13,11 @@ from replay_tools import outside
 from .check import check
 from .clock import Clock
 from .connections import api_of, kept_sources
-from .formats import MOST_BYTES
 from .lines import TooLong
 from .metrics import Metrics
 from .node import node_line_of, own_node_line
 from .observer import Observer
+from .output import Ended, Output, Stopped
 from .recorder import Recorder
 from .sources import Failed
 from .words import BadWord, help_text, missing_commands, words_of
@@ -36,19 +34,6 @@ MOST_REMEMBERED = 10000
 GLANCE_SECONDS = 1
 
 
-class Stopped(Exception):
-    """An interrupt, while the sources are asked or nothing is done."""
-
-
-class Ended(Exception):
-    """The recording ends, with a status, for a reason or none."""
-
-    def __init__(self, status: int, reason: str | None = None) -> None:
-        super().__init__(reason)
-        self.status = status
-        self.reason = reason
-
-
 class Says:
     """Says a line on standard error, once of each subject, or once of its text, as far back as it remembers."""
 
@@ -62,51 +47,6 @@ class Says:
             if len(self.said) > MOST_REMEMBERED:
                 del self.said[next(iter(self.said))]
             print(f"record: {outside.text_of(text)}", file=sys.stderr, flush=True)
-
-
-class Output:
-    """Standard output: whole lines, up to the most that a trace takes."""
-
-    def __init__(self, most_ticks: float, most_bytes: int = MOST_BYTES) -> None:
-        self.ticks_left = most_ticks
-        self.bytes_left = most_bytes
-        self.is_busy = False
-        self.is_stopped = False
-
-    def interrupt(self, *_: object) -> None:
-        """The first one ends what is done, those behind it do not end that end."""
-        is_first, self.is_stopped = not self.is_stopped, True
-        if is_first and not self.is_busy:
-            raise Stopped
-
-    @contextmanager
-    def undisturbed(self) -> Iterator[None]:
-        """No interrupt ends what is done here; it ends the recording after it."""
-        self.is_busy = True
-        try:
-            yield
-        finally:
-            self.is_busy = False
-
-    def write(self, lines: list[str]) -> None:
-        """Writes whole lines, all of them or none where they reach the most that a trace takes."""
-        data = "".join(f"{line}\n" for line in lines).encode()
-        self.bytes_left -= len(data)
-        if self.bytes_left < 0:
-            raise Ended(0, "the trace has reached 64 MiB, the most that one takes")
-        try:
-            while data:
-                data = data[os.write(1, data):]
-        except OSError:
-            raise Ended(1, "standard output takes no more") from None
-
-    def write_due(self, due: Iterator[Any]) -> None:
-        """Writes what is settled, up to the last tick that is asked for."""
-        for lines, has_tick in due:
-            if self.ticks_left == 0:
-                break
-            self.write(lines)
-            self.ticks_left -= has_tick
 
 
 class Recording:
@@ -151,7 +91,7 @@ class Recording:
                 self.metrics.take(lines)
                 if is_first and self.metrics.standing.at is not None:
                     is_first = False
-                    self.metrics.assume({pod.key: pod.probed for pod in self.recorder.listed})
+                    self.metrics.assume(self.recorder.probed())
             self.metrics.write()
 
     def has_all(self) -> bool:
