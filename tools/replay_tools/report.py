@@ -37,6 +37,11 @@ class Event:
     was_so: bool = False
     """it was so in the trace before, which is not there"""
 
+    @property
+    def name(self) -> str:
+        """That of its container, as each event of an instance has one; else an empty text."""
+        return self.container or ""
+
 
 @dataclass
 class Condition:
@@ -75,7 +80,8 @@ class Pod:
     """the place of the event from which on it is told anew, since only the rules had ended it before"""
 
     def condition(self, kind: str) -> Condition:
-        return next((found for found in self.conditions if found.kind == kind), None)
+        """That of a kind of which it has one."""
+        return next(found for found in self.conditions if found.kind == kind)
 
     def own_gaps(self) -> list[tuple[int, int]]:
         """The gaps that begin before it was gone."""
@@ -207,21 +213,12 @@ def read_report(text: str) -> Report:
     if lines[0].startswith("pod "):
         raise ReportFault("standard input has the pod lines of a report alone, without its events")
     report: Report | None = None
-    ended = False
     for number, line in enumerate(lines, 1):
-        kind, parts = parts_of(line)
         try:
-            if kind is None or ended or (report is None) != (kind == "node"):
-                raise ValueError
-            if kind == "node":
-                report = Report(parts[0], counted(parts[1]), counted(parts[2]))
-            elif kind == "totals":
-                report.totals, ended = tuple(map(counted, parts)), True
-            else:
-                add_line(report, kind, parts)
+            report = report_with(report, line)
         except (IndexError, ValueError):
             raise ReportFault(f"line {number} of standard input is no line of a report there") from None
-    if not ended:
+    if report is None or not report.totals:
         raise ReportFault("standard input has no whole report: the line of totals is missing")
     check_whole(report)
     named = pods_by_key(report)
@@ -230,11 +227,28 @@ def read_report(text: str) -> Report:
     return report
 
 
+def report_with(report: Report | None, line: str) -> Report:
+    """The report with one more line, the first of which is the node's and the last that of the totals. Raises
+    IndexError or ValueError where it is none of this report."""
+    kind, parts = parts_of(line)
+    if report is None:
+        if kind != "node":
+            raise ValueError
+        return Report(parts[0], counted(parts[1]), counted(parts[2]))
+    if kind is None or kind == "node" or report.totals:
+        raise ValueError
+    if kind == "totals":
+        report.totals = tuple(map(counted, parts))
+    else:
+        add_line(report, kind, parts)
+    return report
+
+
 def tell_pods(report: Report, named: dict[str, list[Pod]]) -> None:
     """Gives each event and each eviction the pod that it is of, and each pod its events."""
     both: list[Event | Eviction] = [*report.events, *report.evictions]
     for said in both:
-        pod = pod_at(named.get(said.pod, ()), said.at)
+        pod = None if said.pod is None else pod_at(named.get(said.pod, ()), said.at)
         said.number = pod.number if pod else None
         if pod and isinstance(said, Event):
             pod.events.append(said)
@@ -261,7 +275,7 @@ def pod_at(pods: Iterable[Pod], at: int) -> Pod | None:
     """Of pods of one key, one after the other, that which was there at the moment of an event: the last whose first
     tick was by then. A pod without ticks has the moment 0 as its first, and its lines say that nothing happened."""
     begun = [pod for pod in pods if first_tick(pod) <= at]
-    return max(begun, key=lambda pod: (first_tick(pod), was_seen(pod), -pod.number), default=None)
+    return max(begun, key=lambda pod: (first_tick(pod), was_seen(pod), -pod.number)) if begun else None
 
 
 def was_seen(pod: Pod) -> bool:

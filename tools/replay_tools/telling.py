@@ -144,9 +144,10 @@ def reboots(trace: traces.Trace, report: reports.Report) -> list[Reboot]:
     found, moments = [], [tick.at for tick in trace.ticks]
     for at in dict.fromkeys(tick.lines.booted_at for tick in trace.ticks):
         place = 0 if at is None else bisect_left(moments, at)
-        if 0 < place < len(trace.ticks):
-            exits = [Exited(event.number, event.container, code_of(event, trace)) for event in report.events
-                     if event.word == "died" and moments[place - 1] < event.at <= moments[place]]
+        if at is not None and 0 < place < len(trace.ticks):
+            exits = [Exited(event.number, event.name, code_of(event, trace)) for event in report.events
+                     if event.word == "died" and event.number is not None
+                     and moments[place - 1] < event.at <= moments[place]]
             found.append(Reboot(at, place - 1, exits + exits_unseen(trace, place, exits)))
     return found
 

@@ -51,7 +51,7 @@ class Kept:
         except (OSError, EOFError, ValueError, KeyError, StopIteration):
             return None
 
-    def rows(self, path: str) -> Iterator[dict[str, Any] | None]:
+    def rows(self, path: str) -> Iterator[dict[str, Any]]:
         """The record of a trace, and those of its report."""
         with gzip.open(self.file(path, "rows"), "rt", encoding="utf-8") as lines:
             yield from map(json.loads, lines)

@@ -19,7 +19,7 @@ from .writing import say_again
 
 if TYPE_CHECKING:
     from .sources import Sources
-    from .words import Words
+    from .words import Into, Words
 
 # a clock that goes back by less stands still until its time comes again
 BACK_SECONDS = 60
@@ -39,7 +39,8 @@ class LastingRecording(Recording):
         self.recorder = LastingRecorder(words.format, words.every, say)
         self.damages = damages(output.folder)
         self.observer.answered = Answered(output.folder.path, say)
-        self.shipping = Shipping(words.into.ship, output.folder, say) if words.into.ship else None
+        command = () if words.into is None else words.into.ship
+        self.shipping = Shipping(command, output.folder, say) if command else None
 
     def begin(self) -> None:
         super().begin()
@@ -113,13 +114,13 @@ def made(path: str) -> None:
         raise Refused(f"--into: '{path}' can't be made: {why(error)}") from None
 
 
-def recorded_into(words: Words, sources: Sources, clock: Any, say: Callable[..., None]) -> int:
+def recorded_into(words: Words, into: Into, sources: Sources, clock: Any, say: Callable[..., None]) -> int:
     """Records traces one behind the other; the status."""
     try:
-        made(words.into.folder)
-        folder = Folder(words.into.folder, words.node, words.into.keep, words.into.most, say)
+        made(into.folder)
+        folder = Folder(into.folder, words.node, into.keep, into.most, say)
     except Refused as refused:
         say(str(refused))
         return 1
-    output = Traces(folder, words.into.each, words.ticks, say)
+    output = Traces(folder, into.each, words.ticks, say)
     return watch(output, LastingRecording(words, sources, clock, output, say), say)

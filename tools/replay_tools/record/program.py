@@ -61,17 +61,19 @@ class Recording:
         self.observer = Observer(sources, words.every, say, clock.now, words.log_lines)
         self.recorder = Recorder(words.format, words.every, say)
         self.metrics = None if words.metrics is None else Metrics(words.metrics, say)
-        self.begun: float | None = None
+        # the moment of the first look, once that is taken
+        self.begun: float = 0
+        self.has_begun = False
 
     def begin(self) -> None:
         """The first look and the node line; they need every source."""
         moment = self.clock.now()
         try:
-            seen = self.observer.first_look(moment)
+            seen, summary = self.observer.first_look(moment)
             if self.words.node_line is not None:
-                node_line = own_node_line(self.words.node_line, self.words.format, seen.summary)
+                node_line = own_node_line(self.words.node_line, self.words.format, summary)
             else:
-                node_line = node_line_of(self.sources.configuration(), self.words.node, seen.summary, self.words.format)
+                node_line = node_line_of(self.sources.configuration(), self.words.node, summary, self.words.format)
             first = self.recorder.begin(node_line)
             self.observer.near.know(node_line.fields)
         except (Failed, TooLong) as failed:
@@ -79,7 +81,7 @@ class Recording:
         with self.output.undisturbed():
             self.output.write([first])
             self.recorder.take(seen)
-            self.begun = moment
+            self.begun, self.has_begun = moment, True
             if self.metrics is not None:
                 self.metrics.take([first])
 
@@ -135,7 +137,7 @@ class Recording:
             self.go_on()
         except Stopped:
             pass
-        if self.begun is not None:
+        if self.has_begun:
             with self.output.undisturbed():
                 due = list(self.recorder.rest(self.clock.now()))
                 self.output.write_due(iter(due))
@@ -146,7 +148,7 @@ def recorded(words: Words, sources: Sources, clock: Any, say: Callable[..., None
     """Records as the words ask for; the status."""
     if words.into is not None:
         from .into import recorded_into  # which stands on what is here
-        return recorded_into(words, sources, clock, say)
+        return recorded_into(words, words.into, sources, clock, say)
     output = Output(words.ticks)
     return watch(output, Recording(words, sources, clock, output, say), say)
 

@@ -271,10 +271,11 @@ class Timeline:
 
     def without_exit_before(self, key: tuple[str, str], change: Change) -> Change:
         """The change; an exit that is not written yet goes where its successor's start, known only now, says it too."""
-        second = self.last_placed.get((*key, "listing"))
-        before = self.ticks[second].listings.get(key) if second in self.ticks else None
-        if before is not None and is_seamless(before, change):
-            del self.ticks[second].listings[key]
+        second = self.last_placed.get((*key, "listing"), -1)
+        tick = self.ticks.get(second)
+        before = None if tick is None else tick.listings.get(key)
+        if tick is not None and before is not None and is_seamless(before, change):
+            del tick.listings[key]
             self.last_placed[(*key, "listing")] = second - 1
             return keeping(change, before)
         return change
