@@ -293,7 +293,7 @@ def ended_words(reason: str) -> str:
 def amount_of(text: str) -> str:
     try:
         return amounts.amount_text(amounts.quantity(text), True)
-    except ValueError:
+    except amounts.Wrong:
         return text
 
 

@@ -266,6 +266,6 @@ def is_listed(event: reports.Event, trace: traces.Trace) -> bool:
         return False
     try:
         listing = trace.listing(trace.pods[event.number], event.name, trace.places[event.at])
-    except ValueError:
+    except amounts.Wrong:
         return False
     return listing is not None and (listing.attempt, listing.state) == (int(event.rest[0]), "CONTAINER_EXITED")

@@ -8,7 +8,7 @@ from collections.abc import Callable
 from dataclasses import dataclass
 from typing import TYPE_CHECKING
 
-from replay_tools import entry, events, outside, reasons, traces
+from replay_tools import amounts, entry, events, outside, reasons, traces
 
 if TYPE_CHECKING:
     from replay_tools import report as reports
@@ -166,7 +166,7 @@ def listings_at(trace: traces.Trace, place: int) -> dict[tuple[int, str], traces
     try:
         found = {(pod.number, container.name): trace.listing(pod, container.name, place)
                  for pod in trace.pods for container in pod.containers}
-    except ValueError:
+    except amounts.Wrong:
         return {}
     return {of: listing for of, listing in found.items() if listing is not None}
 

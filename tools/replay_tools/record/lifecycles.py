@@ -1,4 +1,4 @@
-"""The pods of a trace from their coming until they have gone: which of them have a line, and what their statuses say."""
+"""The pods of a trace from their coming until they have gone: which of them have a line, and what is said of them."""
 
 from __future__ import annotations
 
