@@ -8,6 +8,7 @@ import traceback
 import zlib
 
 from chance import BEGIN
+import cases
 from checks import expect, read
 from into_plays import Into, ClockUntil, Killed, laid, probed_play
 from test_plays import quiet_node
@@ -19,6 +20,8 @@ from replay_tools.record.into import LastingRecording, Traces
 from replay_tools.record.left import Left
 from replay_tools.record.sources import Sources
 from replay_tools.record.words import words_of
+
+load_tests = cases.loaded(__name__)
 
 TRACED = {module.__file__ for module in (folder, into, packing, part, traces, writing)}
 

@@ -11,12 +11,15 @@ import sys
 import tempfile
 import time
 
+import cases
 from checks import HERE, REPLAY, TOP, expect, expect_kept, read, run, wait_until
 
 import beside
 import counted
 import ending
 import trimmed
+
+load_tests = cases.loaded(__name__)
 
 PARTS = f"{TOP}/bench/lib/real_node"
 RECORDING = f"{HERE}/recordings/real_node"

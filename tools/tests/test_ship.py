@@ -4,6 +4,7 @@ be slow, and never holds the recording up."""
 import os
 import time
 
+import cases
 from checks import expect, read, wait_until
 from into_plays import Clock, Into, recorded_here
 from test_into_folder import quiet_node
@@ -11,6 +12,8 @@ from test_into_folder import quiet_node
 from replay_tools.record import ship
 from replay_tools.record.folder import Folder
 from replay_tools.record.ship import Shipping
+
+load_tests = cases.loaded(__name__)
 
 NAMES = [f"n1.2026-01-01T0{hour}-00-00Z.trace.gz" for hour in range(4)]
 
