@@ -13,7 +13,7 @@ if TYPE_CHECKING:
 def by_rules(report: reports.Report) -> list[reports.Eviction]:
     """The pods that the rules evict or, in the report of a recording that says whom the kubelet evicted, name."""
     named = [reports.Eviction(event.at, event.pod, event.rest[1], event.rest[2], 0, event.number, is_named=True)
-             for event in report.events if event.word == "names"]
+             for event in report.events if event.word == "names" and event.pod is not None]
     return [*report.evictions, *named]
 
 

@@ -5,7 +5,7 @@ from __future__ import annotations
 from dataclasses import dataclass
 from typing import Any
 
-from replay_tools import amounts
+from replay_tools import amounts, outside
 from replay_tools.amounts import Wrong
 
 
@@ -17,6 +17,14 @@ class Bounds:
     memory_limit: int | None = None
     cpu_request: int | None = None
     cpu_limit: int | None = None
+
+
+def object_of(text: bytes) -> dict[str, Any]:
+    """The object that a text is as JSON."""
+    found = outside.json_of(text)
+    if not isinstance(found, dict):
+        raise Wrong("object")
+    return found
 
 
 def value_at(found: dict[str, Any], name: str, otherwise: Any = None) -> Any:
@@ -78,5 +86,5 @@ def amount_in(resources: Any, kind: str, name: str) -> int | None:
     value = of_kind.get(name) if isinstance(of_kind, dict) else None
     try:
         return None if value is None else amounts.quantity(value)
-    except ValueError:
+    except Wrong:
         return None

@@ -114,7 +114,7 @@ def of_rules(rules: list[reports.Eviction], decision: traces.Decision) -> report
     """What the rules do to the pod of a decision. They may name it often, and then what is nearest counts; over several
     traces they may evict it twice, of which the first is what they do."""
     own = [each for each in rules if each.number is not None and each.number == decision.number]
-    return min(own, key=lambda each: (abs(each.at - decision.at) if each.is_named else 0, each.at), default=None)
+    return min(own, key=lambda each: (abs(each.at - decision.at) if each.is_named else 0, each.at)) if own else None
 
 
 def alone_of(rules: list[reports.Eviction], found: Kubelet) -> list[Alone]:
@@ -146,14 +146,15 @@ def add_causes(trace: traces.Trace, report: reports.Report, facts: list[Fact]) -
     others = [fact for fact in facts if fact.is_judged and not fact.agrees and trace.ticks]
     usages = why.usages_at(trace, {place_of(trace, fact) for fact in others})
     for fact in others:
-        if fact.decision.number is None:
+        number = fact.decision.number
+        if number is None:
             fact.causes = [["the pod has no line in the trace"]]
         elif any(since < fact.decision.at < until for since, until in trace.gaps):
             fact.causes = [["nothing was recorded then"]]
         elif fact.eviction is not None and fact.eviction.at < fact.decision.at:
             fact.causes = [[then(facts, fact.eviction)]]
         else:
-            fact.causes = causes_of(trace, report, fact.decision, usages[place_of(trace, fact)])
+            fact.causes = causes_of(trace, report, trace.pods[number], fact.decision, usages[place_of(trace, fact)])
 
 
 def place_of(trace: traces.Trace, fact: Fact) -> int:
@@ -162,14 +163,14 @@ def place_of(trace: traces.Trace, fact: Fact) -> int:
     return max((place for place, tick in enumerate(trace.ticks) if tick.at <= latest), default=0)
 
 
-def causes_of(trace: traces.Trace, report: reports.Report, decision: traces.Decision,
+def causes_of(trace: traces.Trace, report: reports.Report, pod: traces.Pod, decision: traces.Decision,
               usages: dict[int, dict[str, int]]) -> list[list[str | int]]:
     """Why the rules do not evict a pod when the kubelet did: each cause as its parts, of which numbers are moments."""
-    gone = trace.pods[decision.number].gone
+    gone = pod.gone
     if gone is not None and gone < len(trace.ticks) and trace.ticks[gone].at <= decision.at:
         return [["the pod had gone from the trace before", trace.ticks[gone].at]]
     resource = resource_of(decision)
-    signals = SIGNALS.get(resource, traces.SIGNALS)
+    signals = SIGNALS.get(resource or "", traces.SIGNALS)
     limits = [limit for limit in trace.thresholds if limit.signal in signals]
     if not limits:
         return [[f"the trace has no threshold of {resource or 'any signal'}"]]
@@ -232,7 +233,7 @@ def no_sample_below(limits: list[traces.Threshold], near: list[traces.Tick]) -> 
 def around(trace: traces.Trace, report: reports.Report, decision: traces.Decision) -> why.Evicted | None:
     """What the trace holds around the kubelet's eviction of a pod, as that around one by the rules, with the samples of
     some seconds; None where no threshold is known that it was for."""
-    limits = [limit for limit in trace.thresholds if limit.signal in SIGNALS.get(resource_of(decision), ())]
+    limits = [limit for limit in trace.thresholds if limit.signal in SIGNALS.get(resource_of(decision) or "", ())]
     place = max((place for place, tick in enumerate(trace.ticks) if tick.at <= decision.at + NEAR), default=None)
     if not limits or place is None or decision.number is None:
         return None
@@ -292,7 +293,7 @@ def ended_words(reason: str) -> str:
 def amount_of(text: str) -> str:
     try:
         return amounts.amount_text(amounts.quantity(text), True)
-    except ValueError:
+    except amounts.Wrong:
         return text
 
 

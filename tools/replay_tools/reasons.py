@@ -81,8 +81,8 @@ class Reasons:
                 if is_guessed_in(listed, MOMENT):
                     self.take_look(number, listed)
                 for said in (listed if has_words else None, listed.get("ended")):
-                    if isinstance(said, dict):
-                        self.take_end(number, listed.get("name"), said)
+                    if isinstance(said, dict) and isinstance(listed.get("name"), str):
+                        self.take_end(number, listed["name"], said)
             for each in dicts_at(found, "waiting"):
                 reason = text_at(each, "reason")
                 if reason and isinstance(each.get("container"), str):
@@ -107,7 +107,7 @@ class Reasons:
         reason, code = text_at(said, "reason"), outside.whole(said.get("exitCode"), -outside.MOST_OF_CODE - 1,
                                                              outside.MOST_OF_CODE)
         attempt = outside.whole(said.get("attempt", 0), 0, outside.MOST_OF_CODE)
-        if code is None or attempt is None or not isinstance(name, str):
+        if code is None or attempt is None:
             return
         end = self.ends.setdefault((number, name, attempt), End(code))
         end.reason = reason or end.reason
@@ -119,7 +119,7 @@ class Reasons:
 
     def end_of(self, event: reports.Event) -> End | None:
         """How the instance of a death ended; None where the trace does not say it."""
-        return self.ends.get((event.number, event.container, int(event.rest[0])))
+        return None if event.number is None else self.ends.get((event.number, event.name, int(event.rest[0])))
 
     def gates_of(self, pod: reports.Pod) -> list[tuple[str, Wait]]:
         """The times in which readiness gates of a pod were not true, with their conditions."""
@@ -180,13 +180,13 @@ def text_at(found: dict[str, int | str], name: str) -> str | None:
 
 def cause_words(event: reports.Event, code: int, trace: traces.Trace | None, is_whole: bool) -> str:
     """Why an instance died, as far as it is known; the whole with its message."""
-    end = trace.reasons.end_of(event) if trace is not None else None
+    if trace is None:
+        return "killed, or unknown" if code == LOST else ""
+    end = trace.reasons.end_of(event)
     if end is not None and end.reason:
-        return reason_words(event, end, trace, is_whole)
+        return reason_words(event, end, end.reason, trace, is_whole)
     if code != LOST or end is not None and end.is_guessed:
         return ""
-    if trace is None:
-        return "killed, or unknown"
     if is_known(event, trace):
         return "killed, or it exited so; the trace has no reason"
     return "it was no longer listed, its own code is not known"
@@ -199,19 +199,20 @@ def code_words(code: int | str, end: End | None) -> str:
 
 def last_end(pod: reports.Pod, container: reports.Container, trace: traces.Trace | None) -> End | None:
     """How the newest instance of a container ended, where it did and the trace says it."""
-    ended = trace is not None and container.state == "Terminated"
-    return trace.reasons.ends.get((pod.number, container.name, int(container.restarts))) if ended else None
+    if trace is None or container.state != "Terminated":
+        return None
+    return trace.reasons.ends.get((pod.number, container.name, int(container.restarts)))
 
 
-def reason_words(event: reports.Event, end: End, trace: traces.Trace, is_whole: bool) -> str | None:
-    if end.reason == OUT_OF_MEMORY:
+def reason_words(event: reports.Event, end: End, reason: str, trace: traces.Trace, is_whole: bool) -> str:
+    if reason == OUT_OF_MEMORY:
         limit = limits.limit_of(event, trace)
         used = f", {end.used.words()}" if end.used is not None else ""
         had = f"{limit.whose} memory limit is {limit.text}" if limit else "it has no memory limit"
         return f"{OUT_OF_MEMORY}, {had}{used}"
-    if end.reason == PLAIN and end.code == LOST and not end.is_guessed:
+    if reason == PLAIN and end.code == LOST and not end.is_guessed:
         return f"{PLAIN}, as signal 9 leaves it"
-    return f"{end.reason}: {end.message}" if end.message and is_whole else end.reason
+    return f"{reason}: {end.message}" if end.message and is_whole else reason
 
 
 def because_lines(event: reports.Event, trace: traces.Trace) -> list[str]:
@@ -261,8 +262,10 @@ def is_guessed(event: reports.Event, trace: traces.Trace | None) -> bool:
 
 def is_listed(event: reports.Event, trace: traces.Trace) -> bool:
     """Whether the tick of a death lists that instance as exited, so that the code is the runtime's."""
+    if event.number is None:
+        return False
     try:
-        listing = trace.listing(trace.pods[event.number], event.container, trace.places[event.at])
-    except ValueError:
+        listing = trace.listing(trace.pods[event.number], event.name, trace.places[event.at])
+    except amounts.Wrong:
         return False
     return listing is not None and (listing.attempt, listing.state) == (int(event.rest[0]), "CONTAINER_EXITED")

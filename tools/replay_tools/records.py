@@ -54,7 +54,7 @@ def first_moment(report: reports.Report) -> int | None:
     return min(named) if report.tick_count else None
 
 
-def node_record(report: reports.Report, first: int, last: int, known: int = NEVER) -> dict[str, Any]:
+def node_record(report: reports.Report, first: int | None, last: int | None, known: int = NEVER) -> dict[str, Any]:
     updates, events, orders = report.totals
     return {
         "record": "node", "node": report.node, "pods": report.pod_count, "ticks": report.tick_count,
@@ -69,9 +69,9 @@ PRESSURES = {"MemoryPressure": "memory_pressure_seconds", "DiskPressure": "disk_
              "PIDPressure": "pid_pressure_seconds"}
 
 
-def pressure_seconds(report: reports.Report, kind: str, last: int, known: int = NEVER) -> int:
-    """For how long a condition of the node was True, until the last moment."""
-    return seconds_of(reports.pressure_spans(report, kind), last, known)
+def pressure_seconds(report: reports.Report, kind: str, last: int | None, known: int = NEVER) -> int:
+    """For how long a condition of the node was True, until the last moment; without a tick it never was."""
+    return 0 if last is None else seconds_of(reports.pressure_spans(report, kind), last, known)
 
 
 def border_record(report: reports.Report, number: int, border: reports.Border) -> dict[str, Any]:
@@ -135,7 +135,7 @@ def deletion_fields(pod: reports.Pod, trace: traces.Trace | None) -> dict[str, A
 def became_unready(pod: reports.Pod, known: int = NEVER) -> int:
     """How often Ready went from True to False, the pod's end included."""
     spans = reports.ready_spans(pod)
-    return sum(before.value == "True" and after.value == "False" and after.since > known
+    return sum(before.value == "True" and after.value == "False" and after.since is not None and after.since > known
                for before, after in zip(spans, spans[1:]))
 
 

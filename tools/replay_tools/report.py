@@ -10,6 +10,7 @@ from datetime import datetime, timezone
 from typing import Any
 
 from replay_tools import events, outside
+from replay_tools.spans import Span, spans_of, without_gaps
 
 # what is greater counts from 1970, as the moments of a recording do
 LEAST_DATED = 10 ** 8
@@ -21,6 +22,10 @@ LAST_DATE = 253402300799
 
 class ReportFault(Exception):
     """The text is no report; the message says where."""
+
+
+class NoLine(ValueError):
+    """It is no line of a report, or none that stands there."""
 
 
 @dataclass
@@ -36,6 +41,11 @@ class Event:
     """the moment of a border behind which what it counts began anew"""
     was_so: bool = False
     """it was so in the trace before, which is not there"""
+
+    @property
+    def name(self) -> str:
+        """That of its container, as each event of an instance has one; else an empty text."""
+        return self.container or ""
 
 
 @dataclass
@@ -75,7 +85,8 @@ class Pod:
     """the place of the event from which on it is told anew, since only the rules had ended it before"""
 
     def condition(self, kind: str) -> Condition:
-        return next((found for found in self.conditions if found.kind == kind), None)
+        """That of a kind of which it has one."""
+        return next(found for found in self.conditions if found.kind == kind)
 
     def own_gaps(self) -> list[tuple[int, int]]:
         """The gaps that begin before it was gone."""
@@ -142,16 +153,6 @@ class Report:
         return any(event.word == "names" for event in self.events)
 
 
-@dataclass
-class Span:
-    """From one moment until another, to the end where `until` is None, and from an unknown one without `since`."""
-
-    value: str
-    since: int | None
-    until: int | None
-    note: str = ""
-
-
 # of events the words that they may have stand in their table
 FORMS = {
     "node": r"node (\S+) pods=(\d+) ticks=(\d+)",
@@ -188,10 +189,10 @@ def parts_of(line: str) -> tuple[str | None, tuple[Any, ...]]:
 
 
 def counted(digits: str, least: int = 0, most: int = outside.GREATEST) -> int:
-    """A number of a line. Raises ValueError where it is out of its range."""
+    """A number of a line. Raises NoLine where it is out of its range."""
     found = outside.number_of(digits, least, most)
     if found is None:
-        raise ValueError
+        raise NoLine
     return found
 
 
@@ -207,21 +208,12 @@ def read_report(text: str) -> Report:
     if lines[0].startswith("pod "):
         raise ReportFault("standard input has the pod lines of a report alone, without its events")
     report: Report | None = None
-    ended = False
     for number, line in enumerate(lines, 1):
-        kind, parts = parts_of(line)
         try:
-            if kind is None or ended or (report is None) != (kind == "node"):
-                raise ValueError
-            if kind == "node":
-                report = Report(parts[0], counted(parts[1]), counted(parts[2]))
-            elif kind == "totals":
-                report.totals, ended = tuple(map(counted, parts)), True
-            else:
-                add_line(report, kind, parts)
-        except (IndexError, ValueError):
+            report = report_with(report, line)
+        except NoLine:
             raise ReportFault(f"line {number} of standard input is no line of a report there") from None
-    if not ended:
+    if report is None or not report.totals:
         raise ReportFault("standard input has no whole report: the line of totals is missing")
     check_whole(report)
     named = pods_by_key(report)
@@ -230,11 +222,28 @@ def read_report(text: str) -> Report:
     return report
 
 
+def report_with(report: Report | None, line: str) -> Report:
+    """The report with one more line, the first of which is the node's and the last that of the totals. Raises NoLine
+    where it is none of this report."""
+    kind, parts = parts_of(line)
+    if report is None:
+        if kind != "node":
+            raise NoLine
+        return Report(parts[0], counted(parts[1]), counted(parts[2]))
+    if kind is None or kind == "node" or report.totals:
+        raise NoLine
+    if kind == "totals":
+        report.totals = tuple(map(counted, parts))
+    else:
+        add_line(report, kind, parts)
+    return report
+
+
 def tell_pods(report: Report, named: dict[str, list[Pod]]) -> None:
     """Gives each event and each eviction the pod that it is of, and each pod its events."""
     both: list[Event | Eviction] = [*report.events, *report.evictions]
     for said in both:
-        pod = pod_at(named.get(said.pod, ()), said.at)
+        pod = None if said.pod is None else pod_at(named.get(said.pod, ()), said.at)
         said.number = pod.number if pod else None
         if pod and isinstance(said, Event):
             pod.events.append(said)
@@ -261,7 +270,7 @@ def pod_at(pods: Iterable[Pod], at: int) -> Pod | None:
     """Of pods of one key, one after the other, that which was there at the moment of an event: the last whose first
     tick was by then. A pod without ticks has the moment 0 as its first, and its lines say that nothing happened."""
     begun = [pod for pod in pods if first_tick(pod) <= at]
-    return max(begun, key=lambda pod: (first_tick(pod), was_seen(pod), -pod.number), default=None)
+    return max(begun, key=lambda pod: (first_tick(pod), was_seen(pod), -pod.number)) if begun else None
 
 
 def was_seen(pod: Pod) -> bool:
@@ -288,7 +297,7 @@ def check_whole(report: Report) -> None:
 
 
 def add_line(report: Report, kind: str, parts: tuple[Any, ...]) -> None:
-    """Adds what a line says. Raises IndexError or ValueError where it is none of this report."""
+    """Adds what a line says. Raises NoLine where it is none of this report."""
     if kind == "event":
         at, pod, container, word, rest = parts
         container = None if container == "-" else container
@@ -300,16 +309,16 @@ def add_line(report: Report, kind: str, parts: tuple[Any, ...]) -> None:
         report.events.append(checked(Event(moment(at), pod, None, word, rest)))
     elif kind == "pod":
         if counted(parts[0]) != len(report.pods):
-            raise ValueError
+            raise NoLine
         report.pods.append(Pod(len(report.pods), *parts[1:]))
     elif kind == "condition":
-        report.pods[counted(parts[0])].conditions.append(Condition(parts[1], parts[2], moment(parts[3]), parts[4]))
+        pod_of(report, parts[0]).conditions.append(Condition(parts[1], parts[2], moment(parts[3]), parts[4]))
     elif kind == "container":
         made = Container(*parts[1:])
         counted(made.restarts, 0, outside.MOST_OF_CODE)
         if made.code != "-":
             counted(made.code, -outside.MOST_OF_CODE - 1, outside.MOST_OF_CODE)
-        report.pods[counted(parts[0])].containers.append(made)
+        pod_of(report, parts[0]).containers.append(made)
     elif kind == "node condition":
         report.conditions.append(Condition(parts[0], parts[1], moment(parts[2]), None))
     else:
@@ -317,10 +326,18 @@ def add_line(report: Report, kind: str, parts: tuple[Any, ...]) -> None:
         report.evictions.append(Eviction(moment(at), pod, signal, kind, counted(grace)))
 
 
+def pod_of(report: Report, digits: str) -> Pod:
+    """The pod of a number, whose line came before."""
+    number = counted(digits)
+    if number >= len(report.pods):
+        raise NoLine
+    return report.pods[number]
+
+
 def checked(event: Event) -> Event:
     kind = events.kinds()[event.word]
     if not kind.form.fullmatch(" ".join(event.rest)):
-        raise ValueError
+        raise NoLine
     for field_of, text in zip(kind.fields, event.rest):
         if field_of.is_number:
             counted(text, -outside.GREATEST)
@@ -362,41 +379,6 @@ def end_of(pod: Pod) -> tuple[int, str] | None:
             is_evicted = later or (event.rest[0], pod.reason) == ("Failed", "Evicted")
             return event.at, "Evicted" if is_evicted else event.rest[0]
     return None
-
-
-def spans_of(changes: list[tuple[int, str]], first: int, value: str) -> list[Span]:
-    """Spans of a value from its first moment on, by (moment, value) in order; of one moment the last counts."""
-    spans = [Span(value, first, None)]
-    for at, value in changes:
-        last = spans[-1]
-        if value == last.value:
-            continue
-        if last.since == at:
-            spans.pop()
-            if spans and spans[-1].value == value:
-                spans[-1].until = None
-                continue
-        else:
-            last.until = at
-        spans.append(Span(value, at, None))
-    return spans
-
-
-def without_gaps(spans: list[Span], gaps: list[tuple[int, int]]) -> list[Span]:
-    """The same spans without what lies in gaps, of which nothing is known."""
-    for since, until in gaps:
-        spans = [piece for span in spans for piece in beside_gap(span, since, until)]
-    return spans
-
-
-def beside_gap(span: Span, since: int, until: int) -> list[Span]:
-    """A span as what of it lies before a gap and behind it."""
-    begun = until if span.since is None else span.since
-    if begun >= until or (span.until is not None and span.until <= since):
-        return [span]
-    before = [Span(span.value, span.since, since, span.note)] if begun < since else []
-    is_longer = span.until is None or span.until > until
-    return before + ([Span(span.value, until, span.until, span.note)] if is_longer else [])
 
 
 def end_of_spans(pod: Pod) -> int | None:

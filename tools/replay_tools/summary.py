@@ -94,7 +94,7 @@ def worst_of(report: reports.Report, pod: reports.Pod, trace: traces.Trace | Non
              kubelet: kubelets.Kubelet | None, since: int = NEVER) -> Found:
     """The worst that happened to a pod behind a moment."""
     ended = ended_by_node(report, pod, kubelet)
-    if ended is not None and ended.at > since:
+    if ended is not None and ended.at is not None and ended.at > since:
         return ended
     deletion = trace.deletions.get(pod.number) if trace else None
     until = deletion.at if deletion else None
@@ -217,8 +217,9 @@ def unready_seconds(pod: reports.Pod, last: int, since: int = NEVER) -> int:
 
 def seconds_of(spans: list[reports.Span], last: int, since: int) -> int:
     """The seconds of spans behind a moment, of those that are open to the last one."""
-    ends = [(span, last if span.until is None else min(span.until, last)) for span in spans]
-    return sum(max(end - max(span.since, since), 0) for span, end in ends)
+    lengths = [(last if span.until is None else min(span.until, last))
+               - (since if span.since is None else max(span.since, since)) for span in spans]
+    return sum(max(length, 0) for length in lengths)
 
 
 def came_again(pod: reports.Pod, name: str, since: int = NEVER) -> int:

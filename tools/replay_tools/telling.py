@@ -8,7 +8,7 @@ from collections.abc import Callable
 from dataclasses import dataclass
 from typing import TYPE_CHECKING
 
-from replay_tools import entry, events, outside, reasons, traces
+from replay_tools import amounts, entry, events, outside, reasons, traces
 
 if TYPE_CHECKING:
     from replay_tools import report as reports
@@ -144,9 +144,10 @@ def reboots(trace: traces.Trace, report: reports.Report) -> list[Reboot]:
     found, moments = [], [tick.at for tick in trace.ticks]
     for at in dict.fromkeys(tick.lines.booted_at for tick in trace.ticks):
         place = 0 if at is None else bisect_left(moments, at)
-        if 0 < place < len(trace.ticks):
-            exits = [Exited(event.number, event.container, code_of(event, trace)) for event in report.events
-                     if event.word == "died" and moments[place - 1] < event.at <= moments[place]]
+        if at is not None and 0 < place < len(trace.ticks):
+            exits = [Exited(event.number, event.name, code_of(event, trace)) for event in report.events
+                     if event.word == "died" and event.number is not None
+                     and moments[place - 1] < event.at <= moments[place]]
             found.append(Reboot(at, place - 1, exits + exits_unseen(trace, place, exits)))
     return found
 
@@ -165,7 +166,7 @@ def listings_at(trace: traces.Trace, place: int) -> dict[tuple[int, str], traces
     try:
         found = {(pod.number, container.name): trace.listing(pod, container.name, place)
                  for pod in trace.pods for container in pod.containers}
-    except ValueError:
+    except amounts.Wrong:
         return {}
     return {of: listing for of, listing in found.items() if listing is not None}
 

@@ -106,7 +106,7 @@ class Lines:
         self.booted_at: int | None = None
         """the second at which the node's system was started, where the node line says it"""
 
-    def __iter__(self) -> Iterator[tuple[int, int, int] | None]:
+    def __iter__(self) -> Iterator[tuple[int, int, int]]:
         """Where each line begins and ends, with its number."""
         begin, number = 0, 1
         while begin <= len(self.text):
@@ -226,7 +226,7 @@ class Trace:
         for place in range(self.places[eviction.at] + 1, len(self.ticks)) if self.pauses_until_gone() else ():
             if self.ticks[place].at >= end:
                 break
-            if self.is_over(self.pods[eviction.number], place):
+            if eviction.number is not None and self.is_over(self.pods[eviction.number], place):
                 return self.ticks[place].at
         return end
 
@@ -280,10 +280,11 @@ def present_at_each(trace: Trace) -> Iterator[dict[str, Pod]]:
     """The pods that are present, by key, at each tick in turn; the same dict each time."""
     present: dict[str, Pod] = {}
     arriving = sorted(trace.pods, key=lambda pod: pod.first, reverse=True)
-    leaving = sorted((pod for pod in trace.pods if pod.gone is not None), key=lambda pod: pod.gone, reverse=True)
+    leaving = sorted(((pod.gone, pod) for pod in trace.pods if pod.gone is not None), key=lambda pair: pair[0],
+                     reverse=True)
     for place in range(len(trace.ticks)):
-        while leaving and leaving[-1].gone <= place:
-            present.pop(leaving.pop().key, None)
+        while leaving and leaving[-1][0] <= place:
+            present.pop(leaving.pop()[1].key, None)
         while arriving and arriving[-1].first <= place:
             pod = arriving.pop()
             if pod.is_present(place):
@@ -348,9 +349,9 @@ def trace_with(trace: Trace | None, present: dict[str, Pod], lines: Lines, begin
     """The trace with one more line; present has its pods by key."""
     found = lines.read(begin, end)
     kind = found.get("kind")
-    if (trace is None) != (kind == "node"):
-        raise Wrong("kind")
-    if kind == "node":
+    if trace is None:
+        if kind != "node":
+            raise Wrong("kind")
         lines.booted_at = outside.moment(found.get("bootedAt"))
         return Trace(text_at(found, "name"), found, thresholds_of(found))
     if kind == "pod":
@@ -495,5 +496,5 @@ def check_events(trace: Trace, report: reports.Report, path: str) -> None:
 def is_listed(trace: Trace, event: reports.Event) -> bool:
     if event.number is None:
         return False
-    found = trace.listing(trace.pods[event.number], event.container, trace.places[event.at])
+    found = trace.listing(trace.pods[event.number], event.name, trace.places[event.at])
     return found is not None and (found.attempt, found.state) == (int(event.rest[0]), "CONTAINER_RUNNING")

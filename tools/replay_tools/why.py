@@ -34,7 +34,7 @@ class Results:
     kind: str
     probe: traces.Probe
     since: int | None
-    runs: list[tuple[str, list[int]]]
+    runs: list[tuple[str | None, list[int]]]
 
 
 @dataclass
@@ -150,19 +150,22 @@ class UseOverTime:
 
     def throttled(self, attempt: int, at: int) -> Throttled | None:
         """For how long an instance was throttled up to a moment; None where it was not, or nothing says it."""
-        told = [use for use in self.of(attempt, at) if use.throttled is not None]
-        if not told or not told[-1].throttled or told[-1].at < at - THROTTLED_SECONDS:
+        told = [(use.at, use.throttled) for use in self.of(attempt, at) if use.throttled is not None]
+        until, whole = told[-1] if told else (0, 0)
+        if not whole or until < at - THROTTLED_SECONDS:
             return None
-        first = next(use for use in told if use.at >= told[-1].at - THROTTLED_SECONDS)
-        return Throttled(max(told[-1].throttled - first.throttled, 0), first.at, told[-1].at, told[-1].throttled)
+        since, before = next(each for each in told if each[0] >= until - THROTTLED_SECONDS)
+        return Throttled(max(whole - before, 0), since, until, whole)
 
 
 def use_in(at: int, listed: dict[str, Any]) -> Use | None:
     """What a listing says that its instance used. The formats do not read that, so what has another shape says
     nothing."""
     used, attempt = listed.get("used"), outside.whole(listed.get("attempt", 0), 0, outside.MOST_OF_CODE)
-    age = outside.whole(used.get("age", 0), 0, at) if isinstance(used, dict) else None
-    if age is None or attempt is None:
+    if attempt is None or not isinstance(used, dict):
+        return None
+    age = outside.whole(used.get("age", 0), 0, at)
+    if age is None:
         return None
     found = [outside.whole(used.get(name)) for name in ("workingSet", "cpu", "throttled")]
     return None if found == [None] * 3 else Use(at - age, attempt, *found)
@@ -189,8 +192,8 @@ class PodTicks:
 
     def __init__(self, trace: traces.Trace, pod: traces.Pod) -> None:
         self.trace, self.pod = trace, pod
-        self.results: dict[tuple[str, str], tuple[list[int], list[str]]] = {}
-        """moments and results, by container and probe"""
+        self.results: dict[tuple[str, str], tuple[list[int], list[str | None]]] = {}
+        """moments and results, by container and probe; None where a tick has a probe without one"""
         self.listings: dict[str, tuple[list[int], list[traces.Listing | None]]] = {
             container.name: ([], []) for container in pod.containers}
         """the moments at which what is listed changed, and what it was from then on, by container"""
@@ -230,11 +233,11 @@ class PodTicks:
         return Listed(kept[place], kept[place - 1] if place > 0 else None,
                       self.trace.ticks[before].at if place > 0 else None)
 
-    def runs(self, name: str, kind: str, since: int, until: int) -> list[tuple[str, list[int]]]:
+    def runs(self, name: str, kind: str, since: int, until: int) -> list[tuple[str | None, list[int]]]:
         """The results of a probe in a span of moments, both ends included, as runs of equal ones."""
         moments, kept = self.results.get((name, kind), ([], []))
         first = bisect_left(moments, since)
-        runs: list[tuple[str, list[int]]] = []
+        runs: list[tuple[str | None, list[int]]] = []
         for at, result in zip(moments[first:], kept[first:]):
             if at > until:
                 break
@@ -242,7 +245,6 @@ class PodTicks:
                 runs.append((result, []))
             runs[-1][1].append(at)
         return runs
-
 
     def is_over_gap(self, before: int, at: int) -> bool:
         return any(before <= since and until <= at for since, until in self.trace.gaps)
@@ -256,7 +258,8 @@ class Ticks:
         self.found: dict[int, PodTicks] = {}
         self.listed: dict[int, traces.Pod] = {}
         self.usages: dict[int, dict[str, int]] = {}
-        self.wanted, self.usages_at = wanted, dict.fromkeys(moments)
+        self.wanted = wanted
+        self.usages_at: dict[int, dict[int, dict[str, int]]] = {moment: {} for moment in moments}
 
     def of(self, trace: traces.Trace, pod: traces.Pod) -> PodTicks:
         if pod.number not in self.found:
@@ -309,12 +312,12 @@ def around_events(trace: traces.Trace, report: reports.Report, pod: reports.Pod)
     ours = trace.pods[pod.number]
     ticks = ticks_of(trace, [ours])[pod.number]
     specs = {container.name: container for container in ours.containers}
-    deaths = {(event.container, event.at) for event in pod.events if event.word == "died"}
+    deaths = {(event.name, event.at) for event in pod.events if event.word == "died"}
     starts: dict[str, tuple[str, int]] = {}
     exits: dict[str, list[Exit]] = {}
     found = []
     for event in pod.events:
-        name = event.container
+        name = event.name
         if event.word == "started":
             starts[name] = (event.rest[0], event.at)
         elif event.word == "died":
@@ -349,7 +352,7 @@ def counted(exits: list[Exit]) -> list[Exit]:
     return exits[-exits[-1].number :] if exits else []
 
 
-def results_of(ticks: PodTicks, container: traces.Container, event: reports.Event, start: tuple[str, int],
+def results_of(ticks: PodTicks, container: traces.Container, event: reports.Event, start: tuple[str, int] | None,
                died: bool) -> list[Results]:
     """The results of the probes that an event is of, from the start of the instance on."""
     kinds = {"startup-passed": ("startup",), "kill": tuple(event.rest[1:]), "ready": ("startup", "readiness"),
@@ -412,8 +415,9 @@ def samples_of(trace: traces.Trace, report: reports.Report, at: int, signal: str
     """The samples of a signal from one tick to another, of those at which the node decides; a value that a tick repeats
     is no sample of its own."""
     last = trace.places[at]
+    first = last if since is None else trace.places.get(since, last)
     found: list[tuple[int, int | None, int | None]] = []
-    for tick in judged(trace, report, trace.ticks[trace.places.get(since, last) : last + 1]):
+    for tick in judged(trace, report, trace.ticks[first : last + 1]):
         sample = tick.signals.get(signal), tick.after_reclaim.get(signal)
         if not found or found[-1][1:] != sample:
             found.append((tick.at, *sample))

@@ -59,8 +59,8 @@ def beside(pod: reports.Pod, around: why.Around, show: Callable[[int], str],
 def kubelet_parts(trace: traces.Trace, report: reports.Report, pod: reports.Pod, show: Callable[[int], str],
                   kubelet: kubelets.Kubelet | None) -> list[tuple[int, list[str]]]:
     """What the kubelet did to a pod, beside what the rules do, by moment."""
-    fact = kubelet and kubelet.fact(pod.number)
-    if not fact:
+    fact = None if kubelet is None else kubelet.fact(pod.number)
+    if kubelet is None or fact is None:
         return []
     head = f"{show(fact.decision.at)}  {kubelets.event_words(fact.decision)}"
     if fact.decision.kind != "evicted":
@@ -98,10 +98,8 @@ def told(trace: traces.Trace, pod: reports.Pod, around: why.Around, show: Callab
                      [[name, *listing_cells(listed.now)] for name, listed in around.listed])[:-1]
     if word in ("backoff", "restart"):
         return exit_lines(trace, pod, around, show)
-    if word in why.OF_RULES and around.evicted is None:
-        return ["once more, as above"]
     if word in why.OF_RULES:
-        return evicted_lines(around.evicted, show)
+        return ["once more, as above"] if around.evicted is None else evicted_lines(around.evicted, show)
     if around.died:
         return ["it died at this tick"]
     if not around.results:
@@ -162,7 +160,7 @@ def result_lines(results: why.Results, show: Callable[[int], str]) -> list[str]:
     since = "the first tick" if results.since is None else show(results.since)
     head = f"{results.kind} results since the instance started at {since}:"
     kept = results.runs[-MOST_ROWS:]
-    rows = [[result, str(len(moments)), moments_text(moments, show)] for result, moments in kept]
+    rows = [[result or "-", str(len(moments)), moments_text(moments, show)] for result, moments in kept]
     lines = [f"{results.kind}Probe: failureThreshold {probe.failure_threshold}, "
              f"successThreshold {probe.success_threshold}, initialDelaySeconds {probe.initial_delay}, "
              f"periodSeconds {probe.period}"]
@@ -183,7 +181,7 @@ def left_out(count: int, what: str) -> list[str]:
 def exit_lines(trace: traces.Trace, pod: reports.Pod, around: why.Around, show: Callable[[int], str]) -> list[str]:
     kept = around.exits[-MOST_ROWS:]
     policy, most = trace.pods[pod.number].policy, traces.value_at(trace.settings, "maxRestartDelay", 300)
-    name = around.event.container
+    name = around.event.name
     rows = [[str(found.number), str(found.attempt), "-" if found.started is None else show(found.started),
              show(found.died), f"{found.run} s",
              reasons.code_words(found.code, trace.reasons.ends.get((pod.number, name, found.attempt))),
@@ -196,7 +194,7 @@ def exit_lines(trace: traces.Trace, pod: reports.Pod, around: why.Around, show: 
     return lines + left_out(len(around.exits) - len(kept), "earlier exits")
 
 
-def reason_of(trace: traces.Trace, pod: reports.Pod, name: str | None, found: why.Exit) -> str:
+def reason_of(trace: traces.Trace, pod: reports.Pod, name: str, found: why.Exit) -> str:
     end = trace.reasons.ends.get((pod.number, name, found.attempt))
     return end.reason if end is not None and end.reason else "-"
 

@@ -1,36 +1,37 @@
-"""What the tests of all tools share: a run of a command, and the count of what was compared."""
+"""What the tests of all tools share: a run of a command, and what is compared."""
 
 import os
 import subprocess
 import sys
 import time
 
+import cases
+
 HERE = os.path.dirname(os.path.realpath(__file__))
 TOOLS = os.path.dirname(HERE)
 TOP = os.path.dirname(TOOLS)
 # the tools' package, stand-ins, and the modules of bench/
 sys.path += [TOOLS, f"{HERE}/commands", f"{TOP}/bench/lib", f"{TOP}/bench/lib/real_node"]
-WITHOUT_PROGRAM = "--without-program" in sys.argv[1:]
+# python3 -m unittest takes no such word
+WITHOUT_PROGRAM = "--without-program" in sys.argv[1:] or "WITHOUT_PROGRAM" in os.environ
 # in place of the program one that says that it was asked
 REPLAY = f"{HERE}/commands/no_program" if WITHOUT_PROGRAM else os.environ.get("KUBELET_REPLAY", f"{TOP}/kubelet_replay")
 # a recorder that goes on by mistake ends all the same
 LONGEST = 60
 
 WRITE = "--write" in sys.argv[1:]
-passed, failed = 0, 0
 
 
 def expect(name, got, wanted):
-    """Counts one test, and shows the first line in which it differs."""
-    global passed, failed
-    if got == wanted:
-        passed += 1
-        return
-    failed += 1
+    """Compares what a test got; where it differs the first line that does is shown."""
+    cases.check(name, None if got == wanted else difference_of(got, wanted))
+
+
+def difference_of(got, wanted):
     lines = zip((got if isinstance(got, str) else repr(got)).split("\n") + ["(end)"],
                 (wanted if isinstance(wanted, str) else repr(wanted)).split("\n") + ["(end)"])
     first = next(((a, b) for a, b in lines if a != b), ("", ""))
-    print(f"FAILED {name}\n  got     {first[0][:300]}\n  wanted  {first[1][:300]}")
+    return f"  got     {first[0][:300]}\n  wanted  {first[1][:300]}"
 
 
 def expect_kept(name, got, path):

@@ -9,12 +9,15 @@ import subprocess
 import sys
 import tempfile
 
+import cases
 from checks import HERE, TOOLS, expect, read, run
 from test_connections import TOKEN, Kubelet, Place, has_openssl, kinds
 
 import quiet_node
 from replay_tools.record import alone, answers
 from replay_tools.record.sources import Failed
+
+load_tests = cases.loaded(__name__)
 
 # texts that are JSON, and some that are none
 TEXTS = ("", " ", "null", "12", "[1,2]", '"x"', "{}", ' { } ', '{"items":[]}', '{"items":null}',

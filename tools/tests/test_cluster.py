@@ -6,8 +6,11 @@ import os
 import shutil
 import tempfile
 
+import cases
 from checks import HERE, TOOLS, expect, expect_refused, run
 from joined_plays import Folder
+
+load_tests = cases.loaded(__name__)
 
 COMMANDS = f"{HERE}/kubectl/commands"
 PODS = (("n1", "recorder-a", "Running"), ("n2", "recorder-b", "Running"), ("n3", "recorder-c", "Pending"))

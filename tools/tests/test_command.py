@@ -10,9 +10,12 @@ import subprocess
 import sys
 import tempfile
 
+import cases
 from checks import HERE, REPLAY, TOOLS, TOP, expect, expect_refused, read, run
 
 from replay_tools import entry, tree
+
+load_tests = cases.loaded(__name__)
 
 COMMAND = f"{TOOLS}/kubelet-replay"
 NAMES = ("record", "run", "check", "explain", "story", "why", "page", "timeline", "json", "what-if", "import",

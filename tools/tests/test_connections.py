@@ -12,9 +12,12 @@ import threading
 from collections import Counter
 from http.server import BaseHTTPRequestHandler, ThreadingHTTPServer
 
+import cases
 from checks import HERE, LONGEST, TOOLS, expect, read, run, wait_until
 
 from replay_tools.record.connections import NotRead, settings_of
+
+load_tests = cases.loaded(__name__)
 
 ANSWERS = f"{HERE}/recordings/crash_loop/1"
 PATHS = {"/pods": "pods.json", "/configz": "configz.json", "/stats/summary": "summary.json",

@@ -8,9 +8,12 @@ import shutil
 import sqlite3
 import tempfile
 
+import cases
 from checks import HERE, TOOLS, expect, expect_kept, expect_refused, read, replayed, run
 
 from replay_tools import kubelet as kubelets, traces
+
+load_tests = cases.loaded(__name__)
 
 FOLDER = f"{HERE}/whys/kubelet"
 TRACE = f"{FOLDER}/trace"

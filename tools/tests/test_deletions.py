@@ -2,11 +2,14 @@
 
 import json
 
+import cases
 from checks import HERE, TOOLS, expect, read, run
 
 from replay_tools import traces
 from replay_tools.record.pods import deleted_at
 from replay_tools.record.standing import Standing
+
+load_tests = cases.loaded(__name__)
 
 RECORDED = f"{HERE}/recordings/deleted_extended"
 BEGIN = 1767225600

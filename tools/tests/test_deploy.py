@@ -13,6 +13,7 @@ import sys
 import tarfile
 import tempfile
 
+import cases
 from checks import HERE, LONGEST, TOOLS, TOP, expect, expect_refused, read, run
 from test_connections import Kubelet, Place, has_openssl
 from test_record import Recorder
@@ -20,6 +21,8 @@ from test_record import Recorder
 from replay_tools.record.observer import RUNTIME, Observer
 from replay_tools.record.sources import Failed, Sources
 from replay_tools.record.words import words_of
+
+load_tests = cases.loaded(__name__)
 
 DEPLOY = f"{TOP}/deploy"
 SHOWS = '#!/bin/sh\nprintf "%s\\n" "$@"\nif [ -n "${SHOWN-}" ]; then cat "$SHOWN"; fi\n'

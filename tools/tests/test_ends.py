@@ -3,11 +3,14 @@ and what waits for a list of pods."""
 
 import json
 
+import cases
 from checks import HERE, expect, read
 from into_plays import Into
 
 from replay_tools.record.decisions import end_of
 from replay_tools.record.standing import Standing
+
+load_tests = cases.loaded(__name__)
 
 RECORDED = f"{HERE}/recordings/ended_extended"
 BEGIN = 1767225600

@@ -3,12 +3,15 @@ of an Event, and where it stands."""
 
 import json
 
+import cases
 from checks import TOOLS, expect, run
 from into_plays import Into
 from test_connections import TOKEN, Kubelet, Place, has_openssl
 
 from replay_tools.record.events import Asking, said_in
 from replay_tools.record.standing import Standing
+
+load_tests = cases.loaded(__name__)
 
 BEGIN = 1767225600
 SECRET = "s3cret"

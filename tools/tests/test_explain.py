@@ -8,9 +8,12 @@ import os
 import shutil
 import tempfile
 
+import cases
 from checks import HERE, REPLAY, TOOLS, TOP, expect, expect_kept, expect_refused, read, run
 
 from replay_tools.explain import answer, before, lines, manifest, node, search, table, tick, told, verdict
+
+load_tests = cases.loaded(__name__)
 
 EXPLAINED = f"{HERE}/explained"
 DATA = f"{TOP}/crates/case_runner/data"

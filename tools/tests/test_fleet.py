@@ -14,10 +14,13 @@ import sys
 import tempfile
 import time
 
+import cases
 from checks import HERE, LONGEST, REPLAY, TOOLS, TOP, expect, expect_kept, expect_refused, read, run, wait_until
 
 import fleet_runs
 import node_traces
+
+load_tests = cases.loaded(__name__)
 
 KEPT = f"{HERE}/fleet"
 FLEET = f"{TOOLS}/fleet"

@@ -10,8 +10,11 @@ import subprocess
 import sys
 import tempfile
 
+import cases
 from checks import HERE, TOOLS, TOP, expect, expect_kept, expect_refused, read, run
 from joined_plays import Folder, records
+
+load_tests = cases.loaded(__name__)
 
 FLEET = f"{TOOLS}/fleet"
 KEPT = f"{HERE}/fleet"

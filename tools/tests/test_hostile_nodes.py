@@ -6,9 +6,12 @@ import os
 import shutil
 import sys
 
+import cases
 from checks import expect, expect_refused, run
 from joined_plays import Folder
 from test_cluster import COMMANDS, PART, PODS, Cluster, TOOLS
+
+load_tests = cases.loaded(__name__)
 
 FIRST = "n1.2026-01-01T00-00-00Z.trace.gz"
 PEAK = ("import resource, subprocess, sys\n"

@@ -12,9 +12,12 @@ import tempfile
 import time
 import xml.dom.minidom
 
+import cases
 from checks import TOOLS, TOP, expect, expect_refused, read, run
 
 from replay_tools import asking, entry
+
+load_tests = cases.loaded(__name__)
 
 REPORT = f"{TOP}/examples/liveness_kill.report"
 FAR, LATER = 10 ** 30, 2 ** 40 - 1

@@ -12,7 +12,10 @@ import struct
 import tempfile
 import time
 
+import cases
 from checks import HERE, REPLAY, TOOLS, expect, expect_kept, expect_refused, read, run
+
+load_tests = cases.loaded(__name__)
 
 FOLDER = f"{HERE}/imported"
 IMPORT = f"{TOOLS}/import"

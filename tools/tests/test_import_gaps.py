@@ -8,8 +8,11 @@ import shutil
 import tempfile
 import time
 
+import cases
 from checks import expect, read
 from test_import import FOLDER, HEADER, checked, imported, lines_of, listings_of
+
+load_tests = cases.loaded(__name__)
 
 
 def test_import_of_a_kubelet_that_is_started_anew():

@@ -4,9 +4,12 @@ forms of the journals are."""
 import json
 import tempfile
 
+import cases
 from checks import expect, read
 from test_import import FOLDER, as_json, imported, journald, lines_of, short_iso
 from test_import_gaps import as_lines, gap_in, records
+
+load_tests = cases.loaded(__name__)
 
 # of the log: where its second journal begins, and where its first one ends
 SECOND_BEGINS, FIRST_ENDS = "I0301 10:00:30.0", "I0301 10:00:50.0"

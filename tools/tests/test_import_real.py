@@ -4,11 +4,14 @@ of 305 s at -v=4, cut to a verbosity; docs/import.md has the counts."""
 import os
 import tempfile
 
+import cases
 from checks import HERE, REPLAY, TOOLS, TOP, expect, expect_kept, read, run
 
 import counted
 import from_log
 import import_counts
+
+load_tests = cases.loaded(__name__)
 
 RECORDING = f"{HERE}/recordings/imported_journal"
 PAGE = f"{TOP}/docs/import.md"

@@ -12,8 +12,11 @@ import shutil
 import tempfile
 import time
 
+import cases
 from checks import HERE, TOOLS, expect, read, replayed, run
 from test_import import FOLDER, YEAR, checked, imported, pod_lines
+
+load_tests = cases.loaded(__name__)
 
 RECORDING = f"{HERE}/recordings/imported_journal"
 MEMORY, DISK = "memory.available", "nodefs.available"

@@ -6,11 +6,14 @@ import random
 from concurrent.futures import ThreadPoolExecutor
 
 from chance import BEGIN, SECONDS, play_of
+import cases
 from checks import HERE, expect, read
 from into_plays import Into, follows, laid, parts_of, probed_play, series
 from test_plays import quiet_node, report_of
 
 from replay_tools.record.standing import Standing
+
+load_tests = cases.loaded(__name__)
 
 PLAYS = 16
 TOLD = ("started", "died", "kill", "ready", "unready")

@@ -12,6 +12,7 @@ import shutil
 import signal
 
 from chance import BEGIN, SECONDS
+import cases
 from checks import HERE, LONGEST, TOOLS, TOP, expect, expect_refused, read, run, wait_until
 from into_plays import (Clock, ClockUntil, Into, Killed, follows, laid, parts_of, probed_play, recorded_here,
                         unpacked)
@@ -24,6 +25,8 @@ from replay_tools.record.folder import Folder
 from replay_tools.record.into import LastingRecording, Traces
 from replay_tools.record.sources import Sources
 from replay_tools.record.words import words_of
+
+load_tests = cases.loaded(__name__)
 
 
 # --- what goes ---

@@ -8,19 +8,22 @@ import traceback
 import zlib
 
 from chance import BEGIN
+import cases
 from checks import expect, read
 from into_plays import Into, ClockUntil, Killed, laid, probed_play
 from test_plays import quiet_node
 
 from player import Play
-from replay_tools.record import folder, into, part
+from replay_tools.record import folder, into, packing, part, traces, writing
 from replay_tools.record.folder import Folder
 from replay_tools.record.into import LastingRecording, Traces
 from replay_tools.record.left import Left
 from replay_tools.record.sources import Sources
 from replay_tools.record.words import words_of
 
-TRACED = {module.__file__ for module in (folder, into, part)}
+load_tests = cases.loaded(__name__)
+
+TRACED = {module.__file__ for module in (folder, into, packing, part, traces, writing)}
 
 
 class CountedClock(ClockUntil):

@@ -9,11 +9,14 @@ import random
 from unittest import mock
 
 from chance import BEGIN
+import cases
 from checks import expect, expect_refused
 from into_plays import Clock, Into, laid, recorded_here
 from test_into_folder import can_mount, on_a_mount
 from test_into_kills import end_left
 from test_plays import quiet_node
+
+load_tests = cases.loaded(__name__)
 
 HOURS = [f"n1.2025-12-31T{hour:02}-00-00Z.trace.gz" for hour in range(20)]
 

@@ -13,12 +13,15 @@ import tempfile
 from concurrent.futures import ThreadPoolExecutor
 
 from chance import BEGIN, SECONDS, play_of
+import cases
 from checks import HERE, REPLAY, TOOLS, TOP, expect, expect_kept, expect_refused, read, replayed, run
 from into_plays import Into, probed_play, unpacked
 from joined_plays import Folder, hourly, records, restarted_play, restarting_play, stamp
 
 from replay_tools import traces as lib_trace
 from replay_tools.joined import asked, join
+
+load_tests = cases.loaded(__name__)
 
 try:
     import jsonschema

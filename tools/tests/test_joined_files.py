@@ -7,10 +7,13 @@ import shutil
 import tempfile
 
 from chance import BEGIN
+import cases
 from checks import HERE, REPLAY, TOOLS, expect, expect_refused, read, replayed, run
 from joined_plays import Folder
 
 from replay_tools.joined import files, parts
+
+load_tests = cases.loaded(__name__)
 
 
 def test_time_of_traces():

@@ -9,7 +9,10 @@ import sqlite3
 import stat
 import tempfile
 
+import cases
 from checks import HERE, TOOLS, TOP, expect, expect_kept, expect_refused, read, run
+
+load_tests = cases.loaded(__name__)
 
 try:
     import jsonschema

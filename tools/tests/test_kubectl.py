@@ -9,7 +9,10 @@ import subprocess
 import sys
 import tempfile
 
+import cases
 from checks import HERE, REPLAY, TOOLS, TOP, expect, expect_refused, read, run
+
+load_tests = cases.loaded(__name__)
 
 KEPT = f"{HERE}/kubectl"
 # the plugin with a stand-in for each tool

@@ -2,10 +2,13 @@
 
 import json
 
+import cases
 from checks import expect
 from into_plays import Into
 
 from replay_tools.record.logs import kept_of, lines_of
+
+load_tests = cases.loaded(__name__)
 
 BEGIN = 1767225600
 SECRET = "s3cret"

@@ -3,6 +3,7 @@ do not read."""
 
 import json
 
+import cases
 from checks import expect
 from into_plays import Into
 
@@ -12,6 +13,8 @@ from replay_tools.record.node import node_line_of
 from replay_tools.record.pods import pods_of
 from replay_tools.record.standing import Standing
 from replay_tools.record.summary import summary_of
+
+load_tests = cases.loaded(__name__)
 
 BEGIN = 1767225600
 

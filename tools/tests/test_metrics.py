@@ -6,10 +6,13 @@ import re
 import shutil
 import subprocess
 
+import cases
 from checks import TOP, expect, read
 from into_plays import Into
 
 from replay_tools.record.metrics import Metrics, fault_of
+
+load_tests = cases.loaded(__name__)
 
 BEGIN = 1767225600
 PARSE = """

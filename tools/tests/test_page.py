@@ -10,8 +10,11 @@ import sys
 import tempfile
 
 import big_node
+import cases
 from checks import HERE, TOOLS, TOP, expect, expect_refused, read, run
 from joined_plays import Folder
+
+load_tests = cases.loaded(__name__)
 
 NODE = f"{HERE}/whys/file_system"
 PROBES = f"{HERE}/whys/probes"

@@ -10,11 +10,14 @@ import tempfile
 from concurrent.futures import ThreadPoolExecutor
 
 from chance import BEGIN, SECONDS, play_of
+import cases
 from checks import HERE, LONGEST, REPLAY, TOOLS, expect, read, run
 from into_plays import Into
 
 from replay_tools.report import read_report
 from replay_tools.traces import read_trace
+
+load_tests = cases.loaded(__name__)
 
 PLAYS = 32
 # how late a start or an exit may stand where all sources answer, as what shares a second stands in those after it

@@ -3,10 +3,13 @@ out."""
 
 import re
 
+import cases
 from checks import expect, replayed
 from into_plays import Into
 
 from replay_tools.record.probes import grown, have_begun_anew, most_results, results_of
+
+load_tests = cases.loaded(__name__)
 
 BEGIN = 1767225600
 LOOK = 5

@@ -11,6 +11,7 @@ import sys
 import tempfile
 import time
 
+import cases
 from checks import HERE, REPLAY, TOP, expect, expect_kept, read, run, wait_until
 
 import test_connections
@@ -19,6 +20,8 @@ import counted
 import ending
 import restarts
 import trimmed
+
+load_tests = cases.loaded(__name__)
 
 PARTS = f"{TOP}/bench/lib/real_node"
 RECORDING = f"{HERE}/recordings/real_node"

@@ -8,11 +8,14 @@ import sqlite3
 import tempfile
 import xml.dom.minidom
 
+import cases
 from checks import HERE, TOOLS, TOP, expect, expect_kept, read, replayed, run
 from test_json import SCHEMA, jsonschema
 from test_record import Recorder
 
 from replay_tools import traces
+
+load_tests = cases.loaded(__name__)
 
 PLAYED = f"{HERE}/recordings/reasons"
 RECORDED = f"{TOP}/examples/recorded/out_of_memory"

@@ -11,6 +11,7 @@ import tempfile
 import time
 from concurrent.futures import ThreadPoolExecutor
 
+import cases
 from checks import (HERE, LONGEST, REPLAY, TOOLS, TOP, expect, expect_kept, expect_refused, read, replayed, run,
                     wait_until)
 
@@ -22,6 +23,8 @@ from replay_tools.record.program import Ended, Output
 from replay_tools.record.runtime import inspected_of, instances_of
 from replay_tools.record.sources import Failed
 from replay_tools.record.summary import summary_of
+
+load_tests = cases.loaded(__name__)
 
 RECORDINGS = f"{HERE}/recordings"
 COMMANDS = f"{HERE}/commands"

@@ -3,6 +3,7 @@ them."""
 
 import json
 
+import cases
 from checks import HERE, expect, read
 from into_plays import Into
 
@@ -11,6 +12,8 @@ from replay_tools.record import lines, node
 from replay_tools.record.rounds import Rounds
 from replay_tools.record.standing import Standing
 from replay_tools.record.summary import Sample, Summary
+
+load_tests = cases.loaded(__name__)
 
 BEGIN = 1767225600
 MEMORY, DISK, IMAGES, PIDS = "memory.available", "nodefs.available", "imagefs.available", "pid.available"

@@ -4,7 +4,10 @@ journal and of recordings with Events."""
 import json
 import tempfile
 
+import cases
 from checks import TOOLS, TOP, expect, read, run
+
+load_tests = cases.loaded(__name__)
 
 EXAMPLE = f"{TOP}/examples/liveness_kill"
 OF_JOURNAL = {15: [{"at": 10, "container": "web", "reason": "Unhealthy", "probe": "liveness", "message": "HTTP 503"},

@@ -3,11 +3,14 @@
 import json
 import re
 
+import cases
 from checks import HERE, expect, read
 from test_record import Recorder
 
 from replay_tools.record.messages import message_kept
 from replay_tools.record.reasons import reason_of
+
+load_tests = cases.loaded(__name__)
 
 SECRET = "s3cret"
 PULL = "registry.example/shop/web:v9"

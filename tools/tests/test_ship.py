@@ -4,6 +4,7 @@ be slow, and never holds the recording up."""
 import os
 import time
 
+import cases
 from checks import expect, read, wait_until
 from into_plays import Clock, Into, recorded_here
 from test_into_folder import quiet_node
@@ -11,6 +12,8 @@ from test_into_folder import quiet_node
 from replay_tools.record import ship
 from replay_tools.record.folder import Folder
 from replay_tools.record.ship import Shipping
+
+load_tests = cases.loaded(__name__)
 
 NAMES = [f"n1.2026-01-01T0{hour}-00-00Z.trace.gz" for hour in range(4)]
 
@@ -57,14 +60,14 @@ def test_each_trace():
     """In their order, each once, also behind a new start; the path comes last, or where it is wanted."""
     place = Place()
     shipping = place.shipping(*script(f'echo "$1" >> {place.taken}/list; cp "$1" {place.taken}'))
-    place.look_until(shipping, lambda: shipping.process is None and len(os.listdir(place.taken)) == 5)
+    place.look_until(shipping, lambda: shipping.shipment is None and len(os.listdir(place.taken)) == 5)
     paths = [f"{place.into.folder}/{name}" for name in NAMES]
     expect("shipped: in their order", read(f"{place.taken}/list").splitlines(), paths)
     expect("shipped: the last one is kept", (read(shipping.path), place.said), (f"{NAMES[-1]}\n", []))
     os.close(place.folder.descriptor)
     place.into.put("n1.2026-01-01T03-00-00Z_2.trace.gz", b"")
     again = place.shipping("cp", "{}", place.taken)
-    place.look_until(again, lambda: again.process is None and len(os.listdir(place.taken)) == 6)
+    place.look_until(again, lambda: again.shipment is None and len(os.listdir(place.taken)) == 6)
     expect("shipped: none is taken twice", [trace.name for trace in again.left()], [])
     place.clean()
 
@@ -75,11 +78,11 @@ def test_commands_that_fail():
     shipping = place.shipping(*script(f'test -e {place.taken}/now || {{ echo "no \x1b[31mway" >&2; exit 3; }}; '
                                       f'cp "$1" {place.taken}'))
     for _ in range(2):
-        place.look_until(shipping, lambda: shipping.process is None and shipping.again_at > place.moment)
+        place.look_until(shipping, lambda: shipping.shipment is None and shipping.again_at > place.moment)
         place.moment = shipping.again_at
     with open(f"{place.taken}/now", "w", encoding="utf-8"):
         pass
-    place.look_until(shipping, lambda: shipping.process is None and len(os.listdir(place.taken)) == 5)
+    place.look_until(shipping, lambda: shipping.shipment is None and len(os.listdir(place.taken)) == 5)
     expect("shipped: a command that fails", place.said, [
         f"--ship: sh failed with status 3: no \\x1b[31mway; {NAMES[0]} is taken again in {seconds} s"
         for seconds in (10, 20)])
@@ -87,7 +90,7 @@ def test_commands_that_fail():
     place = Place()
     shipping = place.shipping("/nowhere/rclone")
     shipping.look()
-    expect("shipped: a command that is not there", (shipping.process, place.said), (None, [
+    expect("shipped: a command that is not there", (shipping.shipment, place.said), (None, [
         f"--ship: /nowhere/rclone can't be started: No such file or directory; {NAMES[0]} is taken again in 10 s"]))
     place.clean()
 
@@ -101,7 +104,7 @@ def test_commands_that_hang():
     shipping.look()
     place.moment += 5
     shipping.look()
-    expect("shipped: one that hangs", (shipping.process, place.said[0].split(";")[0], longest < 5),
+    expect("shipped: one that hangs", (shipping.shipment, place.said[0].split(";")[0], longest < 5),
            (None, "--ship: sh went on for 600 s, and was ended", True))
     identity = int(read(f"{place.taken}/pid"))
     wait_until("the end of what hangs", lambda: not os.path.exists(f"/proc/{identity}"))
@@ -114,7 +117,7 @@ def test_end():
     place = Place()
     shipping = place.shipping(*script("sleep 1000"))
     shipping.look()
-    process = shipping.process
+    process = shipping.shipment.process
     begun = time.monotonic()
     shipping.now = lambda: (time.monotonic() - begun) * 50
     shipping.end()

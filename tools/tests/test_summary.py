@@ -9,10 +9,13 @@ import shutil
 import sqlite3
 import tempfile
 
+import cases
 from checks import HERE, TOOLS, TOP, expect, expect_refused, read, replayed, run
 from joined_plays import Folder
 
 from replay_tools import helps, records, report as reports, summary, traces
+
+load_tests = cases.loaded(__name__)
 
 KEPT = f"{HERE}/summaries"
 TRACE, REPORT = f"{KEPT}/trace", f"{KEPT}/report"

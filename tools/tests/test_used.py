@@ -3,6 +3,7 @@ how much a recording grows by it."""
 
 import json
 
+import cases
 from checks import expect
 from into_plays import Into
 
@@ -10,6 +11,8 @@ from replay_tools import fields, traces, why
 from replay_tools.record import summary
 from replay_tools.record.sources import Failed
 from replay_tools.record.standing import Standing
+
+load_tests = cases.loaded(__name__)
 
 BEGIN = 1767225600
 

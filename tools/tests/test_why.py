@@ -7,9 +7,12 @@ import re
 import shutil
 import tempfile
 
+import cases
 from checks import HERE, REPLAY, TOOLS, TOP, expect, expect_kept, expect_refused, read, replayed, run
 
 from replay_tools import amounts, report as reports, telling, traces, why
+
+load_tests = cases.loaded(__name__)
 
 WHYS = f"{HERE}/whys"
 TEXTS = f"{TOP}/crates/case_runner/data/texts"

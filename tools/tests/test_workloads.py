@@ -8,7 +8,10 @@ import shutil
 import tempfile
 import time
 
+import cases
 from checks import HERE, TOOLS, TOP, expect, expect_refused, run
+
+load_tests = cases.loaded(__name__)
 
 COMMANDS = f"{HERE}/kubectl/commands"
 BEGIN = 1767236400

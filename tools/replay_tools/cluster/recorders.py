@@ -4,13 +4,12 @@ Whoever has a node may answer anything in their place."""
 from __future__ import annotations
 
 import difflib
-import json
 from argparse import Namespace
 from collections.abc import Callable, Iterable
 from dataclasses import dataclass, field
 from typing import Any
 
-from replay_tools import entry, outside
+from replay_tools import entry, fields, outside
 from replay_tools.cluster import kubectl
 from replay_tools.cluster.kubectl import NoAnswer
 from replay_tools.joined import files
@@ -85,10 +84,11 @@ class Cluster:
         try:
             self.ask("get", "pods", "-n", self.namespace, "-l", LABEL, "-o", "json", most=MOST_OF_PODS,
                      take=answer.extend)
-            found = [recorder_of(item) for item in json.loads(answer)["items"]]
         except NoAnswer as fault:
             raise entry.Fault(f"the recorders can't be listed: {fault}", 1) from None
-        except (ValueError, KeyError, TypeError, AttributeError, RecursionError):
+        try:
+            found = [recorder_of(item) for item in pods_in(bytes(answer))]
+        except fields.Wrong:
             raise entry.Fault("the recorders can't be listed: kubectl's answer is no list of pods", 1) from None
         by_node = {}
         for recorder in sorted(found, key=lambda one: (one.is_ready, one.pod)):
@@ -146,13 +146,21 @@ def file_of(line: str, node: str) -> tuple[File | None, str | None]:
     return File(name, bytes_of, changed), None
 
 
+def pods_in(answer: bytes) -> list[dict[str, Any]]:
+    """The pods of a list. Raises Wrong where it is none."""
+    found = fields.object_of(answer)
+    if found.get("items") is None:
+        raise fields.Wrong("items")
+    return fields.list_at(found, "items")
+
+
 def recorder_of(item: dict[str, Any]) -> Recorder:
-    ready = [one.get("ready") for one in item.get("status", {}).get("containerStatuses") or []]
-    node, pod = item["spec"].get("nodeName") or "", item["metadata"]["name"]
-    phase = item.get("status", {}).get("phase", "Unknown")
-    if not all(isinstance(text, str) for text in (node, pod, phase)):
-        raise ValueError("pod")
-    return Recorder(node, pod, phase, bool(ready) and all(ready))
+    """The recorder that is a pod. Raises Wrong where it has another shape."""
+    status = fields.dict_at(item, "status")
+    ready = [one.get("ready") for one in fields.list_at(status, "containerStatuses")]
+    node = fields.text_at(fields.object_at(item, "spec"), "nodeName", "")
+    pod = fields.text_at(fields.object_at(item, "metadata"), "name")
+    return Recorder(node, pod, fields.text_at(status, "phase", "Unknown"), bool(ready) and all(ready))
 
 
 def add_words(words: entry.Words) -> None:

@@ -9,6 +9,7 @@ from dataclasses import dataclass
 from replay_tools import (asking, entry, events, kubelet as kubelets, report as reports, summary as summing, telling,
                           why_text)
 from replay_tools.cluster.workloads import Members
+from replay_tools.joined import join
 
 Row = tuple[int, list[str]]
 
@@ -19,20 +20,22 @@ class OnNode:
 
     node: str
     given: asking.Given
+    several: join.Joined
     kubelet: kubelets.Kubelet | None
     pods: list[reports.Pod]
 
 
-def on_node(node: str, given: asking.Given, members: Members) -> OnNode:
+def on_node(node: str, several: join.Joined, members: Members) -> OnNode:
     """Of the pods of one name all are told."""
+    given = asking.Given(several.report, several.trace, several)
     pods = [pod for pod in given.report.pods if members.has(pod.key)]
-    return OnNode(node, given, asking.kubelet_beside(given.trace, given.report), pods)
+    return OnNode(node, given, several, asking.kubelet_beside(given.trace, given.report), pods)
 
 
 def text(members: Members, found: list[OnNode], show: Callable[[int], str], is_list: bool) -> str:
     """The whole story; of a namespace the list of its pods alone."""
-    pods, first = sum(len(one.pods) for one in found), min(one.given.several.first for one in found)
-    last = max(one.given.several.last for one in found)
+    pods, first = sum(len(one.pods) for one in found), min(one.several.first for one in found)
+    last = max(one.several.last for one in found)
     lines = [f"{members.target.words()}, {show(first)} to {show(last)}: {entry.counted(pods, 'pod')} on "
              f"{entry.counted(sum(bool(one.pods) for one in found), 'node')}", ""]
     lines += pods_table(found, show)
@@ -70,8 +73,7 @@ def events_table(members: Members, found: list[OnNode], show: Callable[[int], st
 
 
 def is_of_time(one: OnNode, at: int) -> bool:
-    several = one.given.several
-    return several.first <= at and several.is_near(at) and at > one.given.since
+    return one.several.first <= at and one.several.is_near(at) and at > one.given.since
 
 
 def of_pod(one: OnNode, pod: reports.Pod, show: Callable[[int], str]) -> list[Row]:

@@ -121,11 +121,11 @@ def pods_of(cluster: Cluster, found: Members) -> list[dict[str, Any]]:
         found.forms += [form for pod in pods for form in forms_of_owners(pod)]
         return pods
     pods = listed(cluster, "pods", target.namespace)
-    if target.kind is None:
+    if target.kind is None or target.name is None:
         return pods
     if target.kind == "pod":
         return [pod for pod in pods if text_at(pod, "metadata", "name") == target.name]
-    uid = text_at(asked(cluster, target), "metadata", "uid")
+    uid = text_at(asked(cluster, target, target.kind, target.name), "metadata", "uid")
     if target.kind == "deployment":
         owned = owned_by(listed(cluster, "replicasets", target.namespace), {uid})
         found.forms += [f"{re.escape(text_at(each, 'metadata', 'name') or '')}-{SUFFIX}" for each in owned]
@@ -201,8 +201,9 @@ def listed(cluster: Cluster, kind: str, namespace: str, *more: str) -> list[dict
     return [item for item in items if isinstance(item, dict)]
 
 
-def asked(cluster: Cluster, target: Target) -> dict[str, Any]:
-    found = answered(cluster, f"{target.words()} is not found", "get", target.kind, target.name, "-n", target.namespace)
+def asked(cluster: Cluster, target: Target, kind: str, name: str) -> dict[str, Any]:
+    """The object of a kind and a name that is asked for."""
+    found = answered(cluster, f"{target.words()} is not found", "get", kind, name, "-n", target.namespace)
     if not isinstance(found, dict):
         raise entry.Fault(f"{target.words()} is not found: kubectl's answer is no object", 1)
     return found

@@ -71,7 +71,7 @@ def number_of_bytes(text: str) -> int:
     """The value of --most."""
     try:
         size = amounts.quantity(text) // 1000
-    except ValueError:
+    except amounts.Wrong:
         size = 0
     if size < LEAST:
         raise argparse.ArgumentTypeError(f"takes a number of bytes of at least 1Mi, as 2Gi, not '{text}'")

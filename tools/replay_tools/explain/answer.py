@@ -17,7 +17,7 @@ from .search import search
 from .verdict import verdict_of
 
 if TYPE_CHECKING:
-    from .verdict import Verdict
+    from .verdict import Refusal, Verdict
 
 
 @dataclass
@@ -49,21 +49,22 @@ def of_verdict(path: str, verdict: Verdict, is_extended: bool) -> Answer:
         return Answer(verdict.said, False, [])
     if verdict.said in ("read failed", "input too long"):
         return of_file(path, verdict.said)
-    if verdict.line is None and not (outside.is_utf8(path) or os.path.exists(path)):
+    refusal = verdict.refusal
+    if refusal is None and not (outside.is_utf8(path) or os.path.exists(path)):
         return of_file(path, verdict.said)
     if verdict.said == "out of memory":
         return Answer(verdict.said, True, [Found((), "the system gave the program no more memory")],
                       "run it where more is free, or raise the limit that it has", has_no_verdict=True)
-    if verdict.line is None:
+    if refusal is None:
         return Answer(verdict.said or status_words(verdict.status), True, [], has_no_verdict=True)
-    says, advice, part = table.row(verdict.number, verdict.manifest)
+    says, advice, part = table.row(refusal.number, refusal.manifest)
     other = something_else(path)
     if other:
-        return Answer(verdict.said, True, [other], other.advice, None, verdict.line)
-    found, text = found_in(path, verdict, is_extended)
+        return Answer(verdict.said, True, [other], other.advice, None, refusal.line)
+    found, text = found_in(path, refusal, is_extended)
     first = found[0] if found else Found((), says)
-    return Answer(verdict.said, True, found or [first], first.advice or advice, part, verdict.line, text,
-                  verdict.number in (31, 32))
+    return Answer(verdict.said, True, found or [first], first.advice or advice, part, refusal.line, text,
+                  refusal.number in (31, 32))
 
 
 def status_words(status: int) -> str:
@@ -71,15 +72,15 @@ def status_words(status: int) -> str:
     return f"the program was ended by the signal {-status}" if status < 0 else f"the program ended with status {status}"
 
 
-def found_in(path: str, verdict: Verdict, is_extended: bool) -> tuple[list[Found], bytes]:
+def found_in(path: str, refusal: Refusal, is_extended: bool) -> tuple[list[Found], bytes]:
     """What is found of a line, and the line; nothing is found where it is written otherwise than it is thought to be
     here."""
     with open(path, "rb") as file:
         try:
-            return search(file, verdict, is_extended)
+            return search(file, refusal, is_extended)
         except (ValueError, TypeError, KeyError, IndexError, AttributeError, RecursionError):
             file.seek(0)
-            return [], next(itertools.islice(file, verdict.line - 1, None), b"").rstrip(b"\n")
+            return [], next(itertools.islice(file, refusal.line - 1, None), b"").rstrip(b"\n")
 
 
 def head_of(path: str) -> bytes:
@@ -91,7 +92,7 @@ def something_else(path: str) -> Found | None:
     """What a file is that is no trace at all, by its first bytes."""
     head = head_of(path)
     kind = first_bytes.kind_of(head)
-    if kind in (None, first_bytes.TRACE):
+    if kind is None or kind == first_bytes.TRACE:
         return None
     is_empty = kind in (first_bytes.EMPTY, first_bytes.BLANK)
     return Found((), "it is empty: it has no line of a trace" if is_empty else f"it is {kind}", advice_for(kind))

@@ -74,7 +74,7 @@ def listed_of(found: Any, before: Listed | None, number: int) -> Listed:
     """The newest instance after a listing."""
     attempt, state = found.get("attempt") or 0, state_name(found["state"])
     known = before.state if before and before.attempt == attempt else CREATED
-    return Listed(attempt, known if state == UNKNOWN else state, number)
+    return Listed(attempt, known if state is None or state == UNKNOWN else state, number)
 
 
 def state_name(state: Any) -> str | None:

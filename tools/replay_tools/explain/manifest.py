@@ -168,11 +168,17 @@ def amount_faults(found: Any, path: tuple[Any, ...]) -> Iterator[tuple[int, Foun
 def above_faults(resources: Any, path: tuple[Any, ...], resource: str) -> Iterator[tuple[int, Found]]:
     """A request above its limit, where both are quantities and set."""
     request, limit = ((resources.get(side) or {}).get(resource) for side in ("requests", "limits"))
+    least, most = quantity_or_none(request), quantity_or_none(limit)
+    if least is not None and most and least > most:
+        yield REQUEST_ABOVE_LIMIT, is_((*path, "requests", resource), request, f"it is above its limit, {limit}")
+
+
+def quantity_or_none(value: Any) -> int | None:
+    """The thousandths of what may be no quantity."""
     try:
-        if amounts.quantity(limit) and amounts.quantity(request) > amounts.quantity(limit):
-            yield REQUEST_ABOVE_LIMIT, is_((*path, "requests", resource), request, f"it is above its limit, {limit}")
-    except (ValueError, TypeError, AttributeError):
-        return
+        return amounts.quantity(value)
+    except amounts.Wrong:
+        return None
 
 
 def probe_faults(container: Any, path: tuple[Any, ...]) -> Iterator[tuple[int, Found]]:

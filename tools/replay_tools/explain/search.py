@@ -15,24 +15,24 @@ from .found import Found, at, is_, shown
 
 if TYPE_CHECKING:
     from .before import Before
-    from .verdict import Verdict
+    from .verdict import Refusal
 
 MOST_FOUND = 10
 KINDS = ("node", "pod", "tick")
 
 
-def search(file: IO[bytes], verdict: Verdict, is_extended: bool) -> tuple[list[Found], bytes]:
-    """The fields at fault of a trace that is open, for a verdict with a line, and that line as bytes."""
+def search(file: IO[bytes], refusal: Refusal, is_extended: bool) -> tuple[list[Found], bytes]:
+    """The fields at fault of a trace that is open, for what is refused of it, and that line as bytes."""
     file.seek(0)
-    before, line = lines_before(file, verdict.line, verdict.number == 43)
-    if verdict.number in (31, 32):
-        return of_text(line, verdict.number, not file.readline()), line
+    before, line = lines_before(file, refusal.line, refusal.number == 43)
+    if refusal.number in (31, 32):
+        return of_text(line, refusal.number, not file.readline()), line
     if not line:
         return [Found((), "the text ends without a line that counts")], line
     found = lines.value_of(line.decode("utf-8"))
-    if verdict.number == 45:
+    if refusal.number == 45:
         return [Found((), f"there are {before.pod_lines} pods and {before.ticks} ticks before this line")], line
-    return list(itertools.islice(of_line(found, before, verdict, is_extended, file), MOST_FOUND)), line
+    return list(itertools.islice(of_line(found, before, refusal, is_extended, file), MOST_FOUND)), line
 
 
 def of_text(line: bytes, number: int, is_last: bool) -> list[Found]:
@@ -46,16 +46,16 @@ def of_text(line: bytes, number: int, is_last: bool) -> list[Found]:
     return [Found((fault[1],), fault[0], advice.get(fault[0]))] if fault else []
 
 
-def of_line(line: dict[str, Any], before: Before, verdict: Verdict, is_extended: bool,
+def of_line(line: dict[str, Any], before: Before, refusal: Refusal, is_extended: bool,
             file: IO[bytes]) -> Iterable[Found]:
     """The fields of a line that is JSON, for the kind of its fault."""
-    number = verdict.number
+    number = refusal.number
     if number == 33:
         return unknown_kind(line, before, is_extended)
     if number == 34:
         return out_of_turn(line, before)
     if number == 35:
-        return first_of_manifest(line, before, verdict.manifest)
+        return first_of_manifest(line, before, refusal.manifest)
     if number == 36:
         return node.config_faults(line, is_extended)
     if number == 37:
@@ -65,12 +65,12 @@ def of_line(line: dict[str, Any], before: Before, verdict: Verdict, is_extended:
     if number == 39 and line["kind"] == "gone":
         return stranger_gone(line, before)
     if number == 39:
-        return strangers(line, before, file, verdict.line)
+        return strangers(line, before, file, refusal.line)
     found: Any = tick.FAULTS.get(number)
     return itertools.islice(found(line, before), None if number == 46 else 1) if found else ()
 
 
-def first_of_manifest(line: dict[str, Any], before: Before, number: int) -> Any:
+def first_of_manifest(line: dict[str, Any], before: Before, number: int | None) -> Any:
     """The first fault of the manifest, where it is the one that the program has found."""
     first = next(manifest.faults_of(line, before.version), None)
     return [first[1]] if first and first[0] == number else []

@@ -39,9 +39,10 @@ def one_line(answer: Answer) -> str | None:
 def excerpt(answer: Answer, path: tuple[Any, ...]) -> list[str]:
     """The line around a value with marks below it; nothing where there is no line."""
     text = answer.text.decode("utf-8", "replace").rstrip("\r")
-    begin, end = span(answer, text, path)
-    if begin is None:
+    place = span(answer, text, path)
+    if place is None:
         return []
+    begin, end = place
     first = max(0, begin - BEFORE)
     shown = text[first : first + SHOWN]
     before, after = ".." * (first > 0), ".." * (first + SHOWN < len(text))
@@ -51,10 +52,10 @@ def excerpt(answer: Answer, path: tuple[Any, ...]) -> list[str]:
             f"      {marks}"]
 
 
-def span(answer: Answer, text: str, path: tuple[Any, ...]) -> tuple[int | None, int | None]:
-    """Where the value of a path begins and ends in the line."""
+def span(answer: Answer, text: str, path: tuple[Any, ...]) -> tuple[int, int] | None:
+    """Where the value of a path begins and ends in the line; None in one of blanks alone."""
     if not text.strip(" \t\r"):
-        return None, None
+        return None
     if answer.is_text_place:
         at = path[0] if path else 0
         return at, at + 1

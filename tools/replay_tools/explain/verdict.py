@@ -11,6 +11,14 @@ from replay_tools import entry, program as programs
 REFUSED = re.compile(r"line (\d+): (\d+) (\w+)(?: (\d+))?")
 
 
+@dataclass(frozen=True)
+class Refusal:
+    """The line that the program refuses, the number of its fault, and that of a manifest's."""
+    line: int
+    number: int
+    manifest: int | None
+
+
 @dataclass
 class Verdict:
     status: int
@@ -20,6 +28,13 @@ class Verdict:
     number: int | None = None
     manifest: int | None = None
     """the number of a manifest's fault"""
+
+    @property
+    def refusal(self) -> Refusal | None:
+        """What it refuses; None where it names no line."""
+        if self.line is None or self.number is None:
+            return None
+        return Refusal(self.line, self.number, self.manifest)
 
 
 def verdict_of(path: str, is_extended: bool) -> Verdict:

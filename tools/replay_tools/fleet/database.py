@@ -5,7 +5,7 @@ from __future__ import annotations
 import os
 import sqlite3
 import urllib.parse
-from typing import TYPE_CHECKING
+from typing import Any, TYPE_CHECKING
 
 from replay_tools import entry, tables
 from replay_tools.fleet import work
@@ -52,7 +52,7 @@ def open_database(path: str) -> sqlite3.Connection:
     raise entry.Fault(f"{path} is there and is no database of tools/fleet")
 
 
-def write(path: str, paths: list[str], kept: kept.Kept, failed: dict[str, dict[str, str | None]]) -> None:
+def write(path: str, paths: list[str], kept: kept.Kept, failed: dict[str, dict[str, Any]]) -> None:
     """The database of the traces of some paths, in their order, from what is kept; `failed` has the records of those
     that have nothing kept."""
     def fill(connection: sqlite3.Connection) -> None:
@@ -76,12 +76,12 @@ def write(path: str, paths: list[str], kept: kept.Kept, failed: dict[str, dict[s
         raise entry.Fault(f"an answer in {kept.folder} is broken; --anew makes all of them again") from None
 
 
-def copied(trace: dict[str, int | str | None], first: int) -> dict[str, int | str]:
+def copied(trace: dict[str, Any], first: int) -> dict[str, Any]:
     """The record of a trace that has the bytes of another one before it, whose number is given, and counts nothing."""
     return {**{name: trace[name] for name in ("path", "sha256", "bytes")}, "status": "copy", "copy_of": first}
 
 
-def add_trace(connection: sqlite3.Connection, number: int, trace: dict[str, int | str | None], report: str) -> None:
+def add_trace(connection: sqlite3.Connection, number: int, trace: dict[str, Any], report: str) -> None:
     trace["report_file"] = os.path.basename(report) if trace["status"] == "replayed" else None
     marks = ", ".join("?" * (len(NAMES) + 1))
     connection.execute(f"INSERT INTO traces VALUES ({marks})", [number, *map(trace.get, NAMES)])

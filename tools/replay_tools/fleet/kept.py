@@ -46,12 +46,12 @@ class Kept:
     def known(self, path: str, until: int | None) -> str | None:
         """The SHA-256 of the trace whose answer is kept, as one that says all up to a moment; or None."""
         try:
-            trace = next(self.rows(path))
-            return trace["sha256"] if trace["until"] == until else None
-        except (OSError, EOFError, ValueError, KeyError, StopIteration):
+            trace: dict[str, Any] = next(self.rows(path), {})
+        except (OSError, EOFError, ValueError):
             return None
+        return trace.get("sha256") if trace.get("until") == until else None
 
-    def rows(self, path: str) -> Iterator[dict[str, Any] | None]:
+    def rows(self, path: str) -> Iterator[dict[str, Any]]:
         """The record of a trace, and those of its report."""
         with gzip.open(self.file(path, "rows"), "rt", encoding="utf-8") as lines:
             yield from map(json.loads, lines)

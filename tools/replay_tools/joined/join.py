@@ -48,7 +48,9 @@ def joined(asked: asking_for.Asked) -> Joined:
         if border.missing and not asked.is_quiet:
             entry.say(f"{border.name} follows {border.missing}, which is not there: its time is a gap")
     report, numbers = of_reports.join_reports(found, borders)
-    trace = None if found[0].trace is None else of_traces.join_traces(found, borders, numbers)
+    # each part has a trace, or none has
+    of_parts = [part.trace for part in found if part.trace is not None]
+    trace = of_traces.join_traces(of_parts, borders, numbers) if of_parts else None
     if trace is not None:
         report.tick_count = len(trace.ticks)
     is_utc = asked.is_utc or any(part.source.begun is not None for part in found)

@@ -51,7 +51,8 @@ def take_pods(made: reports.Report, part: parts.Part, border: reports.Border | N
     numbers = {}
     for pod in part.report.pods:
         there = present.get(pod.key)
-        if there is not None and is_there(part, pod, border) and is_same(there, part, pod, border):
+        if there is not None and border is not None and is_there(part, pod, border) \
+                and is_same(there, part, pod, border):
             before = present.pop(pod.key).pod
             made.events += joined_pods.go_on(before, pod, border, part)
         else:
@@ -65,11 +66,11 @@ def take_pods(made: reports.Report, part: parts.Part, border: reports.Border | N
         before.left = pod.left
         numbers[pod.number] = before.number
     for gone in present.values():
-        gone.pod.left = border.at
+        gone.pod.left = None if border is None else border.at
     return numbers
 
 
-def is_there(part: parts.Part, pod: reports.Pod, border: reports.Border | None) -> bool:
+def is_there(part: parts.Part, pod: reports.Pod, border: reports.Border) -> bool:
     """Whether a pod is there as its part begins; one that comes later is another one."""
     return reports.first_tick(pod) <= max(part.known_until, border.at)
 
@@ -116,11 +117,12 @@ def take_node(made: reports.Report, part: parts.Part, border: reports.Border | N
         if event.word in STATES and is_first and is_told:
             continue
         news.append(replace(event, at=behind(event.at, border)))
-    # what a part does not show at its begin is over for it: it counts anew
-    over = [key for key, state in before.items() if state == STATES[key[0]][0]
-            and not is_shown(part, key)]
-    news = [reports.Event(border.at, None, None, key[0], [*key[1:], STATES[key[0]][1]], None, border.at)
-            for key in over] + news
+    if border is not None:
+        # what a part does not show at its begin is over for it: it counts anew
+        over = [key for key, state in before.items() if state == STATES[key[0]][0]
+                and not is_shown(part, key)]
+        news = [reports.Event(border.at, None, None, key[0], [*key[1:], STATES[key[0]][1]], None, border.at)
+                for key in over] + news
     made.events += news
     tell_node_conditions(made, part, news)
 
@@ -152,7 +154,8 @@ def take_evictions(made: reports.Report, part: parts.Part, border: reports.Borde
     """Takes the evictions of a part, but those of pods that the rules had evicted before and that only go."""
     told = {(event.number, event.at) for event in made.events if event.word == "evicted"}
     for eviction in part.report.evictions:
-        number, at = numbers.get(eviction.number), behind(eviction.at, border)
+        number = None if eviction.number is None else numbers.get(eviction.number)
+        at = behind(eviction.at, border)
         if (number, at) in told:
             anew = anew_of(made, part, border, eviction, number, at)
             made.evictions.append(replace(eviction, at=at, number=number, anew=anew))

@@ -9,7 +9,6 @@ from replay_tools import traces
 
 if TYPE_CHECKING:
     from replay_tools import reasons, report as reports
-    from replay_tools.joined import parts
 
 
 @dataclass
@@ -22,17 +21,18 @@ class Known(traces.Tick):
                 for key, entry in self.lines.entries(self.begin, self.end).items()}
 
 
-def join_traces(found: list[parts.Part], borders: list[reports.Border], numbers: list[dict[int, int]]) -> traces.Trace:
-    """The trace of all parts; numbers has for each part those that its pods have in the joined report."""
-    made = traces.Trace(found[0].trace.node, found[-1].trace.settings, found[-1].trace.thresholds)
-    for part, border, of in zip(found, [None, *borders], numbers):
+def join_traces(found: list[traces.Trace], borders: list[reports.Border],
+                numbers: list[dict[int, int]]) -> traces.Trace:
+    """The trace of those of all parts; numbers has for each part those that its pods have in the joined report."""
+    made = traces.Trace(found[0].node, found[-1].settings, found[-1].thresholds)
+    for trace, border, of in zip(found, [None, *borders], numbers):
         place = len(made.ticks)
-        dropped = take_ticks(made, part.trace, border)
-        take_pods(made, part.trace, of, place, dropped)
-        take_decisions(made, part.trace, of)
-        take_words(made, part.trace, of)
-        take_reasons(made, part.trace, of, border)
-        for number, several in part.trace.said.of_pod.items():
+        dropped = take_ticks(made, trace, border)
+        take_pods(made, trace, of, place, dropped)
+        take_decisions(made, trace, of)
+        take_words(made, trace, of)
+        take_reasons(made, trace, of, border)
+        for number, several in trace.said.of_pod.items():
             made.said.of_pod.setdefault(of[number], {}).update(several)
     made.gaps = [(border.since, border.at) for border in borders if border.is_gap]
     made.places = {tick.at: place for place, tick in enumerate(made.ticks)}
@@ -107,7 +107,7 @@ def take_reasons(made: traces.Trace, trace: traces.Trace, of: dict[int, int], bo
     for known, said in ((made.reasons.waits, trace.reasons.waits), (made.reasons.gates, trace.reasons.gates)):
         going_on = {(of[number], name) for number, name in said}
         for place, waits in known.items():
-            if waits[-1].until is None and (border.is_gap or place not in going_on):
+            if border is not None and waits[-1].until is None and (border.is_gap or place not in going_on):
                 waits[-1].until = border.since
         for (number, name), waits in said.items():
             take_waits(known.setdefault((of[number], name), []), waits, border)
@@ -119,7 +119,7 @@ def take_waits(known: list[reasons.Wait], waits: list[reasons.Wait], border: rep
         since = wait.since if border is None else max(wait.since, border.at)
         before = known[-1] if known else None
         if before is not None and before.until is None:
-            if since == border.at and before.reason == wait.reason:
+            if border is not None and since == border.at and before.reason == wait.reason:
                 before.until, before.message = wait.until, before.message or wait.message
                 continue
             before.until = since

@@ -103,13 +103,13 @@ def news_of(pod: reports.Pod, found: reports.Pod, border: reports.Border, part: 
 
 
 def is_known(event: reports.Event, before: reports.Container, seen: Seen, told: set[tuple[str | None, str, str]],
-             backed: set[tuple[str | None, str | None]]) -> bool:
+             backed: set[tuple[str, str | None]]) -> bool:
     """Whether an event of a container says what it had come to before the border."""
     if event.word in ("ready", "unready"):
         is_first, seen.has_readiness = not seen.has_readiness, True
         return is_first and event.word == "ready" and before.ready == "true" and not seen.is_other
     if event.word == "backoff":
-        return (event.container, seen.died) in backed
+        return (event.name, seen.died) in backed
     attempt, newest = int(event.rest[0]), int(before.restarts)
     is_earlier, is_newest = attempt < newest, attempt == newest
     if event.word == "started":
@@ -124,14 +124,14 @@ def is_known(event: reports.Event, before: reports.Container, seen: Seen, told: 
     return is_earlier or (event.container, event.word, event.rest[0]) in told
 
 
-def backed_off(pod: reports.Pod) -> set[tuple[str | None, str | None]]:
+def backed_off(pod: reports.Pod) -> set[tuple[str, str | None]]:
     """The exits, by container and attempt, whose restarts were backed off."""
     died, found = {}, set()
     for event in pod.events:
         if event.word == "died":
-            died[event.container] = event.rest[0]
+            died[event.name] = event.rest[0]
         elif event.word == "backoff":
-            found.add((event.container, died.get(event.container)))
+            found.add((event.name, died.get(event.name)))
     return found
 
 
@@ -174,9 +174,9 @@ def mark_anew(pod: reports.Pod, found: reports.Pod, news: list[reports.Event], b
     whole, alone, died, fresh = numbers_of(pod), numbers_of(found), {}, set(map(id, news))
     for event in pod.events:
         if event.word == "died":
-            died[event.container] = event.rest[0]
+            died[event.name] = event.rest[0]
         elif event.word in ("backoff", "restart") and id(event) in fresh:
-            exit_of = event.container, died.get(event.container)
+            exit_of = event.name, died.get(event.name, "")
             if whole.get(exit_of) != alone.get(exit_of):
                 event.anew = border.at
 
@@ -194,15 +194,15 @@ def mark_results(news: list[reports.Event], border: reports.Border) -> None:
             told.add(event.container)
 
 
-def numbers_of(pod: reports.Pod) -> dict[tuple[str | None, str], int]:
+def numbers_of(pod: reports.Pod) -> dict[tuple[str, str], int]:
     """The number of each exit, by container and attempt, as the delays of restarts count them."""
     starts: dict[str, tuple[str, int]] = {}
     exits: dict[str, list[why.Exit]] = {}
     for event in pod.events:
         if event.word == "started":
-            starts[event.container] = (event.rest[0], event.at)
+            starts[event.name] = (event.rest[0], event.at)
         elif event.word == "died":
-            why.add_exit(exits.setdefault(event.container, []), event, starts.get(event.container))
+            why.add_exit(exits.setdefault(event.name, []), event, starts.get(event.name))
     return {(name, str(one.attempt)): one.number for name, found in exits.items() for one in found}
 
 
@@ -231,5 +231,5 @@ def tell_ready(pod: reports.Pod) -> None:
     last = reports.changes_of_ready(pod)[-1]
     for kind in ("ContainersReady", "Ready"):
         condition = pod.condition(kind)
-        if last.value == condition.value:
+        if last.value == condition.value and last.since is not None:
             condition.at = last.since

@@ -61,7 +61,7 @@ def nearest_lines(several: join.Joined, pod: reports.Pod, restarts: list[tuple[i
 def nearest_of(rows: list[tuple[int, Told]], at: int) -> tuple[int, Told] | None:
     """The first of the rows with moments that are nearest to a moment; None where none is near it."""
     near = [row for row in rows if abs(row[0] - at) <= asked.NEAR]
-    return min(near, key=lambda row: abs(row[0] - at), default=None)
+    return min(near, key=lambda row: abs(row[0] - at)) if near else None
 
 
 def bad_words(event: reports.Event, is_beside: bool, trace: traces.Trace | None) -> str:

@@ -3,7 +3,7 @@ are differences, so that a page of many events stays small. `decode.js` reads it
 
 from __future__ import annotations
 
-from typing import Any
+from typing import Any, overload
 
 from replay_tools import (amounts, events, kubelet as kubelets, reasons, records, report as reports,
                           summary as summing, telling, traces, why, why_text)
@@ -31,6 +31,12 @@ class Span:
                 if reports.has_ticks(report, pod):
                     named += [condition.at for condition in pod.conditions]
             self.first, self.last = (min(named), max(named)) if report.tick_count else (0, 0)
+
+    @overload
+    def of(self, at: int) -> int: ...
+
+    @overload
+    def of(self, at: int | None) -> int | None: ...
 
     def of(self, at: int | None) -> int | None:
         return None if at is None else at - self.first
@@ -199,8 +205,8 @@ def evictions_of(report: reports.Report, trace: traces.Trace | None, ticks: why.
     gathered = why.gather_evictions(trace, report, moments, ticks.usages_at) if trace else {}
     found, cut = [], 0
     for eviction in report.evictions:
-        one = {"at": span.of(eviction.at), "pod": eviction.number, "signal": eviction.signal, "kind": eviction.kind,
-               "grace": eviction.grace}
+        one: dict[str, Any] = {"at": span.of(eviction.at), "pod": eviction.number, "signal": eviction.signal,
+                               "kind": eviction.kind, "grace": eviction.grace}
         if trace:
             around = around_of(gathered[eviction.at], span)
             cut += around["more"]
@@ -248,8 +254,10 @@ def deletion_of(trace: traces.Trace | None, pod: reports.Pod, span: Span) -> dic
 def used_of(trace: traces.Trace | None, pod: reports.Pod, span: Span, ticks: why.Ticks,
             budget: Budget) -> dict[str, Any]:
     """What its containers used, where the trace says it."""
-    ours = trace.pods[pod.number] if trace else None
-    return used.used_of(span, ours, ticks.of(trace, ours), budget) if ours else {}
+    if trace is None:
+        return {}
+    ours = trace.pods[pod.number]
+    return used.used_of(span, ours, ticks.of(trace, ours), budget)
 
 
 def decision_of(decision: traces.Decision, span: Span) -> dict[str, int | str | None]:
@@ -320,13 +328,14 @@ def waits_of(trace: traces.Trace, span: Span, pod: reports.Pod, words: Words) ->
 def container_of(span: Span, pod: reports.Pod, container: reports.Container, trace: traces.Trace | None,
                  seen: bool) -> dict[str, Any]:
     """A container's status, and its states as differences of moments, states, attempts and codes in one list."""
-    states, moments = reports.state_spans(pod, container.name) if seen else [], []
-    flat = []
-    for state in states:
-        moments.append(span.of(state.since))
+    flat: list[int | None] = []
+    before = 0
+    for state in reports.state_spans(pod, container.name) if seen else []:
+        begun = before if state.since is None else span.of(state.since)
         attempt, _, code = state.note.partition(" ")
-        flat += [moments[-1] - (moments[-2] if len(moments) > 1 else 0), STATES.index(state.value),
-                 int(attempt or 0), code_of(trace, pod, container, attempt, code)]
+        flat += [begun - before, STATES.index(state.value), int(attempt or 0),
+                 code_of(trace, pod, container, attempt, code)]
+        before = begun
     code = reasons.code_words(container.code, reasons.last_end(pod, container, trace))
     return {"name": container.name, "state": container.state, "code": records.none_of(code),
             "restarts": int(container.restarts), "ready": container.ready == "true",
@@ -351,10 +360,10 @@ def events_of(span: Span, pod: reports.Pod, words: Words) -> list[list[Any]]:
     for event in pod.events:
         rest = [int(word) if word.lstrip("-").isdigit() else word for word in event.rest]
         if event.word == "started":
-            starts[event.container] = (event.rest[0], event.at)
+            starts[event.name] = (event.rest[0], event.at)
         elif event.word == "died":
-            of_it = exits.setdefault(event.container, [])
-            why.add_exit(of_it, event, starts.get(event.container))
+            of_it = exits.setdefault(event.name, [])
+            why.add_exit(of_it, event, starts.get(event.name))
             if reasons.is_guessed(event, words.trace):
                 rest[1] = None
             rest += [of_it[-1].number, of_it[-1].run, *words.cause(event)]
@@ -364,9 +373,10 @@ def events_of(span: Span, pod: reports.Pod, words: Words) -> list[list[Any]]:
     return found
 
 
-def listings_of(span: Span, ticks: why.PodTicks, name: str) -> list[int]:
+def listings_of(span: Span, ticks: why.PodTicks, name: str) -> list[int | None]:
     """What the ticks list of a container, where it changes: differences of moments, and attempt, state and code."""
-    flat, before = [], 0
+    flat: list[int | None] = []
+    before = 0
     for at, listing in zip(*ticks.listings[name]):
         told = (-1, 0, 0) if listing is None else (
             listing.attempt, traces.STATES.index(listing.state),
@@ -388,7 +398,7 @@ def probes_of(span: Span, pod: traces.Pod, ticks: why.PodTicks, budget: Budget) 
     return found
 
 
-def result_runs(span: Span, moments: list[int], results: list[str]) -> list[int]:
+def result_runs(span: Span, moments: list[int], results: list[str | None]) -> list[int]:
     """Runs of one result at one distance: the difference of the first moment from the last one before, that distance,
     how many, and the result, in one list."""
     flat: list[int] = []

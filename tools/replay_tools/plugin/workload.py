@@ -103,7 +103,7 @@ def named(nodes: list[str]) -> str:
 def told_of(came: fetching.Fetched, folder: str, of_time: tuple[str | None, str | None, float],
             members: workloads.Members) -> told.OnNode | None:
     """What was recorded of a node; None where that is nothing, which is said."""
-    from replay_tools import asking, endings
+    from replay_tools import endings
     from replay_tools.cluster import told
     from replay_tools.joined import join
     for fault in came.faults:
@@ -120,7 +120,7 @@ def told_of(came: fetching.Fetched, folder: str, of_time: tuple[str | None, str 
         return None
     if several.trace is not None:
         endings.tell_left(several.trace, several.report)
-    return told.on_node(came.node, asking.Given(several.report, several.trace, several), members)
+    return told.on_node(came.node, several, members)
 
 
 def candidates(found: words.Words, last: str) -> list[str]:

@@ -17,6 +17,8 @@ MOST_VALUE = 4 << 20
 PIECE_BYTES = 1 << 18
 WHITE = re.compile(r"[ \t\n\r]*")
 DECODER = json.JSONDecoder()
+# no value at all
+NONE = object()
 
 Answer = Union[str, bytes, bytearray]
 
@@ -95,7 +97,8 @@ class Text:
     def mark(self) -> str:
         """The next character that is no white space, or none at the end."""
         while True:
-            self.at = WHITE.match(self.window, self.at).end()
+            white = WHITE.match(self.window, self.at)
+            self.at = self.at if white is None else white.end()
             if self.at < len(self.window):
                 return self.window[self.at]
             if not self.grow():
@@ -118,13 +121,12 @@ class Text:
             except RecursionError:
                 raise NotJson from None
             except ValueError:
-                end = None
-            is_whole = end is not None and end < len(self.window)
-            if (end if is_whole else len(self.window)) - self.at > MOST_VALUE:
+                value, end = NONE, len(self.window)
+            if end - self.at > MOST_VALUE:
                 raise Failed(f"{self.what}: a value in the answer has more than {MOST_VALUE >> 20} MiB")
-            if is_whole or not self.grow():
+            if end < len(self.window) or not self.grow():
                 break
-        if end is None:
+        if value is NONE:
             raise NotJson
         self.at = end
         return value

@@ -131,7 +131,7 @@ def show_rights(sources: Sources, works: bool, show: Callable[[str], None]) -> N
     try:
         sources.keeps.endpoint(OF_PROXY)
     except Refused as refused:
-        who = "the certificate" if sources.keeps.settings.certificate else "the token"
+        who = "the certificate" if sources.keeps.has_certificate() else "the token"
         said = {403: MAY_NOT + (DO if works else ""), 404: MAY}.get(refused.status)
         if said is not None:
             show(f"rights   {said.format(who=who)}")

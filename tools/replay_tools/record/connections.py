@@ -105,7 +105,7 @@ def text_of(curl_file: str | None) -> str:
         return file.read()
 
 
-def says_insecure(curl_file: str) -> bool:
+def says_insecure(curl_file: str | None) -> bool:
     """Whether a file of curl that is not read here has the line that no certificate is checked."""
     try:
         return INSECURE.search(text_of(curl_file)) is not None
@@ -217,7 +217,7 @@ class Kubelet:
             self.kept.close()
 
     def connected(self) -> http.client.HTTPConnection:
-        host, port = self.url.hostname, self.url.port
+        host, port = self.url.hostname or "", self.url.port
         if self.url.scheme == "http":
             return http.client.HTTPConnection(host, port or 80, timeout=ENDPOINT_SECONDS)
         context = ssl.create_default_context(cafile=self.settings.authority)
@@ -246,6 +246,9 @@ class Kubelet:
         """Whether it is asked."""
         return True
 
+    def has_certificate(self) -> bool:
+        return bool(self.settings.certificate)
+
     def close(self) -> None:
         self.kept.close()
 
@@ -256,7 +259,7 @@ class Unasked:
     def __init__(self, reason: str) -> None:
         self.reason = reason
 
-    def endpoint(self, _: str) -> bytearray:
+    def endpoint(self, path: str) -> bytearray:
         raise Failed(f"is not asked: {self.reason}")
 
     def pods(self) -> bytearray:
@@ -264,6 +267,9 @@ class Unasked:
 
     def works(self) -> bool:
         return True
+
+    def has_certificate(self) -> bool:
+        return False
 
     def close(self) -> None:
         """Nothing was opened."""
@@ -309,28 +315,28 @@ class Proxy:
         self.say = say
         self.does_start: bool | None = None
         self.folder: str | None = None
-        self.process: subprocess.Popen | None = None
-        self.kept = Kept(lambda: SocketConnection(self.socket()))
-
-    def socket(self) -> str:
-        return os.path.join(self.folder, "proxy")
+        # its socket, of the folder that it was started with last
+        self.socket = ""
+        self.process: subprocess.Popen[bytes] | None = None
+        self.kept = Kept(lambda: SocketConnection(self.socket))
 
     def start(self) -> None:
         """Starts it; Failed where it does not come up."""
         self.close()
         try:
-            self.folder = tempfile.mkdtemp(prefix="record-")
+            self.folder = folder = tempfile.mkdtemp(prefix="record-")
         except OSError as error:
             folder = f"{os.environ.get('TMPDIR') or '/tmp'} (TMPDIR names another folder)"
             raise Failed(f"kubectl proxy has no place in {folder}: {error.strerror}") from None
-        words = ["kubectl", "proxy", f"--unix-socket={self.socket()}"]
+        self.socket = os.path.join(folder, "proxy")
+        words = ["kubectl", "proxy", f"--unix-socket={self.socket}"]
         try:
             # a session of its own, so that an interrupt at the terminal is the recorder's alone, also before that
             with interrupts_held_back():
-                self.process = subprocess.Popen(words, stdin=subprocess.DEVNULL, stdout=subprocess.DEVNULL,
-                                                stderr=subprocess.PIPE, start_new_session=True,
-                                                preexec_fn=dies_with_its_parent)
-            self.wait_for_socket()
+                self.process = process = subprocess.Popen(words, stdin=subprocess.DEVNULL, stdout=subprocess.DEVNULL,
+                                                          stderr=subprocess.PIPE, start_new_session=True,
+                                                          preexec_fn=dies_with_its_parent)
+            self.wait_for_socket(process)
         except OSError as error:
             self.close()
             raise Failed(f"kubectl proxy can't be started: {error.strerror}") from None
@@ -341,14 +347,15 @@ class Proxy:
     def listens(self) -> bool:
         """Whether it takes a connection: its socket is there some moments before that."""
         with socket.socket(socket.AF_UNIX, socket.SOCK_STREAM) as tried:
-            return tried.connect_ex(self.socket()) == 0
+            return tried.connect_ex(self.socket) == 0
 
-    def wait_for_socket(self) -> None:
+    def wait_for_socket(self, process: subprocess.Popen[bytes]) -> None:
         until = time.monotonic() + ENDPOINT_SECONDS
         while not self.listens():
-            if self.process.poll() is not None:
-                said = self.process.stderr.read().decode("utf-8", "replace").split("\n")[0]
-                raise Failed(f"kubectl proxy failed with status {self.process.returncode}: {said}")
+            if process.poll() is not None:
+                said = b"" if process.stderr is None else process.stderr.read()
+                raise Failed(f"kubectl proxy failed with status {process.returncode}: "
+                             + said.decode("utf-8", "replace").split("\n")[0])
             if time.monotonic() > until:
                 raise Failed(f"kubectl proxy did not start within {ENDPOINT_SECONDS} s")
             time.sleep(0.02)
@@ -363,6 +370,10 @@ class Proxy:
                 self.does_start = False
                 self.say(f"{failed}: kubectl is started for each answer")
         return self.does_start
+
+    def has_certificate(self) -> bool:
+        """That of kubectl is its own."""
+        return False
 
     def get(self, path: str) -> bytearray:
         if self.process is None or self.process.poll() is not None:
@@ -381,15 +392,14 @@ class Proxy:
     def close(self) -> None:
         """Ends the proxy, and takes its folder away."""
         self.kept.close()
-        if self.process is not None:
-            self.process.terminate()
-            try:
-                self.process.wait(2)
-            except subprocess.TimeoutExpired:
-                self.process.kill()
-                self.process.wait()
-            self.process.stderr.close()
-            self.process = None
+        process, self.process = self.process, None
+        if process is not None:
+            with process:
+                process.terminate()
+                try:
+                    process.wait(2)
+                except subprocess.TimeoutExpired:
+                    process.kill()
         if self.folder is not None:
             shutil.rmtree(self.folder, ignore_errors=True)
             self.folder = None

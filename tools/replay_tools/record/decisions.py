@@ -4,14 +4,21 @@ it for another reason, as that its deadline was over."""
 from __future__ import annotations
 
 import re
+from collections.abc import Callable
 from dataclasses import dataclass
-from typing import Any, Optional
+from typing import Any, Optional, TYPE_CHECKING
 
 from replay_tools import outside
 
 from .formats import without_nones
 from .messages import LONGEST_MESSAGE, message_kept
 from .runtime import moment_of
+
+if TYPE_CHECKING:
+    from .pods import Pod
+    from .samples import Sampling
+    from .seen import Course, Recorded, Seen
+    from .timeline import Timeline
 
 EVICTED, REFUSED, ENDED = "evicted", "refused", "ended"
 # the reason that a kubelet gives for both of the first
@@ -38,10 +45,24 @@ class Decision:
         """The reason as the formats take it."""
         return self.reason if WORD.fullmatch(self.reason) else OTHER
 
-    def told(self, key: str, second: int, is_left_out: bool, uid: str | None) -> dict[str, Any]:
-        """What a tick says of it; a pod that is left out has no line in the trace, and may have one in another."""
-        return without_nones({"pod": key, "uid": uid, "at": second, "reason": self.reason,
-                              "message": self.message or None, "leftOut": is_left_out or None})
+
+@dataclass(frozen=True)
+class Told:
+    """What a tick tells of a decision: of which pod it was, in which second, and whether the pod is left out."""
+    pod: Pod
+    decision: Decision
+    at: int
+    is_left_out: bool = False
+
+    def fields(self) -> dict[str, Any]:
+        """A pod that is left out has no line in the trace, and may have one in another."""
+        uid = self.pod.known_uid() if self.is_left_out else None
+        return without_nones({"pod": self.pod.key, "uid": uid, "at": self.at, "reason": self.decision.reason,
+                              "message": self.decision.message or None, "leftOut": self.is_left_out or None})
+
+    def is_eviction(self, second: int) -> bool:
+        """Whether it is that the kubelet evicted the pod at this second."""
+        return self.decision.kind == EVICTED and self.at == second
 
 
 def end_of(status: dict[str, Any]) -> Decision | None:
@@ -62,3 +83,60 @@ def moment_in(status: dict[str, Any]) -> float | None:
         if condition.get("type") == "DisruptionTarget" and condition.get("reason") == "TerminationByKubelet":
             return moment_of(condition.get("lastTransitionTime"))
     return None
+
+
+class Decisions:
+    """What the kubelet was seen to decide, each of which is written once; `say` takes what is said."""
+
+    def __init__(self, timeline: Timeline, course: Course, sampling: Sampling, say: Callable[..., None]) -> None:
+        self.timeline = timeline
+        self.course = course
+        self.sampling = sampling
+        self.say = say
+        self.uids: set[str] = set()
+        # the second up to which a recording before this one says what the kubelet did
+        self.told_until: float | None = None
+        # the pods that had gone by the time at which the kubelet evicted them
+        self.behind: list[Recorded] = []
+
+    def has(self, pod: Pod) -> bool:
+        return pod.uid in self.uids
+
+    def take(self, pod: Pod, recorded: Recorded | None, seen: Seen) -> None:
+        """The kubelet evicted or refused a pod, which is recorded or not. That is written, unless it was before the
+        recording and may be told by one before. What an evicted pod was running exits behind it."""
+        decision = pod.decision
+        if decision is None or self.has(pod):
+            return
+        self.uids.add(pod.uid)
+        moment = self.moment_of(pod, decision, seen)
+        if recorded is not None:
+            self.say(f"{pod.key} was {decision.kind} by the kubelet, seen at {int(seen.moment)}")
+            second = self.timeline.place_decision(pod, moment, recorded)
+            recorded.changes_from, recorded.evicted_at = second + 1, second
+            self.behind += [] if recorded.is_followed else [recorded]
+        elif not self.course.is_first:
+            self.timeline.place_decision(pod, moment, None)
+        elif self.told_until is not None and decision.moment is not None and self.told_until < int(decision.moment):
+            self.timeline.place_past_decision(pod, decision, int(decision.moment), seen.moment)
+
+    def moment_of(self, pod: Pod, decision: Decision, seen: Seen) -> float:
+        """When the kubelet decided: as the pod's status says, else when that or an exit that it led to was seen."""
+        if decision.moment is not None:
+            return min(seen.end, decision.moment)
+        return min([seen.moment, *(each.finished for each in (seen.instances or {}).get(pod.uid, [])
+                                   if each.finished is not None and each.finished > self.course.planned_at)])
+
+    def see_behind(self, gone_at: dict[str, int]) -> None:
+        """Of a pod that was deleted and had ended the kubelet's sample has none, and until it knows of that end the
+        kubelet evicts such a pod first. So that is said where the sample is from before the pod has gone."""
+        second = int(max(self.sampling.newest, 0))
+        for recorded in self.behind:
+            is_open = self.timeline.next_second <= second <= gone_at.get(recorded.pod.key, -1)
+            if self.timeline.format.says_gone and is_open and recorded.pod.uid not in self.sampling.sampled:
+                self.timeline.place_unsampled(recorded.pod, second)
+        self.behind = []
+
+    def forget(self, uids: set[str]) -> None:
+        """Forgets what was decided of all pods but these."""
+        self.uids &= uids

@@ -19,8 +19,7 @@ if TYPE_CHECKING:
 
     from .answers import Answer
     from .pods import Pod
-
-    Counts = dict[tuple[str, str, str], dict[str, int]]
+    from .probes import Counters
 
 # an Event is there some moments behind what it tells, and a pod is asked for again after so long
 BEHIND_SECONDS, AGAIN_SECONDS = 3, 10
@@ -104,7 +103,7 @@ def said_of(item: Any) -> Said | None:
     return Said(str(metadata.get("uid")), at, container, word, count, kept, there and kept is None)
 
 
-def failing(before: Counts | None, now: Counts | None) -> set[str]:
+def failing(before: Counters | None, now: Counters | None) -> set[str]:
     """The uids of the pods of which a probe has failed between two answers."""
     if before is None or now is None:
         return set()

@@ -110,7 +110,7 @@ class Folder:
 
     def part(self, second: int) -> Part:
         """A new trace that begins at a second; a loss of power leaves it."""
-        part = Part(self.path, self.free_name(second), self.ahead)
+        part = Part(self.path, self.free_name(second), self.ahead, second)
         with contextlib.suppress(OSError):
             os.fsync(self.descriptor)
         return part

@@ -5,9 +5,12 @@ from __future__ import annotations
 
 import json
 import re
-from typing import Any
+from typing import Any, TYPE_CHECKING
 
 from replay_tools.outside import LABEL, NAME
+
+if TYPE_CHECKING:
+    from typing import TypeGuard
 
 MOST_PODS = 256
 MOST_TICKS = 20000
@@ -26,7 +29,7 @@ def shown(value: Any) -> str:
     return json.dumps(value, ensure_ascii=False, separators=(",", ":"))
 
 
-def is_whole(value: Any) -> bool:
+def is_whole(value: Any) -> TypeGuard[int]:
     return isinstance(value, int) and not isinstance(value, bool)
 
 

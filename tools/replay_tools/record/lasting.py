@@ -32,9 +32,9 @@ class LastingTimeline(Timeline):
         changes = [replace(change, moment=min(change.moment, self.now)) for change in changes]
         super().place_container(pod, container, changes, results, arrived)
 
-    def pods(self) -> int:
-        """How many pods are there, or have a place and are not written yet."""
-        return len(self.present) + sum(len(tick.arrivals) for tick in self.ticks.values())
+    def has_room(self) -> bool:
+        """The next trace has a line of each pod that is there, or has a place and is not written yet."""
+        return len(self.present) + sum(len(tick.arrivals) for tick in self.ticks.values()) < MOST_PODS
 
     def forget(self, uids: set[str]) -> None:
         """Forgets the places of all pods but these."""
@@ -54,10 +54,7 @@ class LastingRecorder(Recorder):
     timeline: LastingTimeline
 
     def __init__(self, trace_format: Format, every: int, say: Callable[..., None]) -> None:
-        super().__init__(trace_format, every, say)
-        self.timeline = LastingTimeline(trace_format)
-        # pods that are left out as long as there is no room for them
-        self.waiting: set[str] = set()
+        super().__init__(trace_format, every, say, LastingTimeline(trace_format))
 
     def take(self, seen: Seen) -> None:
         self.timeline.now = seen.end
@@ -65,39 +62,21 @@ class LastingRecorder(Recorder):
 
     def foreseen(self, moment: float) -> list[tuple[list[str], bool]]:
         """What would be written if nothing came any more, with a tick of the look at this moment."""
-        return self.timeline.foreseen(moment, self.silent_from(moment))
-
-    def has_room(self) -> bool:
-        """Pods that have gone have no line in the next trace."""
-        return self.timeline.pods() < MOST_PODS
-
-    def reason_to_leave_out(self, pod: Pod) -> str | None:
-        if not self.has_room():
-            self.waiting.add(pod.uid)
-        return super().reason_to_leave_out(pod)
+        return self.timeline.foreseen(moment, self.containers.silent_from(moment))
 
     def forget(self) -> None:
-        """Forgets pods that have gone and are no longer listed, and that there was no room for some."""
-        self.left_out -= self.waiting
-        self.waiting = set()
-        listed = {pod.uid for pod in self.listed}
-        self.recorded = {uid: recorded for uid, recorded in self.recorded.items()
-                         if recorded.is_followed or uid in listed}
-        self.left_out &= listed
-        self.decided &= listed | set(self.recorded)
-        self.gone_at = {key: second for key, second in self.gone_at.items() if second >= self.timeline.next_second}
-        self.timeline.forget({recorded.pod.uid for recorded in self.followed()})
+        """Forgets what is over."""
+        self.pods.forget(self.timeline.next_second)
+        self.decisions.forget({pod.uid for pod in self.pods.listed} | set(self.pods.recorded))
+        self.timeline.forget({recorded.pod.uid for recorded in self.pods.followed()})
 
     def begin_at(self, moment: float) -> None:
         """What was seen is written, and the clock says an earlier moment."""
-        second = int(moment)
-        self.timeline.begin_at(second)
-        self.begun = self.planned_at = self.sampled_at = self.pods_at = moment
-        self.listed_at = None if self.listed_at is None else moment
-        self.wanted_at, self.is_behind, self.gone_at = float("-inf"), False, {}
-        for recorded in self.followed():
-            recorded.arrived = recorded.changes_from = second
-            recorded.going_since = None if recorded.going_since is None else moment
+        self.timeline.begin_at(int(moment))
+        self.course.begun = self.course.planned_at = self.containers.listed_at = moment
+        self.sampling.begin_at(moment)
+        self.pods.begin_at(moment)
+        self.is_behind = False
 
 
 def forget_strangers(observer: Observer) -> None:

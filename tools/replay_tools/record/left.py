@@ -2,18 +2,16 @@
 
 from __future__ import annotations
 
-import calendar
 import contextlib
 import gzip
 import json
 import os
-import time
 import zlib
 from collections.abc import Callable, Iterator
 from dataclasses import dataclass
 from typing import Any, BinaryIO
 
-from .folder import PACKED, PACKING, PIECE, STAMP, Folder, Trace, why
+from .folder import PACKED, PACKING, PIECE, Folder, Trace, why
 from .formats import LONGEST_LINE, MOST_BYTES
 from .part import PART, fields_of, opened, put
 
@@ -114,9 +112,10 @@ class Left:
         if is_same(packed, self.folder.place(name, PART)):
             os.unlink(self.folder.place(name, PART))
             return f"{name}.{PACKED}"
-        parts = self.folder.form.fullmatch(f"{name}.{PACKED}")
-        return self.folder.pack(name, size,
-                                self.folder.free_name(calendar.timegm(time.strptime(parts["stamp"], STAMP))))
+        place = self.folder.place_of(f"{name}.{PACKED}")
+        if place is None:
+            raise OSError("its name has no moment")
+        return self.folder.pack(name, size, self.folder.free_name(place[0]))
 
     # --- one that was killed while it wrote ---
 
@@ -154,7 +153,8 @@ class Left:
         rest = [scanned(os.path.join(self.folder.path, each.name)) for each in later if each.name.endswith(f".{PART}")]
         is_whole = len(rest) < len(later) or any(each is not None and each.last >= found.last for each in rest)
         if is_whole:
-            cut_at(path, scanned(path, at).whole)
+            kept = scanned(path, at)
+            cut_at(path, found.whole if kept is None else kept.whole)
         else:
             for each in later:
                 os.unlink(os.path.join(self.folder.path, each.name))

@@ -11,7 +11,7 @@ from .runtime import CREATED, RUNNING, UNKNOWN
 
 if TYPE_CHECKING:
     from .asides import Asides
-    from .decisions import Decision
+    from .decisions import Told
     from .events import Said
     from .pods import Pod
     from .runtime import Listing
@@ -101,16 +101,12 @@ def entry_of(pod: Pod, listings: dict[str, Listing], results: dict[tuple[str, st
     return {"pod": pod.key, "containers": containers, **said} if containers or said else None
 
 
-def told(decisions: list[tuple[Pod, bool, int]],
-         ends: Sequence[tuple[Pod, Decision, int]] = ()) -> dict[str, list[dict[str, Any]]] | None:
+def told(decisions: Sequence[Told]) -> dict[str, list[dict[str, Any]]] | None:
     """What the kubelet did in a tick, which the formats don't read: {"evicted", "refused" or "ended": [..]}; or
     None."""
-    found: dict[str, Any] = {}
-    for pod, is_left_out, at in decisions:
-        uid = pod.known_uid() if is_left_out else None
-        found.setdefault(pod.decision.kind, []).append(pod.decision.told(pod.key, at, is_left_out, uid))
-    for pod, decision, at in ends:
-        found.setdefault(decision.kind, []).append(decision.told(pod.key, at, False, None))
+    found: dict[str, list[dict[str, Any]]] = {}
+    for each in decisions:
+        found.setdefault(each.decision.kind, []).append(each.fields())
     return found or None
 
 

@@ -68,7 +68,7 @@ class Reader:
     def __init__(self, capacity: dict[str, int]) -> None:
         self.capacity = capacity
         self.notes: list[str] = []
-        self.faults: list[str] = []
+        self.faults: list[str | None] = []
 
     def limit(self, field: str, signal: str, value: Any) -> int | str:
         """A limit as the formats take it: a percentage that they don't take becomes the amount that it is."""

@@ -92,8 +92,8 @@ class Observer:
         self.known: set[str] = set()
         self.strangers: set[str] = set()
 
-    def first_look(self, moment: float) -> Seen:
-        """A look that needs all sources; Failed where one of them gives no answer."""
+    def first_look(self, moment: float) -> tuple[Seen, Summary]:
+        """A look that needs all sources, and its summary; Failed where one of them gives no answer."""
         counters = counters_of(self.sources.probes())
         listed = instances_of(self.sources.listed())
         pods = self.take_pods(moment)
@@ -102,7 +102,7 @@ class Observer:
         self.may_have_changed_pods(listed, moment)
         self.decided = {pod.uid for pod in pods if pod.decision is not None}
         self.pass_over(listed)
-        return Seen(moment, self.resolved(listed, moment), counters, pods, summary, ready=self.ready(moment))
+        return Seen(moment, self.resolved(listed, moment), counters, pods, summary, ready=self.ready(moment)), summary
 
     def pass_over(self, listed: list[Instance]) -> None:
         """Of the pods that are there at the first look no start is asked for, and of instances that were replaced no

@@ -78,8 +78,10 @@ class Ahead:
 class Part:
     """A trace that is being written: whole lines, each of them or none."""
 
-    def __init__(self, folder: str, name: str, ahead: Ahead) -> None:
+    def __init__(self, folder: str, name: str, ahead: Ahead, begun: int) -> None:
         self.name = name
+        # the second at which it begins
+        self.begun = begun
         self.ahead = ahead
         # the bytes of the settled lines, and what stands behind them
         self.size = self.ticks = self.pods = 0

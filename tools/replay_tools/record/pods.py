@@ -136,7 +136,9 @@ def deleted_at(metadata: dict[str, Any]) -> float | None:
     """When a pod was told to go: its object has the moment at which its grace is over, and the grace; None where it has
     no such moment."""
     end, grace = moment_of(metadata.get("deletionTimestamp")), metadata.get("deletionGracePeriodSeconds")
-    return end if end is None or whole_fault(grace, 0, MOST_SECONDS) else end - grace
+    if end is None or not is_whole(grace) or whole_fault(grace, 0, MOST_SECONDS):
+        return end
+    return end - grace
 
 
 def ends_in(status: dict[str, Any]) -> dict[str, End] | None:
@@ -158,7 +160,7 @@ def probed_in(status: dict[str, Any]) -> dict[str, tuple[int | None, bool, bool]
             for each in listed if (each.get("state") or {}).get("running") is not None}
 
 
-def uid_of(metadata: dict[str, Any]) -> str:
+def uid_of(metadata: dict[str, Any]) -> str | None:
     """The runtime knows a static pod by the hash of its file; the API server's copy has another uid."""
     return (metadata.get("annotations") or {}).get("kubernetes.io/config.mirror") or metadata.get("uid")
 

@@ -13,6 +13,9 @@ from .sources import ENDPOINT_SECONDS, reads
 if TYPE_CHECKING:
     from .answers import Answer
 
+# the counts of an answer: {(uid, container, probe): {result: count}}
+Series = tuple[str, str, str]
+Counters = dict[Series, dict[str, int]]
 PROBES = ("startup", "liveness", "readiness")
 RESULTS = ("failure", "success", "unknown")
 # what a kubelet takes a probe to find before its first result
@@ -34,9 +37,9 @@ class Result:
 
 
 @reads("/metrics/probes")
-def counters_of(text: Answer) -> dict[tuple[str, str, str], dict[str, int]]:
-    """The counts of an answer: {(uid, container, probe): {result: count}}."""
-    counters: dict[tuple[str, str, str], dict[str, int]] = {}
+def counters_of(text: Answer) -> Counters:
+    """The counts of an answer."""
+    counters: Counters = {}
     for series in SERIES.finditer(text.encode() if isinstance(text, str) else text):
         labels = dict(LABEL.findall(decoded(series["labels"])))
         probe, result = PROBE_WORDS.get(labels.get("probe_type", "")), RESULT_WORDS.get(labels.get("result", ""))

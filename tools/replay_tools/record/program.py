@@ -2,11 +2,9 @@
 
 from __future__ import annotations
 
-import os
 import signal
 import sys
-from collections.abc import Callable, Iterator
-from contextlib import contextmanager
+from collections.abc import Callable
 from dataclasses import replace
 from typing import Any, TYPE_CHECKING
 
@@ -15,11 +13,11 @@ from replay_tools import outside
 from .check import check
 from .clock import Clock
 from .connections import api_of, kept_sources
-from .formats import MOST_BYTES
 from .lines import TooLong
 from .metrics import Metrics
 from .node import node_line_of, own_node_line
 from .observer import Observer
+from .output import Ended, Output, Stopped
 from .recorder import Recorder
 from .sources import Failed
 from .words import BadWord, help_text, missing_commands, words_of
@@ -34,19 +32,6 @@ INTERRUPTS = (signal.SIGINT, signal.SIGTERM, signal.SIGHUP)
 MOST_REMEMBERED = 10000
 # how often the summary is asked between two looks
 GLANCE_SECONDS = 1
-
-
-class Stopped(Exception):
-    """An interrupt, while the sources are asked or nothing is done."""
-
-
-class Ended(Exception):
-    """The recording ends, with a status, for a reason or none."""
-
-    def __init__(self, status: int, reason: str | None = None) -> None:
-        super().__init__(reason)
-        self.status = status
-        self.reason = reason
 
 
 class Says:
@@ -64,51 +49,6 @@ class Says:
             print(f"record: {outside.text_of(text)}", file=sys.stderr, flush=True)
 
 
-class Output:
-    """Standard output: whole lines, up to the most that a trace takes."""
-
-    def __init__(self, most_ticks: float, most_bytes: int = MOST_BYTES) -> None:
-        self.ticks_left = most_ticks
-        self.bytes_left = most_bytes
-        self.is_busy = False
-        self.is_stopped = False
-
-    def interrupt(self, *_: object) -> None:
-        """The first one ends what is done, those behind it do not end that end."""
-        is_first, self.is_stopped = not self.is_stopped, True
-        if is_first and not self.is_busy:
-            raise Stopped
-
-    @contextmanager
-    def undisturbed(self) -> Iterator[None]:
-        """No interrupt ends what is done here; it ends the recording after it."""
-        self.is_busy = True
-        try:
-            yield
-        finally:
-            self.is_busy = False
-
-    def write(self, lines: list[str]) -> None:
-        """Writes whole lines, all of them or none where they reach the most that a trace takes."""
-        data = "".join(f"{line}\n" for line in lines).encode()
-        self.bytes_left -= len(data)
-        if self.bytes_left < 0:
-            raise Ended(0, "the trace has reached 64 MiB, the most that one takes")
-        try:
-            while data:
-                data = data[os.write(1, data):]
-        except OSError:
-            raise Ended(1, "standard output takes no more") from None
-
-    def write_due(self, due: Iterator[Any]) -> None:
-        """Writes what is settled, up to the last tick that is asked for."""
-        for lines, has_tick in due:
-            if self.ticks_left == 0:
-                break
-            self.write(lines)
-            self.ticks_left -= has_tick
-
-
 class Recording:
     """One run of the recorder."""
 
@@ -121,17 +61,19 @@ class Recording:
         self.observer = Observer(sources, words.every, say, clock.now, words.log_lines)
         self.recorder = Recorder(words.format, words.every, say)
         self.metrics = None if words.metrics is None else Metrics(words.metrics, say)
-        self.begun: float | None = None
+        # the moment of the first look, once that is taken
+        self.begun: float = 0
+        self.has_begun = False
 
     def begin(self) -> None:
         """The first look and the node line; they need every source."""
         moment = self.clock.now()
         try:
-            seen = self.observer.first_look(moment)
+            seen, summary = self.observer.first_look(moment)
             if self.words.node_line is not None:
-                node_line = own_node_line(self.words.node_line, self.words.format, seen.summary)
+                node_line = own_node_line(self.words.node_line, self.words.format, summary)
             else:
-                node_line = node_line_of(self.sources.configuration(), self.words.node, seen.summary, self.words.format)
+                node_line = node_line_of(self.sources.configuration(), self.words.node, summary, self.words.format)
             first = self.recorder.begin(node_line)
             self.observer.near.know(node_line.fields)
         except (Failed, TooLong) as failed:
@@ -139,7 +81,7 @@ class Recording:
         with self.output.undisturbed():
             self.output.write([first])
             self.recorder.take(seen)
-            self.begun = moment
+            self.begun, self.has_begun = moment, True
             if self.metrics is not None:
                 self.metrics.take([first])
 
@@ -151,7 +93,7 @@ class Recording:
                 self.metrics.take(lines)
                 if is_first and self.metrics.standing.at is not None:
                     is_first = False
-                    self.metrics.assume({pod.key: pod.probed for pod in self.recorder.listed})
+                    self.metrics.assume(self.recorder.probed())
             self.metrics.write()
 
     def has_all(self) -> bool:
@@ -195,7 +137,7 @@ class Recording:
             self.go_on()
         except Stopped:
             pass
-        if self.begun is not None:
+        if self.has_begun:
             with self.output.undisturbed():
                 due = list(self.recorder.rest(self.clock.now()))
                 self.output.write_due(iter(due))
@@ -206,7 +148,7 @@ def recorded(words: Words, sources: Sources, clock: Any, say: Callable[..., None
     """Records as the words ask for; the status."""
     if words.into is not None:
         from .into import recorded_into  # which stands on what is here
-        return recorded_into(words, sources, clock, say)
+        return recorded_into(words, words.into, sources, clock, say)
     output = Output(words.ticks)
     return watch(output, Recording(words, sources, clock, output, say), say)
 

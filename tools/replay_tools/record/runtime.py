@@ -148,8 +148,8 @@ class Container:
         self.is_listed = False
         self.has_started = False
         self.is_unknown = False
-        self.attempt: int | None = None
-        self.shift = 0
+        # how the attempt of the newest is written
+        self.attempt = self.shift = 0
         # since when the runtime no longer has the newest, where its pod's status may have its code yet
         self.missed_since: float | None = None
 
@@ -163,12 +163,12 @@ class Container:
 
     def changes(self, instances: list[Instance], moment: float) -> list[Change]:
         """What became of it since the last look, by its instances in the order of their creation."""
-        if self.newest is None:
-            newer = instances
-        else:
-            newer = [each for each in instances if (each.created, each.attempt) >= self.order()]
+        newest, newer = self.newest, instances
         missed_since, self.missed_since = self.missed_since, None
-        made = self.vanished(newer, moment if missed_since is None else missed_since, moment)
+        made: list[Change] = []
+        if newest is not None:
+            newer = [each for each in instances if (each.created, each.attempt) >= (newest.created, newest.attempt)]
+            made += self.vanished(newest, newer, moment if missed_since is None else missed_since, moment)
         for instance in newer:
             if instance.state == EXITED and instance.exit_code is None:
                 self.missed_since = instance.finished
@@ -176,42 +176,42 @@ class Container:
             made += self.of_instance(instance, moment)
         return made
 
-    def order(self) -> tuple[int, int]:
-        return self.newest.created, self.newest.attempt
-
-    def vanished(self, newer: list[Instance], missed_since: float, moment: float) -> list[Change]:
+    def vanished(self, newest: Instance, newer: list[Instance], missed_since: float, moment: float) -> list[Change]:
         """The newest instance so far is no longer listed. Where it had not exited its code is lost; the successor's
         listing says so, or that none is there."""
-        if not self.is_listed or any(each.id == self.newest.id for each in newer):
+        if not self.is_listed or any(each.id == newest.id for each in newer):
             return []
         self.is_listed = False
-        has_exited = self.newest.state == EXITED
+        has_exited = newest.state == EXITED
         if not has_exited:
             self.say(f"{self.place}: attempt {self.attempt} was removed before its exit code was known, which counts "
                      f"as {LOST_CODE}")
         return [] if newer else [Change(moment if has_exited else missed_since, None, has_exited)]
 
-    def begin(self, instance: Instance) -> None:
-        """Another instance is the newest. The formats want a greater attempt for each."""
+    def begin(self, instance: Instance) -> Instance:
+        """Another instance is the newest, which is answered as it was made. The formats want a greater attempt for
+        each."""
         number = instance.attempt + self.shift
-        if self.attempt is not None and number <= self.attempt:
+        if self.newest is not None and number <= self.attempt:
             self.say(f"{self.place}: attempt {instance.attempt} after {self.attempt} is written as {self.attempt + 1}")
             number = self.attempt + 1
-        missed = 0 if self.attempt is None else number - self.attempt - 1
+        missed = 0 if self.newest is None else number - self.attempt - 1
         if missed:
             instances = "instance" if missed == 1 else "instances"
             self.say(f"{self.place}: {missed} {instances} before attempt {number} came and went unseen")
         self.shift = number - instance.attempt
         self.attempt = number
-        self.newest, self.is_listed = replace(instance, state=CREATED), True
-        self.has_started = self.is_unknown = False
+        self.newest = made = replace(instance, state=CREATED)
+        self.is_listed, self.has_started, self.is_unknown = True, False, False
+        return made
 
     def of_instance(self, instance: Instance, moment: float) -> list[Change]:
         """The changes that an instance shows, which may be the newest or one more."""
-        was_replaced = self.newest is not None
-        if not self.is_listed or self.newest.id != instance.id or self.has_come_back(instance):
-            self.begin(instance)
-        before, self.newest = self.newest, instance
+        before = self.newest
+        was_replaced = before is not None
+        if before is None or not self.is_listed or before.id != instance.id or has_come_back(before, instance):
+            before = self.begin(instance)
+        self.newest = instance
         if before.state == EXITED:
             return []
         if instance.state == CREATED:
@@ -222,10 +222,7 @@ class Container:
             self.newest = before
         return self.unknown(instance, moment) + self.started(instance, moment) + self.exited(instance, moment)
 
-    def has_come_back(self, instance: Instance) -> bool:
-        return self.newest.state == EXITED and instance.state != EXITED
-
-    def unknown(self, instance: Instance, moment: float) -> list[Any]:
+    def unknown(self, instance: Instance, moment: float) -> list[Change]:
         """The runtime no longer knows its state, or knows it again."""
         was_unknown, self.is_unknown = self.is_unknown, instance.state == UNKNOWN
         if self.is_unknown == was_unknown or instance.state == EXITED:
@@ -244,3 +241,7 @@ class Container:
             return []
         return [Change(moment if instance.finished is None else instance.finished,
                        Listing(self.attempt, EXITED, instance.exit_code, instance.reason))]
+
+
+def has_come_back(before: Instance, now: Instance) -> bool:
+    return before.state == EXITED and now.state != EXITED

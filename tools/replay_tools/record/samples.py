@@ -2,16 +2,15 @@
 
 from __future__ import annotations
 
-from typing import Optional, TYPE_CHECKING
+from typing import TYPE_CHECKING
 
 from . import rounds
 from .runtime import EXITED, RUNNING
 
 if TYPE_CHECKING:
-    from collections.abc import Callable
+    from collections.abc import Callable, Iterable, Set as AbstractSet
 
-    from .lines import Format
-    from .seen import Recorded, Seen
+    from .seen import Course, Recorded, Seen
     from .summary import Sample, Summary, Used
     from .timeline import Timeline
 
@@ -22,75 +21,74 @@ SAMPLE_SECONDS = 10
 
 
 class Sampling:
-    """The part of the recorder's core that takes the answers of the summary."""
+    """Takes the answers of the summary, and gives each of their samples its place."""
 
-    format: Format
-    say: Callable[..., None]
-    timeline: Timeline
-    is_first: bool
-    begun: Optional[float]
-
-    def __init__(self) -> None:
-        self.sampled_at: Optional[float] = None
-        self.wanted_at = self.newest = float("-inf")
+    def __init__(self, timeline: Timeline, course: Course, say: Callable[..., None]) -> None:
+        self.timeline = timeline
+        self.course = course
+        self.say = say
+        self.says_gone = timeline.format.says_gone
+        # when the summary answered last
+        self.sampled_at: float = 0
+        # when signals wanted a tick last, and the moment of the newest sample of the node
+        self.wanted_at = float("-inf")
+        self.newest: float = float("-inf")
         self.samples: dict[str, Sample] = {}
-        # the newest summary
-        self.summary: Optional[Summary] = None
+        # the uids of which the newest summary has a sample
+        self.sampled: AbstractSet[str] = frozenset()
         self.rounds = rounds.Rounds()
 
-    def followed(self) -> list[Recorded]:
-        raise NotImplementedError
-
-    def take_summary(self, seen: Seen) -> None:
+    def take(self, seen: Seen, followed: Iterable[Recorded]) -> None:
         """Samples of the kubelet's that are new stand at their own moments. Those of signals want a tick, but for one
         that is counted when it is asked, where it is not near its threshold; usage is in the next one."""
-        if seen.summary is None:
+        summary = seen.summary
+        if summary is None:
             if seen.is_summary_silent and seen.moment - self.sampled_at > SIGNAL_AGE:
                 self.say(f"{int(seen.moment)}: the signals are older than {SIGNAL_AGE} s, and are left out until "
                          "/stats/summary answers", ("signals", self.sampled_at))
                 self.take_signals({}, seen, False)
             return
-        self.sampled_at, self.summary = seen.moment, seen.summary
-        self.newest = max(self.newest, self.newest_moment(seen))
-        self.take_signals(seen.summary.signals, seen, True)
-        self.take_rounds(seen)
-        for recorded in self.followed():
-            usage = seen.summary.usage(recorded.pod, self.has_running(recorded))
+        self.sampled_at, self.sampled = seen.moment, summary.pods.keys()
+        self.newest = max(self.newest, self.newest_moment(summary, seen))
+        self.take_signals(summary.signals, seen, True)
+        self.take_rounds(summary, seen)
+        for recorded in followed:
+            usage = summary.usage(recorded.pod, has_running(recorded))
             for resource, sample in usage.items():
                 if sample != recorded.usage.get(resource):
                     moment = max(self.sampled_moment(sample, seen), recorded.arrived, recorded.unsampled_at or 0)
                     self.timeline.place_usage(recorded.pod, moment, resource, sample.value)
             recorded.usage = usage
-            self.take_used(recorded, seen.summary.used(recorded.pod))
+            self.take_used(recorded, summary.used(recorded.pod))
             self.see_unsampled(recorded, seen)
 
     def take_used(self, recorded: Recorded, used: dict[str, Used]) -> None:
         """What its containers used, where that is a new sample; the formats do not read it."""
-        if self.format.says_gone:
+        if self.says_gone:
             for name, each in used.items():
                 if each.moment != recorded.used_at.get(name):
                     recorded.used_at[name] = each.moment
                     self.timeline.place_used(recorded.pod, name, each, recorded.arrived)
 
-    def newest_moment(self, seen: Seen) -> float:
+    def newest_moment(self, summary: Summary, seen: Seen) -> float:
         """When the newest sample of the node was taken."""
-        return max((self.sampled_moment(sample, seen) for sample in seen.summary.signals.values()
+        return max((self.sampled_moment(sample, seen) for sample in summary.signals.values()
                     if sample.moment is not None), default=seen.moment)
 
     def see_unsampled(self, recorded: Recorded, seen: Seen) -> None:
         """A summary without a pod that has run: the kubelet has no sample of it, and evicts it before all others. That
         is said once, until a sample comes, and from the newest sample of the node on, by which the kubelet decides; but
         behind an exit since, as an eviction leads to."""
-        if recorded.pod.uid in seen.summary.pods:
+        if recorded.pod.uid in self.sampled:
             recorded.sampled_at, recorded.unsampled_at = seen.moment, None
             return
         is_deleted = recorded.going_since is not None and recorded.evicted_at is None
-        if is_deleted and (recorded.sampled_at or not self.has_running(recorded)):
+        if is_deleted and (recorded.sampled_at or not has_running(recorded)):
             # it has ended, and the kubelet evicts no such pod once it knows that
             return
         newest = [container.newest for container in recorded.containers.values() if container.newest is not None]
         ran = [each for each in newest if each.state in (RUNNING, EXITED)]
-        if ran and recorded.unsampled_at is None and self.format.says_gone:
+        if ran and recorded.unsampled_at is None and self.says_gone:
             # one that was sampled and is listed as running has exited since
             exits = [each.finished or seen.moment for each in ran
                      if each.state == EXITED or 0 < (each.started or 1) <= recorded.sampled_at]
@@ -102,7 +100,7 @@ class Sampling:
         """Places the samples that are others than before; a signal that is no longer there has no value. In the
         standard format each tick below a threshold evicts a pod, so there samples want no more ticks than those that
         the kubelet takes of itself."""
-        is_wanted = is_wanted and (self.format.says_gone or seen.moment - self.wanted_at >= SAMPLE_SECONDS)
+        is_wanted = is_wanted and (self.says_gone or seen.moment - self.wanted_at >= SAMPLE_SECONDS)
         self.wanted_at = seen.moment if is_wanted else self.wanted_at
         for signal in dict.fromkeys([*self.samples, *samples]):
             sample = samples.get(signal)
@@ -113,24 +111,28 @@ class Sampling:
                 self.timeline.place_signal(self.sampled_moment(sample, seen), signal, sample.value, is_wanted and wants)
         self.samples = samples
 
-    def take_rounds(self, seen: Seen) -> None:
+    def take_rounds(self, summary: Summary, seen: Seen) -> None:
         """The kubelet judges its thresholds in rounds, and the tick of each round's sample is judged."""
-        if self.is_first:
-            self.timeline.tells_rounds = self.format.says_gone and rounds.are_told(seen.summary.signals)
+        if self.course.is_first:
+            self.timeline.tells_rounds = self.says_gone and rounds.are_told(summary.signals)
         if self.timeline.tells_rounds:
-            values = {signal: sample.value for signal, sample in seen.summary.signals.items()}
-            near, newest = self.timeline.near, self.newest_moment(seen)
+            values = {signal: sample.value for signal, sample in summary.signals.items()}
+            near, newest = self.timeline.near, self.newest_moment(summary, seen)
             near.see(values, newest)
             evicted_at = self.timeline.evicted_last if near.may_evict(newest) else None
-            for moment in self.rounds.of(seen.summary.signals, near.below(values), evicted_at):
-                self.timeline.place_round(max(self.begun, min(moment, seen.end)))
+            for moment in self.rounds.of(summary.signals, near.below(values), evicted_at):
+                self.timeline.place_round(max(self.course.begun, min(moment, seen.end)))
 
     def sampled_moment(self, sample: Sample, seen: Seen) -> float:
         """When a sample was taken, within what is recorded; the first tick has those of the first look."""
-        latest = seen.moment if self.is_first else seen.end
-        return seen.moment if sample.moment is None else max(self.begun, min(sample.moment, latest))
+        latest = seen.moment if self.course.is_first else seen.end
+        return seen.moment if sample.moment is None else max(self.course.begun, min(sample.moment, latest))
 
-    @staticmethod
-    def has_running(recorded: Recorded) -> bool:
-        return any(container.newest is not None and container.newest.state == RUNNING
-                   for container in recorded.containers.values())
+    def begin_at(self, moment: float) -> None:
+        """The clock says an earlier moment than it did."""
+        self.sampled_at, self.wanted_at = moment, float("-inf")
+
+
+def has_running(recorded: Recorded) -> bool:
+    return any(container.newest is not None and container.newest.state == RUNNING
+               for container in recorded.containers.values())

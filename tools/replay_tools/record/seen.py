@@ -1,4 +1,4 @@
-"""What a look of the recorder saw, and what is known of a pod that it follows."""
+"""What a look of the recorder saw, what is known of a pod that it follows, and how far the recording has come."""
 
 from __future__ import annotations
 
@@ -9,13 +9,16 @@ from .statuses import Beside
 
 if TYPE_CHECKING:
     from .decisions import Decision
-    from .events import Ready
+    from .events import Ready, Said
     from .pods import Pod
-    from .runtime import Instance
-    from .summary import Summary
+    from .probes import Counters
+    from .reasons import Reason
+    from .runtime import Change, Container, Instance
+    from .summary import Sample, Summary
 
 # how long what was seen waits for a source that is silent, since with it the moments can be told
 PATIENCE = 30
+
 
 @dataclass
 class Seen:
@@ -25,12 +28,12 @@ class Seen:
     and `ready` whether the node is Ready."""
     moment: float
     instances: Optional[dict[str, list[Instance]]] = None
-    counters: Optional[dict] = None
+    counters: Optional[Counters] = None
     pods: Optional[list[Pod]] = None
     summary: Optional[Summary] = None
     is_summary_silent: bool = False
-    low: frozenset = frozenset()
-    said: dict = field(default_factory=dict)
+    low: frozenset[str] = frozenset()
+    said: dict[str, list[Said]] = field(default_factory=dict)
     ready: Optional[Ready] = None
     took: float = 0
 
@@ -51,14 +54,14 @@ class Recorded:
     pod: Pod
     arrived: int
     changes_from: int
-    containers: dict = field(default_factory=dict)
-    changes: dict = field(default_factory=dict)
-    usage: dict = field(default_factory=dict)
+    containers: dict[str, Container] = field(default_factory=dict)
+    changes: dict[str, list[Change]] = field(default_factory=dict)
+    usage: dict[str, Sample] = field(default_factory=dict)
     sampled_at: float = 0
     unsampled_at: Optional[float] = None
-    waits: dict = field(default_factory=dict)
-    waited: dict = field(default_factory=dict)
-    found: dict = field(default_factory=dict)
+    waits: dict[str, Reason] = field(default_factory=dict)
+    waited: dict[str, int] = field(default_factory=dict)
+    found: dict[tuple[str, str], str] = field(default_factory=dict)
     is_followed: bool = True
     is_deleting: bool = False
     going_since: Optional[float] = None
@@ -67,5 +70,14 @@ class Recorded:
     ended_at: float = 0
     is_end_placed: bool = False
     beside: Beside = field(default_factory=Beside)
-    used_at: dict = field(default_factory=dict)
-    said: dict = field(default_factory=dict)
+    used_at: dict[str, float] = field(default_factory=dict)
+    said: dict[str, int] = field(default_factory=dict)
+
+
+@dataclass
+class Course:
+    """How far a recording has come: the moment from which on what is seen is recorded, the one up to which what
+    happened has its place, and whether the first look is taken."""
+    begun: float = 0
+    planned_at: float = 0
+    is_first: bool = True

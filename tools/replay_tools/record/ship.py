@@ -10,6 +10,7 @@ import signal
 import subprocess
 import time
 from collections.abc import Callable
+from dataclasses import dataclass
 from typing import Optional, TYPE_CHECKING
 
 from .folder import why
@@ -30,6 +31,36 @@ END_SECONDS = 5
 MOST_PARTS = 16
 
 
+@dataclass(frozen=True)
+class Shipment:
+    """A trace that is taken away, the command that does it, and since when that runs."""
+    trace: Trace
+    process: subprocess.Popen[bytes]
+    begun_at: float
+
+    def listen(self) -> bytes:
+        """What the command says on standard error by now. It waits for nothing."""
+        said = b""
+        if self.process.stderr is not None:
+            with contextlib.suppress(BlockingIOError):
+                # one that never ends to say something is not listened to for longer at a look
+                for _ in range(MOST_PARTS):
+                    part = os.read(self.process.stderr.fileno(), PART_BYTES)
+                    said += part
+                    if not part:
+                        break
+        return said
+
+    def kill(self) -> None:
+        with contextlib.suppress(ProcessLookupError):
+            os.killpg(self.process.pid, signal.SIGKILL)
+        self.process.wait()
+
+    def close(self) -> None:
+        if self.process.stderr is not None:
+            self.process.stderr.close()
+
+
 class Shipping:
     """Runs a command for each trace of a folder that has ended; `say` takes what is said."""
 
@@ -41,17 +72,17 @@ class Shipping:
         self.now = now
         self.path = os.path.join(folder.path, f"{folder.node}.{SHIPPED}")
         self.last = self.read()
-        self.process: Optional[subprocess.Popen] = None
-        self.trace: Optional[Trace] = None
-        self.said = bytearray()
-        self.begun_at = self.again_at = 0.0
+        self.shipment: Optional[Shipment] = None
+        # the begin of what the command says
+        self.said = b""
+        self.again_at = 0.0
         self.failures = 0
 
     def look(self) -> None:
         """What has become of the command that runs; and the next one, where none does. It waits for nothing."""
-        if self.process is not None:
-            self.see_end()
-        if self.process is None and self.now() >= self.again_at:
+        if self.shipment is not None:
+            self.see_end(self.shipment)
+        if self.shipment is None and self.now() >= self.again_at:
             left = self.left()
             if left:
                 self.start(left[0])
@@ -59,12 +90,12 @@ class Shipping:
     def end(self) -> None:
         """The recorder ends: a command that runs has some seconds to end, and what is left is for the next start."""
         until = self.now() + END_SECONDS
-        while self.process is not None and self.now() < until:
-            self.see_end()
+        while self.shipment is not None and self.now() < until:
+            self.see_end(self.shipment)
             time.sleep(0.05)
-        if self.process is not None:
-            self.kill()
-            self.process.stderr.close()
+        if self.shipment is not None:
+            self.shipment.kill()
+            self.shipment.close()
         left = self.left()
         if left:
             self.say(f"{len(left)} traces are not taken away yet, from {left[0].name} on: the next start does that")
@@ -79,55 +110,42 @@ class Shipping:
         path = os.path.join(self.folder.path, trace.name)
         words = [word.replace(PATH, path) for word in self.words]
         words += [] if words != list(self.words) else [path]
-        self.trace, self.begun_at, self.said = trace, self.now(), bytearray()
+        self.said = b""
         try:
             # an interrupt of the recorder's terminal is none of its own
-            self.process = subprocess.Popen(words, stdin=subprocess.DEVNULL, stdout=subprocess.DEVNULL,
-                                            stderr=subprocess.PIPE, start_new_session=True)
-            os.set_blocking(self.process.stderr.fileno(), False)
+            process = subprocess.Popen(words, stdin=subprocess.DEVNULL, stdout=subprocess.DEVNULL,
+                                       stderr=subprocess.PIPE, start_new_session=True)
+            if process.stderr is not None:
+                os.set_blocking(process.stderr.fileno(), False)
+            self.shipment = Shipment(trace, process, self.now())
         except OSError as error:
-            self.fail(f"can't be started: {why(error)}")
+            self.fail(trace, f"can't be started: {why(error)}")
 
-    def see_end(self) -> None:
+    def see_end(self, shipment: Shipment) -> None:
         """Takes what the command says, and its end."""
-        status = self.process.poll()
-        self.listen()
+        status = shipment.process.poll()
+        self.said = (self.said + shipment.listen())[:MOST_SAID]
         if status is None:
-            if self.now() - self.begun_at <= LONGEST_SECONDS:
+            if self.now() - shipment.begun_at <= LONGEST_SECONDS:
                 return
-            self.kill()
-        self.process.stderr.close()
-        self.process = None
+            shipment.kill()
+        shipment.close()
+        self.shipment = None
         if status == 0:
             self.failures = 0
-            self.last = place_of(self.trace)
-            self.write(self.trace.name)
+            self.last = place_of(shipment.trace)
+            self.write(shipment.trace.name)
         else:
             said = shown_line(self.said.decode("utf-8", "replace"))
-            self.fail(f"went on for {LONGEST_SECONDS} s, and was ended" if status is None else
+            self.fail(shipment.trace, f"went on for {LONGEST_SECONDS} s, and was ended" if status is None else
                       f"failed with status {status}{': ' if said else ''}{said}")
 
-    def listen(self) -> None:
-        """Reads what the command says on standard error, of which the begin is kept."""
-        with contextlib.suppress(BlockingIOError):
-            # one that never ends to say something is not listened to for longer at a look
-            for _ in range(MOST_PARTS):
-                part = os.read(self.process.stderr.fileno(), PART_BYTES)
-                self.said += part[:MOST_SAID - len(self.said)]
-                if not part:
-                    break
-
-    def kill(self) -> None:
-        with contextlib.suppress(ProcessLookupError):
-            os.killpg(self.process.pid, signal.SIGKILL)
-        self.process.wait()
-
-    def fail(self, reason: str) -> None:
+    def fail(self, trace: Trace, reason: str) -> None:
         """The command is run again, each time after twice as long."""
         seconds = min(AGAIN_SECONDS * 2 ** min(self.failures, 16), MOST_AGAIN_SECONDS)
         self.failures += 1
         self.again_at = self.now() + seconds
-        self.say(f"--ship: {self.words[0]} {reason}; {self.trace.name} is taken again in {seconds} s", object())
+        self.say(f"--ship: {self.words[0]} {reason}; {trace.name} is taken again in {seconds} s", object())
 
     # --- what was taken ---
 

@@ -10,7 +10,7 @@ import subprocess
 import time
 from collections.abc import Callable
 from dataclasses import dataclass
-from typing import Any, Optional, TYPE_CHECKING
+from typing import Any, Optional, Protocol, TYPE_CHECKING
 
 from replay_tools import outside
 
@@ -63,27 +63,26 @@ def run_command(words: list[str], seconds: float) -> bytearray:
     except OSError as error:
         raise Failed(f"can't be started: {error.strerror}") from None
     until = time.monotonic() + seconds
-    try:
-        written, said = outputs_of(process, until)
-        status = process.wait(max(until - time.monotonic(), 0))
-    except subprocess.TimeoutExpired:
-        raise Failed(f"gave no answer within {seconds} s") from None
-    finally:
-        process.kill()
-        process.stdout.close()
-        process.stderr.close()
-        process.wait()
+    with process:
+        try:
+            written, said = outputs_of(process, until)
+            status = process.wait(max(until - time.monotonic(), 0))
+        except subprocess.TimeoutExpired:
+            raise Failed(f"gave no answer within {seconds} s") from None
+        finally:
+            process.kill()
     if status != 0:
         raise Failed(f"failed with status {status}: {shown_line(said.decode('utf-8', 'replace'))}")
     return written
 
 
-def outputs_of(process: subprocess.Popen, until: float) -> tuple[bytearray, bytearray]:
+def outputs_of(process: subprocess.Popen[bytes], until: float) -> tuple[bytearray, bytearray]:
     """What a command writes on standard output, and the begin of what it writes on standard error."""
     written, said = bytearray(), bytearray()
     with selectors.DefaultSelector() as open_ones:
-        open_ones.register(process.stdout, selectors.EVENT_READ, written)
-        open_ones.register(process.stderr, selectors.EVENT_READ, said)
+        for pipe, taken in ((process.stdout, written), (process.stderr, said)):
+            if pipe is not None:
+                open_ones.register(pipe, selectors.EVENT_READ, taken)
         while open_ones.get_map():
             left = until - time.monotonic()
             if left <= 0:
@@ -112,6 +111,29 @@ def reads(what: str) -> Callable[..., Any]:
     return marked
 
 
+class Connection(Protocol):
+    """What is asked by a connection that is kept."""
+
+    def endpoint(self, path: str) -> Answer:
+        """An answer; Failed where none comes."""
+
+    def close(self) -> None:
+        """It is asked no more."""
+
+
+class KubeletConnection(Connection, Protocol):
+    """A kubelet that is asked so."""
+
+    def pods(self) -> Answer:
+        """Its pods."""
+
+    def works(self) -> bool:
+        """Whether it is asked, and not by a command for each answer."""
+
+    def has_certificate(self) -> bool:
+        """Whether it is asked with a certificate of the recorder's."""
+
+
 @dataclass(frozen=True)
 class Sources:
     """The sources of one node: its runtime by crictl, its kubelet by a connection that is kept, or by kubectl or, at an
@@ -120,12 +142,12 @@ class Sources:
     kubelet: Optional[str] = None
     curl_file: Optional[str] = None
     run: Callable[[list[str], float], Answer] = run_command
-    keeps: Optional[Any] = None
+    keeps: Optional[KubeletConnection] = None
     crictl: tuple[str, ...] = ("crictl",)
     # in place of a kubelet, where none is asked
     alone: Optional[RuntimeAlone] = None
     # the API server, which is asked for Events: a connection that is kept, or by kubectl; None where it is not asked
-    api: Optional[Any] = None
+    api: Optional[Connection] = None
 
     def commands(self) -> list[str]:
         """The commands that are needed on the PATH."""
@@ -134,8 +156,9 @@ class Sources:
         return [self.crictl[0]] if self.keeps or self.alone else [self.crictl[0], "curl"]
 
     def close(self) -> None:
-        for kept in filter(None, (self.keeps, self.api)):
-            kept.close()
+        for kept in (self.keeps, self.api):
+            if kept is not None:
+                kept.close()
 
     def ask(self, what: str, words: list[str], seconds: int) -> Answer:
         return self.answer(what, lambda: self.run(words, seconds))
@@ -160,7 +183,7 @@ class Sources:
         if self.alone is not None:
             return self.alone.pods(self.listed()) if path == "pods" else self.alone.answers[path]
         if self.keeps is not None and self.keeps.works():
-            return self.answer(f"/{path}", lambda: self.keeps.endpoint(path))
+            return self.answer(f"/{path}", functools.partial(self.keeps.endpoint, path))
         # the command's own time-out comes first, and says more
         return self.ask(f"/{path}", self.endpoint_words(path), ENDPOINT_SECONDS + 5)
 
@@ -193,11 +216,16 @@ class Sources:
     def events(self, namespace: str, uid: str) -> Answer:
         """The Events of a pod."""
         path = f"api/v1/namespaces/{namespace}/events?fieldSelector=involvedObject.uid%3D{uid}"
-        return self.answer("the events of pods", lambda: self.api.endpoint(path))
+        return self.of_api("the events of pods", path)
 
     def node_object(self) -> Answer:
         """The node as the API server has it."""
-        return self.answer("the node", lambda: self.api.endpoint(f"api/v1/nodes/{self.node}"))
+        return self.of_api("the node", f"api/v1/nodes/{self.node}")
+
+    def of_api(self, what: str, path: str) -> Answer:
+        if self.api is None:
+            raise Failed(f"{what} can't be asked: no API server is named")
+        return self.answer(what, functools.partial(self.api.endpoint, path))
 
     def summary(self) -> Answer:
         return self.endpoint("stats/summary")

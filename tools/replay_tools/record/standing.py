@@ -58,6 +58,16 @@ class Run:
             + ["failure"] * (self.failures if self.holds else 0)
 
 
+def lost(listing: dict[str, Any]) -> dict[str, Any]:
+    """An instance, as one that is no longer listed ended."""
+    return {"name": listing["name"], "attempt": listing["attempt"], "state": EXITED, "exitCode": LOST_CODE}
+
+
+def running(listing: dict[str, Any]) -> dict[str, Any]:
+    """An instance, as it ran."""
+    return {"name": listing["name"], "attempt": listing["attempt"], "state": RUNNING}
+
+
 class Container:
     """One container of a pod: its newest instance as it was listed, since when, and its probes."""
 
@@ -69,7 +79,7 @@ class Container:
         # the newest instance, and the one before it as it ended
         self.listing: dict[str, Any] | None = None
         self.previous: dict[str, Any] | None = None
-        self.since: int | None = None
+        self.since = 0
         self.is_listed = False
         self.begin()
 
@@ -77,7 +87,8 @@ class Container:
         """Another instance begins without any result."""
         self.runs = {probe: Run(self.fields[field]) for probe, field in FIELDS.items()
                      if self.fields.get(field) is not None}
-        self.started: int | None = None
+        # when it began to run, if it does
+        self.started = 0
         self.passed: int | None = None
 
     def is_running(self) -> bool:
@@ -87,18 +98,18 @@ class Container:
         """What a tick lists of it, or None. The first state of an exit counts, and what is not known changes none."""
         self.is_listed = listing is not None
         self.take_resources(listing)
+        known = self.listing
         if listing is None:
-            if self.listing is not None and self.listing["state"] != EXITED:
-                self.change(self.lost(), second)
-        elif self.listing is None or listing["attempt"] != self.listing["attempt"]:
-            has_ended = self.listing is None or self.listing["state"] == EXITED
-            self.previous = self.listing if has_ended else self.lost()
+            if known is not None and known["state"] != EXITED:
+                self.change(lost(known), second)
+        elif known is None or listing["attempt"] != known["attempt"]:
+            self.previous = known if known is None or known["state"] == EXITED else lost(known)
             self.begin()
             self.change(listing, second)
-        elif self.listing["state"] == EXITED:
+        elif known["state"] == EXITED:
             # why it ended may be known later than its code
-            self.listing |= {name: listing[name] for name in ("reason", "message") if name in listing}
-        elif listing["state"] not in (UNKNOWN, self.listing["state"]):
+            known.update({name: listing[name] for name in ("reason", "message") if name in listing})
+        elif listing["state"] not in (UNKNOWN, known["state"]):
             self.change(listing, second)
 
     def take_resources(self, listing: dict[str, Any] | None) -> None:
@@ -106,11 +117,6 @@ class Container:
         if listing is not None and self.listing is not None and listing["attempt"] == self.listing["attempt"]:
             kept = {name: value for name, value in self.listing.items() if name != "resources"}
             self.listing = kept | {name: listing[name] for name in ("resources",) if name in listing}
-
-    def lost(self) -> dict[str, int | str]:
-        """Its newest instance, as one that is no longer listed ended."""
-        return {"name": self.listing["name"], "attempt": self.listing["attempt"], "state": EXITED,
-                "exitCode": LOST_CODE}
 
     def change(self, listing: dict[str, Any], second: int) -> None:
         """It is listed otherwise from a second on; of its exit before that tells, and no later one."""
@@ -126,18 +132,18 @@ class Container:
     def has_started_before(self) -> bool:
         """Whether it is a sidecar of which an instance was started, and the newest does not show that: it has exited,
         or its startup has not passed."""
-        if not self.is_sidecar or not self.was_started:
+        if self.listing is None or not self.is_sidecar or not self.was_started:
             return False
         return self.listing["state"] == EXITED or (self.previous is not None and "startup" in self.runs
                                                    and not self.runs["startup"].holds)
 
-    def history(self) -> list[dict[str, int | str]]:
+    def history(self) -> list[dict[str, Any]]:
         """The listings before the newest that show that, the last one first."""
-        if not self.has_started_before():
+        if self.listing is None or not self.has_started_before():
             return []
-        ended = [] if self.listing["state"] == EXITED else [self.previous]
-        of = ended[0] if ended else self.listing
-        return [*ended, {"name": of["name"], "attempt": of["attempt"], "state": RUNNING}]
+        if self.listing["state"] == EXITED:
+            return [running(self.listing)]
+        return [] if self.previous is None else [self.previous, running(self.previous)]
 
     def take(self, probe: str, result: str, second: int) -> None:
         """A result of a tick, behind what the tick lists."""
@@ -165,7 +171,7 @@ class Container:
     def assume(self, restarts: Any, is_started: bool, is_ready: bool, second: int) -> bool:
         """What its pod's status says of it where it is met running, whose results were before the recording; whether
         that changes what is known."""
-        if not self.is_running() or self.listing["attempt"] != restarts:
+        if self.listing is None or not self.is_running() or self.listing["attempt"] != restarts:
             return False
         held = [run for run, holds in ((self.runs.get("startup"), is_started), (self.runs.get("readiness"), is_ready))
                 if run is not None and holds and not run.holds]
@@ -195,8 +201,11 @@ class Container:
                  if place >= count - len(results)} for place in range(count)]
         return [{"startup": result} for result in early] + rows
 
-    def listed(self, second: int, back: int) -> dict[str, int | str]:
-        """What a tick that stands so many before the border lists of it: what was before where that counts."""
+    def listed(self, second: int, back: int) -> dict[str, Any] | None:
+        """What a tick that stands so many before the border lists of it: what was before where that counts. None where
+        it was never listed."""
+        if self.listing is None:
+            return None
         before, place = self.history(), back - max(len(self.carried_of_newest()), 1)
         if before and place >= 0:
             return before[min(place, len(before) - 1)]
@@ -272,8 +281,8 @@ class Pod:
     def entry(self, second: int, back: int) -> dict[str, Any] | None:
         """Its entry of a tick that stands so many before the border: usage, and why it waits, are in that of the border
         alone; that it is being deleted, or was ended, is in each."""
-        containers = [each.listed(second, back) for _, each in sorted(self.containers.items())
-                      if each.listing is not None]
+        listings = [each.listed(second, back) for _, each in sorted(self.containers.items())]
+        containers = [listing for listing in listings if listing is not None]
         rows = [(name, each.carried()) for name, each in self.containers.items()]
         probes = [{"container": name, "probe": probe, "result": result} for name, carried in rows
                   if len(carried) > back for probe, result in carried[-1 - back].items()]
@@ -291,8 +300,9 @@ class Standing:
     """What the lines so far say of the node, and of the pods that are there."""
 
     def __init__(self) -> None:
-        self.node: dict[str, Any] | None = None
-        self.pods: dict[str, Any] = {}
+        # the node line
+        self.node: dict[str, Any] = {}
+        self.pods: dict[str, Pod] = {}
         self.signals: dict[str, Any] = {}
         # what the last tick says that the kubelet did to pods that are left out
         self.left_out: list[Any] = []
@@ -316,12 +326,13 @@ class Standing:
             self.take_tick(record)
 
     def take_tick(self, tick: dict[str, Any]) -> None:
-        self.at, self.signals, self.left_out = tick["at"], tick.get("signals") or {}, []
+        second: int = tick["at"]
+        self.at, self.signals, self.left_out = second, tick.get("signals") or {}, []
         self.judged, self.node_ready = tick.get("judged"), tick.get("nodeReady")
         self.tells_rounds = self.tells_rounds or self.judged is False
         entries = {entry["pod"]: entry for entry in tick["pods"]}
         for key, pod in self.pods.items():
-            pod.take(entries.get(key, {}), self.at)
+            pod.take(entries.get(key, {}), second)
         for kind, decisions in (tick.get("kubelet") or {}).items():
             for decision in decisions:
                 if decision.get("leftOut"):
@@ -332,9 +343,10 @@ class Standing:
     def assume(self, probed: dict[str, dict[str, tuple[None, bool, bool]]]) -> bool:
         """Takes what the statuses of the pods say at the first tick, {key: {container: (restarts, started, ready)}};
         whether that is more than the tick shows."""
+        second = self.at or 0
         for pod in self.pods.values():
             pod.newest = None
-        return any([container.assume(*probed[key][name], self.at) for key, pod in self.pods.items()
+        return any([container.assume(*probed[key][name], second) for key, pod in self.pods.items()
                     for name, container in pod.containers.items() if name in probed.get(key, {})])
 
     def beginning(self, second: int, follows: dict[str, Any] | None) -> Iterator[str]:

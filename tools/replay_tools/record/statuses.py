@@ -72,5 +72,5 @@ def changed(said: dict[str, Any], declared: dict[str, Any]) -> bool:
 def amount_of(value: Any) -> int | None:
     try:
         return None if value is None else amounts.quantity(value)
-    except (ValueError, TypeError, AttributeError):
+    except amounts.Wrong:
         return None

@@ -15,8 +15,8 @@ from dataclasses import dataclass, field, replace
 from typing import Any, Optional, TYPE_CHECKING
 
 from .asides import Asides
-from .decisions import ENDED, EVICTED
-from .formats import without_nones
+from .decisions import ENDED, EVICTED, Told
+from .formats import MOST_PODS, without_nones
 from .lines import EVICTION_PAUSE, entry_of, gone_line, pod_line, tick_line, told, unknown
 from .near import Nearness
 from .runtime import CREATED, EXITED, LOST_CODE, RUNNING, Change
@@ -85,12 +85,6 @@ def keeping(start: Change, exit_before: Change) -> Change:
     return replace(start, listing=replace(start.listing, ended=exit_before.listing))
 
 
-def is_eviction(told: tuple[Pod, bool, int], second: int) -> bool:
-    """Whether what a tick tells is that the kubelet evicted a pod at its second."""
-    pod, _, at = told
-    return pod.decision.kind == EVICTED and at == second
-
-
 def is_exit(change: Change) -> bool:
     return change.listing is None or change.listing.state == EXITED
 
@@ -122,9 +116,12 @@ class Timeline:
         self.format = trace_format
         self.ticks: dict[int, Tick] = {}
         self.next_second: float = 0
-        self.latest: int | None = None
+        # the second of the last tick that is wanted
+        self.latest = float("-inf")
         self.last_placed: dict[tuple[str, ...], int] = {}
         self.successes: dict[tuple[str, ...], Any] = {}
+        # how many pods have come, and those that are there
+        self.arrived = 0
         self.present: list[Pod] = []
         self.listings: dict[str, dict[str, Any]] = {}
         self.results: dict[tuple[str, ...], str] = {}
@@ -148,7 +145,7 @@ class Timeline:
         tick = self.ticks.setdefault(second, Tick())
         if is_wanted:
             tick.is_wanted = True
-            self.latest = second if self.latest is None else max(self.latest, second)
+            self.latest = max(self.latest, second)
         return tick
 
     def second_of(self, moment: float, *after: Any) -> int:
@@ -164,7 +161,12 @@ class Timeline:
     def place_arrival(self, pod: Pod, moment: float) -> int:
         second = self.second_of(moment)
         self.tick(second, True).arrivals.append(pod)
+        self.arrived += 1
         return second
+
+    def has_room(self) -> bool:
+        """Whether the trace can have one more pod."""
+        return self.arrived < MOST_PODS
 
     def place_departure(self, pod: Pod, moment: float) -> int:
         """A pod goes, after all that happened in it; the second behind which it is no more."""
@@ -178,16 +180,16 @@ class Timeline:
     def place_decision(self, pod: Pod, moment: float, recorded: Recorded | None) -> int:
         """What the kubelet did to a pod, which is recorded or left out; the second of its tick."""
         second = self.second_of(moment, *([] if recorded is None else [recorded.arrived]))
-        self.tick(second, True).decisions.append((pod, recorded is None, second))
-        if pod.decision.kind == EVICTED:
-            self.evicted_last = second
+        tick = self.tick(second, True)
+        if pod.decision is not None:
+            tick.decisions.append(Told(pod, pod.decision, second, recorded is None))
+            self.evicted_last = second if pod.decision.kind == EVICTED else self.evicted_last
         return second
 
-    def place_past_decision(self, pod: Pod, moment: float) -> None:
-        """What the kubelet did before a moment, by its own, to a pod that is left out."""
+    def place_past_decision(self, pod: Pod, decision: Decision, at: int, moment: float) -> None:
+        """What the kubelet did to a pod that is left out, in a second before this moment, in whose tick it stands."""
         second = self.second_of(moment)
-        at = min(int(pod.decision.moment), second)
-        self.tick(second, True).decisions.append((pod, True, at))
+        self.tick(second, True).decisions.append(Told(pod, decision, min(at, second), True))
 
     def place_signal(self, moment: float, signal: str, value: Any, is_wanted: bool) -> None:
         """A sample of what the node has left, or None where it has no value from then on."""
@@ -240,7 +242,7 @@ class Timeline:
         second = self.second_of(second)
         tick = self.tick(second, True)
         tick.failed[pod.uid] = decision.word
-        tick.ends += [(pod, decision, second)] if decision.kind == ENDED else []
+        tick.ends += [Told(pod, decision, second)] if decision.kind == ENDED else []
 
     def listed_in(self, pod: Pod, container: str) -> int | None:
         """The second in which a container is listed otherwise last; None where it was not placed."""
@@ -269,10 +271,11 @@ class Timeline:
 
     def without_exit_before(self, key: tuple[str, str], change: Change) -> Change:
         """The change; an exit that is not written yet goes where its successor's start, known only now, says it too."""
-        second = self.last_placed.get((*key, "listing"))
-        before = self.ticks[second].listings.get(key) if second in self.ticks else None
-        if before is not None and is_seamless(before, change):
-            del self.ticks[second].listings[key]
+        second = self.last_placed.get((*key, "listing"), -1)
+        tick = self.ticks.get(second)
+        before = None if tick is None else tick.listings.get(key)
+        if tick is not None and before is not None and is_seamless(before, change):
+            del tick.listings[key]
             self.last_placed[(*key, "listing")] = second - 1
             return keeping(change, before)
         return change
@@ -366,13 +369,13 @@ class Timeline:
         """The line of a tick with these entries of pods."""
         is_judged = tick.is_judged or not self.tells_rounds
         node_ready = None if self.ready is None else self.ready.told()
-        return tick_line(second, entries, signals, told(tick.decisions, tick.ends), is_judged, node_ready)
+        return tick_line(second, entries, signals, told([*tick.decisions, *tick.ends]), is_judged, node_ready)
 
     def shown_signals(self, second: int, tick: Tick) -> dict[str, int]:
         """The signals of a tick, as last sampled. What was left before the kubelet evicted a pod is not what is left
         behind it, and the kubelet takes a new sample before it evicts the next: until then a signal has no value, or
         that of the new sample where a threshold goes on over the gap."""
-        if self.format.says_gone and any(is_eviction(each, second) for each in tick.decisions):
+        if self.format.says_gone and any(each.is_eviction(second) for each in tick.decisions):
             self.evicted_at, outdated = second, set(self.signals) - set(tick.signals)
             self.outdated = set(self.signals)
         else:

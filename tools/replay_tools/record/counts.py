@@ -1,0 +1,77 @@
+"""The counts of probes' results in the answers of the kubelet, and the results by which they grew."""
+
+from __future__ import annotations
+
+from collections.abc import Callable
+from dataclasses import dataclass, field
+from typing import TYPE_CHECKING
+
+from .probes import PROBES, grown, have_begun_anew, most_results, results_of
+
+if TYPE_CHECKING:
+    from .pods import Pod
+    from .probes import Counters, Result, Series
+    from .seen import Recorded
+
+
+@dataclass
+class Counted:
+    """The counts by an answer of a moment, and when an answer had each of them last."""
+    counts: Counters = field(default_factory=dict)
+    counted_at: dict[Series, float] = field(default_factory=dict)
+    answered_at: float = 0
+
+
+class ProbeCounts:
+    """The counts as they are now, and as they were when results had their places last."""
+
+    def __init__(self, say: Callable[..., None]) -> None:
+        self.say = say
+        self.now, self.planned = Counted(), Counted()
+
+    def begin(self, counts: Counters, moment: float) -> None:
+        """The counts of the first look are of results before it."""
+        self.planned = Counted(counts, dict.fromkeys(counts, moment), moment)
+
+    def take(self, counts: Counters, uids: set[str], moment: float) -> None:
+        """Takes those of an answer. The counts of a pod that is there stay where an answer leaves them out."""
+        kept = {series: of_series for series, of_series in self.now.counts.items() if series[0] in uids}
+        counted_at = {**{series: self.now.counted_at[series] for series in kept}, **dict.fromkeys(counts, moment)}
+        self.now = Counted({**kept, **counts}, counted_at, moment)
+
+    def plan(self) -> None:
+        """All results by now have their places."""
+        self.planned = self.now
+
+    def results(self, recorded: Recorded, name: str, since: float, until: float) -> list[Result]:
+        """The results of a container's probes between two moments, the first of which is of what was planned last."""
+        pod = recorded.pod
+        found = []
+        for probe in PROBES:
+            growth = self.growth(pod, name, probe)
+            results = results_of(probe, growth, pod.period(name, probe), since, until,
+                                 recorded.found.get((name, probe)))
+            if len(results) > 1:
+                self.say(f"{pod.key} {name} {probe}: {len(results)} results between two looks: their order and moments "
+                         "are inferred, here and wherever it is so", "results")
+            recorded.found.update({(name, probe): each.result for each in results})
+            found += results
+        return found
+
+    def growth(self, pod: Pod, name: str, probe: str) -> dict[str, int]:
+        """What the counts of a probe grew by since what was planned last. Counts that an answer before had left out, as
+        an empty one, come back as more than there was time for, and are no results of now."""
+        series = pod.uid, name, probe
+        before, now = self.planned.counts.get(series, {}), self.now.counts.get(series, {})
+        if not now or now == before:
+            return {}
+        since = self.planned.counted_at.get(series, self.planned.answered_at)
+        most = most_results(pod.period(name, probe), self.now.counted_at[series] - since)
+        before = {} if have_begun_anew(before, now, most) else before
+        self.now.counts[series] = {**before, **now}
+        growth = grown(before, now)
+        if sum(growth.values()) <= most:
+            return growth
+        self.say(f"{pod.key} {name} {probe}: {sum(growth.values())} results are more than there was time for since the "
+                 "last look, and are left out")
+        return {}

@@ -1,0 +1,221 @@
+"""The pods of a trace from their coming until they have gone: which of them have a line, and what is said of them."""
+
+from __future__ import annotations
+
+from collections.abc import Callable
+from typing import TYPE_CHECKING
+
+from .decisions import EVICTED, REFUSED
+from .formats import MOST_PODS
+from .seen import Recorded
+
+if TYPE_CHECKING:
+    from .containers import Containers
+    from .decisions import Decisions
+    from .pods import Pod
+    from .reasons import Reason
+    from .samples import Sampling
+    from .seen import Course, Seen
+    from .timeline import Timeline
+
+# how long the new pod of a name waits for the containers of the one before to exit
+GOING_SECONDS = 30
+ANEW = "was made anew under its name, and is left out from here on"
+LEFT_OUT = {EVICTED: "the kubelet had evicted it before it was seen",
+            REFUSED: "the kubelet refused it under pressure, so it never ran"}
+
+
+class Lifecycles:
+    """Follows the pods that come, and those that go until their containers have exited; `say` takes what is said."""
+
+    def __init__(self, timeline: Timeline, course: Course, containers: Containers, decisions: Decisions,
+                 sampling: Sampling, say: Callable[..., None]) -> None:
+        self.timeline = timeline
+        self.course = course
+        self.containers = containers
+        self.decisions = decisions
+        self.sampling = sampling
+        self.say = say
+        self.says_gone = timeline.format.says_gone
+        self.recorded: dict[str, Recorded] = {}
+        self.left_out: set[str] = set()
+        # those that are left out as long as there is no room for them
+        self.waiting: set[str] = set()
+        # the pods that their source listed last, and when
+        self.listed: list[Pod] = []
+        self.listed_at: float = 0
+        # the second behind which the last pod of a name is no more
+        self.gone_at: dict[str, int] = {}
+
+    def followed(self) -> list[Recorded]:
+        return [recorded for recorded in self.recorded.values() if recorded.is_followed]
+
+    def uids(self) -> set[str]:
+        """Those of the pods that are there, or whose containers may yet run."""
+        return {pod.uid for pod in (*self.listed, *(recorded.pod for recorded in self.followed()))}
+
+    def take(self, seen: Seen) -> None:
+        """Takes the pods of a look: those that are followed first, then those that come."""
+        if seen.pods is not None:
+            self.listed, self.listed_at = seen.pods, seen.moment
+        listed = {pod.uid: pod for pod in self.listed}
+        for recorded in self.followed():
+            pod = listed.get(recorded.pod.uid)
+            if pod is not None:
+                self.see_status(recorded, pod, seen)
+            if pod is None or pod.is_deleted:
+                self.see_deletion(recorded, pod, seen)
+            # the status of a pod that was evicted may be written anew
+            if pod is None or pod.is_deleted or self.decisions.has(pod):
+                self.see_going(recorded, pod is not None, seen)
+        for pod in self.listed:
+            if pod.uid not in self.recorded and pod.uid not in self.left_out:
+                self.arrive(pod, seen)
+            self.decisions.take(pod, self.recorded.get(pod.uid), seen)
+
+    # --- a pod comes ---
+
+    def arrive(self, pod: Pod, seen: Seen) -> None:
+        """A pod comes: it is recorded, or left out, which is said once. It waits for the one before it under its name
+        to go."""
+        reason = self.reason_to_leave_out(pod)
+        before = next((each for each in self.followed() if each.pod.key == pod.key), None)
+        if before is not None and not self.says_gone:
+            self.depart(before, seen)
+            reason = reason or ANEW
+        if reason is not None:
+            self.say(f"{pod.key} {reason}")
+            self.left_out.add(pod.uid)
+        elif before is None:
+            # its first container may have been made in the second in which the one before it went
+            moment = max(self.arrival_moment(pod, seen), self.gone_at.get(pod.key, -1) + 1)
+            second = self.timeline.place_arrival(pod, moment)
+            self.recorded[pod.uid] = recorded = Recorded(pod, second, second)
+            self.see_waits(recorded, pod.waits, seen)
+            self.see_end(recorded, pod, seen)
+            self.see_beside(recorded, pod, seen)
+            for name in pod.ruled:
+                self.say(f"{pod.key} {name}: its own rules of restarts are left out, and it restarts as its pod does")
+
+    def reason_to_leave_out(self, pod: Pod) -> str | None:
+        """Why a pod has no line, by what came before; None where it can have one."""
+        has_room = self.timeline.has_room()
+        if not has_room:
+            self.waiting.add(pod.uid)
+        if pod.fault is not None:
+            return f"is left out: {pod.fault}"
+        if not has_room:
+            return f"is left out: a trace has at most {MOST_PODS} pods"
+        if pod.decision is not None:
+            return f"is left out: {LEFT_OUT[pod.decision.kind]}"
+        if self.says_gone:
+            return None
+        was_here = any(each.pod.key == pod.key and not each.is_followed for each in self.recorded.values())
+        return ANEW if was_here else None
+
+    def arrival_moment(self, pod: Pod, seen: Seen) -> float:
+        """A pod that comes late is there from the moment on at which its first container was made."""
+        if self.course.is_first:
+            return seen.moment
+        created = [each.created / 1e9 for each in (seen.instances or {}).get(pod.uid, []) if each.created]
+        return min([seen.moment, *created])
+
+    # --- what its status says ---
+
+    def see_status(self, recorded: Recorded, pod: Pod, seen: Seen) -> None:
+        """What a list of pods says of one that is followed."""
+        if seen.pods is not None:
+            self.see_waits(recorded, pod.waits, seen)
+        self.decisions.take(pod, recorded, seen)
+        self.see_end(recorded, pod, seen)
+        self.see_beside(recorded, pod, seen)
+
+    def see_waits(self, recorded: Recorded, waits: dict[str, Reason], seen: Seen) -> None:
+        """Why a pod's containers wait, where that is another than before."""
+        if waits == recorded.waits:
+            return
+        recorded.waits = waits
+        for name, wait in waits.items():
+            container = recorded.containers.get(name)
+            if container is not None and container.newest is not None:
+                recorded.waited[name] = container.newest.attempt if wait.behind is None else wait.behind
+        self.timeline.place_waits(recorded.pod, seen.moment, waits)
+
+    @staticmethod
+    def see_end(recorded: Recorded, pod: Pod, seen: Seen) -> None:
+        """The node has ended a pod, which finds its place among what happened to it."""
+        if pod.ended is not None and recorded.ended is None:
+            recorded.ended, recorded.ended_at = pod.ended, seen.moment
+
+    def see_beside(self, recorded: Recorded, pod: Pod, seen: Seen) -> None:
+        """What the object says beside what the formats read, where that is another than before."""
+        if pod.beside != recorded.beside:
+            recorded.beside = pod.beside
+            self.timeline.place_beside(recorded.pod, seen.moment, pod.beside)
+
+    # --- a pod goes ---
+
+    def see_deletion(self, recorded: Recorded, pod: Pod | None, seen: Seen) -> None:
+        """A pod was told to go, or is no longer listed: nothing of it is restarted from then on, which is said once."""
+        if self.says_gone and not recorded.is_deleting:
+            recorded.is_deleting = True
+            told_at = None if pod is None else pod.deleted_at
+            moment = seen.moment if told_at is None else min(told_at, seen.end)
+            deletion = {} if pod is None else pod.deletion
+            self.timeline.place_deletion(recorded.pod, max(moment, recorded.arrived), deletion)
+
+    def see_going(self, recorded: Recorded, is_listed: bool, seen: Seen) -> None:
+        """A pod is no longer listed, was told to go, or the kubelet ended it. It is gone once each of its containers
+        has exited with a code that is known, or is no more, and one that was evicted once the kubelet goes on behind
+        it; where a new pod of its name waits for that, at the latest after some seconds."""
+        if not self.says_gone:
+            if not is_listed and not any(pod.key == recorded.pod.key for pod in self.listed):
+                self.say(f"{recorded.pod.key} is gone, and the replay goes on with it: cut the trace where pods go")
+            return
+        if seen.instances is None:
+            return
+        recorded.going_since = seen.moment if recorded.going_since is None else recorded.going_since
+        instances = seen.instances.get(recorded.pod.uid, [])
+        has_next, is_late = self.has_next(recorded.pod), seen.moment - recorded.going_since > GOING_SECONDS
+        has_ended = all(instance.exit_code is not None for instance in instances)
+        if (is_late and has_next) or (has_ended and (is_late or has_next or self.is_cleaned_up(recorded))):
+            self.depart(recorded, seen)
+
+    def is_cleaned_up(self, recorded: Recorded) -> bool:
+        """Whether the kubelet has gone on behind the pod's eviction, which it does once the pod is cleaned up: by a new
+        sample."""
+        return recorded.evicted_at is None or self.sampling.newest > recorded.evicted_at
+
+    def has_next(self, pod: Pod) -> bool:
+        """Whether a pod of its name waits for its line."""
+        waiting = (each for each in self.listed if each.uid not in self.recorded and each.uid not in self.left_out)
+        return any(each.key == pod.key for each in waiting)
+
+    def depart(self, recorded: Recorded, seen: Seen) -> None:
+        """A pod goes from the trace, behind what the same look saw of its containers."""
+        if seen.instances is not None:
+            self.containers.follow_to_the_end(recorded, seen.instances, seen.moment)
+        self.containers.plan(recorded, seen.moment)
+        recorded.is_followed = False
+        moment = max(seen.moment, recorded.changes_from)
+        self.gone_at[recorded.pod.key] = self.timeline.place_departure(recorded.pod, moment)
+
+    # --- a recording that goes on for ever ---
+
+    def forget(self, second: float) -> None:
+        """Forgets pods that have gone and are no longer listed, and that there was no room for some; of the names those
+        whose last pod is no more before a second."""
+        self.left_out -= self.waiting
+        self.waiting = set()
+        listed = {pod.uid for pod in self.listed}
+        self.recorded = {uid: recorded for uid, recorded in self.recorded.items()
+                         if recorded.is_followed or uid in listed}
+        self.left_out &= listed
+        self.gone_at = {key: gone_at for key, gone_at in self.gone_at.items() if gone_at >= second}
+
+    def begin_at(self, moment: float) -> None:
+        """The clock says an earlier moment than it did: what is followed is there from then on."""
+        self.listed_at, self.gone_at = moment, {}
+        for recorded in self.followed():
+            recorded.arrived = recorded.changes_from = int(moment)
+            recorded.going_since = None if recorded.going_since is None else moment
