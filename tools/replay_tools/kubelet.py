@@ -98,7 +98,8 @@ def beside(trace: traces.Trace, report: reports.Report) -> Kubelet | None:
     if not trace.tells():
         return None
     rules = endings.by_rules(report)
-    found = Kubelet(names=report.names_pods)
+    # over an imported trace the rules evict nobody, and have nobody to name
+    found = Kubelet(names=report.names_pods or trace.is_imported())
     for decision in decided.decisions_with_endings(trace):
         if decision.kind == "refused":
             found.refused.append(decision)

@@ -9,6 +9,7 @@ from replay_tools import clock as clocks, entry, kubelet as kubelets, report as 
 
 if TYPE_CHECKING:
     from replay_tools import reasons, traces
+    from replay_tools.said import Said
 
 WIDTH, RIGHT, TOP = 1200, 70, 34
 LANE, BAR, STRIP, HEAD, GAP = 20, 13, 7, 22, 14
@@ -16,9 +17,11 @@ WIDEST_LABEL = 250
 # those of replay_tools/page/page.css in its light theme
 COLOURS = {"Waiting": "#e9c46a", "Running": "#3f7fc4", "Ended with 0": "#a3adb8", "Ended otherwise": "#bf372e",
            "Ready": "#3b9a5f", "Not ready": "#e08a3c", "Pressure": "#a34d8c"}
-INK, QUIET, KILL = "#17212b", "#5a6775", "#8a2be2"
+INK, QUIET, KILL, SAID = "#17212b", "#5a6775", "#8a2be2", "#12797d"
 # marks at less than so many pixels become a strip where they are more than so many
 DENSE, MOST_MARKS = 12, 4
+# what was said stands below a lane, so wide and high; of what falls on one mark so many are told
+SAID_WIDTH, SAID_HEIGHT, MOST_SAID = 3, 4, 6
 # a picture that is higher has its moments above too
 TALL = 700
 PLAIN_STEPS = [digit * 10 ** power for power in range(13) for digit in (1, 2, 5)]
@@ -196,7 +199,26 @@ def container_lane(picture: Picture, pod: reports.Pod, name: str, trace: traces.
             order_strip(picture, run, y)
             continue
         for event in run:
-            order_mark(picture, event, y)
+            order_mark(picture, event, y, trace)
+
+
+def said_marks(picture: Picture, said: list[Said], y: float) -> None:
+    """A mark for each thing that was said, or one for all that fall on it."""
+    runs: list[list[Said]] = []
+    for each in said:
+        if runs and picture.x(each.at) - picture.x(runs[-1][0].at) < SAID_WIDTH:
+            runs[-1].append(each)
+        else:
+            runs.append([each])
+    for run in runs:
+        titles = [f"{picture.moment(each.at)} {each.words()}" for each in run[:MOST_SAID]]
+        titles += [f"and {len(run) - MOST_SAID} more"] if len(run) > MOST_SAID else []
+        said_mark(picture, max(picture.x(run[0].at), picture.left), y, "; ".join(titles))
+
+
+def said_mark(picture: Picture, x: float, y: float, title: str) -> None:
+    picture.parts.append(f'<rect x="{x - SAID_WIDTH / 2:.1f}" y="{y:.1f}" width="{SAID_WIDTH}" height="{SAID_HEIGHT}" '
+                         f'fill="{SAID}"><title>{escape(title)}</title></rect>')
 
 
 def colour_of(span: reports.Span) -> str:
@@ -235,12 +257,13 @@ def order_strip(picture: Picture, run: list[reports.Event], y: float) -> None:
                          f'fill="{KILL if kills else QUIET}"><title>{escape(said)}</title></rect>')
 
 
-def order_mark(picture: Picture, event: reports.Event, y: float) -> None:
-    """A mark where an event of a container is an order."""
+def order_mark(picture: Picture, event: reports.Event, y: float, trace: traces.Trace | None) -> None:
+    """A mark where an event of a container is an order, with what its probe put out, where the trace says that."""
     x, name = picture.x(event.at), event.container
     if event.word == "kill":
         picture.shape([(x, y + BAR + 1), (x - 5, y - 4), (x + 5, y - 4)], KILL,
-                      f"{name}: kill order at {picture.moment(event.at)} ({event.rest[1]})")
+                      f"{name}: kill order at {picture.moment(event.at)} ({event.rest[1]})"
+                      f"{telling.more_words(event, trace)}")
     elif event.word == "restart":
         picture.dot(x, y + BAR / 2, f"{name}: restart of attempt {event.rest[0]} at {picture.moment(event.at)}")
 
@@ -282,16 +305,20 @@ def pod_lanes(picture: Picture, report: reports.Report, pod: reports.Pod, kubele
         picture.bar(span.since, span.until, y, STRIP, "Ready" if span.value == "True" else "Not ready",
                     f"Ready {span.value}: {picture.span_words(span)}")
     top = y
+    names = [container.name for container in pod.containers]
+    said = trace.said.by_lane(pod.number, names) if trace else {}
+    said_marks(picture, said.get(-1, []), y + STRIP + 1)
     y += STRIP + 7
-    for container in pod.containers:
-        container_lane(picture, pod, container.name, trace, y)
+    for place, name in enumerate(names):
+        container_lane(picture, pod, name, trace, y)
+        said_marks(picture, said.get(place, []), y + BAR + 1)
         y += LANE
     if end:
         picture.line(picture.x(end[0]), top - 3, picture.x(end[0]), y - LANE + BAR + 3, "end")
     return y + GAP
 
 
-def legend(picture: Picture, y: float, is_beside: bool) -> None:
+def legend(picture: Picture, y: float, is_beside: bool, has_said: bool) -> None:
     """What each colour and each mark means."""
     x = 14
     for words in ("Waiting", "Running", "Ended with 0", "Ended otherwise", "Ready", "Not ready", "Pressure"):
@@ -306,6 +333,9 @@ def legend(picture: Picture, y: float, is_beside: bool) -> None:
     x += 105
     cross(picture, x, y - 4, QUIET if is_beside else COLOURS["Ended otherwise"], "eviction by the rules")
     picture.text(x + 10, y, "evicted by the rules", "small")
+    if has_said:
+        said_mark(picture, x + 160, y - 6, "said of it")
+        picture.text(x + 168, y, "said of it", "small")
 
 
 STYLE = """\
@@ -335,7 +365,7 @@ def draw(report: reports.Report, pods: list[reports.Pod], clock: clocks.Clock, k
     picture.parts += body.parts
     span = f"{picture.moment(first)} to {picture.moment(last)}" + ("" if clock is not clocks.Clock.SECONDS else " s")
     picture.text(14, 22, f"{short(report.node, 600)}, {span}", "title")
-    legend(picture, y + 38, kubelet is not None)
+    legend(picture, y + 38, kubelet is not None, trace is not None and any(trace.said.of(pod.number) for pod in pods))
     height = y + 52
     head = (f'<svg xmlns="http://www.w3.org/2000/svg" width="{WIDTH}" height="{height}" '
             f'viewBox="0 0 {WIDTH} {height}">')

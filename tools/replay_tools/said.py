@@ -79,6 +79,13 @@ class SaidOfPods:
         """What was said of a pod, by its moments; nothing of what is no pod's."""
         return [] if number is None else sorted(self.of_pod.get(number, ()), key=lambda said: said.at)
 
+    def by_lane(self, number: Optional[int], names: list[str]) -> dict[int, list[Said]]:
+        """What was said of a pod, by the places of its containers, -1 of the pod itself."""
+        found: dict[int, list[Said]] = {}
+        for said in self.of(number):
+            found.setdefault(names.index(said.container) if said.container in names else -1, []).append(said)
+        return found
+
     def output_before(self, event: reports.Event, probe: str) -> Optional[str]:
         """What a probe put out when it failed last up to an event, where that is known."""
         found = [output for said in self.of(event.number) if said.at <= event.at and said.container in (

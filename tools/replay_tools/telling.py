@@ -63,9 +63,16 @@ def event_words(event: reports.Event, is_beside: bool = False, trace: traces.Tra
     why = reasons.cause_words(event, int(event.rest[1]), trace, is_whole) if event.word == "died" else ""
     kind = events.kinds()[event.word]
     told = kind.told(event.rest, why, is_beside, reasons.is_guessed(event, trace))
-    output = trace.said.output_before(event, event.rest[1]) if event.word == "kill" and trace is not None else None
-    within = trace.reasons.within_words(event) if trace is not None else ""
-    return kind.attempt(event.rest), f"{told} ({output})" if output else f"{told}{within}"
+    return kind.attempt(event.rest), f"{told}{more_words(event, trace)}"
+
+
+def more_words(event: reports.Event, trace: traces.Trace | None) -> str:
+    """What a trace says of an event beside what the report does: what a probe put out before a kill order, or that it
+    is known within a second."""
+    if trace is None:
+        return ""
+    output = trace.said.output_before(event, event.rest[1]) if event.word == "kill" else None
+    return f" ({output})" if output else trace.reasons.within_words(event)
 
 
 def beside_words(pod: reports.Pod, event: reports.Event, show: Callable[[int], str]) -> str:

@@ -373,6 +373,21 @@ const scale = canvas.width / canvas.clientWidth;
 return [...canvas.getContext('2d').getImageData(x * scale, y * scale, 1, 1).data.slice(0, 3)];"""
 
 
+def check_said(chromedriver, path):
+    """What the kubelet said stands among the events of a story, and is told where a pointer is."""
+    with Page(chromedriver, path) as page:
+        page.click(".pod .name", 0)
+        told = page.text("#panel")
+        tell("tells what the kubelet said in a story", [words in told for words in (
+            "kill order: liveness (HTTP 503) (attempt 0)", "web said: Unhealthy, liveness: HTTP 503",
+            "said: FailedPostStartHook: exec: <b>", "said: BackOff: Back-off 10s")], [True] * 4)
+        page.press(Keys.ESCAPE)
+        page.click_at(page.row("shop/web-0"), 15 / 40, 20)
+        tell("tells it beside the event", "said: Killing, liveness, grace period 5 s" in page.text("#panel"), True)
+        tell("has it in the legend", "said of it" in page.text("#legend"), True)
+        tell("of what was said: no error came", page.log(), [])
+
+
 def check_gap(chromedriver, path):
     """Two traces with a gap of 20 s between, of 81 s in all."""
     with Page(chromedriver, path) as page:
@@ -438,6 +453,7 @@ def main(folder, chromedriver):
     check_ends(chromedriver, f"{folder}/ends.html")
     check_reasons(chromedriver, f"{folder}/reasons.html")
     check_gap(chromedriver, f"{folder}/gap.html")
+    check_said(chromedriver, f"{folder}/said.html")
     check_big(chromedriver, f"{folder}/big.html")
 
 

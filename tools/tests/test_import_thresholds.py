@@ -174,8 +174,8 @@ def test_import_of_what_rounds_show():
 
 
 def test_import_of_thresholds_that_come_late():
-    """A trace alone has all that the journal tells; of traces in a folder the next one begins where a round shows it
-    first."""
+    """A trace alone has all that the journal tells; of traces in a folder the next one begins before the round that
+    shows it first, by no more than what is held back."""
     lines = "".join(round_of(second, "4Gi") for second in range(20, 1500, 10))
     lines += round_of(1500, "1Gi", "MemoryPressure", "MemoryPressure", ["2Gi"])
     lines += round_of(1510, "4Gi", "", "MemoryPressure")
@@ -193,7 +193,8 @@ def test_import_of_thresholds_that_come_late():
         0, [{}, {MEMORY: str(2 * GI)}]))
     first = [tick["at"] for tick in made[1] if tick["kind"] == "tick" and tick.get("judged") is not False][0]
     expect("import --into of a threshold that is shown late: where, and behind what", (
-        first, made[1][0]["follows"]["at"] == made[0][-1]["at"], made[0][-1]["at"] < first), (1772360700, True, True))
+        1772360700 - 800 < first <= 1772360700, made[1][0]["follows"]["at"] == made[0][-1]["at"],
+        made[0][-1]["at"] < first), (True, True, True))
     shutil.rmtree(folder)
 
 
@@ -258,3 +259,13 @@ def test_import_of_conditions():
     expect("import of a real kubelet's conditions", (status, turns), (0, turns_told(log)))
     named = [each for each in events if each[3] in ("names", "evicted")]
     expect("import of a real kubelet's conditions: the rules name nobody", named, [])
+    with tempfile.TemporaryDirectory() as folder:
+        with open(f"{folder}/trace", "w", encoding="utf-8") as file:
+            file.write(trace)
+        picture = run([f"{TOOLS}/timeline", "--trace", f"{folder}/trace"], report)[1]
+        why = run([f"{TOOLS}/why", "shop/oomer", "--trace", f"{folder}/trace"], report)[1]
+    said = re.findall(r"Evicted at [^<]*by the rules", picture)
+    expect("timeline of a real kubelet's conditions: who evicted", said, [])
+    expect("why of a real kubelet's eviction", [words in why for words in (
+        "memory.available hard: below 8.51Gi (36.16%)", "each pod that was present is spared, so none is ranked")],
+           [True, True])

@@ -11,6 +11,7 @@ import tempfile
 
 import big_node
 import cases
+import test_said
 from checks import HERE, TOOLS, TOP, expect, expect_refused, read, run
 from joined_plays import Folder
 
@@ -225,6 +226,12 @@ def selenium_python():
     return None
 
 
+def page_of_said():
+    said = test_said.OF_JOURNAL | test_said.OF_POD
+    with tempfile.TemporaryDirectory() as folder:
+        return page_of(read(f"{test_said.EXAMPLE}.report"), test_said.trace_with(said, folder))
+
+
 def page_of_gap():
     with Folder() as folder:
         os.remove(folder.place(40))
@@ -242,7 +249,7 @@ def write_pages(folder):
         "kubelet": page_of(read(f"{KUBELET}/report"), f"{KUBELET}/trace"),
         "ends": page_of(read(f"{ENDS}/report"), f"{ENDS}/trace"),
         "reasons": page_of(read(f"{REASONS}/report"), f"{REASONS}/trace"),
-        "gap": page_of_gap(),
+        "gap": page_of_gap(), "said": page_of_said(),
         "big": page_of("".join(big_node.report_of(PODS, TICKS, PODS))),
     }
     for name, (status, page, said) in pages.items():

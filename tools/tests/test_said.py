@@ -2,7 +2,9 @@
 journal and of recordings with Events."""
 
 import json
+import re
 import tempfile
+import xml.dom.minidom
 
 import cases
 from checks import TOOLS, TOP, expect, read, run
@@ -15,21 +17,29 @@ OF_JOURNAL = {15: [{"at": 10, "container": "web", "reason": "Unhealthy", "probe"
 OF_EVENTS = {15: [{"at": 10, "container": "web", "reason": "Unhealthy",
                    "message": "Liveness probe failed: HTTP probe failed with statuscode: 503", "count": 2}],
              21: [{"at": 20, "reason": "BackOff", "messageLeftOut": True}]}
+# of the pod itself, and of a container that it has not
+OF_POD = {21: [{"at": 20, "reason": "FailedPostStartHook", "container": "other", "message": "exec: <b>"},
+               {"at": 21, "reason": "BackOff", "message": "Back-off 10s"}]}
 # what is none, each by another member
 OF_NOTHING = {15: ["x", None, {"at": "10", "reason": "Unhealthy"}, {"at": 10 ** 30, "reason": "Unhealthy"},
                    {"at": 10, "reason": 5}, {"at": 10, "reason": "Unhealthy", "container": ["web"], "count": {},
                                              "grace": "x", "message": "\x1b[31mLiveness probe failed: x"}]}
 
 
+def trace_with(said, folder):
+    """The trace of the example in a folder, whose ticks have members of that name."""
+    with open(f"{folder}/trace", "w", encoding="utf-8") as file:
+        for line in map(json.loads, read(f"{EXAMPLE}.trace").splitlines()):
+            if line.get("at") in said:
+                line["pods"][0]["said"] = said[line["at"]]
+            file.write(json.dumps(line) + "\n")
+    return f"{folder}/trace"
+
+
 def told_of(said, tool):
-    """What a tool tells of the example, whose ticks have members of that name."""
+    """What a tool tells of the example with that."""
     with tempfile.TemporaryDirectory() as folder:
-        with open(f"{folder}/trace", "w", encoding="utf-8") as file:
-            for line in map(json.loads, read(f"{EXAMPLE}.trace").splitlines()):
-                if line.get("at") in said:
-                    line["pods"][0]["said"] = said[line["at"]]
-                file.write(json.dumps(line) + "\n")
-        status, told, faults = run([f"{TOOLS}/{tool}", "shop/web-0", "--trace", f"{folder}/trace"],
+        status, told, faults = run([f"{TOOLS}/{tool}", "shop/web-0", "--trace", trace_with(said, folder)],
                                    read(f"{EXAMPLE}.report"))
         expect(f"{tool} of what was said", (status, faults), (0, ""))
         return [" ".join(line.split()) for line in told.splitlines()]
@@ -50,6 +60,46 @@ def test_said():
     told = told_of(OF_NOTHING, "story")
     expect("story: what is none is not told", [line for line in told if " - said: " in line],
            ["10 - - said: Unhealthy: \\x1b[31mLiveness probe failed: x"])
+
+
+def drawn_of(said, tool, *words):
+    """The page, or the picture, of the example."""
+    with tempfile.TemporaryDirectory() as folder:
+        status, drawn, faults = run([f"{TOOLS}/{tool}", *words, trace_with(said, folder)], read(f"{EXAMPLE}.report"))
+        expect(f"{tool} of what was said", (status, faults), (0, ""))
+        return drawn
+
+
+def data_in(page):
+    return json.loads(re.search(r'<script type="application/json" id="data">(.*?)</script>', page, re.S)[1])
+
+
+def test_page_of_what_was_said():
+    """The page has it by its moment and its container, and what a probe put out beside the kill order."""
+    data = data_in(drawn_of(OF_JOURNAL | OF_POD, "page"))
+    [pod] = data["podList"]
+    told = sorted([at, place, data["saids"][words]] for at, place, words in pod["said"])
+    expect("page: what was said", told, [
+        [10, 0, "said: Unhealthy, liveness: HTTP 503"], [15, 0, "said: Killing, liveness, grace period 5 s"],
+        [20, -1, "said: FailedPostStartHook: exec: <b>"], [21, -1, "said: BackOff: Back-off 10s"]])
+    kill = data["words"].index("kill")
+    places = [str(place) for place, event in enumerate(pod["events"]) if event[2] == kill]
+    expect("page: what a probe put out", [pod["more"].get(place) for place in places], [" (HTTP 503)"])
+    [pod] = data_in(drawn_of({}, "page"))["podList"]
+    expect("page: of nothing said there is nothing", "said" in pod or "more" in pod, False)
+
+
+def test_picture_of_what_was_said():
+    """A mark below the lane of its container, or below that of Ready, with its words; and beside the kill order."""
+    picture = drawn_of(OF_JOURNAL | OF_POD, "timeline", "--trace")
+    xml.dom.minidom.parseString(picture)
+    titles = re.findall(r"<title>(.*?)</title>", picture)
+    wanted = ["10 said: Unhealthy, liveness: HTTP 503", "15 said: Killing, liveness, grace period 5 s",
+              "20 said: FailedPostStartHook: exec: &lt;b&gt;", "21 said: BackOff: Back-off 10s",
+              "web: kill order at 15 (liveness) (HTTP 503)"]
+    expect("timeline: what was said", [each for each in wanted if each not in titles], [])
+    expect("timeline: its legend", ">said of it<" in picture, True)
+    expect("timeline: of nothing said there is nothing", "said" in drawn_of({}, "timeline", "--trace"), False)
 
 
 def test_moments_within_a_second():

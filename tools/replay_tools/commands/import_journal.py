@@ -15,7 +15,8 @@ usage: tools/import [--journal FILE ..] [--pods FILE ..] [--node NAME] > TRACE
 Makes a trace of the extended format (docs/import.md) out of the journal of a node's kubelet, where no recorder ran; or,
 with --into, traces one behind the other as tools/record --into writes them, which the tools tell as one.
 
---journal FILE is a journal of the kubelet, of containerd or of CRI-O; several in any order, or standard input ("-").
+--journal FILE is a journal of the kubelet, of containerd or of CRI-O; several in any order, which may overlap, or
+standard input ("-").
 It may be what journalctl prints with -o json, export, short-iso or short-iso-precise, or without a word, klog's own
 lines, text or JSON, or what kubectl logs or a runtime has of a kubelet in a container; gzip may have packed it.
 --pods FILE has manifests, as JSON or YAML: kubectl get pods -o json, a list, single pods, what owns them (Deployment,

@@ -16,8 +16,8 @@ NAMESPACE/NAME, or for all, a strip that is green while the pod is Ready, and a 
 each state, a round mark where a restart was ordered and a pointed one where a kill was, in the colours of tools/page;
 many close together are a strip below the lane. Pointing at a bar, a mark or a strip shows its words. A tall picture has
 its moments above too. With TRACE, the trace of the report, a lane of their own has the evictions that the kubelet made,
-the others are by the rules, a bar says why an instance died, and why a container waits stands in its lane, where the
-trace says so, as those of tools/record do.
+the others are by the rules, a bar says why an instance died, why a container waits stands in its lane, and what the
+kubelet said is a small mark below it, where the trace says so, as those of tools/record and tools/import do.
 
 """ + helps.MOMENTS + """
 With --traces it draws several traces of one node, which it replays itself; --node, --since and --at choose among those

@@ -63,8 +63,9 @@ def of_overlaps(overlaps: Overlaps) -> list[str]:
         said.append(f"{entry.counted(overlaps.repeated, 'message')} that a journal has too which was read before: each "
                     "counts once")
     if overlaps.alone:
-        said.append(f"{entry.counted(overlaps.alone, 'message')} in one alone of journals that both have others of that "
-                    "time: they contradict each other, and what each has is taken")
+        count = entry.counted(overlaps.alone, "message")
+        said.append(f"{count} in one alone of journals that both have others of that time: they contradict each other, "
+                    "and what each has is taken")
     return said
 
 

@@ -12,8 +12,11 @@ from replay_tools.page import used
 
 STATES = ("Waiting", "Running", "Terminated")
 RESULTS = ("success", "failure", "unknown")
+# what was said, as an event of its own
+SAID = {"said": [["words"], "{words}"]}
 # what a page leaves out above these, and says so
 MOST_RUNS = 400000
+MOST_SAID = 20000
 MOST_ROWS = 40
 WITHOUT_TRACE = ("the samples of signals, the results of probes and what the ticks list, since no trace was given: "
                  "tools/page TRACE has them", "the moment of the last tick, which a report lacks")
@@ -55,6 +58,7 @@ def data_of(report: reports.Report, trace: traces.Trace | None, ticks: why.Ticks
     ranks = {summary.number: (rank, summary) for rank, summary in enumerate(ranked, 1)}
     left = [] if trace else list(WITHOUT_TRACE)
     budget, samples, words = Budget(MOST_RUNS), Budget(used.MOST_SAMPLES), Words(trace)
+    sayings = Budget(MOST_SAID)
     data: dict[str, Any] = {
         "node": report.node, "clock": clock.value, "first": span.first, "last": span.of(span.last),
         "hasTrace": bool(trace),
@@ -67,8 +71,9 @@ def data_of(report: reports.Report, trace: traces.Trace | None, ticks: why.Ticks
         "evictions": evictions_of(report, trace, ticks, span, left), "kubelet": kubelet_of(kubelet, span),
         "podList": [pod_of(report, trace, span, pod, ticks, budget, words) | notes_of(pod, clock)
                     | summary_of(*ranks[pod.number], span) | deletion_of(trace, pod, span)
-                    | used_of(trace, pod, span, ticks, samples) for pod in report.pods],
-        "causes": words.causes, "waits": words.waits,
+                    | used_of(trace, pod, span, ticks, samples) | said_of(trace, span, pod, words, sayings)
+                    for pod in report.pods],
+        "causes": words.causes, "waits": words.waits, "saids": words.said,
     }
     refused = sorted({one["key"] for one in data["kubelet"]["refused"]} if data["kubelet"] else ())
     if refused:
@@ -76,6 +81,8 @@ def data_of(report: reports.Report, trace: traces.Trace | None, ticks: why.Ticks
     left += not_known(report, clock)
     if budget.refused:
         left.append(f"the results of the probes of {budget.refused} containers, behind the first {MOST_RUNS} runs")
+    if sayings.refused:
+        left.append(f"what was said of {sayings.refused} pods, behind the first {MOST_SAID} things")
     if samples.refused:
         left.append(f"what {samples.refused} containers used, behind the first {used.MOST_SAMPLES} samples")
     if trace:
@@ -100,7 +107,7 @@ def table_of_words(trace: traces.Trace | None) -> dict[str, Any]:
     told_of_it = {"kubelet": [["decision", "why"], events.decision_sentence()],
                   "ended": [["decision", "why"], events.decision_sentence("ended")],
                   "deleted": [["by"], why_text.DELETED]}
-    return {"words": list(told), "told": told | told_of_it, "toldAttempt": events.attempt_sentence(),
+    return {"words": list(told), "told": told | told_of_it | SAID, "toldAttempt": events.attempt_sentence(),
             "toldGuessed": events.kinds()["died"].sentence_guessed}
 
 
@@ -125,6 +132,7 @@ class Words:
         self.trace = trace
         self.causes: list[list[str]] = []
         self.waits: list[str] = []
+        self.said: list[str] = []
         self.places: dict[tuple[int, str], int] = {}
         self.kinds = [kind.word for kind in events.kinds().values() if kind.is_of_pod]
 
@@ -323,6 +331,21 @@ def waits_of(trace: traces.Trace, span: Span, pod: reports.Pod, words: Words) ->
     names = [container.name for container in pod.containers]
     return [[names.index(name), span.of(wait.since), span.of(wait.until), words.wait(wait)]
             for name, wait in trace.reasons.waits_of(pod)]
+
+
+def said_of(trace: traces.Trace | None, span: Span, pod: reports.Pod, words: Words,
+            budget: Budget) -> dict[str, Any]:
+    """What was said of it, as tools/why tells it: the moment, the container's place (-1 without), and the place of the
+    words; and what stands beside the words of an event, by its place."""
+    if trace is None:
+        return {}
+    by_lane = trace.said.by_lane(pod.number, [container.name for container in pod.containers])
+    is_kept = budget.takes(sum(map(len, by_lane.values())))
+    told = [[span.of(each.at), place, words.place(words.said, each.words())]
+            for place, said in (by_lane.items() if is_kept else ()) for each in said]
+    more = {str(place): telling.more_words(event, trace) for place, event in enumerate(pod.events)}
+    more = {place: text for place, text in more.items() if text}
+    return ({"said": told} if told else {}) | ({"more": more} if more else {})
 
 
 def container_of(span: Span, pod: reports.Pod, container: reports.Container, trace: traces.Trace | None,

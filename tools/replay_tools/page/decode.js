@@ -37,6 +37,9 @@ function eventsOf(pod) {
   const add = (at, word, rest) => events.push({at, place: -1, word, rest, number: events.length, pod});
   if (pod.fact) add(pod.fact.at, pod.fact.kind === 'ended' ? 'ended' : 'kubelet', [pod.fact.kind, pod.fact.why]);
   if (pod.deleted) add(pod.deleted[0], 'deleted', [pod.deleted[1]]);
+  for (const [since, place, words] of pod.said || []) {
+    events.push({at: since, place, word: 'said', rest: [data.saids[words]], number: events.length, pod});
+  }
   return events.sort((a, b) => a.at - b.at);
 }
 
@@ -212,12 +215,14 @@ function told(event) {
   return toldOf(event) + ((event.pod.notes || {})[event.number] || '');
 }
 
-// Its kind's sentence, of the table that all tools read, with the values of its fields; and its attempt, if it has one.
+// Its kind's sentence, of the table that all tools read, with the values of its fields, and what the trace says beside
+// it; and its attempt, if it has one.
 function toldOf(event) {
   const [fields, sentence] = data.told[event.word];
   const values = {why: causeWords(event)};
   fields.forEach((name, place) => { values[name] = event.rest[place]; });
   const filled = (words) => words.replace(/\{(\w+)\}/g, (_, name) => values[name]);
   const words = values.code === null ? data.toldGuessed : sentence;
-  return filled(words) + ('attempt' in values ? filled(data.toldAttempt) : '');
+  const more = (event.pod.more || {})[event.number] || '';
+  return filled(words) + more + ('attempt' in values ? filled(data.toldAttempt) : '');
 }

@@ -5,7 +5,7 @@ const colours = {};
 function readColours() {
   const style = getComputedStyle(document.documentElement);
   for (const name of ['panel', 'quiet', 'line', 'waiting', 'running', 'ended', 'failed', 'ready', 'unready', 'pressure',
-    'signal', 'hard', 'soft', 'kill', 'mark', 'shade', 'onfailed', 'onwaiting']) {
+    'signal', 'hard', 'soft', 'kill', 'said', 'mark', 'shade', 'onfailed', 'onwaiting']) {
     colours[name] = style.getPropertyValue(`--${name}`).trim();
   }
 }

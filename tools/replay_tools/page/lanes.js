@@ -2,6 +2,8 @@
 const STRIP = 9, LANE = 19, BAR = 11, BELOW = 10;
 const WEIGHTS = {running: 0, waiting: 1, ended: 2, failed: 3, ready: 0, unready: 1};
 const MARKED = {kill: 3, restart: 1, backoff: 2};
+// what was said stands below its lane
+const SAID_HEIGHT = 4;
 const rows = {pods: [], tops: [], height: 0, made: new Map(), chosen: -1};
 
 // On a narrow page what a pod came to stands below its name.
@@ -138,6 +140,7 @@ function spansOf(pod) {
   if (!pod.drawn) {
     const marks = pod.list.filter((event) => event.word in MARKED);
     pod.drawn = {ready: readySpans(pod), lanes: pod.containers.map((container) => stateSpans(pod, container)),
+      said: pod.list.filter((event) => event.word === 'said'),
       marks: pod.containers.map((_, place) => marks.filter((event) => event.place === place))};
   }
   return pod.drawn;
@@ -161,8 +164,16 @@ function drawRow(row) {
   });
   drawGaps(area);
   pod.containers.forEach((_, place) => drawMarks(area, drawn.marks[place], laneTop(place)));
+  for (const event of drawn.said) drawSaid(area, event);
   if (pod.end) drawEnd(area, pod);
   if (pod.fact) drawFact(area, pod);
+}
+
+function drawSaid(area, event) {
+  const x = xOf(area, event.at);
+  if (x < area.left || x > area.right + 1) return;
+  area.pen.fillStyle = colours.said;
+  area.pen.fillRect(x - 1.5, event.place < 0 ? STRIP - 1 : laneTop(event.place) + BAR + 1, 3, SAID_HEIGHT);
 }
 
 // Why it waits stands in the lane, where there is room for it.
