@@ -2,10 +2,12 @@
 
 from __future__ import annotations
 
+import argparse
 import os
 import subprocess
 from collections.abc import Callable
 from dataclasses import dataclass, field
+from typing import Any
 
 from replay_tools import entry, tree
 from replay_tools.joined import asked, files
@@ -59,10 +61,8 @@ def parser_of(name: str, given: list[str]) -> entry.Words:
 def words_of(name: str, given: list[str], is_of_kubectl: bool = True) -> Words:
     """The words of a command. Where kubectl is not what runs it there is no context, and pods are those of all
     namespaces where none is named."""
-    command, valued = tree.COMMANDS[name], parser_of(name, given).names(with_value=True)
-    found, given = Words(), list(given)
-    while given:
-        take(command, valued, given, found)
+    command, own = tree.COMMANDS[name], parser_of(name, given)
+    found = taken(splitting(command, own), given, own)
     if command.takes_several and found.files:
         # the shell puts several words in place of a pattern
         more = [word for word in found.plain if word.endswith(files.ENDINGS) and os.path.isfile(word)]
@@ -75,42 +75,44 @@ def words_of(name: str, given: list[str], is_of_kubectl: bool = True) -> Words:
     return found
 
 
-def take(command: tree.Command, valued: tuple[str, ...], given: list[str], found: Words) -> None:
-    """Takes a word, and its value where it has one."""
-    word = given.pop(0)
-    name, value = parts_of(word, command, valued)
-    if word in EVERYWHERE and command.pods != "none":
-        found.is_everywhere = True
-        return
-    if name is None and word.startswith("-") and word != "-":
-        found.rest.append(word)
-        return
-    if name is None:
-        found.plain.append(word)
-        return
-    if value is None and not given:
-        found.waiting = name
-        return
-    value = given.pop(0) if value is None else value
-    if name in NAMESPACE and command.pods != "none":
-        found.namespace = value
-    elif name in CONTEXT and command.pods != "none":
-        found.context = value
-    elif name in FILE and command.takes_file:
-        found.files.append(value)
+class Keep(argparse.Action):
+    """Leaves an option to the tool, with its value, in the order in which they were given."""
+
+    def __call__(self, _: argparse.ArgumentParser, found: argparse.Namespace, value: Any,
+                 name: str | None = None) -> None:
+        found.rest += [name] if self.nargs == 0 else [name, value]
+
+
+def splitting(command: tree.Command, own: entry.Words) -> argparse.ArgumentParser:
+    """What takes kubectl's words from those of a command, and leaves it its own."""
+    parser = argparse.ArgumentParser(add_help=False, allow_abbrev=False, exit_on_error=False)
+    left = [*own.names(with_value=True)]
+    if command.pods == "none":
+        left += NAMESPACE
     else:
-        found.rest += [name, value]
+        parser.add_argument(*NAMESPACE, dest="namespace")
+        parser.add_argument(*EVERYWHERE, dest="is_everywhere", action="store_true")
+        parser.add_argument(*CONTEXT, dest="context")
+    parser.add_argument(*FILE, dest="files", action="append", default=[])
+    for option in left:
+        parser.add_argument(option, dest="rest", action=Keep, default=argparse.SUPPRESS)
+    for option in own.names(with_value=False):
+        parser.add_argument(option, dest="rest", action=Keep, default=argparse.SUPPRESS, nargs=0)
+    parser.add_argument("plain", nargs="*")
+    return parser
 
 
-def parts_of(word: str, command: tree.Command, valued: tuple[str, ...]) -> tuple[str | None, str | None]:
-    """The name of a word that has a value, and the value that stands in the same word; None where it has none."""
-    name, equals, value = word.partition("=")
-    if name in (*NAMESPACE, *FILE, *valued, *CONTEXT[: command.pods != "none"]):
-        return name, value if equals else None
-    short = (NAMESPACE[0], FILE[0], *SELECTOR[: SELECTOR[0] in valued])
-    if word[:2] in short and not word.startswith("--"):
-        return word[:2], word[2:].removeprefix("=")
-    return None, None
+def taken(parser: argparse.ArgumentParser, given: list[str], own: entry.Words) -> Words:
+    """The words that are given; one at the end that lacks its value waits for it."""
+    valued = (*own.names(with_value=True), *NAMESPACE, *FILE, *CONTEXT)
+    waiting = given[-1] if given and given[-1] in valued and given[-2:-1] != given[-1:] else None
+    try:
+        found, unknown = parser.parse_known_intermixed_args(given if waiting is None else given[:-1],
+                                                            argparse.Namespace(rest=[]))
+    except argparse.ArgumentError as fault:
+        raise entry.Fault(f"{fault.argument_name} {entry.said_of(fault.message)}") from None
+    named = {name: value for name, value in vars(found).items() if name != "rest"}
+    return Words(**named, rest=[*found.rest, *unknown], waiting=waiting)
 
 
 def key_of(name: str, given: str | None, otherwise: Callable[[], str]) -> str:
