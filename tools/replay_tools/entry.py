@@ -19,6 +19,8 @@ if TYPE_CHECKING:
 
 # that of the formats
 LONGEST_INPUT = 64 << 20
+# an interrupt that Python drops comes again after so long
+AGAIN_SECONDS = 0.01
 # the part of CHANGELOG.md that a checkout has between two releases, and what the version then says
 NOT_RELEASED, UNRELEASED = "## Not released yet", ", and what is not released yet"
 
@@ -182,8 +184,19 @@ def standard_output() -> TextIO:
     return io.TextIOWrapper(buffer, plain.encoding, plain.errors, line_buffering=plain.isatty())
 
 
+def again_if_interrupt(dropped: Any) -> None:
+    """Python tells of an interrupt that comes within a callback of its own, as of an import, and drops it: it comes again
+    a moment later. What else is dropped is told as ever."""
+    if dropped.exc_type is not KeyboardInterrupt:
+        sys.__unraisablehook__(dropped)
+        return
+    signal.signal(signal.SIGALRM, signal.default_int_handler)
+    signal.setitimer(signal.ITIMER_REAL, AGAIN_SECONDS)
+
+
 def run(tool: str, main: Callable[[], int]) -> int:
     """The status of a process that runs a tool: that of main, 1 where standard output is closed."""
+    sys.unraisablehook = again_if_interrupt
     if sys.stderr is None:
         sys.stderr = open(os.devnull, "w", encoding="utf-8")
     if sys.stdout is None:

@@ -288,6 +288,29 @@ def test_interrupts_at_first():
     recorder.clean()
 
 
+def test_interrupts_that_python_drops():
+    """One that comes within a callback of Python's own ends a tool all the same, without a word."""
+    program = """
+import signal, sys, time
+sys.path.insert(0, sys.argv[1])
+from replay_tools import entry
+
+class Dropping:
+    def __del__(self):
+        signal.raise_signal(signal.SIGINT)
+
+def main():
+    Dropping()
+    time.sleep(30)
+    return 0
+
+sys.exit(entry.run("story", main))
+"""
+    began = time.monotonic()
+    expect("an interrupt that Python drops", run([sys.executable, "-c", program, TOOLS]), (130, "", ""))
+    expect("an interrupt that Python drops: at once", time.monotonic() - began < 20, True)
+
+
 def test_lost_outputs():
     """What standard output does not take is no success, and no recording begins where it is closed."""
     recorder = Recorder("crash_loop")
