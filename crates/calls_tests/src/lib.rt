@@ -51,5 +51,8 @@ mod test_gate;
 mod traces;
 #[cfg(test)]
 mod turns;
+mod uses;
 #[cfg(test)]
 mod uses_tests;
+
+pub use uses::{NoReport, report_of};

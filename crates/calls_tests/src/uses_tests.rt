@@ -1,6 +1,6 @@
 //! A caller of the replay from memory to memory: a report, and what stands in its place.
 
-use kubelet_replay_uses::{NoReport, report_of};
+use crate::uses::{NoReport, report_of};
 use std::test::Fail;
 
 const LINES: &str = r#"{"kind":"node","name":"n1"}

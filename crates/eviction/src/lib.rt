@@ -18,7 +18,7 @@
 //! that asked for it; and between two the node's pause passes, or it ends with the first one's pod.
 //!
 //! The code of this crate is small, since most of the rule is done elsewhere: `node_signals` says which threshold is
-//! served, `ranking` and `node_pods` keep the victims in order, `tick_round` carries the eviction out. Here are
+//! served, `ranking` and `node_pods` keep the victims in order, `node_rounds` carries the eviction out. Here are
 //! [`Evictions`], which keeps a node's evictions and the one by which others pause, and [`order_for`], the order that a
 //! victim gets.
 #![tactic(auto)]

@@ -21,7 +21,8 @@ use Rattle.eviction.specs.rule.Replay.{pod_ticks}
 use Rattle.eviction.proofs.Own.{pod_ticks-more, pod_ticks-rest}
 use Rattle.node_pods.specs.state.Pods.{after_one, after_each}
 use Rattle.node_pods.proofs.Steps.{with_shown_at, with_shown_length}
-use Rattle.tick_round.specs.state.Node.{State, HasTaken, IsAfter, MayBeHandedAll, FitAll, MayTakeAll}
+use Rattle.node_rounds.specs.state.Node.{State, HasTaken, MayBeHandedAll, FitAll}
+use Rattle.tick_round.specs.state.Node.{IsAfter, MayTakeAll}
 use Rattle.kubelet_replay.specs.state.Ticks.{AreReplayable, HaveArrived, MayArrive}
 use Rattle.kubelet_replay.proofs.NodeLemmas.{middle}
 

@@ -19,8 +19,9 @@ use Rattle.pod_piece.specs.rule.Piece.{Piece}
 use Rattle.eviction.specs.rule.Replay.{pod_ticks}
 use Rattle.tick_round.specs.declared.fault.TickFault.{TickFault}
 use Rattle.tick_round.specs.declared.fault.TickFault.TheVariants.{OutOfMemory, Halted}
-use Rattle.tick_round.specs.state.Node.{State, HasTaken, Fits, IsAfter, IsWhole, MayTake, HasRoom, last_of}
-use Rattle.tick_round.proofs.Pieces.{pod_at}
+use Rattle.node_rounds.specs.state.Node.{State, HasTaken, Fits, IsWhole, last_of}
+use Rattle.tick_round.specs.state.Node.{IsAfter, MayTake, HasRoom}
+use Rattle.node_rounds.proofs.Pieces.{pod_at}
 use Rattle.kubelet_replay.specs.state.Ticks.{AreReplayable, AreWhole, HaveArrived, MayArrive}
 
 pub middle : {A : Type 0} (xs : List A) (x : A) (ys : List A) → slice_get (xs ++ x ∷ ys) (length xs) ≡ Some x

@@ -21,8 +21,8 @@ use Rattle.eviction.specs.rule.Replay.{pod_ticks, own_eviction}
 use Rattle.eviction.proofs.Exists.{some_replay}
 use Rattle.event_list.specs.rule.Totals.{totals_of}
 use Rattle.event_list.proofs.Exists.{some_list_of_events}
-use Rattle.tick_round.specs.declared.summary.ConditionStatus.{ConditionStatus}
-use Rattle.tick_round.specs.rule.Summary.{IsConditionAfter, AreConditionsAfter}
+use Rattle.node_rounds.specs.declared.summary.ConditionStatus.{ConditionStatus}
+use Rattle.node_rounds.specs.rule.Summary.{IsConditionAfter, AreConditionsAfter}
 use Rattle.node_report.specs.state.Laws.{SomeReport}
 use Rattle.node_report.specs.rule.Lines.{pod_text, report_lines}
 use Rattle.node_report.specs.rule.Report.{evicting_tick, evicting_order, ArePodLines, AreLines}

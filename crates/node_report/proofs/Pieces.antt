@@ -10,7 +10,7 @@ use Rattle.node_config.specs.declared.node.NodeConfig.{NodeConfig}
 use Rattle.observations.specs.declared.tick.TickObs.{TickObs}
 use Rattle.pod_piece.specs.rule.Piece.{Piece}
 use Rattle.eviction.specs.declared.eviction.Eviction.{Eviction}
-use Rattle.tick_round.specs.state.Node.{ArePieces, piece_after}
+use Rattle.node_rounds.specs.state.Node.{ArePieces, piece_after}
 use Rattle.node_report.specs.rule.Report.{AreLines}
 
 pub piece_here : (config : NodeConfig) (pods : List PodSpec) (ticks : List TickObs)

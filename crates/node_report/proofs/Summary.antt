@@ -7,9 +7,9 @@ use Rattle.observations.specs.declared.tick.TickObs.{TickObs}
 use Rattle.pod_piece.specs.rule.Piece.{Piece}
 use Rattle.pod_piece.specs.state.Piece.{pods_in}
 use Rattle.event_list.specs.rule.Text.{event_line}
-use Rattle.tick_round.specs.declared.summary.Summary.{Summary}
-use Rattle.tick_round.specs.state.Summary.{IsSummary}
-use Rattle.tick_round.proofs.Candidates.{pods_are}
+use Rattle.node_rounds.specs.declared.summary.Summary.{Summary}
+use Rattle.node_rounds.specs.state.Summary.{IsSummary}
+use Rattle.node_rounds.proofs.Candidates.{pods_are}
 use Rattle.node_report.specs.rule.Lines.{header_line, node_condition_line, eviction_text, totals_line}
 use Rattle.node_report.specs.rule.Report.{AreLines, IsReport}
 use Rattle.node_report.proofs.Parts.{six_parts}

@@ -29,8 +29,8 @@ use Rattle.event_list.specs.declared.event.Event.{Event}
 use Rattle.event_list.specs.rule.Events.{AreEvents}
 use Rattle.event_list.specs.rule.Totals.{totals_of}
 use Rattle.event_list.proofs.Unique.{one_list_of_events}
-use Rattle.tick_round.specs.declared.summary.ConditionStatus.{ConditionStatus}
-use Rattle.tick_round.specs.rule.Summary.{IsConditionAfter, AreConditionsAfter}
+use Rattle.node_rounds.specs.declared.summary.ConditionStatus.{ConditionStatus}
+use Rattle.node_rounds.specs.rule.Summary.{IsConditionAfter, AreConditionsAfter}
 use Rattle.node_report.specs.rule.Lines.{pod_text, report_lines}
 use Rattle.node_report.specs.rule.Report.{evicting_tick, evicting_order, ArePodLines, AreLines}
 use Rattle.node_report.specs.state.Laws.{OneReport}

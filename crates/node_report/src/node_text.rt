@@ -9,8 +9,8 @@ ghost use Rattle.node_report.specs.rule.Lines.{header_line, node_condition_line,
 use crate::pod_text::add;
 use event_list::{Event, Names, add_event_text, add_eviction_words, add_with_number, truth_word};
 use eviction::Eviction;
+use node_rounds::{ConditionStatus, Summary};
 use std::alloc::{AllocError, Global};
-use tick_round::{ConditionStatus, Summary};
 
 /// The first line of a report.
 #[tactic(auto, unfolding(crate::specs::rule::Lines::header_line))]

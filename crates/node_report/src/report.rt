@@ -5,8 +5,8 @@ ghost use Rattle.manifest.specs.declared.pod.PodSpec.{PodSpec};
 ghost use Rattle.node_config.specs.declared.node.NodeConfig.{NodeConfig};
 ghost use Rattle.observations.specs.declared.tick.TickObs.{TickObs};
 ghost use Rattle.eviction.specs.declared.eviction.Eviction.{Eviction};
-ghost use Rattle.tick_round.specs.state.Node.{piece_after, ArePieces};
-ghost use Rattle.tick_round.specs.state.Summary.{IsSummary};
+ghost use Rattle.node_rounds.specs.state.Node.{piece_after, ArePieces};
+ghost use Rattle.node_rounds.specs.state.Summary.{IsSummary};
 ghost use Rattle.node_report.specs.rule.Report.{ArePodLines, AreLines, IsReport};
 ghost use Rattle.node_report.specs.state.Added.{AreAdded};
 
@@ -14,9 +14,9 @@ use crate::node_text::{
     add_conditions_of_node, add_events, add_evictions, header_line, totals_line,
 };
 use crate::pod_text::{add, add_pod_text};
+use node_rounds::Summary;
 use pod_piece::PodPiece;
 use std::alloc::{AllocError, Global};
-use tick_round::Summary;
 
 /// Adds the lines of a pod.
 fn add_pod_lines(text: &mut String, number: usize, piece: &PodPiece) -> Result<(), AllocError>

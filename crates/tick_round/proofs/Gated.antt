@@ -20,9 +20,10 @@ use Rattle.pod_pool.specs.state.Gated.{WereGated, AreGated}
 use Rattle.node_pods.specs.state.Pods.{sent_from}
 use Rattle.node_pods.proofs.Sent.{goes_out}
 use Rattle.tick_round.specs.rule.Gated.{IsUpdateGated, AreUpdatesGated}
-use Rattle.tick_round.specs.state.Node.{State, HasTaken, AreNextGated, piece_after}
-use Rattle.tick_round.specs.state.Stretch.{handed_all}
-use Rattle.tick_round.proofs.Handing.{IsGrown, not_grown, own_first, pod_ticks-append, handed_at}
+use Rattle.node_rounds.specs.state.Node.{State, HasTaken, piece_after}
+use Rattle.tick_round.specs.state.Node.{AreNextGated}
+use Rattle.node_rounds.specs.state.Stretch.{handed_all}
+use Rattle.node_rounds.proofs.Handing.{IsGrown, not_grown, own_first, pod_ticks-append, handed_at}
 
 -- without those that wait behind them
 taken_front : (xs ys : List PodTick) → taken (length ys) (xs ++ ys) ≡ xs

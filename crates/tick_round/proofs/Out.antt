@@ -13,11 +13,11 @@ use Rattle.totals.specs.declared.totals.Totals.{Totals}
 use Rattle.totals.specs.state.Limits.{AreLow}
 use Rattle.node_pods.specs.state.Pods.{sent_from}
 use Rattle.node_pods.proofs.Sent.{sent_at, sent_few}
-use Rattle.tick_round.specs.state.Node.{State}
-use Rattle.tick_round.specs.state.Round.{IsKept}
-use Rattle.tick_round.specs.state.Stretch.{handed_all}
+use Rattle.node_rounds.specs.state.Node.{State}
+use Rattle.node_rounds.specs.state.Round.{IsKept}
+use Rattle.node_rounds.specs.state.Stretch.{handed_all}
 use Rattle.tick_round.specs.state.Update.{MayUpdate}
-use Rattle.tick_round.proofs.Handing.{handed_all-length}
+use Rattle.node_rounds.proofs.Handing.{handed_all-length}
 
 -- ticks that show no more pods than a node may have make no more updates than that each
 few_shown : (shown : List (Option PodObs)) → length (filter_map (λ (o : Option PodObs). o) shown) ≤ length shown

@@ -19,14 +19,15 @@ use Rattle.eviction.specs.rule.Replay.{pod_ticks}
 use Rattle.node_pods.specs.state.Pods.{after_one, after_each}
 use Rattle.node_pods.proofs.Steps.{with_shown_at, with_shown_length}
 use Rattle.node_pods.proofs.Candidates.{same_piece}
-use Rattle.tick_round.specs.state.Node.{State, HasTaken, FitAll, MayBeHandedAll, last_of, IsNextBy, AreNextGated}
-use Rattle.tick_round.specs.state.Round.{IsKept}
-use Rattle.tick_round.specs.state.Stretch.{HasTakenSome}
-use Rattle.tick_round.proofs.Ends.{after_all-length}
-use Rattle.tick_round.proofs.GoesOn.{last_more}
+use Rattle.node_rounds.specs.state.Node.{State, HasTaken, FitAll, MayBeHandedAll, last_of, IsNextBy}
+use Rattle.tick_round.specs.state.Node.{AreNextGated}
+use Rattle.node_rounds.specs.state.Round.{IsKept}
+use Rattle.tick_round.specs.state.Node.{HasTakenSome}
+use Rattle.node_rounds.proofs.Ends.{after_all-length}
+use Rattle.node_rounds.proofs.GoesOn.{last_more}
 use Rattle.tick_round.proofs.Gated.{none_gated, more_gated}
-use Rattle.tick_round.proofs.Handing.{after_all, last_with, rest_handed, own_first, pod_ticks-append}
-use Rattle.tick_round.proofs.Pieces.{pod_at}
+use Rattle.node_rounds.proofs.Handing.{after_all, last_with, rest_handed, own_first, pod_ticks-append}
+use Rattle.node_rounds.proofs.Pieces.{pod_at}
 
 -- pods that are one in what decides which tick may be handed to them
 record AreAlike (qs rs : List Piece) : Type 0 where

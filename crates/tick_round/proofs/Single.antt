@@ -22,13 +22,14 @@ use Rattle.totals.proofs.Made.{entry_added}
 use Rattle.node_pods.specs.state.Pods.{MayBeHanded, sent_from}
 use Rattle.node_pods.proofs.Sent.{sent_at, sent_count}
 use Rattle.node_pods.proofs.Candidates.{same_piece}
-use Rattle.tick_round.specs.state.Node.{State}
-use Rattle.tick_round.specs.state.Round.{IsKept}
-use Rattle.tick_round.specs.state.Stretch.{handed_all}
-use Rattle.tick_round.specs.state.Update.{AreEntered, AreAdded}
-use Rattle.tick_round.proofs.Handing.{IsGrown, not_grown, handed_at, handed_all-length}
-use Rattle.tick_round.proofs.Opens.{rest_of}
-use Rattle.tick_round.proofs.Owns.{own_few}
+use Rattle.node_rounds.specs.state.Node.{State}
+use Rattle.node_rounds.specs.state.Round.{IsKept}
+use Rattle.node_rounds.specs.state.Stretch.{handed_all}
+use Rattle.tick_round.specs.state.Update.{AreEntered}
+use Rattle.node_rounds.specs.state.Added.{AreAdded}
+use Rattle.node_rounds.proofs.Handing.{IsGrown, not_grown, handed_at, handed_all-length}
+use Rattle.node_rounds.proofs.Opens.{rest_of}
+use Rattle.node_rounds.proofs.Owns.{own_few}
 use Rattle.tick_round.proofs.Updates.{same_totals}
 
 -- what entries add up to, with one update each

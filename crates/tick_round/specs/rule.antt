@@ -1,2 +1,1 @@
 pub mod Gated
-pub mod Summary

@@ -7,7 +7,8 @@ ghost use Rattle.pod_piece.specs.state.Piece.{all_updated};
 ghost use Rattle.totals.specs.state.Limits.{most_round_events, greatest_total};
 ghost use Rattle.pod_pool.specs.state.Gated.{WereGated, AreGated, WasRefused};
 ghost use Rattle.tick_round.specs.state.Update.{IsGatedAt};
-ghost use Rattle.tick_round.specs.state.Update.{AreUpTo, MayUpdate, IsAdded, UpdatesAt, AreAdded};
+ghost use Rattle.tick_round.specs.state.Update.{AreUpTo, MayUpdate, IsAdded, UpdatesAt};
+ghost use Rattle.node_rounds.specs.state.Added.{AreAdded};
 
 use event_book::WholeBook;
 use pod_piece::{Gate, PodPiece};

@@ -24,25 +24,21 @@
 //! nothing half done is ever told.
 #![tactic(auto)]
 
+mod advance;
 mod alone;
-mod evict;
 mod fault;
 mod node;
-mod running;
 mod steps;
-mod stretch;
-mod summary;
 mod workers;
 
 pub use alone::update_alone;
-pub use evict::{carry_out, choice_for};
 pub use fault::TickFault;
 pub use node::Node;
+pub use node_rounds::{ConditionStatus, Summary, carry_out, choice_for};
 pub use played_round::Played;
 pub use pod_piece::{Gate, NoGate};
 pub use pod_pool::Spawner;
 pub use round_core::laws;
 pub use round_steps::Step;
 pub use steps::update_by_steps;
-pub use summary::{ConditionStatus, Summary};
 pub use workers::update_by_workers;

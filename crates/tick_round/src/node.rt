@@ -13,14 +13,14 @@ ghost use Rattle.tick_round.specs.declared.fault.TickFault.TheVariants.{Halted};
 ghost use Rattle.tick_round.specs.state.Node.{IsAfter, MayTake, MayTakeAll, HasRoom, TakesTick, TakesTicks};
 ghost use Rattle.tick_round.specs.state.Node.{GatesUpdates};
 ghost use Rattle.tick_round.specs.state.Played.{AreFinished};
-ghost use Rattle.tick_round.specs.state.Summary.{IsSummary};
+ghost use Rattle.node_rounds.specs.state.Summary.{IsSummary};
 
+use crate::advance::{advance, advance_all, advance_alone, advance_played};
 use crate::fault::TickFault;
-use crate::running::Running;
-use crate::summary::Summary;
 use event_book::WholeBook;
 use manifest::PodSpec;
 use node_config::NodeConfig;
+use node_rounds::{Running, Summary};
 use observations::TickObs;
 use pod_piece::Gate;
 use pod_pool::Spawner;
@@ -38,7 +38,7 @@ pub struct Node<U: Ledger, E: Ledger, O: Ledger> {
 
 impl<U: Ledger, E: Ledger, O: Ledger> Model for Node<U, E, O> {
     ghost use Rattle.std.specs.Prelude.{Option};
-    ghost use Rattle.tick_round.specs.state.Node.{State};
+    ghost use Rattle.node_rounds.specs.state.Node.{State};
 
     ghost Value = { Option State };
 
@@ -111,7 +111,7 @@ impl<U: Ledger, E: Ledger, O: Ledger> Node<U, E, O> {
         ensures halted { IsErrOf result Halted ↔ (self.old ≡ None) }
     {
         match self.running.take() {
-            Some(running) => match running.advance_alone(tick) {
+            Some(running) => match advance_alone(running, tick) {
                 Ok(next) => {
                     drop(self.running.replace(next));
                     Ok(())
@@ -143,7 +143,7 @@ impl<U: Ledger, E: Ledger, O: Ledger> Node<U, E, O> {
         ensures halted { IsErrOf result Halted ↔ (self.old ≡ None) }
     {
         match self.running.take() {
-            Some(running) => match running.advance_played(tick, workers, steps) {
+            Some(running) => match advance_played(running, tick, workers, steps) {
                 Ok((next, finished)) => {
                     drop(self.running.replace(next));
                     Ok(finished)
@@ -190,7 +190,7 @@ impl<U: Ledger + Send, E: Ledger + Send, O: Ledger + Send> Node<U, E, O> {
         ensures halted { IsErrOf result Halted ↔ (self.old ≡ None) }
     {
         match self.running.take() {
-            Some(running) => match running.advance(rt, tick, workers, gate) {
+            Some(running) => match advance(running, rt, tick, workers, gate) {
                 Ok(next) => {
                     drop(self.running.replace(next));
                     Ok(())
@@ -222,7 +222,7 @@ impl<U: Ledger + Send, E: Ledger + Send, O: Ledger + Send> Node<U, E, O> {
         ensures halted { IsErrOf result Halted ↔ (self.old ≡ None) }
     {
         match self.running.take() {
-            Some(running) => match running.advance_all(rt, ticks, workers, gate) {
+            Some(running) => match advance_all(running, rt, ticks, workers, gate) {
                 Ok(next) => {
                     drop(self.running.replace(next));
                     Ok(())

@@ -13,7 +13,8 @@ use Rattle.observations.specs.rule.Observations.{shown_of}
 use Rattle.pod_state.specs.rule.Pods.{pod_tick}
 use Rattle.pod_piece.specs.state.Listings.{IsNextTick}
 use Rattle.eviction.specs.rule.Replay.{pod_ticks}
-use Rattle.tick_round.specs.state.Node.{State, IsAfter, IsWhole}
+use Rattle.node_rounds.specs.state.Node.{State, IsWhole}
+use Rattle.tick_round.specs.state.Node.{IsAfter}
 
 -- there are not too many of either; what each tick shows of a pod may come after the pod's own ticks before, at
 -- the tick's moment; the moments rise and are in range; and no tick tells of fewer pods than one before it, or of

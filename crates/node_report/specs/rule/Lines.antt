@@ -18,7 +18,7 @@ use Rattle.eviction.specs.declared.eviction.Eviction.{Eviction}
 use Rattle.totals.specs.declared.totals.Totals.{Totals}
 use Rattle.event_list.specs.declared.event.Event.{Event}
 use Rattle.event_list.specs.rule.Text.{joined, phase_word, truth, words_among, event_line}
-use Rattle.tick_round.specs.declared.summary.ConditionStatus.{ConditionStatus}
+use Rattle.node_rounds.specs.declared.summary.ConditionStatus.{ConditionStatus}
 
 -- the name of a container's state
 abbrev pub state_word : ContainerState → List ℕ

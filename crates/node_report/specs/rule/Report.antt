@@ -20,8 +20,8 @@ use Rattle.eviction.specs.rule.Replay.{pod_ticks, own_eviction, IsReplay}
 use Rattle.event_list.specs.declared.event.Event.{Event}
 use Rattle.event_list.specs.rule.Events.{AreEvents}
 use Rattle.event_list.specs.rule.Totals.{totals_of}
-use Rattle.tick_round.specs.declared.summary.ConditionStatus.{ConditionStatus}
-use Rattle.tick_round.specs.rule.Summary.{AreConditionsAfter}
+use Rattle.node_rounds.specs.declared.summary.ConditionStatus.{ConditionStatus}
+use Rattle.node_rounds.specs.rule.Summary.{AreConditionsAfter}
 use Rattle.node_report.specs.rule.Lines.{pod_text, report_lines}
 
 -- which of its own ticks evicts the pod, if one does

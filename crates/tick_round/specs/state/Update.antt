@@ -6,7 +6,7 @@ use Rattle.pod_piece.specs.state.Piece.{all_updated}
 use Rattle.totals.specs.declared.totals.Entry.{Entry}
 use Rattle.totals.specs.declared.totals.Totals.{Totals}
 use Rattle.totals.specs.state.Totals.{AreEntriesOf, sums_of, plus}
-use Rattle.totals.specs.state.Rounds.{IsAdditionOf, AreAdditionsOf, sums_of_additions}
+use Rattle.totals.specs.state.Rounds.{IsAdditionOf}
 use Rattle.totals.specs.state.Limits.{IsLowAddition, AreLow}
 use Rattle.pod_pool.specs.state.Gated.{WereGated}
 
@@ -34,12 +34,6 @@ pub record IsAdded (piece : Piece) (old new : Totals) : Type 0 where
   pub is_addition : IsAdditionOf piece addition
   pub low : IsLowAddition addition
   pub totals : new ≡ plus old addition
-
--- what the rounds of these pods add
-pub record AreAdded (pieces : List Piece) (old new : Totals) : Type 0 where
-  pub additions : List Totals
-  pub are_additions : AreAdditionsOf pieces additions
-  pub totals : new ≡ plus old (sums_of_additions additions)
 
 -- a gate has made the updates of the pod with the number, by all that waits for it
 abbrev pub IsGatedAt : (Piece → Bool → Bool) → List Piece → ℕ → Type 0

@@ -1,7 +1,8 @@
 use Rattle.std.proofs.Common.{◌≡◌, ◌∙◌, List, [], Option, Some, None, sym, subst}
 use Rattle.manifest.specs.declared.pod.PodSpec.{PodSpec}
 use Rattle.node_config.specs.declared.node.NodeConfig.{NodeConfig}
-use Rattle.tick_round.specs.state.Node.{State, IsAfter}
+use Rattle.node_rounds.specs.state.Node.{State}
+use Rattle.tick_round.specs.state.Node.{IsAfter}
 use Rattle.observations.specs.declared.tick.TickObs.{TickObs}
 use Rattle.kubelet_replay.specs.state.Ticks.{AreReplayable, AreWhole}
 use Rattle.kubelet_replay.proofs.Replayable.{are_replayable, are_whole}

@@ -3,7 +3,7 @@ use Rattle.manifest.specs.declared.pod.PodSpec.{PodSpec}
 use Rattle.node_config.specs.declared.node.NodeConfig.{NodeConfig}
 use Rattle.observations.specs.declared.tick.TickObs.{TickObs}
 use Rattle.eviction.specs.declared.eviction.Eviction.{Eviction}
-use Rattle.tick_round.specs.state.Node.{ArePieces}
+use Rattle.node_rounds.specs.state.Node.{ArePieces}
 use Rattle.node_report.specs.rule.Report.{AreLines}
 use Rattle.node_report.specs.state.Added.{AreAdded}
 use Rattle.node_report.proofs.report.add_all_lines.Given as goal

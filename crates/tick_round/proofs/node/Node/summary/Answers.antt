@@ -1,5 +1,5 @@
 use Rattle.std.proofs.Common.{sym, ◌∙◌}
-use Rattle.tick_round.proofs.GoesOn.{of_some}
+use Rattle.tick_round.proofs.After.{of_some}
 use Rattle.tick_round.proofs.node.Node.summary.Goals as goal
 
 pub returns-in-Some-clause-taken : goal.returns-in-Some-clause-taken

@@ -1,5 +1,5 @@
 use Rattle.std.proofs.Common.{sym, ◌∙◌, [], ◌∷◌}
-use Rattle.tick_round.proofs.GoesOn.{takes_ticks}
+use Rattle.tick_round.proofs.After.{takes_ticks}
 use Rattle.tick_round.proofs.node.Node.tick_alone.Goals as goal
 
 pub returns-in-Ok-clause-taken : goal.returns-in-Ok-clause-taken

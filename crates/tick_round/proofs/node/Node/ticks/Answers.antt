@@ -1,5 +1,5 @@
 use Rattle.std.proofs.Common.{sym, ◌∙◌}
-use Rattle.tick_round.proofs.GoesOn.{gates_updates}
+use Rattle.tick_round.proofs.After.{gates_updates}
 use Rattle.tick_round.proofs.node.Node.ticks.Goals as goal
 
 pub returns-in-Ok-clause-gated : goal.returns-in-Ok-clause-gated

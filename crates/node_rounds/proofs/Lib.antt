@@ -1,0 +1,15 @@
+pub mod Evicts
+pub mod Conditions
+pub mod Pieces
+pub mod Candidates
+pub mod Made
+pub mod GoesOn
+pub mod Handing
+pub mod Told
+pub mod Counts
+pub mod Folds
+pub mod Ends
+pub mod Owns
+pub mod Opens
+pub mod Arrives
+pub mod Summaries

@@ -1,0 +1,6 @@
+pub mod Added
+pub mod Evict
+pub mod Node
+pub mod Round
+pub mod Stretch
+pub mod Summary

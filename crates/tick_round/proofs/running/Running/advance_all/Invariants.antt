@@ -1,9 +1,0 @@
-use Rattle.std.proofs.Common.{◌+◌, ◌≤◌, length}
-use Rattle.tick_round.specs.state.Stretch.{HasTakenSome}
-use Rattle.tick_round.proofs.running.Running.advance_all.Given as goal
-
-abbrev pub invariant-loop : goal.invariant-loop
-invariant-loop g l = record {
-  some : HasTakenSome (g.G.Gate.left l.gate) l.fn.ticks.items l.fn.self l.running l.rest.rest.items;
-  left : length l.rest.rest.items + l.counter ≤ l.end;
-}

@@ -1,5 +1,0 @@
-use Rattle.std.proofs.Common.{◌≤◌}
-use Rattle.tick_round.proofs.stretch.count_present.Given as goal
-
-abbrev pub invariant-loop-pod : goal.invariant-loop-pod
-invariant-loop-pod l = record { few : l.count ≤ l.pod-index }
