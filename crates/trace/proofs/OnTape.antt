@@ -37,7 +37,6 @@ use Rattle.tick_lines.specs.rule.Entries.{entry_of, entries_of}
 use Rattle.tick_lines.specs.rule.Line.{tick_line_of}
 use Rattle.tick_lines.specs.rule.Listings.{listing_of, listings_of}
 use Rattle.tick_lines.specs.rule.Results.{result_of, results_of}
-use Rattle.tick_lines.specs.rule.Fields.{items_of}
 use Rattle.tick_lines.specs.state.Tape.{left_in, IsEntry, IsLine, HasSamples}
 use Rattle.trace.specs.state.Ahead.{IsShown}
 use Rattle.trace.specs.declared.fault.FaultKind.{FaultKind}

@@ -1,6 +1,6 @@
 //! Pod lines.
 
-ghost use Rattle.std.specs.Prelude.{◌≡◌, ◌&&◌, option_map, None, IfErr, IfOk, IsErrOf, string_bytes};
+ghost use Rattle.std.specs.Prelude.{◌≡◌, ◌&&◌, is_some, option_map, None, IfErr, IfOk, IsErrOf, string_bytes};
 ghost use Rattle.serde_json.specs.View.{view};
 ghost use Rattle.json_fields.specs.rule.Reading.{refused_if};
 ghost use Rattle.json_fields.specs.state.Reading.{GivesExactly, GivesUnless};
@@ -92,17 +92,18 @@ pub(crate) fn room_for_pod(so_far: &TraceSoFar) -> Result<(), FaultKind>
     refused_if(so_far.roster.pods().len() >= MOST_PODS, FaultKind::TooMany)
 }
 
-fn has_key(roster: &Roster, key: &str) -> bool
-    ensures { result ≡ has_key roster.now key.now }
+/// Refuses a key for which the number of a pod was found.
+fn unless_found(number: Option<usize>) -> Result<(), FaultKind>
+    ensures { GivesExactly (λ t. t) result (refused_if (is_some number) DuplicatePod) }
 {
-    roster.number_of(key).is_some()
+    refused_if(number.is_some(), FaultKind::DuplicatePod)
 }
 
 /// No pod that is present has this key. It takes no memory.
 fn unused(roster: &Roster, key: &str) -> Result<(), FaultKind>
     ensures { GivesExactly (λ t. t) result (refused_if (has_key roster.now key.now) DuplicatePod) }
 {
-    refused_if(has_key(roster, key), FaultKind::DuplicatePod)
+    unless_found(roster.number_of(key))
 }
 
 /// The key of a pod, if no pod that is present has it.

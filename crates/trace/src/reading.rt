@@ -9,7 +9,7 @@ ghost use Rattle.json_lines.specs.state.Lines.{LineData, data_of};
 ghost use Rattle.trace.specs.state.Ahead.{IsReadAhead, IsShown, may_stand};
 ghost use Rattle.trace.specs.state.Memory.{is_memory};
 ghost use Rattle.roster.specs.rule.Roll.{key_of_pod, number_of};
-ghost use Rattle.trace.specs.rule.Written.{is_foreign, node_in};
+ghost use Rattle.trace.specs.rule.Written.{is_three, is_foreign, node_in};
 ghost use Rattle.trace.specs.rule.TraceSoFar.{version_in, heeds, with_pod, without};
 ghost use Rattle.trace.specs.rule.Pod.{named_in};
 ghost use Rattle.trace.specs.state.Taken.{tick_line_at, value_at, any_line_at, said_at};
@@ -68,12 +68,18 @@ fn kind_of_line(version: Option<Version>, line: &Value) -> Result<LineKind, Faul
     kind_from(version, text_at(line, "kind")).ok_or(FaultKind::UnknownKind)
 }
 
+fn is_three(version: Option<u64>) -> bool
+    ensures { result ≡ is_three version }
+{
+    version == Some(3)
+}
+
 /// Whether the line says version 3, which the standard format does not have.
 fn is_foreign(format: Format, line: &Value) -> bool
     ensures { result ≡ is_foreign format (view line.now) }
 {
     match format {
-        Format::Standard => whole_number_at(line, "version") == Some(3),
+        Format::Standard => is_three(whole_number_at(line, "version")),
         Format::Extended => false,
     }
 }

@@ -326,14 +326,17 @@ fn placed_of(
     placed_by(alloc, heeds, &so_far.roster, written)
 }
 
+fn unless_doubled(has_pod_twice: bool, some_entry_repeats: bool) -> Result<(), FaultKind>
+    ensures { GivesExactly (λ t. t) result (refused_if (has_pod_twice || some_entry_repeats) Doubled) }
+{
+    refused_if(has_pod_twice || some_entry_repeats, FaultKind::Doubled)
+}
+
 /// No pod has two entries, and no entry repeats a container or a probe. It takes no memory.
 fn listed_once(has_pod_twice: bool, placed: &[PlacedEntry]) -> Result<(), FaultKind>
     ensures { GivesExactly (λ t. t) result (refused_if (has_pod_twice || list_any repeats placed.now) Doubled) }
 {
-    refused_if(
-        has_pod_twice || some_entry_repeats(placed),
-        FaultKind::Doubled,
-    )
+    unless_doubled(has_pod_twice, some_entry_repeats(placed))
 }
 
 /// Where the entries of each pod so far stand.

@@ -1,7 +1,7 @@
 //! What the lines so far say.
 
-ghost use Rattle.std.specs.Prelude.{◌≡◌};
-ghost use Rattle.trace.specs.rule.TraceSoFar.{heeds};
+ghost use Rattle.std.specs.Prelude.{◌≡◌, Some};
+ghost use Rattle.trace.specs.rule.TraceSoFar.{heeds, heeds_words};
 
 use following::ListingOrder;
 use lists::Sequence;
@@ -58,13 +58,19 @@ impl Model for TraceSoFar {
     ghost invariant = { λ r. HasFollowed r.ticks (container_counts r.roster.pods) r.following };
 }
 
+fn is_heeded_in(version: Version) -> bool
+    ensures { result ≡ heeds_words (Some version) }
+{
+    matches!(version, Version::Three)
+}
+
 /// Whether the words of tick lines are heeded: in version 3 alone.
 pub(crate) fn heeds_words(so_far: &TraceSoFar) -> bool
     ensures { result ≡ heeds so_far.now }
 {
     match &so_far.node {
         None => false,
-        Some(node) => matches!(node.version, Version::Three),
+        Some(node) => is_heeded_in(node.version),
     }
 }
 

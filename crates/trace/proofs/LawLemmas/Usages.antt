@@ -26,7 +26,6 @@ use Rattle.tick_lines.specs.declared.line.TickLine.{TickLine}
 use Rattle.tick_lines.specs.declared.reason.ReasonMember.{ReasonMember}
 use Rattle.tick_lines.specs.declared.reason.ReasonMember.TheVariants as reasons
 use Rattle.tick_lines.specs.declared.truth.TruthMember.{TruthMember}
-use Rattle.serde_json.specs.Data.{boolean}
 use Rattle.tick_lines.specs.declared.truth.TruthMember.TheVariants.{No, Yes, OfOtherKind}
 use Rattle.tick_lines.specs.rule.Line.{tick_line_of}
 use Rattle.tick_lines.specs.rule.Truths.{truth_of}

@@ -2,7 +2,7 @@
 use Rattle.std.specs.Prelude.{ℕ, ◌+◌, ⊤, Bool, false, List, [], ◌∷◌, length, nat_lt, Option, Some, None}
 use Rattle.std.specs.Prelude.{if◌then◌else◌, Result, Ok, Err, bytes_eq, codes}
 use Rattle.serde_json.specs.Data.{Data}
-use Rattle.json_fields.specs.rule.Fields.{field_at, text_at}
+use Rattle.json_fields.specs.rule.Fields.{text_at}
 use Rattle.manifest.specs.declared.pod.PodSpec.{PodSpec}
 use Rattle.observations.specs.declared.tick.TickObs.{TickObs}
 use Rattle.json_fields.specs.rule.Reading.{◌>>=◌, refused_if, some_or}
