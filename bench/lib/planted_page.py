@@ -1,5 +1,5 @@
-"""The page docs/planted.md, of bench/planted.tsv: what `rt plant` was run over, and what of it was proved all the
-same."""
+"""The page docs/planted.md, of bench/planted.tsv and bench/edits.tsv: what `rt plant` was run over, what of it was
+proved all the same, and what each edit of the gate alone shows."""
 import csv
 import io
 
@@ -8,6 +8,7 @@ from paragraphs import wrapped
 COLUMNS = ("crate", "what", "refused", "proved", "not judged", "not writable", "since", "date",
            "why what is proved is right")
 COUNTS = COLUMNS[2:6]
+EDIT_COLUMNS = ("crate", "edit", "seconds", "what it alone shows")
 LONGEST_LINE = 120
 HEAD = ("""
 `bench/planted` writes this page from `bench/planted.tsv`. `rt plant`, run by hand, puts mistakes into the bodies of a
@@ -20,10 +21,18 @@ stands. The date is the day on which the figure was written down.
 """, """
 A refusal where the search for a proof gave up at one of its limits says less than one where it ended: nothing was found
 that is wrong, and a longer search might have found a proof. An audit counted some 27 edits of the gate and the shelf
-that are refused by that alone. Five of them turn an answer, all of `trace`: `doubled_container_accepted`,
+that are refused by that alone. Five of them turned an answer, all of `trace`: `doubled_container_accepted`,
 `doubled_pod_accepted`, `extended_trace_in_the_standard_format`, `second_pod_of_a_key_accepted` and
-`unsampled_read_in_versions_1_and_2`; their clauses are still too long for the search.
+`unsampled_read_in_versions_1_and_2`. What they turn is now a function of its own over plain values, of which the search
+finds values that refute them.
 """)
+
+EDITS = """
+The promise that no other edit of the gate breaks, and behind the name the processor seconds of its check, where they
+were measured (`bench/wrong_bodies --gate`). Before the first edit of a crate the gate checks the crate once more, which
+[gate.md](gate.md) counts with its edits: so one edit alone in a crate is dear, and stands there where what it shows is
+worth that.
+"""
 
 
 def rows_in(text):
@@ -46,6 +55,45 @@ def rows_in(text):
     return rows
 
 
+def _number(text):
+    return int(text) if text.isdigit() else None
+
+
+def edits_in(text):
+    """What each edit of the gate shows, by its crate and its name: with the processor seconds that it cost, or None
+    where they were not measured. Another head is a ValueError, and so is a row without a sentence."""
+    found = list(csv.reader(io.StringIO(text), delimiter="\t", quoting=csv.QUOTE_NONE))
+    if tuple(found[0]) != EDIT_COLUMNS:
+        raise ValueError(f"bench/edits.tsv: the columns are not {', '.join(EDIT_COLUMNS)}")
+    edits = {}
+    for number, cells in enumerate(found[1:], 2):
+        if len(cells) != len(EDIT_COLUMNS):
+            raise ValueError(f"bench/edits.tsv:{number}: {len(cells)} cells, not {len(EDIT_COLUMNS)}")
+        crate, edit, seconds, shows = cells
+        if seconds and _number(seconds) is None:
+            raise ValueError(f"bench/edits.tsv:{number}: {seconds} is no number of seconds")
+        if not shows:
+            raise ValueError(f"bench/edits.tsv:{number}: it is not said what {crate}/{edit} alone shows")
+        edits[crate, edit] = (_number(seconds), shows)
+    return edits
+
+
+def without_words(edits, there):
+    """What is wrong with them where the gate has these edits: nothing, or the first fault."""
+    for crate, edit in there:
+        if (crate, edit) not in edits:
+            return f"bench/edits.tsv: it is not said what {crate}/{edit} alone shows"
+    gone = [name for name in edits if name not in there]
+    return f"bench/edits.tsv: the gate has no edit {'/'.join(gone[0])}" if gone else None
+
+
+def lines_of_edits(edits):
+    """A line for each edit of the gate."""
+    for (crate, edit), (seconds, shows) in edits.items():
+        took = "" if seconds is None else f" ({seconds} s)"
+        yield wrapped(f"`{crate}/{edit}`{took}: {shows}.", "- ", "  ")
+
+
 def line_of(cells):
     return f"| {' | '.join(cells)} |"
 
@@ -61,7 +109,7 @@ def line_of_row(row, notes):
     return line_of([named, f"note {len(notes)}", *cells[1:]])
 
 
-def page_of(rows):
+def page_of(rows, edits):
     """The text of the page."""
     sums = {column: sum(int(row[column] or 0) for row in rows) for column in COUNTS}
     head = [wrapped(paragraph.format(**sums)) for paragraph in HEAD]
@@ -73,5 +121,6 @@ def page_of(rows):
                if row[COLUMNS[-1]]]
     noted = ["The notes, of rows that are longer than a line:", "\n".join(notes)] if notes else []
     parts = ["# What was planted", *head, "\n".join(table), *noted,
-             "What was proved all the same:", "\n".join(reasons)]
+             "What was proved all the same:", "\n".join(reasons),
+             "## What each edit of the gate alone shows", wrapped(EDITS), "\n".join(lines_of_edits(edits))]
     return "\n\n".join(parts) + "\n"

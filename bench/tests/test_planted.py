@@ -7,6 +7,7 @@ import planted_page
 
 HEAD = "\t".join(planted_page.COLUMNS)
 ROW = "a b\tall\t3\t1\t\t2\t\t2026-11-27\tit is slower"
+EDITS = "\t".join(planted_page.EDIT_COLUMNS)
 
 
 class Planted(Case):
@@ -16,7 +17,30 @@ class Planted(Case):
 
     def planted(self, *lines, words=()):
         write("".join(f"{line}\n" for line in lines), self.top, "bench/planted.tsv")
+        if not os.path.exists(f"{self.top}/bench/edits.tsv"):
+            self.put_edits()
         return run("planted", *words, "--top", self.top)
+
+    def put_edits(self, *lines):
+        write("".join(f"{line}\n" for line in (EDITS, *lines)), self.top, "bench/edits.tsv")
+
+    def test_edits_of_the_gate(self):
+        for name in "a/must-fail/first.edit", "a/must-fail/second.edit", "b/wrong-bodies/third.edit":
+            os.makedirs(f"{self.top}/crates/{os.path.dirname(name)}", exist_ok=True)
+            write("", self.top, f"crates/{name}")
+        rows = ["a\tfirst\t12\tit is first", "a\tsecond\t\tit is second"]
+        self.put_edits(*rows)
+        self.assertEqual(self.planted(HEAD, ROW), (0, "", ""))
+        self.assertIn("\n- `a/first` (12 s): it is first.\n- `a/second`: it is second.\n",
+                      read(self.top, "docs/planted.md"))
+        for lines, said in ((rows[:1], ": it is not said what a/second alone shows"),
+                            ([*rows, "b\tthird\t\tno edit of the gate"], ": the gate has no edit b/third"),
+                            ([*rows, "a"], ":4: 1 cells, not 4"),
+                            ([*rows, "a\tx\tsome\tx"], ":4: some is no number of seconds"),
+                            ([*rows, "a\tx\t\t"], ":4: it is not said what a/x alone shows")):
+            self.put_edits(*lines)
+            self.assertEqual(self.planted(HEAD, ROW, words=["--check"]), (
+                1, "", f"bench/planted: bench/edits.tsv{said}\n"))
 
     def test_the_page(self):
         self.assertEqual(self.planted(HEAD, ROW), (0, "", ""))
