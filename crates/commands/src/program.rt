@@ -11,7 +11,7 @@ use std::alloc::{AllocError, Global};
 use worker_count::MOST_WORKERS;
 
 /// The program's version: the file VERSION at the top of the repository has the same.
-const VERSION: &str = "0.9.0";
+const VERSION: &str = "0.10.0";
 
 const ABOUT: &str =
     "Replays what a kubelet would have decided on a node, from the node's recorded trace.";
