@@ -1,4 +1,4 @@
-//! One eviction.
+//! One eviction: the order that the victim gets, and whether it is carried out.
 
 ghost use Rattle.std.specs.Prelude.{◌≡◌};
 ghost use Rattle.eviction.specs.rule.Replay.{order_of, unless_recorded};

@@ -1,4 +1,4 @@
-//! Moments of records.
+//! Whether a moment comes after the last record.
 
 ghost use Rattle.std.specs.Prelude.{◌↔◌, ◌<◌, IfSome, IsTrue};
 

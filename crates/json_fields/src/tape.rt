@@ -254,7 +254,7 @@ impl<'t, 'a> Model for TapeItems<'t, 'a> {
 }
 
 impl<'t, 'a> TapeItems<'t, 'a> {
-    /// The next item.
+    /// The next item of the list, if one is left.
     pub fn next(&mut self) -> Option<TapeValue<'t, 'a>>
         ensures value { MatchOption result (items_in self.old ≡ [])
             (λ v. items_in self.old ≡ data_at v ∷ items_in self.new) }

@@ -21,7 +21,7 @@ impl Model for NameList {
 }
 
 impl NameList {
-    /// No names.
+    /// A list without names.
     pub fn new(alloc: Global) -> NameList
         ensures { result ≡ [] }
     {

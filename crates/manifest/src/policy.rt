@@ -8,6 +8,6 @@ pub enum Policy {
     Always,
     /// After an exit with a code other than 0.
     OnFailure,
-    /// After none.
+    /// After no exit.
     Never,
 }

@@ -131,7 +131,7 @@ impl Model for Probes {
 }
 
 impl Probes {
-    /// These probes.
+    /// The probes of a container, of each kind one or none.
     pub fn new(startup: Option<Probe>, liveness: Option<Probe>, readiness: Option<Probe>) -> Probes
         requires startup_by_one { SucceedsByOne startup }
         requires liveness_by_one { SucceedsByOne liveness }

@@ -21,11 +21,11 @@ pub enum Resource {
 /// An amount of each resource, where one is written; a zero stands as it is written.
 #[derive(Clone, Copy, Debug, PartialEq, Eq)]
 pub struct Amounts {
-    /// In CPUs.
+    /// Processor time, in CPUs.
     pub cpu: Option<Quantity>,
-    /// In bytes.
+    /// Memory, in bytes.
     pub memory: Option<Quantity>,
-    /// In bytes.
+    /// Room on the node's disk, in bytes.
     pub ephemeral_storage: Option<Quantity>,
 }
 

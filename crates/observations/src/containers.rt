@@ -8,7 +8,7 @@ use crate::container::ContainerObs;
 use crate::packed_container::PackedContainer;
 use std::alloc::{AllocError, Global};
 
-/// What is kept of these.
+/// The listings of containers, packed.
 pub(crate) fn kept(
     alloc: Global,
     containers: &[ContainerObs],

@@ -81,7 +81,7 @@ impl EndReason {
         EndReason { text: self.text }
     }
 
-    /// Its text.
+    /// The text of the reason.
     pub fn as_str(&self) -> &str
         ensures { result.now ≡ self.now }
     {

@@ -15,19 +15,19 @@ pub struct Usage {
     pub logs: Option<Quantity>,
     /// Writable layers of the containers, in bytes.
     pub writable: Option<Quantity>,
-    /// Inodes.
+    /// How many inodes are in use.
     pub inodes: Option<Quantity>,
-    /// Processes.
+    /// How many processes run.
     pub pids: Option<Quantity>,
 }
 
 /// What a tick says of the samples of a pod's use of the node.
 #[derive(Clone, Copy, Debug, PartialEq, Eq)]
 pub enum Sampling {
-    /// Nothing.
+    /// The tick says nothing of them.
     Unsaid,
     /// From this tick on it has none, until one comes. (This project's extended format.)
     Unsampled,
-    /// One was taken.
+    /// A sample was taken with the tick.
     Sampled(Usage),
 }

@@ -11,7 +11,7 @@ pub struct PodWords {
     pub failed: Option<EndReason>,
 }
 
-/// No word.
+/// The words of a tick that says none of the pod.
 pub const NO_WORDS: PodWords = PodWords {
     deleting: false,
     failed: None,

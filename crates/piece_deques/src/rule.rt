@@ -69,7 +69,7 @@ impl Join<Tally> for Cut {
     ghost spent = { tally 0 [] [] };
 }
 
-/// Pieces were pushed.
+/// What becomes of the tally where a deque's owner pushes pieces.
 pub(crate) struct Pushed;
 
 impl Outcome<PodPiece, Tally> for Pushed {

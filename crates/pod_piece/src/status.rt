@@ -18,7 +18,7 @@ use qos::{Qos, effective_request};
 pub struct PodFailure {
     /// The moment of that tick, in seconds.
     pub at: u64,
-    /// Why.
+    /// Why the node ended the pod.
     pub reason: EndReason,
 }
 

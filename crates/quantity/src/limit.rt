@@ -13,7 +13,7 @@ use crate::quantity::Quantity;
 /// signal's capacity. (Kubernetes, "Node-pressure Eviction", "Eviction thresholds".)
 #[derive(Clone, Copy, Debug, PartialEq, Eq, Hash)]
 pub enum Limit {
-    /// An amount.
+    /// An amount, in the signal's own unit.
     Quantity(Quantity),
     /// A share of the signal's capacity.
     Percent(Percent),

@@ -16,7 +16,7 @@ pub(crate) struct Number<'a> {
     pub has_point: bool,
     /// The digits after the point.
     pub fraction: &'a [u8],
-    /// What follows.
+    /// What follows the number in the text.
     pub rest: &'a [u8],
 }
 

@@ -9,7 +9,7 @@ use quantity::Limit;
 /// Eviction", "Soft eviction thresholds" and "Hard eviction thresholds".)
 #[derive(Clone, Copy, Debug, PartialEq, Eq)]
 pub enum ThresholdKind {
-    /// At once.
+    /// It evicts at once, in the tick whose sample is below it.
     Hard,
     /// Once its signal fell below it, and stayed below it plus its minimum reclaim for the whole of its grace period.
     Soft,

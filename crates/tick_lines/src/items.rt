@@ -24,7 +24,7 @@ pub(crate) trait ReadItem: Drop + Sized {
     /// What is read of an item, in the definition's words.
     ghost read_of: { Data → Result Self TickLineFault };
 
-    /// Reads the item.
+    /// What an item says, or its first fault.
     fn read<V: TickValue>(alloc: Global, item: &V) -> Result<Self, TickLineFault>
         ensures { GivesUnless is_memory (λ r. r) result (read_of (V.data item.now)) };
 

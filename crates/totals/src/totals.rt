@@ -1,4 +1,4 @@
-//! How much happened.
+//! How many updates, events and orders the pods of a node came to.
 
 ghost use Rattle.std.specs.Prelude.{◌≡◌, ◌≤◌, length};
 ghost use Rattle.std.specs.List.{filter};
