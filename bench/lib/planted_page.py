@@ -3,12 +3,12 @@ proved all the same, and what each edit of the gate alone shows."""
 import csv
 import io
 
+from gate_edits import WORDS, lines_of_edits
 from paragraphs import wrapped
 
 COLUMNS = ("crate", "what", "refused", "proved", "not judged", "not writable", "since", "date",
            "why what is proved is right")
 COUNTS = COLUMNS[2:6]
-EDIT_COLUMNS = ("crate", "edit", "seconds", "what it alone shows")
 LONGEST_LINE = 120
 HEAD = ("""
 `bench/planted` writes this page from `bench/planted.tsv`. `rt plant`, run by hand, puts mistakes into the bodies of a
@@ -26,14 +26,6 @@ that are refused by that alone. Five of them turned an answer, all of `trace`: `
 `unsampled_read_in_versions_1_and_2`. What they turn is now a function of its own over plain values, of which the search
 finds values that refute them.
 """)
-
-EDITS = """
-The promise that no other edit of the gate breaks, and behind the name the processor seconds of its check, where they
-were measured (`bench/wrong_bodies --gate`). Before the first edit of a crate the gate checks the crate once more, which
-[gate.md](gate.md) counts with its edits: so one edit alone in a crate is dear, and stands there where what it shows is
-worth that.
-"""
-
 
 def rows_in(text):
     """The rows of the table, each by its columns. Another head, or a count that is none, is a ValueError."""
@@ -53,45 +45,6 @@ def rows_in(text):
                              "right")
         rows.append(row)
     return rows
-
-
-def _number(text):
-    return int(text) if text.isdigit() else None
-
-
-def edits_in(text):
-    """What each edit of the gate shows, by its crate and its name: with the processor seconds that it cost, or None
-    where they were not measured. Another head is a ValueError, and so is a row without a sentence."""
-    found = list(csv.reader(io.StringIO(text), delimiter="\t", quoting=csv.QUOTE_NONE))
-    if tuple(found[0]) != EDIT_COLUMNS:
-        raise ValueError(f"bench/edits.tsv: the columns are not {', '.join(EDIT_COLUMNS)}")
-    edits = {}
-    for number, cells in enumerate(found[1:], 2):
-        if len(cells) != len(EDIT_COLUMNS):
-            raise ValueError(f"bench/edits.tsv:{number}: {len(cells)} cells, not {len(EDIT_COLUMNS)}")
-        crate, edit, seconds, shows = cells
-        if seconds and _number(seconds) is None:
-            raise ValueError(f"bench/edits.tsv:{number}: {seconds} is no number of seconds")
-        if not shows:
-            raise ValueError(f"bench/edits.tsv:{number}: it is not said what {crate}/{edit} alone shows")
-        edits[crate, edit] = (_number(seconds), shows)
-    return edits
-
-
-def without_words(edits, there):
-    """What is wrong with them where the gate has these edits: nothing, or the first fault."""
-    for crate, edit in there:
-        if (crate, edit) not in edits:
-            return f"bench/edits.tsv: it is not said what {crate}/{edit} alone shows"
-    gone = [name for name in edits if name not in there]
-    return f"bench/edits.tsv: the gate has no edit {'/'.join(gone[0])}" if gone else None
-
-
-def lines_of_edits(edits):
-    """A line for each edit of the gate."""
-    for (crate, edit), (seconds, shows) in edits.items():
-        took = "" if seconds is None else f" ({seconds} s)"
-        yield wrapped(f"`{crate}/{edit}`{took}: {shows}.", "- ", "  ")
 
 
 def line_of(cells):
@@ -122,5 +75,5 @@ def page_of(rows, edits):
     noted = ["The notes, of rows that are longer than a line:", "\n".join(notes)] if notes else []
     parts = ["# What was planted", *head, "\n".join(table), *noted,
              "What was proved all the same:", "\n".join(reasons),
-             "## What each edit of the gate alone shows", wrapped(EDITS), "\n".join(lines_of_edits(edits))]
+             "## What each edit of the gate alone shows", wrapped(WORDS), "\n".join(lines_of_edits(edits))]
     return "\n\n".join(parts) + "\n"

@@ -3,11 +3,12 @@ import os
 import tempfile
 
 from common import Case, read, run, write
+import gate_edits
 import planted_page
 
 HEAD = "\t".join(planted_page.COLUMNS)
 ROW = "a b\tall\t3\t1\t\t2\t\t2026-11-27\tit is slower"
-EDITS = "\t".join(planted_page.EDIT_COLUMNS)
+EDITS = "\t".join(gate_edits.EDIT_COLUMNS)
 
 
 class Planted(Case):
@@ -41,6 +42,14 @@ class Planted(Case):
             self.put_edits(*lines)
             self.assertEqual(self.planted(HEAD, ROW, words=["--check"]), (
                 1, "", f"bench/planted: bench/edits.tsv{said}\n"))
+
+    def test_seconds_of_an_edit(self):
+        os.makedirs(f"{self.top}/bench", exist_ok=True)
+        self.put_edits("a\tfirst\t\tit is first", "a\tsecond\t7\tit is second")
+        for edit, seconds in (("second", 11.6), ("third", 3.0)):
+            gate_edits.record_seconds(self.top, "a", edit, seconds)
+        self.assertEqual(read(self.top, "bench/edits.tsv"),
+                         f"{EDITS}\na\tfirst\t\tit is first\na\tsecond\t12\tit is second\n")
 
     def test_the_page(self):
         self.assertEqual(self.planted(HEAD, ROW), (0, "", ""))

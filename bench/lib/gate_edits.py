@@ -1,0 +1,68 @@
+"""The edits of the gate, as bench/edits.tsv keeps them: what each one alone shows, and what its check cost."""
+import csv
+import io
+import os
+
+import script
+from paragraphs import wrapped
+
+EDITS = "bench/edits.tsv"
+EDIT_COLUMNS = ("crate", "edit", "seconds", "what it alone shows")
+WORDS = """
+The promise that no other edit of the gate breaks, and behind the name the processor seconds of its check, where they
+were measured (`bench/wrong_bodies --gate`). Before the first edit of a crate the gate checks the crate once more, which
+[gate.md](gate.md) counts with its edits: so one edit alone in a crate is dear, and stands there where what it shows is
+worth that.
+"""
+
+
+def _number(text):
+    return int(text) if text.isdigit() else None
+
+
+def edits_in(text):
+    """What each edit of the gate shows, by its crate and its name: with the processor seconds that it cost, or None
+    where they were not measured. Another head is a ValueError, and so is a row without a sentence."""
+    found = list(csv.reader(io.StringIO(text), delimiter="\t", quoting=csv.QUOTE_NONE))
+    if tuple(found[0]) != EDIT_COLUMNS:
+        raise ValueError(f"bench/edits.tsv: the columns are not {', '.join(EDIT_COLUMNS)}")
+    edits = {}
+    for number, cells in enumerate(found[1:], 2):
+        if len(cells) != len(EDIT_COLUMNS):
+            raise ValueError(f"bench/edits.tsv:{number}: {len(cells)} cells, not {len(EDIT_COLUMNS)}")
+        crate, edit, seconds, shows = cells
+        if seconds and _number(seconds) is None:
+            raise ValueError(f"bench/edits.tsv:{number}: {seconds} is no number of seconds")
+        if not shows:
+            raise ValueError(f"bench/edits.tsv:{number}: it is not said what {crate}/{edit} alone shows")
+        edits[crate, edit] = (_number(seconds), shows)
+    return edits
+
+
+def without_words(edits, there):
+    """What is wrong with them where the gate has these edits: nothing, or the first fault."""
+    for crate, edit in there:
+        if (crate, edit) not in edits:
+            return f"bench/edits.tsv: it is not said what {crate}/{edit} alone shows"
+    gone = [name for name in edits if name not in there]
+    return f"bench/edits.tsv: the gate has no edit {'/'.join(gone[0])}" if gone else None
+
+
+def lines_of_edits(edits):
+    """A line for each edit of the gate."""
+    for (crate, edit), (seconds, shows) in edits.items():
+        took = "" if seconds is None else f" ({seconds} s)"
+        yield wrapped(f"`{crate}/{edit}`{took}: {shows}.", "- ", "  ")
+
+
+def record_seconds(top, name, edit, seconds):
+    """Puts the processor seconds of an edit's check in the place of what stood there; of an edit without a row nothing
+    is kept."""
+    path = os.path.join(top, EDITS)
+    if not os.path.isfile(path):
+        return
+    with open(path, encoding="utf-8") as file:
+        rows = [line.split("\t") for line in file.read().splitlines()]
+    rows = [[crate, it, f"{seconds:.0f}", *rest] if (crate, it) == (name, edit) else [crate, it, old, *rest]
+            for crate, it, old, *rest in rows]
+    script.write(path, "".join("\t".join(row) + "\n" for row in rows))
