@@ -111,8 +111,7 @@ def whole_text(below, found):
     said = [f"From nothing the gate takes {minutes(sum(it.spent for it in measured))} processor minutes, the sum over "
             f"the crates; one after the other the commands took {minutes(sum(it.seconds for it in measured))} minutes."]
     if missing:
-        said.append(f"{len(missing)} of {len(below)} crates have not been measured, and are not in the sums: "
-                    f"{', '.join(missing)}.")
+        said.append(f"Not measured, and not in the sums: {', '.join(missing)}.")
     if WHOLE in found:
         run = found[WHOLE]
         anew = sum(it.commit == run.commit for it in measured)
