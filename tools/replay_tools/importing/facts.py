@@ -194,6 +194,8 @@ class Ranked(Fact):
 
 @dataclass
 class Evicted(Fact):
+    """The kubelet has evicted a pod, which it says once it has stopped the pod's containers, or could not; or it has
+    cleaned up behind that."""
     pod: Reference
     is_cleaned_up: bool = False
 

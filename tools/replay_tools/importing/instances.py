@@ -44,6 +44,9 @@ class Instance:
     is_met: bool = False
     killing: Optional[facts.Killing] = None
     written: Optional[int] = None
+    # the seconds in which its start and its exit are placed
+    started_in: int = 0
+    ended_in: int = 0
     has_ended: bool = False
     # whether the kubelet's look found it
     is_looked: bool = False

@@ -169,7 +169,9 @@ def of_ranked(message: Message) -> Iterator[facts.Fact]:
 
 
 def of_evicted(message: Message) -> Iterator[facts.Fact]:
-    yield facts.Evicted(message.at, pod_of(message))
+    """One pod, or those of a round."""
+    pods = references_of(message.keys["pods"]) if "pods" in message.keys else [pod_of(message)]
+    yield from (facts.Evicted(message.at, pod) for pod in pods)
 
 
 def of_cleaned(message: Message) -> Iterator[facts.Fact]:
@@ -224,7 +226,9 @@ FORMS: dict[str, Callable[[Message], Iterator[facts.Fact]]] = {
     "Eviction manager: eviction criteria not yet met": of_soft,
     "Creating Container Manager object based on Node Config": of_configuration,
     "Eviction manager: attempting to reclaim": of_reclaim, "Eviction manager: pods ranked for eviction": of_ranked,
-    "Eviction manager: pod is evicted successfully": of_evicted,
+    "Eviction manager: pod is evicted successfully": of_evicted, "Eviction manager: pod failed to evict": of_evicted,
+    "Eviction manager: pods evicted, waiting for pod to be cleaned up": of_evicted,
+    "Eviction manager: evicted pods, waiting for pod to be cleaned up": of_evicted,
     "Eviction manager: pods successfully cleaned up": of_cleaned, "Failed to admit pod to node": of_refusal,
     "Pod is terminated, but some containers have not been cleaned up": of_left,
     "Pod attempted illegal phase transition": of_status_line, "Status for pod updated successfully": of_status_line,

@@ -30,6 +30,8 @@ BELOW = re.compile(r"thresholds - [a-z ]{1,60}: threshold \[signal=([\w.]+), qua
 PRESSURE = re.compile(r"node conditions - (observed|transition period not met): (\[[A-Za-z ]{0,200}\])")
 NOT_YET_MET, UNRECLAIMED = "eviction criteria not yet met", "reclaim not satisfied"
 RESOURCE = re.compile(r"attempting to reclaim ([-\w]+)")
+# a kubelet that could not stop a pod's containers in time has evicted it all the same
+EVICTED = "is evicted successfully", " failed to evict ", " evicted, waiting for pod to be cleaned up"
 REFUSED = re.compile(r"Failed to admit pod (\S+) - node has conditions: \[([A-Za-z, ]{0,200})\]")
 SANDBOX = re.compile(r'Created PodSandbox "(\w+)" for pod "([^"]*)"')
 READINESS = re.compile(r'Container (?:readiness|startup) unchanged \(\w+\): "([^"]*)" - "\w+://(\w+)"')
@@ -143,7 +145,7 @@ def of_eviction(message: Message) -> Iterator[facts.Fact]:
         yield facts.Observed(message.at)
     elif "pods ranked for eviction:" in text:
         yield facts.Ranked(message.at, tuple(placed(text)))
-    elif "is evicted successfully" in text:
+    elif any(words in text for words in EVICTED):
         yield from (facts.Evicted(message.at, pod) for pod in placed(text))
     elif "successfully cleaned up" in text:
         yield from (facts.Evicted(message.at, pod, True) for pod in placed(text))
