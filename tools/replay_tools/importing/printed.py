@@ -21,6 +21,7 @@ PROBE = re.compile(r'(Readiness|Liveness|Startup) probe for "([^"]*\)):([^"]*)" 
                    r"(?:(succeeded)|failed \((\w+)\): ?(.*))", re.S)
 KILLING = re.compile(r'Killing container "\w+://(\w+)" with a (\d{1,9}) second grace period')
 RESTARTED = re.compile(r'Container "([^"]*)" \(\{"\w+" "(\w+)"\}\) of pod (\S+): (.*)', re.S)
+STOPPED = re.compile(r'Container "\w+://(\w+)" exited normally')
 WAITS = 'failed to "StartContainer" for "'
 WAITING = re.compile(r'failed to "(\w+)" for "([^"]*)" with (\w+): "((?:[^"\\]|\\.)*)"')
 MADE = re.compile(r"container: ([a-z0-9][-a-z0-9]{0,62})/([-.a-z0-9]{1,253})/([a-z0-9][-a-z0-9]{0,62}) podIPs: ")
@@ -40,6 +41,8 @@ NODE = re.compile(r'FLAG: --hostname-override="([^"]+)"'
 NAMED = re.compile(r'(?:killContainer|failed to remove pod init container) "([^"]*)".{0,300}?'
                    r'(?:\{"\w+" |container )"([0-9a-f]{12,64})"')
 DECODER = json.JSONDecoder()
+# what is a sentence in JSON too
+FLAG = "FLAG: "
 TYPES = {"ContainerStarted": facts.STARTED, "ContainerDied": facts.DIED}
 WHERE = {"ADD": facts.Added, "DELETE": facts.Deleted, "REMOVE": facts.Removed}
 
@@ -77,6 +80,9 @@ def of_container(message: Message) -> Iterator[facts.Fact]:
         pod = placed_in(found[3]) or facts.Reference()
         yield facts.Known(message.at, found[2], pod, found[1])
         yield facts.Killing(message.at, found[2], pod, found[1], why=found[4])
+    found = STOPPED.match(message.text)
+    if found is not None and id_of(found[1]) is not None:
+        yield facts.Turned(message.at, facts.Reference(), found[1], facts.DIED)
     found = READINESS.match(message.text)
     named = None if found is None else placed_in(found[1])
     if found is not None and named is not None and id_of(found[2]) is not None:
