@@ -299,6 +299,25 @@ def test_import_of_what_crio_removes():
         (6, "app", 0, "RUNNING"), (22, "app", 1, "RUNNING"), (60, "app", 1, "EXITED")]))
 
 
+# --- what a cluster says ---
+
+
+def test_import_of_events_of_other_times_and_nodes():
+    """A cluster's list has Events of pods of all nodes, and of before the journal and behind it: none of these makes a
+    pod, or a tick."""
+    def started(pod, at):
+        return {"kind": "Event", "involvedObject": {"kind": "Pod", "name": pod, "namespace": "shop", "uid": f"u-{pod}",
+                                                    "fieldPath": "spec.containers{app}"},
+                "reason": "Started", "message": "Started container app", "count": 1, "lastTimestamp": at}
+
+    with tempfile.NamedTemporaryFile("w", suffix=".json") as file:
+        json.dump({"items": [started("elsewhere", "2026-03-01T10:00:30Z"), started("before", "2026-03-01T09:00:00Z"),
+                             started("behind", "2026-03-01T11:00:00Z"), started("web", "2026-03-01T09:00:00Z")]}, file)
+        file.flush()
+        status, trace, _ = imported("--journal", f"{FOLDER}/keyed.log", "--events", file.name)
+    expect("import of events of other times and nodes", (status, trace), (0, read(f"{FOLDER}/keyed.trace")))
+
+
 # --- what is a container's own ---
 
 

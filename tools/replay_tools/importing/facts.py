@@ -93,9 +93,11 @@ class Known(Fact):
 
 @dataclass
 class Created(Fact):
-    """A container of a pod is started now, by its name; its id is in another line."""
+    """A container of a pod is started now, by its name; its id is in another line. What the cluster says may be of a
+    pod of another node."""
     pod: Reference
     container: str
+    is_of_cluster: bool = False
 
 
 @dataclass

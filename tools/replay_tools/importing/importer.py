@@ -276,7 +276,7 @@ class Importer:
             life.instances.note_name(known.container)
 
     def on_created(self, fact: facts.Created) -> None:
-        life = self.life_of(fact.pod, fact.at)
+        life = self.known_life(fact.pod) if fact.is_of_cluster else self.life_of(fact.pod, fact.at)
         if life is not None:
             life.instances.hints.created.append((fact.at, fact.container))
             life.instances.note_name(fact.container)

@@ -4,7 +4,6 @@ the first lines of a file; several files are read as one, by their moments."""
 from __future__ import annotations
 
 import gzip
-import heapq
 import io
 import itertools
 import os
@@ -346,8 +345,3 @@ def buffered(file: Any) -> Any:
 
 def why(fault: BaseException) -> str:
     return getattr(fault, "strerror", None) or str(fault)
-
-
-def merged(sources: list[Iterator[Any]]) -> Iterator[Any]:
-    """What several sources have, by their moments."""
-    return sources[0] if len(sources) == 1 else iter(heapq.merge(*sources, key=lambda each: each.at))
