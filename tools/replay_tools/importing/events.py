@@ -20,7 +20,20 @@ def read_all(paths: list[str]) -> Iterator[facts.Fact]:
         yield event
         made = MADE.match(event.message)
         if made is not None and event.reason == "Started" and event.count == 1:
-            yield facts.Created(event.at, event.pod, made[1])
+            yield facts.Created(event.at, event.pod, made[1], True)
+
+
+def beside(found: Iterator[facts.Fact], happened: Iterator[facts.Fact]) -> Iterator[facts.Fact]:
+    """What journals have, and the events of its time: of what was before it or is behind it no journal says what ran,
+    and when."""
+    event, is_begun = next(happened, None), False
+    for fact in found:
+        while event is not None and event.at <= fact.at:
+            if is_begun:
+                yield event
+            event = next(happened, None)
+        is_begun = True
+        yield fact
 
 
 def of_value(value: Any) -> Iterator[facts.Happened]:

@@ -93,9 +93,11 @@ class Known(Fact):
 
 @dataclass
 class Created(Fact):
-    """A container of a pod is started now, by its name; its id is in another line."""
+    """A container of a pod is started now, by its name; its id is in another line. What the cluster says may be of a
+    pod of another node."""
     pod: Reference
     container: str
+    is_of_cluster: bool = False
 
 
 @dataclass
@@ -194,6 +196,8 @@ class Ranked(Fact):
 
 @dataclass
 class Evicted(Fact):
+    """The kubelet has evicted a pod, which it says once it has stopped the pod's containers, or could not; or it has
+    cleaned up behind that."""
     pod: Reference
     is_cleaned_up: bool = False
 

@@ -7,11 +7,12 @@ from collections.abc import Callable, Iterable, Iterator
 from typing import Any, Optional
 
 from replay_tools import entry
-from replay_tools.record.decisions import EVICTED, REFUSED, Decision
+from replay_tools.record.decisions import EVICTION, REFUSED, Decision
 from replay_tools.record.formats import without_nones
 from replay_tools.record.messages import message_kept
 
 from . import facts
+from .evictions import Evictions
 from .lives import Life
 from .manifests import Manifests
 from .outputs import output_kept
@@ -27,16 +28,11 @@ SETTLE_SECONDS, FORGET_SECONDS = 60, 300
 FIRST_LOOKS = 6
 # a process that says twice that it begins is one
 AGAIN_SECONDS = 60
-# an eviction follows its ranking and what the node was short of within so many seconds
-NEAR_SECONDS = 60
 # the observations of one round of the eviction manager follow each other within so many seconds
 ROUND_SECONDS = 1.0
 # the same line stands in two journals within so many seconds
 FILLED_SECONDS = 1.0
 MOST_LOOSE = 100_000
-LONGEST_MESSAGE = 4096
-EVICTED_WORD, RANKED_WORD = "Evicted", "RankedForEviction"
-MOST_RANKED = 10
 # the reasons of Events that are told; of failures of probes, kills and evictions there are lines
 TOLD = ("BackOff", "Failed", "FailedCreatePodSandBox", "FailedMount", "FailedPostStartHook", "FailedPreStopHook",
         "NodeNotReady", "Preempting", "ProbeWarning", "SandboxChanged", "TaintManagerEviction")
@@ -72,9 +68,7 @@ class Importer:
         # when the kubelet was started, where the journal has that
         self.started_at: Optional[float] = None
         self.thresholds = Thresholds()
-        self.resource: tuple[float, str] = (0.0, "")
-        self.ranked: tuple[float, tuple[facts.Reference, ...]] = (0.0, ())
-        self.messages: dict[str, str] = {}
+        self.evictions = Evictions(manifests, placing)
         self.capacity: dict[str, int] = {}
         self.probed: dict[tuple[str, str, str], tuple[str, Optional[str]]] = {}
         self.happened: dict[tuple[str, str, str], str] = {}
@@ -84,8 +78,9 @@ class Importer:
             facts.Added: self.on_added, facts.Deleted: self.on_deleted, facts.Removed: self.on_removed,
             facts.Turned: self.on_turned, facts.Known: self.on_known, facts.Created: self.on_created,
             facts.Probed: self.on_probed, facts.Turnover: self.on_turnover, facts.Killing: self.on_killing,
-            facts.Waits: self.on_waits, facts.Observed: self.on_observed, facts.Reclaims: self.on_reclaims,
-            facts.Ranked: self.on_ranked, facts.Evicted: self.on_evicted, facts.Refused: self.on_refused,
+            facts.Waits: self.on_waits, facts.Observed: self.on_observed,
+            facts.Reclaims: self.evictions.take_reclaims, facts.Ranked: self.evictions.take_ranked,
+            facts.Evicted: self.on_evicted, facts.Refused: self.on_refused,
             facts.Happened: self.on_happened, facts.Begun: self.on_begun,
             **dict.fromkeys(self.thresholds.readers, self.thresholds.take)}
 
@@ -121,12 +116,14 @@ class Importer:
             return
         if not self.has_met_running:
             self.meet_running()
+        self.evictions.take_events_alone(self.lives, horizon)
         for life in self.lives:
             life.resolve(self.placing)
         for life in self.lives:
-            life.settle(horizon, self.placing)
-        self.placing.doubt(self.lives, float("inf") if is_end else horizon - LATE_SECONDS)
-        yield from self.placing.due(float("inf") if is_end else horizon - LATE_SECONDS)
+            life.settle(horizon, is_end, self.placing)
+        before = float("inf") if is_end else int(horizon) - LATE_SECONDS
+        self.placing.doubt(self.lives, before)
+        yield from self.placing.due(before)
         if self.now - self.forgot_at >= FORGET_SECONDS:
             self.forgot_at = self.now
             self.forget(horizon)
@@ -172,7 +169,7 @@ class Importer:
         is_anew = isinstance(fact, facts.Begun) or (isinstance(fact, facts.Process)
                                                     and self.process not in (None, fact.process))
         if silence is not None and silence.is_hole and not is_anew:
-            self.thresholds.pause()
+            self.pause()
             self.placing.hole(silence.since, silence.until)
 
     # --- pods ---
@@ -279,7 +276,7 @@ class Importer:
             life.instances.note_name(known.container)
 
     def on_created(self, fact: facts.Created) -> None:
-        life = self.life_of(fact.pod, fact.at)
+        life = self.known_life(fact.pod) if fact.is_of_cluster else self.life_of(fact.pod, fact.at)
         if life is not None:
             life.instances.hints.created.append((fact.at, fact.container))
             life.instances.note_name(fact.container)
@@ -348,6 +345,7 @@ class Importer:
             self.say(f"{int(fact.at)}: the kubelet was started anew; what happened shortly before is not known")
             self.started_at = fact.at
             self.thresholds.begin(fact.at)
+            self.evictions.end_round()
         self.process = fact.process
 
     def on_begun(self, fact: facts.Begun) -> None:
@@ -367,11 +365,16 @@ class Importer:
             self.placing.count(FILLED)
             return
         self.placing.count("places where lines are missing")
-        self.thresholds.pause()
+        self.pause()
         self.placing.gap(self.before, fact.at)
 
-    def on_turned_back(self, fact: facts.TurnedBack) -> None:
+    def pause(self) -> None:
+        """Lines are missing: what they would say of the rounds before is not known."""
         self.thresholds.pause()
+        self.evictions.end_round()
+
+    def on_turned_back(self, fact: facts.TurnedBack) -> None:
+        self.pause()
         self.placing.gap(self.before, fact.at, fact.seconds)
         self.placing.count(TURNS)
         self.say(f"{int(fact.at) - fact.seconds}: the clock went back by {fact.seconds} s")
@@ -381,6 +384,7 @@ class Importer:
         of the moment of the first one. A round that finds nothing judges nothing."""
         if fact.signal is None:
             self.thresholds.end_round()
+            self.evictions.end_round()
         if fact.signal is None or fact.available is None:
             return
         if fact.signal in self.thresholds.round.signals or fact.at - self.thresholds.round.at > ROUND_SECONDS:
@@ -392,43 +396,14 @@ class Importer:
         if fact.capacity is not None:
             self.capacity[fact.signal] = fact.capacity
 
-    def on_reclaims(self, fact: facts.Reclaims) -> None:
-        self.resource = fact.at, fact.resource
-
-    def on_ranked(self, fact: facts.Ranked) -> None:
-        self.ranked = fact.at, fact.pods
-
     def on_evicted(self, fact: facts.Evicted) -> None:
         life = self.known_life(fact.pod) or self.life_of(fact.pod, fact.at)
         if life is None:
             return
         if fact.is_cleaned_up:
             life.cleaned_at = fact.at if life.cleaned_at is None else life.cleaned_at
-            return
-        if life.decision is not None:
-            return
-        ranked_at, ranked = self.ranked
-        is_first = bool(ranked) and fact.at - ranked_at <= NEAR_SECONDS and (
-            ranked[0].uid == life.uid if ranked[0].uid is not None else ranked[0].key == life.key)
-        said = self.messages.get(life.key) or self.made_message(fact.at, is_first)
-        life.decision = Decision(EVICTED, fact.at, EVICTED_WORD, said)
-        life.decided_since = ranked_at if is_first else fact.at
-        if is_first:
-            self.say_ranking(life.key, fact.at)
-
-    def say_ranking(self, key: str, at: float) -> None:
-        """What the node was short of, and the pods in the order in which they were to be evicted."""
-        ranked_at, ranked = self.ranked
-        since, resource = self.resource
-        names = [str(pod.key) for pod in ranked[:MOST_RANKED]]
-        more = f" and {len(ranked) - MOST_RANKED} more" if len(ranked) > MOST_RANKED else ""
-        short_of = f"to reclaim {resource}: " if at - since <= NEAR_SECONDS else ""
-        self.placing.say(key, ranked_at, {"reason": RANKED_WORD, "message": f"{short_of}{', '.join(names)}{more}"})
-
-    def made_message(self, at: float, is_ranked: bool) -> str:
-        """The first sentence of the kubelet's message, of the resource that it says to be short of."""
-        since, resource = self.resource
-        return f"The node was low on resource: {resource}." if is_ranked and at - since <= NEAR_SECONDS else ""
+        else:
+            self.evictions.take_evicted(life, fact.at)
 
     def on_refused(self, fact: facts.Refused) -> None:
         life = self.life_of(fact.pod, fact.at)
@@ -437,7 +412,7 @@ class Importer:
         life.is_refused = True
         message = f"The node had condition: [{fact.conditions}]. "
         self.placing.count("pods refused")
-        refused = life.pod_refused(Decision(REFUSED, fact.at, EVICTED_WORD, message))
+        refused = life.pod_refused(Decision(REFUSED, fact.at, EVICTION, message))
         self.placing.timeline.place_decision(refused, fact.at, None)
 
     def on_happened(self, fact: facts.Happened) -> None:
@@ -448,11 +423,8 @@ class Importer:
         self.placing.count("events")
         if fact.reason in TOLD:
             self.say_event(life.key, fact)
-        if fact.reason == EVICTED_WORD:
-            kept = message_kept(EVICTED_WORD, fact.message, LONGEST_MESSAGE) or ""
-            self.messages[life.key] = kept
-            if life.decision is not None and kept and not life.is_decided:
-                life.decision = Decision(EVICTED, life.decision.moment, EVICTED_WORD, kept)
+        if fact.reason == EVICTION:
+            self.evictions.take_event(life, fact)
 
     def say_event(self, key: str, fact: facts.Happened) -> None:
         """What an Event says, where that is another message than the one before for its reason."""

@@ -44,6 +44,9 @@ class Instance:
     is_met: bool = False
     killing: Optional[facts.Killing] = None
     written: Optional[int] = None
+    # the seconds in which its start and its exit are placed
+    started_in: int = 0
+    ended_in: int = 0
     has_ended: bool = False
     # whether the kubelet's look found it
     is_looked: bool = False
@@ -192,12 +195,14 @@ class Instances:
         self.complete(added_at)
         self.find_sandboxes()
         names = pod.containers() if pod is not None else list(self.names)
-        inits = [each["name"] for each in pod.manifest["spec"].get("initContainers") or []] if pod is not None else []
+        of_inits = pod.manifest["spec"].get("initContainers") or [] if pod is not None else []
+        inits = [each["name"] for each in of_inits]
+        sidecars = {each["name"] for each in of_inits if each.get("restartPolicy") == "Always"}
         policy = pod.manifest["spec"].get("restartPolicy") or "Always" if pod is not None else "Always"
         kept = [Chain([each for each in chain.instances if each.written is not None], chain.name)
                 for chain in self.chains]
         chains = [chain for chain in kept if chain.instances]
-        linking = Linking(chains, names, inits, policy, self.hints)
+        linking = Linking(chains, names, inits, sidecars, policy, self.hints)
         unwritten = sorted((each for each in self.by_id.values() if each.written is None and not each.is_sandbox
                             and each.seen is not None), key=lambda each: each.seen or 0)
         linking.count_extra(unwritten)
@@ -220,10 +225,13 @@ def serial(instances: list[Instance]) -> int:
 class Linking:
     """Puts instances into the chains of their containers, in the order of their starts."""
 
-    def __init__(self, chains: list[Chain], names: list[str], inits: list[str], policy: str, hints: Hints) -> None:
+    def __init__(self, chains: list[Chain], names: list[str], inits: list[str], sidecars: set[str], policy: str,
+                 hints: Hints) -> None:
         self.chains = chains
         self.names = names
         self.inits = inits
+        # those of them that run on beside what comes behind them, and come again
+        self.sidecars = sidecars
         self.policy = policy
         self.hints = hints
         self.created = list(hints.created)
@@ -268,6 +276,11 @@ class Linking:
             return self.inits[0]
         last = max(ran, key=lambda chain: chain.newest.seen or 0)
         place = self.inits.index(str(last.name))
+        next_name = self.inits[place + 1] if place + 1 < len(self.inits) else None
+        if any(chain.name in self.sidecars and chain.is_down(instance.seen or 0) for chain in ran):
+            return None
+        if last.name in self.sidecars:
+            return next_name
         since = last.newest.gone if last.newest.gone is not None else last.newest.seen
         waited = [name for at, name in self.hints.waits if (since or 0) <= at <= (instance.seen or 0)]
         if last.newest.code not in (0, None) or (last.newest.code is None and last.name in waited):
@@ -275,7 +288,7 @@ class Linking:
         if last.newest.code is None and self.extra > 0 and place >= len(self.inits) // 2:
             self.extra -= 1
             return last.name
-        return self.inits[place + 1] if place + 1 < len(self.inits) else None
+        return next_name
 
     def count_extra(self, instances: list[Instance]) -> None:
         """How often an init container ran again without a code that says it, by how many came one behind the other up
@@ -299,7 +312,8 @@ class Linking:
         run yet."""
         at = instance.seen or 0
         apps = [chain for chain in self.chains if chain.name not in self.inits]
-        down = [chain for chain in apps if chain.is_down(at) and self.comes_again(chain)]
+        down = [chain for chain in self.chains if (chain in apps or chain.name in self.sidecars)
+                and chain.is_down(at) and self.comes_again(chain)]
         rest = len([name for name in self.names if name not in self.inits]) - len(apps)
         if rest > 0 and not any(chain.expected() <= at for chain in down):
             return None
@@ -312,7 +326,8 @@ class Linking:
 
     def comes_again(self, chain: Chain) -> bool:
         code = chain.newest.code
-        return self.policy == "Always" or (self.policy == "OnFailure" and code != 0)
+        is_kept = self.policy == "Always" or chain.name in self.sidecars
+        return is_kept or (self.policy == "OnFailure" and code != 0)
 
     # --- names ---
 

@@ -4,7 +4,6 @@ the first lines of a file; several files are read as one, by their moments."""
 from __future__ import annotations
 
 import gzip
-import heapq
 import io
 import itertools
 import os
@@ -23,6 +22,7 @@ from .moments import Klog, moment_of_iso
 PIECE = 1 << 20
 # a line that is longer is cut, which is counted
 LONGEST_LINE = 1 << 18
+MOST_PARTS = 64
 # so many bytes say which form a journal has
 LOOKED_AT = 1 << 16
 STANDARD_INPUT = "-"
@@ -219,14 +219,21 @@ def of_syslog(lines: Iterator[Optional[bytes]], counts: Counts, klog: Klog) -> I
 
 
 def of_container(lines: Iterator[Optional[bytes]], _counts: Counts) -> Iterator[Line]:
-    """What a runtime keeps of a kubelet in a container, or `kubectl logs --timestamps` gives."""
+    """What a runtime keeps of a kubelet in a container, or `kubectl logs --timestamps` gives. A long line is kept in
+    parts, of which each but the last one says that it is one."""
+    parts: list[bytes] = []
     for text in lines:
         if text is None:
             yield SKIPPED
             continue
         found = CONTAINER.match(text) or STAMPED.match(text)
+        said = text if found is None else text[found.end():]
+        if found is not None and found.re is CONTAINER and found[2] == b"P" and len(parts) < MOST_PARTS:
+            parts.append(said)
+            continue
         yield Line(None if found is None else moment_of_iso(found[1].decode()),
-                   text if found is None else text[found.end():])
+                   b"".join([*parts, said])[:LONGEST_LINE] if parts else said)
+        parts = []
 
 
 def of_plain(lines: Iterator[bytes], skipping: Skipping) -> Iterator[Line]:
@@ -338,8 +345,3 @@ def buffered(file: Any) -> Any:
 
 def why(fault: BaseException) -> str:
     return getattr(fault, "strerror", None) or str(fault)
-
-
-def merged(sources: list[Iterator[Any]]) -> Iterator[Any]:
-    """What several sources have, by their moments."""
-    return sources[0] if len(sources) == 1 else iter(heapq.merge(*sources, key=lambda each: each.at))

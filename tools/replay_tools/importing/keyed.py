@@ -3,11 +3,14 @@ it says. The forms are written from knowledge of the kubelet's sources."""
 
 from __future__ import annotations
 
+import base64
+import binascii
 import re
 from collections.abc import Callable, Iterator
 from typing import Any
 
 from replay_tools import outside
+from replay_tools.record.decisions import EVICTION
 
 from . import configured, facts
 from .messages import Message
@@ -93,6 +96,15 @@ def of_killing(message: Message) -> Iterator[facts.Fact]:
         yield facts.Killing(message.at, identity, pod, container, whole_of(message.keys.get("gracePeriod")))
 
 
+def of_stopped(message: Message) -> Iterator[facts.Fact]:
+    """A container that was to end has ended, of a pod too that is gone by then."""
+    identity = id_of(message.keys.get("containerID"))
+    if identity is not None:
+        pod = pod_of(message)
+        yield facts.Known(message.at, identity, pod, container_of(message))
+        yield facts.Turned(message.at, pod, identity, facts.DIED)
+
+
 def of_reason(message: Message) -> Iterator[facts.Fact]:
     found = STATUS_ID.search(str(message.keys.get("containerStatusID") or ""))
     if found is not None:
@@ -106,9 +118,19 @@ def of_error(message: Message) -> Iterator[facts.Fact]:
 
 
 def of_patch(message: Message) -> Iterator[facts.Fact]:
-    pod = pod_of(message)
+    pod, patch = pod_of(message), message.keys.get("patch")
     if pod.key or pod.uid:
-        yield from of_status(message.at, pod, patched(message.keys.get("patch")))
+        yield from of_status(message.at, pod, patched(bytes_of(message.keys.get("patchBytes")) or patch))
+
+
+def bytes_of(value: Any) -> str | None:
+    """The text of a patch that is given as bytes: as Go prints these, or as JSON has them."""
+    text = value if isinstance(value, str) else ""
+    try:
+        found = bytes(map(int, text[1:-1].split())) if text.startswith("[") else base64.b64decode(text, validate=True)
+    except (binascii.Error, ValueError):
+        return text or None
+    return found.decode("utf-8", "replace") or None
 
 
 def of_happened(message: Message) -> Iterator[facts.Fact]:
@@ -169,7 +191,9 @@ def of_ranked(message: Message) -> Iterator[facts.Fact]:
 
 
 def of_evicted(message: Message) -> Iterator[facts.Fact]:
-    yield facts.Evicted(message.at, pod_of(message))
+    """One pod, or those of a round."""
+    pods = references_of(message.keys["pods"]) if "pods" in message.keys else [pod_of(message)]
+    yield from (facts.Evicted(message.at, pod) for pod in pods)
 
 
 def of_cleaned(message: Message) -> Iterator[facts.Fact]:
@@ -178,7 +202,32 @@ def of_cleaned(message: Message) -> Iterator[facts.Fact]:
 
 def of_refusal(message: Message) -> Iterator[facts.Fact]:
     conditions = message.keys.get("nodeCondition") or message.keys.get("nodeConditions")
-    yield facts.Refused(message.at, pod_of(message), re.sub(r'[\[\]"]', "", str(conditions or "")).replace(" ", ", "))
+    yield facts.Refused(message.at, pod_of(message), " ".join(configured.CONDITIONS.findall(str(conditions))))
+
+
+def of_evicting(message: Message) -> Iterator[facts.Fact]:
+    """An eviction begins, as its Event says too."""
+    yield facts.Happened(message.at, pod_of(message), EVICTION, str(message.keys.get("message") or ""))
+
+
+def of_mount(message: Message) -> Iterator[facts.Fact]:
+    """A container is made, with the pod's file of hosts."""
+    container = container_of(message)
+    if container is not None:
+        yield facts.Created(message.at, pod_of(message), container)
+
+
+def of_sandbox(message: Message) -> Iterator[facts.Fact]:
+    identity = id_of(message.keys.get("podSandboxID"))
+    if identity is not None:
+        yield facts.Known(message.at, identity, pod_of(message), is_sandbox=True)
+
+
+def of_unchanged(message: Message) -> Iterator[facts.Fact]:
+    """Which pod an instance is of."""
+    identity = id_of(message.keys.get("containerID"))
+    if identity is not None:
+        yield facts.Known(message.at, identity, pod_of(message))
 
 
 def of_left(message: Message) -> Iterator[facts.Fact]:
@@ -200,7 +249,7 @@ def of_started(message: Message) -> Iterator[facts.Fact]:
 
 def of_status_line(message: Message) -> Iterator[facts.Fact]:
     """A status that was sent or is as before, as an object or as Go prints it."""
-    pod, status = pod_of(message), message.keys.get("status")
+    pod, status = pod_of(message), message.keys.get("status") or message.keys.get("apiStatus")
     status = outside.json_of(status) if isinstance(status, str) and status.startswith('{"') else status
     if isinstance(status, dict):
         yield from of_status(message.at, pod, status.get("status", status))
@@ -216,6 +265,7 @@ FORMS: dict[str, Callable[[Message], Iterator[facts.Fact]]] = {
     "SyncLoop (probe)": of_turnover, "Generic (PLEG): container finished": of_finished,
     "Probe failed": of_probe, "Probe succeeded": of_probe, "Probe succeeded with a warning": of_probe,
     "Killing container with a grace period": of_killing, "Message for Container of pod": of_reason,
+    "Container exited normally": of_stopped,
     "Error syncing pod, skipping": of_error, "Patch status for pod": of_patch, "Event occurred": of_happened,
     "Eviction manager: observations": of_observed, "Eviction manager: synchronize housekeeping": of_round,
     "Eviction manager:": of_list, "Eviction manager: threshold observed resource": of_below,
@@ -224,7 +274,12 @@ FORMS: dict[str, Callable[[Message], Iterator[facts.Fact]]] = {
     "Eviction manager: eviction criteria not yet met": of_soft,
     "Creating Container Manager object based on Node Config": of_configuration,
     "Eviction manager: attempting to reclaim": of_reclaim, "Eviction manager: pods ranked for eviction": of_ranked,
-    "Eviction manager: pod is evicted successfully": of_evicted,
+    "Evicting pod": of_evicting, "Creating hosts mount for container": of_mount,
+    "Created PodSandbox for pod": of_sandbox, "Container readiness unchanged": of_unchanged,
+    "Container startup unchanged": of_unchanged,
+    "Eviction manager: pod is evicted successfully": of_evicted, "Eviction manager: pod failed to evict": of_evicted,
+    "Eviction manager: pods evicted, waiting for pod to be cleaned up": of_evicted,
+    "Eviction manager: evicted pods, waiting for pod to be cleaned up": of_evicted,
     "Eviction manager: pods successfully cleaned up": of_cleaned, "Failed to admit pod to node": of_refusal,
     "Pod is terminated, but some containers have not been cleaned up": of_left,
     "Pod attempted illegal phase transition": of_status_line, "Status for pod updated successfully": of_status_line,

@@ -7,7 +7,7 @@ from dataclasses import dataclass, field, replace
 from typing import Any, Optional, TYPE_CHECKING
 
 from replay_tools.record import pods as recorded
-from replay_tools.record.decisions import EVICTED, Decision
+from replay_tools.record.decisions import EVICTED, EVICTION, Decision
 from replay_tools.record.formats import without_nones
 from replay_tools.record.probes import PROBES, Result
 from replay_tools.record.reasons import Reason, reason_of
@@ -16,6 +16,7 @@ from replay_tools.record.runtime import EXITED, LOST_CODE, RUNNING, Change, List
 from . import marks
 from .instances import Chain, Instance, Instances
 from .outputs import why_killed
+from .placing import LATE_SECONDS
 from .probing import SUCCESS, Probing
 
 if TYPE_CHECKING:
@@ -31,6 +32,10 @@ AFTER = 0.0001
 GOING_SECONDS = 30
 # what came and went between two looks of the kubelet's
 BETWEEN_LOOKS = 0.9
+# a line that a pod is evicted stands at most so long behind that its last container was found to have exited
+STOPPED_SECONDS = 2.0
+# by how much a look of the kubelet's may be late
+LOOK_SECONDS = 1.0
 ORDER = {"start": 0, "result": 1, "kill": 2, "exit": 3, "wait": 4}
 
 
@@ -78,8 +83,12 @@ class Life:
         self.replaced_at: Optional[float] = None
         # when a line spoke of it last
         self.heard_at = at
+        # the moment and the message of the Event of its eviction
+        self.evicting: Optional[tuple[float, str]] = None
         self.decision: Optional[Decision] = None
-        self.decided_since = 0.0
+        # when a line said that it is evicted, and whether one told the moment of that decision
+        self.told_at = 0.0
+        self.is_moment_told = False
         self.is_decided = False
         # the second of its line, and that from which on its containers change
         self.arrived: Optional[int] = None
@@ -111,6 +120,30 @@ class Life:
                 instance.seen, instance.is_met = (self.added_at, True) if is_met else (fact.at - BETWEEN_LOOKS, False)
             instance.gone = fact.at
 
+    def take_event_of_eviction(self, at: float, message: str) -> None:
+        self.evicting = at, message
+        if self.decision is not None and message and not self.is_decided:
+            self.decision = replace(self.decision, message=message)
+
+    def said_of_eviction(self) -> str:
+        return self.evicting[1] if self.evicting is not None else ""
+
+    def evict(self, at: float, ranked_at: Optional[float], message: str) -> None:
+        """A line says that the kubelet has evicted it. It decided that as it ranked the pods; of a pod that no ranking
+        has, as one that has reached a limit of its own, as it made the Event, or gave the first order to stop what ran
+        by then."""
+        moments = [ranked_at] if ranked_at is not None else [
+            moment for moment in (self.evicting and self.evicting[0], self.stopped_since(at)) if moment is not None]
+        self.told_at, self.is_moment_told = at, bool(moments)
+        self.decision = Decision(EVICTED, min([at, *moments]), EVICTION, message)
+
+    def stopped_since(self, at: float) -> Optional[float]:
+        """The first order to stop what ran shortly before a moment, for no reason of a container's own, and not since
+        the pod was deleted."""
+        orders = [each.killing.at for each in self.instances.by_id.values() if each.killing is not None
+                  and not each.killing.why and (each.gone is None or each.gone >= at - STOPPED_SECONDS)]
+        return min((each for each in orders if self.deleted_at is None or each < self.deleted_at), default=None)
+
     def may_have_run(self) -> bool:
         """Whether a container of it may have run before its first line: no line says that it came."""
         met = sum(each.is_met for each in self.instances.by_id.values())
@@ -122,8 +155,8 @@ class Life:
 
     # --- what is placed ---
 
-    def settle(self, horizon: float, placing: Placing) -> None:
-        """Places all that happened up to a moment."""
+    def settle(self, horizon: float, is_end: bool, placing: Placing) -> None:
+        """Places all that happened up to a moment, behind which there may be no line any more."""
         if self.is_over or self.is_refused or self.added_at > horizon:
             return
         pod = self.pod if self.arrived is not None else self.arrive(placing)
@@ -135,7 +168,7 @@ class Life:
         for item in self.placed:
             self.place(pod, item, placing)
         self.place_silent(pod, None, until, placing)
-        self.decide(pod, horizon, placing)
+        self.decide(pod, horizon, is_end, placing)
         self.leave(pod, horizon, placing)
 
     def resolve(self, placing: Placing) -> None:
@@ -243,6 +276,7 @@ class Life:
                      [marks.CONTAINER] if instance.is_found else [])
         moment = max(instance.begin or 0, self.arrived or 0)
         placing.timeline.place_container(pod, name, [Change(moment, Listing(attempt, RUNNING))], [], self.changes_from)
+        instance.started_in = placing.timeline.listed_in(pod, name) or 0
         self.started[name] = moment
         # behind a startup that has not passed no other probe comes
         first = (STARTUP,) if (name, STARTUP) in self.probings else PROBES
@@ -268,6 +302,7 @@ class Life:
         listing = Listing(instance.written, EXITED, code, reason)
         make = Change if instance.killing is not None or not is_guessed else ByItself
         placing.timeline.place_container(pod, name, [make(instance.end or 0, listing)], [], self.changes_from)
+        instance.ended_in = placing.timeline.listed_in(pod, name) or 0
         self.end_probes(name)
 
     def end_probes(self, name: str) -> None:
@@ -330,24 +365,41 @@ class Life:
 
     # --- its end ---
 
-    def decide(self, pod: recorded.Pod, horizon: float, placing: Placing) -> None:
+    def decide(self, pod: recorded.Pod, horizon: float, is_end: bool, placing: Placing) -> None:
         """The kubelet told it to go, or evicted it."""
         if self.deleted_at is not None and self.deleted_at <= horizon and not self.is_deleting:
             self.is_deleting = True
             moment = max(self.deleted_at, float(self.arrived or 0))
             placing.timeline.place_deletion(pod, moment)
             placing.timeline.place_look(moment)
-        if self.decision is None or self.is_decided or (self.decision.moment or 0) > horizon:
+        if self.decision is None or self.is_decided or not (is_end or self.is_settled(self.decision, horizon)):
             return
         self.is_decided = True
-        second = placing.decide(self, pod, self.decision)
-        if self.decision.kind == EVICTED:
-            self.changes_from = second + 1
+        decision = replace(self.decision, moment=self.moment_of(self.decision))
+        self.changes_from = placing.decide(self, pod, decision) + 1
 
-    def ended_since(self) -> list[str]:
-        """The containers whose last instance exited as the kubelet ended the pod."""
-        return [str(chain.name) for chain in self.instances.chains if chain.newest.has_ended
-                and chain.newest.end is not None and chain.newest.end >= self.decided_since - 1]
+    def is_settled(self, decision: Decision, horizon: float) -> bool:
+        """Whether it is known what happened up to the line that it is evicted, as far as its tick can wait for that."""
+        known = min(self.told_at + LOOK_SECONDS, (decision.moment or 0.0) + LATE_SECONDS - 1)
+        leaves_at = self.leaves_at()
+        return horizon >= (known if leaves_at is None else min(known, leaves_at))
+
+    def moment_of(self, decision: Decision) -> float:
+        """When the kubelet decided; where no line tells that, with the first of the last exits, if it is of the second
+        before the line that it is evicted."""
+        moment = decision.moment or 0.0
+        ends = [] if self.is_moment_told else [chain.newest.end for chain in self.instances.chains]
+        return min([moment, *(end for end in ends if end is not None and end >= moment - 1)])
+
+    def failed_in(self, second: int, decision: Decision) -> int:
+        """The second in which it has failed, as a kubelet says where it begins to stop the containers: that of its
+        eviction. Where one started behind that, since its sync was on its way, it is that of this start, and where one
+        had exited by itself, which the next look found, of this exit."""
+        at, instances = decision.moment or 0.0, [each for chain in self.instances.chains for each in chain.instances]
+        starts = [each.started_in for each in instances if (each.begin or 0.0) <= self.told_at + LOOK_SECONDS]
+        exits = [each.ended_in for each in instances
+                 if each.killing is None and each.gone is not None and each.gone <= at + LOOK_SECONDS]
+        return max([second, *starts, *exits])
 
     def leaves_at(self) -> Optional[float]:
         """When it is no more: once it was told to go and all its instances have exited, else when the kubelet has

@@ -11,12 +11,14 @@ from typing import Any
 from replay_tools import outside
 
 from .journals import SKIPPED, Hole, Line
-from .moments import Klog
+from .moments import Klog, moment_of_iso
+from .runtimes import KEYS, OF_RUNTIME
 
 HEADER = re.compile(rb"[IWEF](\d{4} \d\d:\d\d:\d\d)(\.\d{1,9}) +(\d+) [^\]\s]{1,200}:\d+\] ")
-# key="value" or key=value behind a quoted message; a value may have blanks in brackets
+# key="value" or key=value behind a quoted message; a value may have blanks in brackets, and one of several lines has a
+# tab before each, for which journalctl prints eight blanks
 KEY = re.compile(r' ([A-Za-z][\w./-]*)=("[^"\\]*(?:\\.[^"\\]*)*"|\{[^\n]*?\}(?= [A-Za-z][\w./-]*=|$)|\[[^\]\n]*\]'
-                 r"|&?\{[^}\n]*\}|<\n(?:\t[^\n]*\n)* *>|[^\s]*)")
+                 r"|&?\{[^}\n]*\}|<\n(?:(?:\t| {8})[^\n]*\n)* *>|[^\s]*)")
 QUOTED = re.compile(r'"([^"\\]*(?:\\.[^"\\]*)*)"')
 ESCAPE = re.compile(r"\\(u[0-9a-fA-F]{4}|x[0-9a-fA-F]{2}|.)")
 ESCAPED = {"n": "\n", "t": "\t", "r": "\r", '"': '"', "\\": "\\"}
@@ -61,13 +63,17 @@ def split(text: str) -> tuple[str, dict[str, Any], bool]:
     return unquoted(found[1]), keys, True
 
 
-def json_message(text: bytes, line: Line) -> Message | None:
-    """A message of `--logging-format json`."""
+def json_message(text: bytes, line: Line) -> Message | Line | None:
+    """A message of `--logging-format json`; a runtime's own is the line that it would be as text."""
     record = outside.json_of(text)
     if not isinstance(record, dict) or not isinstance(record.get("msg"), str):
         return None
     stamp = record.get("ts")
     moment = line.moment
+    if stamp is None and isinstance(record.get("time"), str):
+        at = moment_of_iso(record["time"]) if moment is None else moment
+        said = " ".join([record["msg"], *(f"{name}={value}" for name, value in record.items() if name in KEYS)])
+        return Line(at, said.encode("utf-8", "replace"), line.unit or OF_RUNTIME, line.process, line.node)
     if moment is None and isinstance(stamp, (int, float)) and not isinstance(stamp, bool):
         # milliseconds since 1970, with a fraction or without
         moment = stamp / 1000 if stamp > 1e11 else float(stamp)
@@ -115,9 +121,9 @@ def messages_of(lines: Iterator[Line], klog: Klog) -> Iterator[Message | Line]:
         if held is not None:
             yield finished(held)
             held = None
-        if made is None:
+        if made is None or isinstance(made, Line):
             if text.strip():
-                yield line
+                yield made or line
             continue
         held, continued = made, 0
     if held is not None:

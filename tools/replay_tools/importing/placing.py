@@ -103,13 +103,10 @@ class Placing:
         self.gone_at[pod.key] = self.timeline.place_departure(pod, moment)
 
     def decide(self, life: Life, pod: Pod, decision: Decision) -> int:
-        """What the kubelet did to a pod; the second of its tick. The node has ended the pod with the tick of the first
-        exit behind which none of its containers started."""
+        """What the kubelet did to a pod; the second of its tick."""
         arrived = Recorded(pod, life.changes_from if life.arrived is None else life.arrived, life.changes_from)
         second = self.timeline.place_decision(replace(pod, decision=decision), decision.moment or 0.0, arrived)
-        names = [(str(pod.uid), name, "listing") for name in life.ended_since()]
-        ends = [self.timeline.last_placed.get(name, second) for name in names]
-        self.put_beside(life.key, min([second, *ends]), FAILED, decision.reason)
+        self.put_beside(life.key, life.failed_in(second, decision), FAILED, decision.reason)
         self.count(f"pods {decision.kind}")
         return second
 

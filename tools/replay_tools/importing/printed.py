@@ -21,6 +21,7 @@ PROBE = re.compile(r'(Readiness|Liveness|Startup) probe for "([^"]*\)):([^"]*)" 
                    r"(?:(succeeded)|failed \((\w+)\): ?(.*))", re.S)
 KILLING = re.compile(r'Killing container "\w+://(\w+)" with a (\d{1,9}) second grace period')
 RESTARTED = re.compile(r'Container "([^"]*)" \(\{"\w+" "(\w+)"\}\) of pod (\S+): (.*)', re.S)
+STOPPED = re.compile(r'Container "\w+://(\w+)" exited normally')
 WAITS = 'failed to "StartContainer" for "'
 WAITING = re.compile(r'failed to "(\w+)" for "([^"]*)" with (\w+): "((?:[^"\\]|\\.)*)"')
 MADE = re.compile(r"container: ([a-z0-9][-a-z0-9]{0,62})/([-.a-z0-9]{1,253})/([a-z0-9][-a-z0-9]{0,62}) podIPs: ")
@@ -30,6 +31,8 @@ BELOW = re.compile(r"thresholds - [a-z ]{1,60}: threshold \[signal=([\w.]+), qua
 PRESSURE = re.compile(r"node conditions - (observed|transition period not met): (\[[A-Za-z ]{0,200}\])")
 NOT_YET_MET, UNRECLAIMED = "eviction criteria not yet met", "reclaim not satisfied"
 RESOURCE = re.compile(r"attempting to reclaim ([-\w]+)")
+# a kubelet that could not stop a pod's containers in time has evicted it all the same
+EVICTED = "is evicted successfully", " failed to evict ", " evicted, waiting for pod to be cleaned up"
 REFUSED = re.compile(r"Failed to admit pod (\S+) - node has conditions: \[([A-Za-z, ]{0,200})\]")
 SANDBOX = re.compile(r'Created PodSandbox "(\w+)" for pod "([^"]*)"')
 READINESS = re.compile(r'Container (?:readiness|startup) unchanged \(\w+\): "([^"]*)" - "\w+://(\w+)"')
@@ -38,6 +41,8 @@ NODE = re.compile(r'FLAG: --hostname-override="([^"]+)"'
 NAMED = re.compile(r'(?:killContainer|failed to remove pod init container) "([^"]*)".{0,300}?'
                    r'(?:\{"\w+" |container )"([0-9a-f]{12,64})"')
 DECODER = json.JSONDecoder()
+# what is a sentence in JSON too
+FLAG = "FLAG: "
 TYPES = {"ContainerStarted": facts.STARTED, "ContainerDied": facts.DIED}
 WHERE = {"ADD": facts.Added, "DELETE": facts.Deleted, "REMOVE": facts.Removed}
 
@@ -75,6 +80,9 @@ def of_container(message: Message) -> Iterator[facts.Fact]:
         pod = placed_in(found[3]) or facts.Reference()
         yield facts.Known(message.at, found[2], pod, found[1])
         yield facts.Killing(message.at, found[2], pod, found[1], why=found[4])
+    found = STOPPED.match(message.text)
+    if found is not None and id_of(found[1]) is not None:
+        yield facts.Turned(message.at, facts.Reference(), found[1], facts.DIED)
     found = READINESS.match(message.text)
     named = None if found is None else placed_in(found[1])
     if found is not None and named is not None and id_of(found[2]) is not None:
@@ -143,7 +151,7 @@ def of_eviction(message: Message) -> Iterator[facts.Fact]:
         yield facts.Observed(message.at)
     elif "pods ranked for eviction:" in text:
         yield facts.Ranked(message.at, tuple(placed(text)))
-    elif "is evicted successfully" in text:
+    elif any(words in text for words in EVICTED):
         yield from (facts.Evicted(message.at, pod) for pod in placed(text))
     elif "successfully cleaned up" in text:
         yield from (facts.Evicted(message.at, pod, True) for pod in placed(text))

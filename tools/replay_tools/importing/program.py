@@ -15,7 +15,7 @@ from replay_tools.record.lines import TooLong
 
 from . import cluster, events, manifests, moments, reading, summary
 from .importer import Importer, refuse_strangers
-from .journals import STANDARD_INPUT, Counts, Journal, merged
+from .journals import STANDARD_INPUT, Counts, Journal
 from .moments import Klog
 from .placing import Placing
 from .progress import Progress
@@ -68,8 +68,7 @@ def imported(words: Namespace) -> int:
     notes = Notes()
     importer = Importer(known, placing, notes)
     found, readers = reading.read_all(journals, lambda journal: Klog(words.year, shift, journal.written), words.node)
-    happened = events.read_all(words.events)
-    stream = merged([found, happened]) if words.events else found
+    stream = events.beside(found, events.read_all(words.events)) if words.events else found
     progress = Progress(journals)
     try:
         for lines, has_tick in importer.take_all(progress.over(stream)):

@@ -117,7 +117,7 @@ class Reader:
             self.process, self.node = message.process, message.node
             self.processes.take(message.process)
             yield facts.Process(message.at, message.process, message.node)
-        if message.is_structured:
+        if message.is_structured and not message.text.startswith(printed.FLAG):
             reader = keyed.FORMS.get(message.text)
         else:
             reader = printed.FORMS.get(message.text[:LONGEST_WORD].partition(" ")[0])
@@ -141,7 +141,9 @@ class Reader:
             self.journal.counts.holes += not is_forward
             yield facts.Missing(self.moment_of(line), None if is_forward else self.before)
             return
-        yield from self.runtime.facts_of(line)
+        # a kubelet's own file has no lines of a runtime: what looks so is of a message of several lines
+        if not self.uses_klog:
+            yield from self.runtime.facts_of(line)
 
     def moment_of(self, line: Line) -> float:
         return max(self.now, line.moment or self.now)

@@ -3,6 +3,7 @@ a log are these, so they are passed over before anything is taken apart."""
 
 from __future__ import annotations
 
+import json
 from collections.abc import Iterator
 from typing import Optional
 
@@ -26,12 +27,22 @@ SILENT = (b"SyncLoop (RECONCILE", b"SyncLoop (SYNC)", b"SyncLoop (housekeeping",
           b"Created an OOM event")
 # where klog's header has the process
 PROCESS = slice(22, 29)
+# how a line of JSON begins, where its message stands, and the messages that are read
+RECORD, SAYS = b'{"ts":', b'"msg":"'
+MESSAGES = {json.dumps(words)[1:-1].encode() for words in keyed.FORMS}
 
 
 def is_skipped(text: bytes) -> bool:
     """Whether a line is a message of klog's that is of no form that is read, by its first word."""
     place = text.find(b"] ", SHORTEST, LONGEST_HEADER) + 2
-    return place >= SHORTEST and text[0] in LETTERS and is_unwanted(text, place)
+    return (place >= SHORTEST and text[0] in LETTERS and is_unwanted(text, place)) or is_record_skipped(text)
+
+
+def is_record_skipped(text: bytes) -> bool:
+    """The same of a line of JSON, by all of its message."""
+    place = text.find(SAYS, 0, LONGEST_HEADER) + len(SAYS) if text.startswith(RECORD) else 0
+    return (place >= len(SAYS) and text[place:text.find(b'"', place)] not in MESSAGES
+            and not text.startswith(READ_FLAGS, place))
 
 
 def is_unwanted(text: bytes, place: int) -> bool:

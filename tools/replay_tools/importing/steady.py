@@ -4,7 +4,7 @@ once."""
 from __future__ import annotations
 
 from collections.abc import Callable
-from dataclasses import dataclass
+from dataclasses import dataclass, replace
 from typing import Any, Optional, TYPE_CHECKING
 
 from replay_tools.record.formats import shown
@@ -16,6 +16,7 @@ from .marks import ImportedAsides
 if TYPE_CHECKING:
     from replay_tools.record.lines import Format
     from replay_tools.record.pods import Pod
+    from replay_tools.record.seen import Recorded
     from replay_tools.record.timeline import Tick
 
 # what is told once, as a message, is out of an entry when it has been made so often
@@ -54,6 +55,14 @@ class ImportedTimeline(Timeline):
         """The second in which something stands: what happened in a gap stands at its end."""
         second = super().second_of(moment, *after)
         return next((until for since, until in self.gaps if since < second < until), second)
+
+    def place_decision(self, pod: Pod, moment: float, recorded: Recorded | None) -> int:
+        """What is known too late for a tick of its second has its own moment all the same."""
+        second = super().place_decision(pod, moment, recorded)
+        if int(moment) < second:
+            decisions = self.ticks[second].decisions
+            decisions[-1] = replace(decisions[-1], at=int(moment))
+        return second
 
     def lines_of(self, second: int, tick: Tick, is_silent: bool) -> list[str]:
         """The lines of a second, whose changes make entries anew."""
