@@ -11,7 +11,7 @@ import sys
 import tempfile
 
 import cases
-from checks import HERE, REPLAY, TOOLS, TOP, expect, expect_refused, read, run
+from checks import HERE, REPLAY, TOOLS, TOP, copy_package, expect, expect_refused, read, run
 
 from replay_tools import entry, tree
 
@@ -81,9 +81,9 @@ def test_the_package():
     folder = tempfile.mkdtemp()
     os.makedirs(f"{folder}/top/tools")
     shutil.copy(f"{TOP}/pyproject.toml", f"{folder}/top")
-    shutil.copytree(f"{TOOLS}/replay_tools", f"{folder}/top/tools/replay_tools")
+    copy_package(f"{folder}/top")
     made = run([python, "-m", "pip", "install", "--quiet", "--no-build-isolation", "--no-index", "--no-deps",
-                "--target", f"{folder}/there", f"{folder}/top"], longest=120)
+                "--target", f"{folder}/there", f"{folder}/top"])
     expect("pip installs the package", made[0], 0)
     for words in (["story", "default/a"], ["page"], ["json"], ["--version"], ["--help"], ["__complete", "st"]):
         answer = run([python, f"{folder}/there/bin/kubelet-replay", *words], read(REPORT), PYTHONPATH=f"{folder}/there")
