@@ -60,7 +60,7 @@ def object_at(found: dict[str, Any], name: str) -> dict[str, Any]:
     return value
 
 
-def number_at(found: dict[str, Any], name: str, otherwise: int) -> int:
+def number_at(found: dict[str, Any], name: str, otherwise: int | None = None) -> int:
     value = value_at(found, name, otherwise)
     if not isinstance(value, int) or isinstance(value, bool):
         raise Wrong(name)

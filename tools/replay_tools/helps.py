@@ -13,3 +13,10 @@ those that the rules alone evict or name, those that were deleted, those that ex
 with more restarts come first, then those that were not ready for longer. What the node did comes before what the rules
 say, by which a pod is ended where no trace says what the node did.
 """
+# of what asks the recorders of a cluster; what it runs there, and what it leaves out, stands behind these
+RECORDERS = """\
+--recorders NAMESPACE is where the recorders are (kubelet-replay), --context NAME the context of kubectl. It asks for
+the pods with the label app=kubelet-replay-recorder, and runs """
+RIGHTS = """\
+It needs python3, and kubectl with the right to list and get these pods and to exec into them (pods: list, get;
+pods/exec: create, get). """

@@ -5,7 +5,7 @@ from __future__ import annotations
 from html import escape
 from typing import TYPE_CHECKING
 
-from replay_tools import clock as clocks, entry, kubelet as kubelets, report as reports, telling
+from replay_tools import clock as clocks, entry, kubelet as kubelets, lanes as made, report as reports, telling
 
 if TYPE_CHECKING:
     from replay_tools import reasons, traces
@@ -73,7 +73,7 @@ class Picture:
     def line(self, x: float, y: float, to_x: float, to_y: float, kind: str) -> None:
         self.parts.append(f'<line x1="{x:.1f}" y1="{y:.1f}" x2="{to_x:.1f}" y2="{to_y:.1f}" class="{kind}"/>')
 
-    def span_words(self, span: reports.Span | reasons.Wait) -> str:
+    def span_words(self, span: reports.Span | made.State | reasons.Wait) -> str:
         until = "the end" if span.until is None else self.moment(span.until)
         return f"{self.moment(self.first if span.since is None else span.since)} to {until}"
 
@@ -177,24 +177,15 @@ def cross(picture: Picture, x: float, y: float, colour: str, title: str) -> None
     picture.shape([(x + over, y + down) for over, down in arms], colour, title)
 
 
-def container_lane(picture: Picture, pod: reports.Pod, name: str, trace: traces.Trace | None, y: float) -> None:
+def container_lane(picture: Picture, lane: made.Lane, trace: traces.Trace | None, y: float) -> None:
     """A bar for each state of a container, why it waits, and a mark for each order."""
-    label(picture, y + BAR - 2, name)
-    spans = reports.state_spans(pod, name)
-    deaths = {(event.rest[0], event.rest[1]): event for event in pod.events
-              if event.container == name and event.word == "died"}
-    for span in spans:
-        rest = span.note.split()
-        if span.value == "Terminated":
-            died = telling.event_words(deaths[rest[0], rest[1]], trace=trace)[1]
-            words = f"{name}: attempt {rest[0]} {died.replace('died', 'terminated', 1)}"
-        else:
-            words = f"{name}: attempt {rest[0]} running" if rest else f"{name}: waiting"
-        picture.bar(span.since, span.until, y, BAR, colour_of(span), f"{words}, {picture.span_words(span)}")
-    for wait in trace.reasons.waits.get((pod.number, name), ()) if trace else ():
-        wait_text(picture, wait, spans, y)
-    orders = [event for event in pod.events if event.container == name and event.word in ("kill", "restart")]
-    for run in runs_of(picture, orders):
+    label(picture, y + BAR - 2, lane.name)
+    for state in lane.states:
+        words = f"{lane.name}: {state_words(state, trace)}, {picture.span_words(state)}"
+        picture.bar(state.since, state.until, y, BAR, colour_of(state), words)
+    for wait in lane.waits:
+        wait_text(picture, wait, lane.states, y)
+    for run in runs_of(picture, lane.orders):
         if len(run) > MOST_MARKS:
             order_strip(picture, run, y)
             continue
@@ -221,15 +212,22 @@ def said_mark(picture: Picture, x: float, y: float, title: str) -> None:
                          f'fill="{SAID}"><title>{escape(title)}</title></rect>')
 
 
-def colour_of(span: reports.Span) -> str:
-    if span.value != "Terminated":
-        return span.value
-    return "Ended with 0" if span.note.endswith(" 0") else "Ended otherwise"
+def state_words(state: made.State, trace: traces.Trace | None) -> str:
+    if state.died is not None:
+        died = telling.event_words(state.died, trace=trace)[1]
+        return f"attempt {state.attempt} {died.replace('died', 'terminated', 1)}"
+    return "waiting" if state.attempt is None else f"attempt {state.attempt} running"
 
 
-def wait_text(picture: Picture, wait: reasons.Wait, spans: list[reports.Span], y: float) -> None:
+def colour_of(state: made.State) -> str:
+    if state.died is None:
+        return state.value
+    return "Ended with 0" if state.code == 0 else "Ended otherwise"
+
+
+def wait_text(picture: Picture, wait: reasons.Wait, states: list[made.State], y: float) -> None:
     """Why a container waits, in its lane where there is room for it."""
-    at = next((span for span in reversed(spans) if span.since is not None and span.since <= wait.since), None)
+    at = next((state for state in reversed(states) if state.since is not None and state.since <= wait.since), None)
     end = picture.x(wait.until) if wait.until is not None else WIDTH - RIGHT
     if at is not None and 12 + 0.8 * width_of(wait.reason) <= end - picture.x(wait.since):
         picture.within(picture.x(wait.since) + 6, y + BAR - 3, wait, colour_of(at) == "Ended otherwise")
@@ -292,26 +290,24 @@ def waiting_words(pod: reports.Pod, trace: traces.Trace | None) -> str:
 def pod_lanes(picture: Picture, report: reports.Report, pod: reports.Pod, kubelet: kubelets.Kubelet | None,
               trace: traces.Trace | None, y: float) -> float:
     """A pod's heading, its strip and its containers; gives the y below them."""
-    end, until = reports.end_of(pod), reports.end_of_spans(pod)
+    end, until, lanes = reports.end_of(pod), reports.end_of_spans(pod), made.lanes_of(pod, trace)
     ended = ended_words(picture, pod, kubelet) + deletion_words(picture, pod, trace) + waiting_words(pod, trace)
     ended += f", gone before {picture.moment(pod.left)}" if pod.left is not None else ""
     named = pod.key + reports.number_words(report, pod)
     picture.text(14, y + 13, f"{short(named, 800)}: {ended}", "pod", title=f"{named}: {pod.phase}, {pod.qos}")
     y += HEAD
     label(picture, y + STRIP + 1, "Ready", "small")
-    for span in reports.ready_spans(pod):
+    for span in lanes.ready:
         if until is not None and span.until is None:
             span.until = max(until, span.since or 0)
         picture.bar(span.since, span.until, y, STRIP, "Ready" if span.value == "True" else "Not ready",
                     f"Ready {span.value}: {picture.span_words(span)}")
     top = y
-    names = [container.name for container in pod.containers]
-    said = trace.said.by_lane(pod.number, names) if trace else {}
-    said_marks(picture, said.get(-1, []), y + STRIP + 1)
+    said_marks(picture, lanes.said.get(-1, []), y + STRIP + 1)
     y += STRIP + 7
-    for place, name in enumerate(names):
-        container_lane(picture, pod, name, trace, y)
-        said_marks(picture, said.get(place, []), y + BAR + 1)
+    for place, lane in enumerate(lanes.containers):
+        container_lane(picture, lane, trace, y)
+        said_marks(picture, lanes.said.get(place, []), y + BAR + 1)
         y += LANE
     if end:
         picture.line(picture.x(end[0]), top - 3, picture.x(end[0]), y - LANE + BAR + 3, "end")

@@ -27,6 +27,11 @@ class Case(unittest.TestCase):
         """That of the function."""
         return self._testMethodName
 
+    @property
+    def whole_name(self):
+        """With that of the module, since functions of two modules may have one name."""
+        return f"{type(self).__module__}.{self.name}"
+
     def of_function(self, function):
         """Runs a function; without the program one that asked it is left out, and nothing of it counts."""
         import checks

@@ -1,6 +1,7 @@
 """What the tests of all tools share: a run of a command, and what is compared."""
 
 import os
+import shutil
 import subprocess
 import sys
 import time
@@ -16,8 +17,8 @@ sys.path += [TOOLS, f"{HERE}/commands", f"{TOP}/bench/lib", f"{TOP}/bench/lib/re
 WITHOUT_PROGRAM = "--without-program" in sys.argv[1:] or "WITHOUT_PROGRAM" in os.environ
 # in place of the program one that says that it was asked
 REPLAY = f"{HERE}/commands/no_program" if WITHOUT_PROGRAM else os.environ.get("KUBELET_REPLAY", f"{TOP}/kubelet_replay")
-# a recorder that goes on by mistake ends all the same
-LONGEST = 60
+# seconds; what goes on by mistake ends all the same, and what a machine that does much else runs comes to its end
+LONGEST = 600
 
 WRITE = "--write" in sys.argv[1:]
 
@@ -48,14 +49,20 @@ def read(path):
         return file.read()
 
 
-def run(words, given="", longest=LONGEST, **settings):
-    """The status, the output and the errors of a command that may take this many seconds."""
+def run(words, given="", **settings):
+    """The status, the output and the errors of a command."""
     try:
-        done = subprocess.run(words, input=given.encode(), capture_output=True, timeout=longest, check=False,
+        done = subprocess.run(words, input=given.encode(), capture_output=True, timeout=LONGEST, check=False,
                               env={**os.environ, "KUBELET_REPLAY": REPLAY, **settings})
     except subprocess.TimeoutExpired:
-        return None, "", f"it went on for {longest} s"
+        return None, "", f"it went on for {LONGEST} s"
     return done.returncode, done.stdout.decode("utf-8", "replace"), done.stderr.decode("utf-8", "replace")
+
+
+def copy_package(top):
+    """Copies the tools' package to where it is in a checkout or a release. The bytecode stays, which another process
+    may be writing."""
+    shutil.copytree(f"{TOOLS}/replay_tools", f"{top}/tools/replay_tools", ignore=shutil.ignore_patterns("__pycache__"))
 
 
 def wait_until(what, holds):

@@ -8,7 +8,7 @@ import shutil
 import tempfile
 
 from chance import BEGIN
-from checks import HERE, LONGEST, run
+from checks import HERE, run
 
 from player import Play
 from replay_tools.record.folder import Folder
@@ -58,9 +58,9 @@ class Into:
         with open(f"{self.run}/play.json", "w", encoding="utf-8") as file:
             json.dump(play, file)
 
-    def record(self, *words, before=(), longest=LONGEST):
+    def record(self, *words, before=()):
         """The answer of a recording of the play, which another command may start."""
-        return run([*before, f"{HERE}/commands/played_record", "--node", "n1", *words], longest=longest,
+        return run([*before, f"{HERE}/commands/played_record", "--node", "n1", *words],
                    PATH=f"{HERE}/commands:{os.environ['PATH']}", RECORDING=self.recording, RUN=self.run)
 
     def into(self, *words, **how):

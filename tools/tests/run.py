@@ -1,65 +1,27 @@
 """Runs the tests of the tools: each with recorded answers, known reports or words alone. README.md says what is kept
 here. With `--write` it writes what the tools answer in place of what was kept, to be looked at; with
-`--without-program` it leaves out the tests that ask the program; other words choose the tests whose names have one of
-them."""
+`--without-program` it leaves out the tests that ask the program; `--jobs N` has so many run at a time; other words
+choose the tests whose names have one of them."""
 
+import argparse
 import glob
 import importlib
 import os
+import signal
 import subprocess
 import sys
 import tempfile
 import time
-import unittest
 
 sys.dont_write_bytecode = True
 import cases
-from checks import HERE, REPLAY, WITHOUT_PROGRAM
+from checks import HERE, REPLAY, WITHOUT_PROGRAM, read
+from side_by_side import Interrupted, Run
 
 # the tests that took longest are named at the end
 MOST_NAMED = 5
-
-
-class Told(unittest.TestResult):
-    """Counts checks, and tells of each one that fails as it does."""
-
-    def __init__(self):
-        super().__init__()
-        self.passed = self.failed = 0
-        self.seconds = {}
-
-    def startTest(self, test):
-        super().startTest(test)
-        self.seconds[test.name] = time.monotonic()
-
-    def stopTest(self, test):
-        super().stopTest(test)
-        self.seconds[test.name] = time.monotonic() - self.seconds[test.name]
-
-    def addSubTest(self, test, subtest, error):
-        super().addSubTest(test, subtest, error)
-        if error is None:
-            self.passed += 1
-        elif isinstance(error[1], cases.Differs):
-            self.fail(str(error[1]))
-        else:
-            self.end(test, error)
-
-    def addError(self, test, error):
-        super().addError(test, error)
-        self.end(test, error)
-
-    def addFailure(self, test, error):
-        super().addFailure(test, error)
-        self.end(test, error)
-
-    def end(self, test, error):
-        """A test that raises has failed, and the others run."""
-        self.fail(f"{test.name}: ended by {error[0].__name__}\n{self._exc_info_to_string(error, test).rstrip()}")
-
-    def fail(self, text):
-        self.failed += 1
-        print(f"FAILED {text}", flush=True)
+# most of a test's time is a wait; more of them at a time take the machine from each other
+MOST_JOBS = 4
 
 
 def modules():
@@ -73,32 +35,67 @@ def writes_reports():
     return first.returncode == 0 and first.stdout.startswith(b"node n1 ")
 
 
-def run_tests(tests):
+def longest_first(tests):
+    """Those that are known to take long come first, so that none of them is left at the end alone."""
+    names = read(f"{HERE}/longest").split()
+    places = {name: place for place, name in enumerate(names)}
+    return sorted(tests, key=lambda test: places.get(test.whole_name, len(names)))
+
+
+def run_tests(tests, jobs):
     """Runs tests, and says how many checks passed and failed, and what took long; the status."""
-    began, told = time.monotonic(), Told()
-    unittest.TestSuite(tests).run(told)
+    began = time.monotonic()
+    with tempfile.TemporaryDirectory(ignore_cleanup_errors=True) as room:
+        os.chmod(room, 0o711)
+        run = Run(room, jobs)
+        run.of(longest_first(tests) if jobs > 1 else tests)
     if WITHOUT_PROGRAM:
-        print(f"left out, since they ask the program: {len(told.skipped)}")
-    longest = sorted(told.seconds.items(), key=lambda each: -each[1])[:MOST_NAMED]
+        print(f"left out, since they ask the program: {run.left_out}")
+    longest = sorted(run.seconds.items(), key=lambda each: -each[1])[:MOST_NAMED]
     print(f"{time.monotonic() - began:.0f} s; the longest: "
-          + ", ".join(f"{name} {seconds:.0f} s" for name, seconds in longest), file=sys.stderr)
-    print(f"{told.passed} passed, {told.failed} failed")
-    return 1 if told.failed else 0
+          + ", ".join(f"{name.partition('.')[2]} {seconds:.0f} s" for name, seconds in longest), file=sys.stderr)
+    print(f"{run.passed} passed, {run.failed} failed")
+    return 1 if run.failed else 0
+
+
+def number_of_jobs(text):
+    if not text.isascii() or not text.isdigit() or int(text) < 1:
+        raise argparse.ArgumentTypeError("it takes a whole number from 1 on")
+    return int(text)
+
+
+def words_of(words):
+    # tools/test says its help, also where there is no Python
+    parser = argparse.ArgumentParser(prog="tools/test", add_help=False, allow_abbrev=False,
+                                     usage="tools/test [--jobs N] [--write | --without-program] [NAME ..]")
+    parser.add_argument("-j", "--jobs", type=number_of_jobs, metavar="N",
+                        default=min(MOST_JOBS, len(os.sched_getaffinity(0))))
+    kinds = parser.add_mutually_exclusive_group()
+    # checks.py, which each test imports, reads these two of itself
+    for name in ("--write", "--without-program"):
+        kinds.add_argument(name, action="store_true")
+    parser.add_argument("names", nargs="*", metavar="NAME")
+    return parser.parse_args(words)
 
 
 def main(words, of_modules=None):
+    asked = words_of(words)
+    tests = [test for module in of_modules or modules() for test in cases.tests_in(module)]
+    for name in asked.names:
+        if not any(name in test.whole_name for test in tests):
+            print(f"tools/test: there is no test with {name} in its name", file=sys.stderr)
+            return 2
     # it may have to be built first, which takes longer than any test may
     if not WITHOUT_PROGRAM and not writes_reports():
         print(f"tools/test: {REPLAY} does not write whole reports", file=sys.stderr)
         return 1
-    wanted = [word for word in words if word not in ("--write", "--without-program")]
-    with tempfile.TemporaryDirectory(ignore_cleanup_errors=True) as room:
-        # others than this user look into some folders of the tests
-        os.chmod(room, 0o711)
-        tempfile.tempdir = room
-        tests = [test for module in of_modules or modules() for test in cases.tests_in(module)
-                 if not wanted or any(word in test.name for word in wanted)]
-        return run_tests(tests)
+    try:
+        return run_tests([test for test in tests if not asked.names
+                          or any(name in test.whole_name for name in asked.names)], asked.jobs)
+    except Interrupted as interrupted:
+        [number] = interrupted.args
+        print(f"tools/test: ended by {signal.Signals(number).name}", file=sys.stderr)
+        return 128 + number
 
 
 if __name__ == "__main__":

@@ -1,6 +1,7 @@
 """The tests of kubelet-replay, the one command of the program and the tools: its words, its helps, and its completion
 in the shells that are there."""
 
+import argparse
 import gzip
 import os
 import pty
@@ -11,13 +12,15 @@ import sys
 import tempfile
 
 import cases
-from checks import HERE, REPLAY, TOOLS, TOP, expect, expect_refused, read, run
+from checks import HERE, REPLAY, TOOLS, TOP, copy_package, expect, expect_refused, read, run
 
 from replay_tools import entry, tree
 
 load_tests = cases.loaded(__name__)
 
 COMMAND = f"{TOOLS}/kubelet-replay"
+# those that a help writes otherwise
+DEFAULTS = {"--most": "(1Gi)", "--each": "1h"}
 NAMES = ("record", "run", "check", "explain", "story", "why", "page", "timeline", "json", "what-if", "import",
          "fleet", "fetch", "nodes")
 TRACE, REPORT = (f"{TOP}/examples/memory_pressure.{kind}" for kind in ("trace", "report"))
@@ -81,9 +84,9 @@ def test_the_package():
     folder = tempfile.mkdtemp()
     os.makedirs(f"{folder}/top/tools")
     shutil.copy(f"{TOP}/pyproject.toml", f"{folder}/top")
-    shutil.copytree(f"{TOOLS}/replay_tools", f"{folder}/top/tools/replay_tools")
+    copy_package(f"{folder}/top")
     made = run([python, "-m", "pip", "install", "--quiet", "--no-build-isolation", "--no-index", "--no-deps",
-                "--target", f"{folder}/there", f"{folder}/top"], longest=120)
+                "--target", f"{folder}/there", f"{folder}/top"])
     expect("pip installs the package", made[0], 0)
     for words in (["story", "default/a"], ["page"], ["json"], ["--version"], ["--help"], ["__complete", "st"]):
         answer = run([python, f"{folder}/there/bin/kubelet-replay", *words], read(REPORT), PYTHONPATH=f"{folder}/there")
@@ -106,6 +109,20 @@ def test_one_tree():
             expect(f"{' '.join(words)} completes its options", completed - beside, own - beside)
             if not command.is_of_program:
                 expect(f"the help of {name} has its options", [each for each in own if each not in parser.text], [])
+                expect(f"the help of {' '.join(words[:-1])} has its defaults", defaults_left_out(parser), [])
+        if not command.is_of_program:
+            taken = {each for subcommand in command.subcommands or (None,) for with_value in (True, False)
+                     for each in tree.parser_of(name, [subcommand] if subcommand else []).names(with_value)}
+            usage = re.findall(r"--[a-z][a-z-]*", parser.text.partition("\n\n")[0])
+            expect(f"the usage of {name} has no other options", sorted({*usage} - taken), [])
+
+
+def defaults_left_out(parser):
+    """The options whose default is not in the help, in brackets."""
+    shown = {action.option_strings[-1]: DEFAULTS.get(action.option_strings[-1], f"({action.default})")
+             for action in parser._actions if action.option_strings and isinstance(action.default, (int, str))
+             and action.default not in (False, argparse.SUPPRESS)}
+    return [option for option, text in shown.items() if text not in parser.text]
 
 
 def test_what_cannot_be_read():

@@ -169,15 +169,17 @@ def test_refusals():
         return
     place, wrong = Place(), "Bearer of-another"
     kubelet = Kubelet(place.folder)
-    closed = Kubelet(place.folder)
-    closed.end()
+    # nobody else takes a port that is bound, and nobody listens there
+    closed = socket.socket()
+    closed.bind(("127.0.0.1", 0))
     token = f'header = "Authorization: {TOKEN}"\n'
     for name, url, text, wanted in (
         ("a wrong token", kubelet.url, f'header = "Authorization: {wrong}"\ninsecure\n',
          "/metrics/probes answered with 401 Unauthorized: Unauthorized"),
         ("a certificate of nobody", kubelet.url, token, "self-signed certificate"),
         ("no such file of an authority", kubelet.url, f'{token}cacert = "/nonexistent"\n', "No such file"),
-        ("a port where nobody is", closed.url, f"{token}insecure\n", "gave no answer: Connection refused"),
+        ("a port where nobody is", f"https://127.0.0.1:{closed.getsockname()[1]}",
+         f"{token}insecure\n", "gave no answer: Connection refused"),
         ("a port that there is not", "https://127.0.0.1:99999", token, "gave no answer: Port out of range"),
         ("a token that can't be sent", kubelet.url, 'header = "Authorization: \u2026"\ninsecure\n', "gave no answer: "),
     ):

@@ -147,10 +147,10 @@ def test_entry():
         expect(f"the entry {name}: its file is its owner's", os.stat(curl).st_mode & 0o777, 0o600)
     os.unlink(f"{folder}/token")
     alone = {name: value for name, value in settings.items() if name not in ("ADDRESS", "SHOWN")}
-    status, out, said = run([f"{DEPLOY}/entry", "--look", "5"], longest=10, KUBELET="none", **alone)
+    status, out, said = run([f"{DEPLOY}/entry", "--look", "5"], KUBELET="none", **alone)
     expect("the entry without a kubelet", (status, out.split("\n"), said), (0, [
         "record", "--node", "worker-3", "--kubelet", "none", "--into", folder, "--look", "5", ""], ""))
-    status, out, said = run([f"{DEPLOY}/entry"], longest=10, **settings)
+    status, out, said = run([f"{DEPLOY}/entry"], **settings)
     expect("the entry without a token", (status, out, f"{folder}/token" in said), (1, "", True))
     shutil.rmtree(folder)
 

@@ -11,6 +11,7 @@ import tempfile
 import cases
 from checks import HERE, REPLAY, TOOLS, TOP, expect, expect_kept, expect_refused, read, run
 
+from replay_tools import amounts
 from replay_tools.explain import answer, before, lines, manifest, node, search, table, tick, told, verdict
 
 load_tests = cases.loaded(__name__)
@@ -130,6 +131,29 @@ def test_fallback():
     shutil.rmtree(folder)
 
 
+def test_other_texts():
+    """Of a text that is another than the program has read nothing is found, or a field of that; a fault of the tool's
+    own is not taken for such a text."""
+    strange = set()
+    for name, text, said, is_extended in refused_texts():
+        line, _, _, manifest_fault = verdict.REFUSED.fullmatch(said.removeprefix("status 2: ")).groups()
+        for number in range(31, 48):
+            given = verdict.Verdict(2, said, int(line), number, int(manifest_fault or 11))
+            try:
+                search.search(io.BytesIO(text), given, is_extended)
+            except amounts.Wrong:
+                pass
+            except Exception as error:  # noqa: BLE001 what a test looks for
+                strange.add(f"{number} of {name}: {error!r}")
+    expect("explain of texts with other faults", sorted(strange)[:3], [])
+    found, answer.search = answer.search, {}.__getitem__
+    try:
+        expect("a fault of explain's own", answer.found_in(f"{TOP}/examples/first_tick.trace", None, False), "raised")
+    except TypeError as error:
+        expect("a fault of explain's own", "takes exactly one argument" in str(error), True)
+    answer.search = found
+
+
 def test_what_is_no_fault():
     trace = f"{TOP}/examples/liveness_kill.trace"
     shown = run([f"{TOOLS}/explain", trace])
@@ -229,7 +253,7 @@ def test_accepted_texts():
         for number, text in enumerate(texts, 1):
             if not text.strip(b" \t\r"):
                 continue
-            line = lines.value_of(text.decode("utf-8"))
+            line = lines.value_of(text)
             wrong += [f"{path} {number}: {found.says}" for found in faults_of(line, state)]
             state.take(number, line, True)
             count += 1

@@ -15,7 +15,8 @@ import tempfile
 import time
 
 import cases
-from checks import HERE, LONGEST, REPLAY, TOOLS, TOP, expect, expect_kept, expect_refused, read, run, wait_until
+from checks import (HERE, LONGEST, REPLAY, TOOLS, TOP, copy_package, expect, expect_kept, expect_refused, read, run,
+                    wait_until)
 
 import fleet_runs
 import node_traces
@@ -338,7 +339,7 @@ def test_program_of_a_checkout():
     folder = tempfile.mkdtemp()
     built = f"{folder}/crates/replay_program/out/replay_program"
     os.makedirs(os.path.dirname(built))
-    shutil.copytree(f"{TOOLS}/replay_tools", f"{folder}/tools/replay_tools")
+    copy_package(folder)
     for path in (f"{folder}/kubelet_replay", built):
         with open(path, "w") as file:
             file.write("#!/bin/sh\nprintf 'node n1 pods=0 ticks=0\\n'\n")

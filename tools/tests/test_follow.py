@@ -13,14 +13,13 @@ import tempfile
 import threading
 
 import cases
-from checks import REPLAY, TOOLS, expect, expect_refused, run
+from checks import LONGEST, REPLAY, TOOLS, expect, expect_refused, run
 
 load_tests = cases.loaded(__name__)
 
 BEGIN = 1767225600
 FIRST, SECOND = "n1.2026-01-01T00-00-00Z.trace", "n1.2026-01-01T00-01-00Z.trace"
 NODE = {"kind": "node", "name": "n1", "version": 3, "recordsKubelet": True}
-LONGEST = 60
 
 
 def pod(name):

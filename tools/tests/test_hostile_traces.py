@@ -13,7 +13,7 @@ import time
 import xml.dom.minidom
 
 import cases
-from checks import TOOLS, TOP, expect, expect_refused, read, run
+from checks import LONGEST, TOOLS, TOP, expect, expect_refused, read, run
 
 from replay_tools import asking, entry
 
@@ -318,9 +318,9 @@ def typed(shell, setup, lines, folder):
     return shown
 
 
-def read_until(terminal, wanted, longest=20):
+def read_until(terminal, wanted):
     """What comes from a terminal until a text is in it, or for a while."""
-    shown, until = "", time.monotonic() + longest
+    shown, until = "", time.monotonic() + LONGEST
     while wanted is not None and wanted not in shown and time.monotonic() < until:
         if select.select([terminal], [], [], 0.5)[0]:
             try:

@@ -148,9 +148,9 @@ def test_joined_belongs():
     folder = f"{HERE}/recordings/real_evictions"
     words = [word for word in read(f"{folder}/words").split() if word not in ("--standard", "--extended")]
     into = Into({}, folder)
-    into.into(*words, "--each", "60s", longest=200)
+    into.into(*words, "--each", "60s")
     expect("joined traces of real_evictions", belongs_fault(into.folder), None)
-    whole = into.record(*words, "--extended", longest=200)[1]
+    whole = into.record(*words, "--extended")[1]
     with open(f"{into.run}/trace", "w", encoding="utf-8") as file:
         file.write(whole)
     one, several = (records(run([f"{TOOLS}/json", *words], given)) for words, given in (
@@ -167,7 +167,7 @@ def test_joined_belongs():
     into.clean()
     # where the rules evict they take h-bulk before a border and the kubelet behind it: there they begin anew
     into = Into({}, folder)
-    into.into(*words, "--each", "60s", "--simulate", longest=200)
+    into.into(*words, "--each", "60s", "--simulate")
     told = run([f"{TOOLS}/story", "--traces", into.folder, "shop/h-bulk", "--without-why"])[1]
     again = [line.split("  ")[-1] for line in told.split("\n") if "14:28:00Z)" in line]
     expect("a pod that the rules evicted before a border is there again", again, [

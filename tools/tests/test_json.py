@@ -10,7 +10,7 @@ import stat
 import tempfile
 
 import cases
-from checks import HERE, TOOLS, TOP, expect, expect_kept, expect_refused, read, run
+from checks import HERE, TOOLS, TOP, copy_package, expect, expect_kept, expect_refused, read, run
 
 load_tests = cases.loaded(__name__)
 
@@ -85,7 +85,7 @@ def test_events_of_the_documents():
 def test_without_the_table():
     """The tools without their table say what they lack."""
     folder = tempfile.mkdtemp()
-    shutil.copytree(f"{TOOLS}/replay_tools", f"{folder}/tools/replay_tools")
+    copy_package(folder)
     shutil.copy(f"{TOOLS}/json", f"{folder}/tools")
     os.remove(f"{folder}/tools/replay_tools/report.schema.json")
     answer = run([f"{folder}/tools/json"], read(f"{LINES}/came_again.report"))

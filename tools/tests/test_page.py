@@ -12,8 +12,10 @@ import tempfile
 import big_node
 import cases
 import test_said
-from checks import HERE, TOOLS, TOP, expect, expect_refused, read, run
+from checks import HERE, LONGEST, TOOLS, TOP, expect, expect_refused, read, run
 from joined_plays import Folder
+
+import processes
 
 load_tests = cases.loaded(__name__)
 
@@ -163,7 +165,7 @@ def test_page_of_use():
 def drawn_of(path, *words):
     """What node draws and says of a page's story of a pod."""
     done = subprocess.run(["node", f"{HERE}/drawn.js", path, *words], capture_output=True, text=True, check=False,
-                          timeout=60)
+                          timeout=LONGEST)
     expect(f"node draws {' '.join(words)[:40]}", (done.returncode, done.stderr), (0, ""))
     return json.loads(done.stdout)
 
@@ -267,7 +269,7 @@ def test_page_in_a_browser():
     folder = tempfile.mkdtemp()
     write_pages(folder)
     done = subprocess.run([found[0], f"{HERE}/browser.py", folder, found[1]], capture_output=True, text=True,
-                          check=False, timeout=300)
+                          check=False, timeout=LONGEST)
     for line in done.stdout.split("\n")[:-1]:
         name, got, wanted = json.loads(line)
         expect(f"in a browser: a page {name}", got, wanted)
@@ -278,10 +280,11 @@ def test_page_in_a_browser():
 
 
 def test_page_of_a_great_trace():
-    """A trace of 256 pods by 20,000 ticks, six pods at a time, becomes a page within a minute."""
-    folder = tempfile.mkdtemp()
+    """A trace of 256 pods by 20,000 ticks, six pods at a time, becomes a page within a minute of a processor."""
+    folder, began = tempfile.mkdtemp(), processes.children_seconds()
     with open(f"{folder}/trace", "w") as file:
         file.writelines(big_node.trace_of(PODS, TICKS, 6))
     status, page, said = page_of("".join(big_node.report_of(PODS, TICKS, 6)), f"{folder}/trace")
     expect("the page of a great trace", (status, said, len(page) < MOST_BYTES), (0, "", True))
+    expect("the page of a great trace: its processor seconds", processes.children_seconds() - began < 60, True)
     shutil.rmtree(folder)

@@ -11,7 +11,7 @@ from concurrent.futures import ThreadPoolExecutor
 
 from chance import BEGIN, SECONDS, play_of
 import cases
-from checks import HERE, LONGEST, REPLAY, TOOLS, expect, read, run
+from checks import HERE, REPLAY, TOOLS, expect, read, run
 from into_plays import Into
 
 from replay_tools.report import read_report
@@ -25,13 +25,13 @@ LATEST = 5
 PODS_SECONDS = 10
 
 
-def recorded(play, *words, longest=LONGEST):
+def recorded(play, *words):
     """The status of a recording of a play, its trace, and what was said."""
     folder = tempfile.mkdtemp()
     with open(f"{folder}/play.json", "w", encoding="utf-8") as file:
         json.dump(play, file)
     answer = run([f"{HERE}/commands/played_record", "--node", "n1", *words],
-                 longest=longest, PATH=f"{HERE}/commands:{os.environ['PATH']}", RECORDING=folder, RUN=folder)
+                 PATH=f"{HERE}/commands:{os.environ['PATH']}", RECORDING=folder, RUN=folder)
     shutil.rmtree(folder)
     return answer
 
@@ -284,8 +284,7 @@ def quiet_node(pods, seconds):
 def size_of(every):
     """What an hour of a quiet node with 30 pods makes, as tools/README.md says it."""
     # some 8 s on a machine that does nothing else
-    status, trace, said = recorded(quiet_node(30, 3600), "--for", "3600", "--every", str(every), "--standard",
-                                   longest=5 * LONGEST)
+    status, trace, said = recorded(quiet_node(30, 3600), "--for", "3600", "--every", str(every), "--standard")
     expect(f"an hour of a quiet node, every {every} s", (status, said), (0, ""))
     ticks = trace.count('"kind":"tick"')
     return f"{ticks} ticks and {len(trace.encode()) / 10 ** 6:.1f} MB with `--every {every}`"

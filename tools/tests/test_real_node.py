@@ -12,7 +12,7 @@ import tempfile
 import time
 
 import cases
-from checks import HERE, REPLAY, TOP, expect, expect_kept, read, run, wait_until
+from checks import HERE, LONGEST, REPLAY, TOP, expect, expect_kept, read, run, wait_until
 
 import test_connections
 import beside
@@ -26,8 +26,6 @@ load_tests = cases.loaded(__name__)
 PARTS = f"{TOP}/bench/lib/real_node"
 RECORDING = f"{HERE}/recordings/real_node"
 KEPT_RUNS = ("real_evictions", "real_soft_run")
-# five minutes of answers take some seconds, and more on a machine that is busy
-LONGEST_PLAY = 600
 # a pod that came again while the one before it under its name ran on
 LATE = {("real_soft_run", "starts"): 1}
 PAGE = f"{TOP}/docs/real.md"
@@ -85,8 +83,7 @@ def played(recording):
     """The trace of a recording's answers, as a file of a folder; the folder, the status and the path."""
     folder = tempfile.mkdtemp()
     status, trace, _ = run([f"{HERE}/commands/played_record", *read(f"{recording}/words").split()],
-                           longest=LONGEST_PLAY, RUN=folder, PATH=f"{HERE}/commands:{os.environ['PATH']}",
-                           RECORDING=recording)
+                           RUN=folder, PATH=f"{HERE}/commands:{os.environ['PATH']}", RECORDING=recording)
     with open(f"{folder}/trace", "w", encoding="utf-8") as file:
         file.write(trace)
     return folder, status, f"{folder}/trace"
@@ -274,7 +271,7 @@ def interrupted(folder, numbers, **settings):
     for number in numbers:
         process.send_signal(number)
         time.sleep(0.2)
-    _, said = process.communicate(timeout=60)
+    _, said = process.communicate(timeout=LONGEST)
     return process.returncode, said.strip().split("\n")[-1]
 
 

@@ -301,14 +301,12 @@ class Dropping:
 
 def main():
     Dropping()
-    time.sleep(30)
+    time.sleep(100000)
     return 0
 
 sys.exit(entry.run("story", main))
 """
-    began = time.monotonic()
     expect("an interrupt that Python drops", run([sys.executable, "-c", program, TOOLS]), (130, "", ""))
-    expect("an interrupt that Python drops: at once", time.monotonic() - began < 20, True)
 
 
 def test_lost_outputs():

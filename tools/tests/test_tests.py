@@ -1,14 +1,17 @@
-"""The tests of the tests: one that raises ends alone, and each is one of unittest's too."""
+"""The tests of the tests: one that raises or crashes ends alone, several run side by side and end with the run, and
+each is one of unittest's too."""
 
 import os
 import shutil
+import signal
 import subprocess
 import sys
 import tempfile
 
 import cases
-from checks import HERE, expect, wait_until
+from checks import HERE, LONGEST, expect, read, run, wait_until
 
+from run import modules
 from test_real_node import is_there
 
 load_tests = cases.loaded(__name__)
@@ -57,6 +60,58 @@ module = types.ModuleType("module")
 vars(module).update({name: value for name, value in list(globals().items()) if name.startswith("test_")})
 sys.exit(run.main(["--without-program", "test_one_that_"], [module]))
 """
+CRASHES = """
+import os, signal, subprocess, sys, time, types
+_, tests, folder, *words = sys.argv
+sys.path.insert(0, tests)
+import run, checks
+
+def leave(name):
+    with open(f"{folder}/{name}.new", "w") as file:
+        file.write(str(subprocess.Popen(["sleep", "600"], start_new_session=True).pid))
+    os.rename(f"{folder}/{name}.new", f"{folder}/{name}")
+
+def test_one_that_is_killed():
+    checks.expect("before the signal", 1, 1)
+    leave("killed")
+    os.kill(os.getpid(), signal.SIGKILL)
+
+def test_one_that_leaves_its_process():
+    checks.expect("before the end", 1, 1)
+    os._exit(0)
+
+def test_one_that_leaves_with_a_status():
+    os._exit(7)
+
+def test_one_that_leaves_a_process():
+    leave("left")
+    checks.expect("one that passes", 1, 1)
+
+def test_one_that_has_a_long_fault():
+    checks.expect("a long fault " + "x" * 200000, 1, 2)
+
+def test_one_that_waits_for_another():
+    open(f"{folder}/one", "w").close()
+    checks.wait_until("the other", lambda: os.path.exists(f"{folder}/other"))
+    checks.expect("the one", 1, 1)
+
+def test_one_that_is_the_other():
+    open(f"{folder}/other", "w").close()
+    checks.wait_until("the one", lambda: os.path.exists(f"{folder}/one"))
+    checks.expect("the other", 1, 1)
+
+def test_that_goes_on():
+    leave("goes_on")
+    time.sleep(600)
+
+def test_that_goes_on_too():
+    leave("goes_on_too")
+    subprocess.run(["sleep", "600"])
+
+module = types.ModuleType("module")
+vars(module).update({name: value for name, value in list(globals().items()) if name.startswith("test_")})
+sys.exit(run.main(words, [module]))
+"""
 # a module as those of the tests, of which unittest runs one test by its name
 OF_UNITTEST = """
 import cases
@@ -91,8 +146,9 @@ def test_that_a_test_ends_alone():
     done = subprocess.run([sys.executable, "-c", FAILS, HERE, f"{folder}/pid"], capture_output=True, text=True,
                           check=False, env={**os.environ, "KUBELET_REPLAY": f"{folder}/replay", "TMPDIR": folder})
     expect("tests that raise", (done.returncode, done.stdout.splitlines()[-1:]), (1, ["1 passed, 4 failed"]))
-    expect("tests that raise: what is said", [line for line in done.stdout.splitlines() if line.startswith("FAILED")],
-           ["FAILED test_one_that_raises: ended by IndexError", "FAILED test_one_that_exits: ended by SystemExit",
+    expect("tests that raise: what is said",
+           sorted(line for line in done.stdout.splitlines() if line.startswith("FAILED")),
+           ["FAILED test_one_that_exits: ended by SystemExit", "FAILED test_one_that_raises: ended by IndexError",
             "FAILED the one", "FAILED the third"])
     expect("tests that raise: what they took", "the longest: test_one_that_" in done.stderr, True)
     with open(f"{folder}/pid", encoding="ascii") as file:
@@ -100,6 +156,100 @@ def test_that_a_test_ends_alone():
     wait_until("the end of what a test has started", lambda: not is_there(started))
     expect("tests that raise: what they leave", sorted(os.listdir(folder)), ["pid", "replay"])
     shutil.rmtree(folder)
+
+
+class Room:
+    """A folder with a program that writes reports, in which tests run and leave what they have started."""
+
+    def __init__(self):
+        self.path = tempfile.mkdtemp()
+        with open(f"{self.path}/replay", "w", encoding="utf-8") as file:
+            file.write("#!/bin/sh\necho node n1 pods=0 ticks=0\n")
+        os.chmod(f"{self.path}/replay", 0o755)
+        os.mkdir(f"{self.path}/left")
+        os.mkdir(f"{self.path}/rooms")
+
+    def start(self, *words):
+        return subprocess.Popen([sys.executable, "-c", CRASHES, HERE, f"{self.path}/left", *words],
+                                stdout=subprocess.PIPE, stderr=subprocess.PIPE, text=True,
+                                env={**os.environ, "KUBELET_REPLAY": f"{self.path}/replay",
+                                     "TMPDIR": f"{self.path}/rooms"},
+                                preexec_fn=lambda: signal.signal(signal.SIGINT, signal.SIG_DFL))
+
+    def run(self, *words):
+        process = self.start(*words)
+        told, said = process.communicate(timeout=2 * LONGEST)
+        return process.returncode, told.splitlines(), said
+
+    def is_left(self, name):
+        """Whether what a test has started is there; it is not told before that."""
+        return is_there(read(f"{self.path}/left/{name}"))
+
+    def clean(self):
+        expect("tests: no folder of theirs is left", os.listdir(f"{self.path}/rooms"), [])
+        shutil.rmtree(self.path)
+
+
+def test_that_a_crash_ends_alone():
+    """A test that ends its process fails, what it counted before counts, what it has started ends, and the tests behind
+    it run; so does what one that passes has left."""
+    for jobs in ("1", "3"):
+        room = Room()
+        status, told, said = room.run("--jobs", jobs, "test_one_that_is_killed", "test_one_that_leaves",
+                                      "test_one_that_has")
+        expect(f"{jobs} at a time: tests that crash", (status, told[-1:]), (1, ["3 passed, 4 failed"]))
+        expect(f"{jobs} at a time: what is said", sorted(line for line in told if line.startswith("FAILED")), [
+            f"FAILED a long fault {'x' * 200000}",
+            "FAILED test_one_that_is_killed: its process was ended by SIGKILL",
+            "FAILED test_one_that_leaves_its_process: its process ended with status 0",
+            "FAILED test_one_that_leaves_with_a_status: its process ended with status 7"])
+        expect(f"{jobs} at a time: what they took", "the longest: test_one_that_" in said, True)
+        expect(f"{jobs} at a time: what is left", [room.is_left(name) for name in ("killed", "left")], [False, False])
+        room.clean()
+
+
+def test_side_by_side():
+    """Two tests that wait for each other end where two run at a time, also those that are chosen by their module."""
+    room = Room()
+    for words in (["-j", "2", "the_other", "for_another"], ["--jobs", "9", "module.test_one_that_is_the", "another"]):
+        status, told, said = room.run(*words)
+        expect(f"tests {' '.join(words)}", (status, told[-1:]), (0, ["2 passed, 0 failed"]))
+        shutil.rmtree(f"{room.path}/left")
+        os.mkdir(f"{room.path}/left")
+    room.clean()
+
+
+def test_an_interrupt_ends_all():
+    """An interrupt ends the run with each test that runs and what these have started; so they end where the run itself
+    is killed, which leaves its folder."""
+    for number in (signal.SIGINT, signal.SIGTERM, signal.SIGKILL):
+        room = Room()
+        names = ("goes_on", "goes_on_too")
+        process = room.start("--jobs", "2", "test_that_goes_on")
+        wait_until("the tests", lambda: all(os.path.exists(f"{room.path}/left/{name}") for name in names))
+        process.send_signal(number)
+        told, said = process.communicate(timeout=LONGEST)
+        killed = number == signal.SIGKILL
+        expect(f"a run ended by {number.name}", (process.returncode, told, said), (
+            -number if killed else 128 + number, "", "" if killed else f"tools/test: ended by {number.name}\n"))
+        wait_until("the end of what the tests have started", lambda: not any(map(room.is_left, names)))
+        if killed:
+            shutil.rmtree(f"{room.path}/rooms")
+            os.mkdir(f"{room.path}/rooms")
+        room.clean()
+
+
+def test_words_of_the_run():
+    """Words that there are not are refused, and names that no test has; those that run first are tests."""
+    for words, said in ((["--jobs", "0"], "it takes a whole number from 1 on"), (["--jobs", "x"], "it takes a whole"),
+                        (["--write", "--without-program"], "not allowed with"), (["--all"], "unrecognized"),
+                        (["test_of_nothing"], "there is no test with test_of_nothing in its name")):
+        status, told, refused = run([f"{HERE}/../test", *words])
+        expect(f"tools/test {' '.join(words)}", (status, told, said in refused), (2, "", True))
+    known = {test.whole_name for module in modules() for test in cases.tests_in(module)}
+    first = read(f"{HERE}/longest").split()
+    expect("the tests that run first", ([name for name in first if name not in known], len(set(first))),
+           ([], len(first)))
 
 
 def test_of_unittest():

@@ -10,7 +10,7 @@ import xml.dom.minidom
 
 import big_node
 import cases
-from checks import HERE, TOOLS, TOP, expect, expect_kept, expect_refused, read, run
+from checks import HERE, TOOLS, TOP, copy_package, expect, expect_kept, expect_refused, read, run
 
 load_tests = cases.loaded(__name__)
 
@@ -364,7 +364,7 @@ def test_versions():
             expect(f"{tool} {word}", run([f"{TOOLS}/{tool}", word]), (0, f"{tool} {version}", ""))
         expect(f"{tool} -h", run([f"{TOOLS}/{tool}", "-h"]), run([f"{TOOLS}/{tool}", "--help"]))
     with tempfile.TemporaryDirectory() as top:
-        shutil.copytree(f"{TOOLS}/replay_tools", f"{top}/tools/replay_tools", ignore=shutil.ignore_patterns("*.pyc"))
+        copy_package(top)
         for tool in ("story", "what-if"):
             shutil.copy(f"{TOOLS}/{tool}", f"{top}/tools")
             for changes, said in (("# Changes\n\n## Not released yet\n", more), ("# Changes\n\n## 1.2.3\n", "")):

@@ -6,7 +6,7 @@ import argparse
 import sys
 import time
 
-from replay_tools import amounts, entry, report as reports
+from replay_tools import amounts, entry, helps, report as reports
 from replay_tools.cluster import fetching, recorders
 from replay_tools.joined import asked
 
@@ -20,15 +20,13 @@ an hour before it and ten minutes behind; without both all are taken. Moments ar
 the last one before now, or seconds since 1970. A trace that is there already is not copied again. The one that is still
 written is copied up to its last whole line, under its name there, NAME.trace.part, until it is there whole.
 
---recorders NAMESPACE is where the recorders are (kubelet-replay), --context NAME the context of kubectl. It asks for
-the pods with the label app=kubelet-replay-recorder, and runs find and cat in them.
+""" + helps.RECORDERS + """find and cat in them.
 
 A node may send anything. Of each node --most bytes (1Gi) are copied in a run, and 65Mi of a trace; what is named after
 another node, and what has no size or time, is left out, which is said, and the others are copied. A FOLDER that others
 may write is refused, unless it is sticky and each trace in it is a file of one's own.
 
-It needs python3, and kubectl with the right to list and get these pods and to exec into them (pods: list, get;
-pods/exec: create, get). It leaves out traces of nodes whose recorder is gone, though they may still lie on the node,
+""" + helps.RIGHTS + """It leaves out traces of nodes whose recorder is gone, though they may still lie on the node,
 and says how to get them.
 
 Status 0: done; 1: some node's traces did not come, or not whole, or not all, which is said, or standard output takes no

@@ -5,7 +5,7 @@ from __future__ import annotations
 import sys
 from concurrent.futures import ThreadPoolExecutor
 
-from replay_tools import amounts, entry, report as reports, telling
+from replay_tools import amounts, entry, helps, report as reports, telling
 from replay_tools.cluster import fetching, recorders
 
 HELP = """\
@@ -15,11 +15,9 @@ Lists the nodes on which a recorder of deploy/daemonset.yaml runs: since when it
 that it holds), up to when (its newest was written last then), how many they are, and how many bytes they have. Where a
 recorder does not answer, or does not run, that stands in its line.
 
---recorders NAMESPACE is where the recorders are (kubelet-replay), --context NAME the context of kubectl. It asks for
-the pods with the label app=kubelet-replay-recorder, and runs find in each of them.
+""" + helps.RECORDERS + """find in each of them.
 
-It needs python3, and kubectl with the right to list and get these pods and to exec into them (pods: list, get;
-pods/exec: create, get). It leaves out nodes that have no such pod, and of a node what is named after another one, or
+""" + helps.RIGHTS + """It leaves out nodes that have no such pod, and of a node what is named after another one, or
 has no size or time, which stands in its line.
 
 Status 0: done; 1: the recorders can't be listed, some recorder did not answer, or standard output takes no more; 2: a

@@ -9,6 +9,7 @@ from dataclasses import dataclass
 from typing import TYPE_CHECKING
 
 from replay_tools import first_bytes, outside
+from replay_tools.amounts import Wrong
 from replay_tools.traces import LONGEST_TRACE
 
 from . import table
@@ -78,7 +79,7 @@ def found_in(path: str, refusal: Refusal, is_extended: bool) -> tuple[list[Found
     with open(path, "rb") as file:
         try:
             return search(file, refusal, is_extended)
-        except (ValueError, TypeError, KeyError, IndexError, AttributeError, RecursionError):
+        except Wrong:
             file.seek(0)
             return [], next(itertools.islice(file, refusal.line - 1, None), b"").rstrip(b"\n")
 

@@ -2,9 +2,11 @@
 
 from __future__ import annotations
 
-import json
 from dataclasses import dataclass, field
 from typing import Any, IO
+
+from replay_tools import fields
+from replay_tools.amounts import Wrong
 
 STATES = ("CONTAINER_CREATED", "CONTAINER_RUNNING", "CONTAINER_EXITED", "CONTAINER_UNKNOWN")
 CREATED, EXITED, UNKNOWN = STATES[0], STATES[2], STATES[3]
@@ -46,35 +48,52 @@ class Before:
     at: int | None = None
 
     def take(self, number: int, line: dict[str, Any], keeps_listings: bool) -> None:
-        """One more line that was accepted."""
-        kind = line["kind"]
+        """One more line that was accepted; Wrong where it is none that is."""
+        kind = fields.text_at(line, "kind")
         if kind == "node":
-            self.node_line, self.version = number, line.get("version") or 1
+            self.node_line, self.version = number, fields.number_at(line, "version", 1)
         elif kind == "pod":
+            manifest = fields.object_at(line, "pod")
             self.pod_lines += 1
-            self.pods[key_of(line["pod"])] = Pod(number, names_of(line["pod"]))
+            self.pods[key_of(manifest)] = Pod(number, names_of(manifest))
         elif kind == "gone":
-            self.pods.pop(line["pod"], None)
-            self.gone[line["pod"]] = number
+            key = fields.text_at(line, "pod")
+            self.pods.pop(key, None)
+            self.gone[key] = number
         else:
             self.ticks += 1
-            self.at, self.tick_line = line["at"], number
+            self.at, self.tick_line = fields.number_at(line, "at"), number
             self.first_tick_line = self.first_tick_line or number
             if keeps_listings:
                 self.take_listings(number, line)
 
     def take_listings(self, number: int, line: dict[str, Any]) -> None:
-        for entry in line.get("pods") or []:
-            pod = self.pods[entry["pod"]]
-            for found in entry.get("containers") or []:
-                pod.listed[found["name"]] = listed_of(found, pod.listed.get(found["name"]), number)
+        for entry in fields.list_at(line, "pods"):
+            pod = self.pod(fields.text_at(entry, "pod"))
+            for found in fields.list_at(entry, "containers"):
+                name = fields.text_at(found, "name")
+                pod.listed[name] = listed_of(found, pod.listed.get(name), number)
+
+    def pod(self, key: str) -> Pod:
+        """A pod that is present; Wrong where none has the key."""
+        if key not in self.pods:
+            raise Wrong("pod")
+        return self.pods[key]
 
 
-def listed_of(found: Any, before: Listed | None, number: int) -> Listed:
+def listed_of(found: dict[str, Any], before: Listed | None, number: int) -> Listed:
     """The newest instance after a listing."""
-    attempt, state = found.get("attempt") or 0, state_name(found["state"])
+    attempt, state = fields.number_at(found, "attempt", 0), state_at(found)
     known = before.state if before and before.attempt == attempt else CREATED
-    return Listed(attempt, known if state is None or state == UNKNOWN else state, number)
+    return Listed(attempt, known if state == UNKNOWN else state, number)
+
+
+def state_at(found: dict[str, Any]) -> str:
+    """The name of the state of a listing; Wrong where it has none."""
+    state = state_name(found.get("state"))
+    if state is None:
+        raise Wrong("state")
+    return state
 
 
 def state_name(state: Any) -> str | None:
@@ -84,22 +103,25 @@ def state_name(state: Any) -> str | None:
     return state if state in STATES else None
 
 
-def key_of(manifest: Any) -> str:
-    metadata = manifest["metadata"]
-    return f"{metadata.get('namespace') or 'default'}/{metadata['name']}"
+def key_of(manifest: dict[str, Any]) -> str:
+    """The key of a pod by its manifest; Wrong where that has no name."""
+    metadata = fields.object_at(manifest, "metadata")
+    return f"{fields.text_at(metadata, 'namespace', 'default')}/{fields.text_at(metadata, 'name')}"
 
 
-def names_of(manifest: Any) -> list[str]:
-    spec = manifest["spec"]
-    return [container["name"] for each in ("initContainers", "containers") for container in spec.get(each) or []]
+def names_of(manifest: dict[str, Any]) -> list[str]:
+    spec = fields.object_at(manifest, "spec")
+    return [fields.text_at(container, "name") for each in ("initContainers", "containers")
+            for container in fields.list_at(spec, each)]
 
 
 def lines_before(file: IO[bytes], number: int, keeps_listings: bool) -> tuple[Before, bytes]:
-    """What stands before a line of an open trace, and the line itself as bytes; an empty one where there is none."""
+    """What stands before a line of an open trace, and the line itself as bytes; an empty one where there is none. Wrong
+    where a line before it is none that the program accepts."""
     before = Before()
     for count, line in enumerate(file, 1):
         if count == number:
             return before, line.rstrip(b"\n")
         if line.strip(b" \t\r\n"):
-            before.take(count, json.loads(line), keeps_listings)
+            before.take(count, fields.object_of(line), keeps_listings)
     return before, b""

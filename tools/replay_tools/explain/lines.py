@@ -8,6 +8,8 @@ import re
 from json.decoder import scanstring  # type: ignore[attr-defined]
 from typing import Any
 
+from replay_tools.amounts import Wrong
+
 # what serde_json takes
 DEEPEST = 127
 SPACE = re.compile(r"[ \t\r\n]*")
@@ -23,9 +25,12 @@ def whole_number(text: str) -> Any:
     return float(text) if text == "-0" or number is None or not LEAST <= number <= MOST else number
 
 
-def value_of(text: str) -> Any:
-    """The value of a line. Raises ValueError or RecursionError where it is no JSON of Python's."""
-    return json.loads(text, parse_int=whole_number)
+def value_of(text: bytes) -> Any:
+    """The value of a line; Wrong where it is no JSON of Python's."""
+    try:
+        return json.loads(text.decode("utf-8"), parse_int=whole_number)
+    except (ValueError, RecursionError):
+        raise Wrong("line") from None
 
 
 def skip(text: str, at: Any) -> Any:

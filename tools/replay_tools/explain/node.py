@@ -5,6 +5,7 @@ from __future__ import annotations
 from collections.abc import Callable, Iterator
 from typing import Any
 
+from replay_tools import fields
 from replay_tools.record import formats
 from replay_tools.record.node import RECLAIMS
 from replay_tools.traces import SIGNALS
@@ -136,9 +137,9 @@ def duration_advice(value: Any) -> Any:
 
 
 def without_graces(node: Any, _: Any) -> Iterator[Found]:
-    """The soft thresholds that have no grace period."""
-    graces = node.get(GRACES) or {}
-    for signal, value in (node.get("evictionSoft") or {}).items():
+    """The soft thresholds that have no grace period, of a node line whose fields are all of their kinds."""
+    graces = fields.dict_at(node, GRACES)
+    for signal, value in fields.dict_at(node, "evictionSoft").items():
         is_off = formats.is_percentage(value) and float(value.rstrip("%")) in (0, 100)
         if value is not None and not is_off and graces.get(signal) is None:
             yield at(("evictionSoft", signal), f"is {shown(value)}, and {GRACES} has no {signal}",

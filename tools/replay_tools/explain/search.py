@@ -7,6 +7,8 @@ import itertools
 from collections.abc import Iterable, Iterator
 from typing import Any, IO, TYPE_CHECKING
 
+from replay_tools import fields
+from replay_tools.amounts import Wrong
 from replay_tools.record.formats import LONGEST_LINE
 
 from . import lines, manifest, node, tick
@@ -22,14 +24,15 @@ KINDS = ("node", "pod", "tick")
 
 
 def search(file: IO[bytes], refusal: Refusal, is_extended: bool) -> tuple[list[Found], bytes]:
-    """The fields at fault of a trace that is open, for what is refused of it, and that line as bytes."""
+    """The fields at fault of a trace that is open, for what is refused of it, and that line as bytes. Wrong where a line
+    is written otherwise than one that the program accepts, or refuses for that."""
     file.seek(0)
     before, line = lines_before(file, refusal.line, refusal.number == 43)
     if refusal.number in (31, 32):
         return of_text(line, refusal.number, not file.readline()), line
     if not line:
         return [Found((), "the text ends without a line that counts")], line
-    found = lines.value_of(line.decode("utf-8"))
+    found = lines.value_of(line)
     if refusal.number == 45:
         return [Found((), f"there are {before.pod_lines} pods and {before.ticks} ticks before this line")], line
     return list(itertools.islice(of_line(found, before, refusal, is_extended, file), MOST_FOUND)), line
@@ -46,12 +49,13 @@ def of_text(line: bytes, number: int, is_last: bool) -> list[Found]:
     return [Found((fault[1],), fault[0], advice.get(fault[0]))] if fault else []
 
 
-def of_line(line: dict[str, Any], before: Before, refusal: Refusal, is_extended: bool,
-            file: IO[bytes]) -> Iterable[Found]:
+def of_line(line: Any, before: Before, refusal: Refusal, is_extended: bool, file: IO[bytes]) -> Iterable[Found]:
     """The fields of a line that is JSON, for the kind of its fault."""
     number = refusal.number
     if number == 33:
         return unknown_kind(line, before, is_extended)
+    if not isinstance(line, dict):
+        raise Wrong("line")
     if number == 34:
         return out_of_turn(line, before)
     if number == 35:
@@ -62,7 +66,7 @@ def of_line(line: dict[str, Any], before: Before, refusal: Refusal, is_extended:
         return node.without_graces(line, before)
     if number == 38:
         return duplicate(line, before)
-    if number == 39 and line["kind"] == "gone":
+    if number == 39 and line.get("kind") == "gone":
         return stranger_gone(line, before)
     if number == 39:
         return strangers(line, before, file, refusal.line)
@@ -76,7 +80,7 @@ def first_of_manifest(line: dict[str, Any], before: Before, number: int | None) 
     return [first[1]] if first and first[0] == number else []
 
 
-def unknown_kind(line: dict[str, Any], before: Before, is_extended: bool) -> Iterator[Found]:
+def unknown_kind(line: Any, before: Before, is_extended: bool) -> Iterator[Found]:
     if not isinstance(line, dict):
         yield Found((), "the line is no object", 'each line is an object with a "kind"')
         return
@@ -116,7 +120,7 @@ def manifest_advice(line: dict[str, Any]) -> Any:
 
 
 def out_of_turn(line: dict[str, Any], before: Before) -> Iterator[Found]:
-    kind = line["kind"]
+    kind = fields.text_at(line, "kind")
     if before.node_line is None:
         yield is_(("kind",), kind, "the first line is a node line", 'begin with {"kind":"node","name":"worker-3"}')
     elif kind == "node":
@@ -128,7 +132,7 @@ def out_of_turn(line: dict[str, Any], before: Before) -> Iterator[Found]:
 
 
 def duplicate(line: dict[str, Any], before: Before) -> Iterator[Found]:
-    key = key_of(line["pod"])
+    key = key_of(fields.object_at(line, "pod"))
     if key in before.pods:
         yield is_(("pod", "metadata", "name"), line["pod"]["metadata"]["name"],
                   f"line {before.pods[key].line} has the pod {key} already")
@@ -160,9 +164,9 @@ def later_line(file: IO[bytes], key: str) -> Any:
         if name not in text or b'"metadata"' not in text:
             continue
         try:
-            line = lines.value_of(text.decode("utf-8"))
-            if line["kind"] == "pod" and key_of(line["pod"]) == key:
+            line = fields.object_of(text)
+            if line.get("kind") == "pod" and key_of(fields.object_at(line, "pod")) == key:
                 return count
-        except (ValueError, RecursionError, TypeError, KeyError, AttributeError):
+        except Wrong:
             return None
     return None

@@ -5,6 +5,7 @@ from __future__ import annotations
 from collections.abc import Callable, Iterable, Iterator
 from typing import Any
 
+from replay_tools import fields
 from replay_tools.decided import REASON
 from replay_tools.record import formats
 from replay_tools.traces import SIGNALS
@@ -142,14 +143,20 @@ def usage_faults(usage: Any, path: tuple[Any, ...]) -> Iterator[Found]:
 # --- 39, 40, 41: pods and containers that are not there, or twice ---
 
 
-def entries_of(line: dict[str, Any]) -> Any:
-    return enumerate(line.get("pods") or [])
+# The program looks at these once no field of the line has another value: where one has, the line is another than it has
+# read, which is Wrong.
+
+
+def entries_of(line: dict[str, Any]) -> Iterator[tuple[int, str, dict[str, Any]]]:
+    """The entries of a tick line: the place, the pod's key, and the entry."""
+    for index, entry in enumerate(fields.list_at(line, "pods")):
+        yield index, fields.text_at(entry, "pod"), entry
 
 
 def stranger_pods(line: dict[str, Any], before: earlier.Before) -> Iterator[Found]:
-    for index, entry in entries_of(line):
-        if entry["pod"] not in before.pods:
-            yield stranger(("pods", index, "pod"), entry["pod"], before)
+    for index, key, _ in entries_of(line):
+        if key not in before.pods:
+            yield stranger(("pods", index, "pod"), key, before)
 
 
 def stranger(path: tuple[Any, ...], key: str, before: earlier.Before) -> Any:
@@ -164,17 +171,17 @@ def stranger(path: tuple[Any, ...], key: str, before: earlier.Before) -> Any:
                nearest(key, before.pods) or "put the pod's line before the tick")
 
 
-def containers_named(line: dict[str, Any]) -> Iterator[Any]:
+def containers_named(line: dict[str, Any]) -> Iterator[tuple[tuple[Any, ...], str, str]]:
     """Each container that a tick line names: the path, the pod's key, and the name."""
-    for index, entry in entries_of(line):
+    for index, key, entry in entries_of(line):
         for field, name in (("containers", "name"), ("probes", "container")):
-            for place, found in enumerate(entry.get(field) or []):
-                yield ("pods", index, field, place, name), entry["pod"], found[name]
+            for place, found in enumerate(fields.list_at(entry, field)):
+                yield ("pods", index, field, place, name), key, fields.text_at(found, name)
 
 
 def stranger_containers(line: dict[str, Any], before: earlier.Before) -> Iterator[Found]:
     for path, key, name in containers_named(line):
-        known = before.pods[key].containers
+        known = before.pod(key).containers
         if name not in known:
             yield is_(path, name, f"{key} has no such container: it has {', '.join(known)}",
                       nearest(name, known) or "leave it out; the formats have no ephemeral containers")
@@ -182,18 +189,18 @@ def stranger_containers(line: dict[str, Any], before: earlier.Before) -> Iterato
 
 def doubled(line: dict[str, Any], _: Any) -> Iterator[Found]:
     pods = set()
-    for index, entry in entries_of(line):
-        if entry["pod"] in pods:
-            yield is_(("pods", index, "pod"), entry["pod"], "the line has an entry of this pod already",
+    for index, key, _ in entries_of(line):
+        if key in pods:
+            yield is_(("pods", index, "pod"), key, "the line has an entry of this pod already",
                       "put what the tick has of a pod into one entry")
-        pods.add(entry["pod"])
-    for index, entry in entries_of(line):
+        pods.add(key)
+    for index, key, entry in entries_of(line):
         for field, names in (("containers", ("name",)), ("probes", ("container", "probe"))):
             seen = set()
-            for place, found in enumerate(entry.get(field) or []):
-                name = tuple(found[each] for each in names)
+            for place, found in enumerate(fields.list_at(entry, field)):
+                name = tuple(fields.text_at(found, each) for each in names)
                 if name in seen:
-                    yield at(("pods", index, field, place), f"names {' '.join(name)} of {entry['pod']} once more",
+                    yield at(("pods", index, field, place), f"names {' '.join(name)} of {key} once more",
                              "keep the newest of a tick; the one before stands in a tick of its own")
                 seen.add(name)
 
@@ -201,22 +208,22 @@ def doubled(line: dict[str, Any], _: Any) -> Iterator[Found]:
 # --- 43 Backwards, 44 ExitCode ---
 
 
-def listings_of(line: dict[str, Any]) -> Iterator[Any]:
-    for index, entry in entries_of(line):
-        for place, found in enumerate(entry.get("containers") or []):
-            yield ("pods", index, "containers", place), entry["pod"], found
+def listings_of(line: dict[str, Any]) -> Iterator[tuple[tuple[Any, ...], str, dict[str, Any]]]:
+    for index, key, entry in entries_of(line):
+        for place, found in enumerate(fields.list_at(entry, "containers")):
+            yield ("pods", index, "containers", place), key, found
 
 
 def backwards(line: dict[str, Any], before: earlier.Before) -> Iterator[Found]:
     for path, key, found in listings_of(line):
-        known = before.pods[key].listed.get(found["name"])
+        known = before.pod(key).listed.get(fields.text_at(found, "name"))
         if known:
             yield from backwards_of(path, key, found, known, before)
 
 
-def backwards_of(path: tuple[Any, ...], key: str, found: Any, known: Any,
+def backwards_of(path: tuple[Any, ...], key: str, found: dict[str, Any], known: earlier.Listed,
                  before: earlier.Before) -> Iterator[Found]:
-    attempt, state, name = found.get("attempt") or 0, earlier.state_name(found["state"]), found["name"]
+    name, attempt, state = fields.text_at(found, "name"), fields.number_at(found, "attempt", 0), earlier.state_at(found)
     if attempt < known.attempt:
         yield is_((*path, "attempt"), attempt, f"line {known.line} listed attempt {known.attempt} of {name} of {key} "
                   "already, and attempts never fall")
@@ -231,10 +238,10 @@ def backwards_of(path: tuple[Any, ...], key: str, found: Any, known: Any,
 def exit_codes(line: dict[str, Any], _: Any) -> Iterator[Found]:
     for path, key, found in listings_of(line):
         code = found.get("exitCode")
-        if earlier.state_name(found["state"]) != earlier.EXITED:
+        if earlier.state_at(found) != earlier.EXITED:
             continue
         if code is None:
-            yield at((*path, "exitCode"), f"is missing: {found['name']} of {key} has exited",
+            yield at((*path, "exitCode"), f"is missing: {fields.text_at(found, 'name')} of {key} has exited",
                      "ask for its code with crictl inspect; one that nobody knows counts as 137")
         elif formats.whole_fault(code, -2**31, 2**31 - 1):
             yield is_((*path, "exitCode"), code, f"it is a whole number from {-2**31} to {2**31 - 1}",

@@ -5,12 +5,11 @@ from __future__ import annotations
 
 from typing import Any, overload
 
-from replay_tools import (amounts, events, kubelet as kubelets, reasons, records, report as reports,
+from replay_tools import (amounts, events, kubelet as kubelets, lanes as made, reasons, records, report as reports,
                           summary as summing, telling, traces, why, why_text)
 from replay_tools.clock import Clock
 from replay_tools.page import used
 
-STATES = ("Waiting", "Running", "Terminated")
 RESULTS = ("success", "failure", "unknown")
 # what was said, as an event of its own
 SAID = {"said": [["words"], "{words}"]}
@@ -62,17 +61,17 @@ def data_of(report: reports.Report, trace: traces.Trace | None, ticks: why.Ticks
     data: dict[str, Any] = {
         "node": report.node, "clock": clock.value, "first": span.first, "last": span.of(span.last),
         "hasTrace": bool(trace),
-        **table_of_words(trace), "states": STATES, "results": RESULTS,
+        **table_of_words(trace), "states": made.STATES, "results": RESULTS,
         "pods": report.pod_count, "ticks": report.tick_count,
         "tickSteps": repeated(differences([span.of(tick.at) for tick in trace.ticks])) if trace else [],
         "signals": signals_of(trace), "active": active_of(report, span), "pressure": pressure_of(report, span),
         "gaps": [[span.of(since), span.of(at)] for since, at in report.gaps],
         "reclaims": [[span.of(event.at), *event.rest] for event in report.events if event.word == "reclaim"],
         "evictions": evictions_of(report, trace, ticks, span, left), "kubelet": kubelet_of(kubelet, span),
-        "podList": [pod_of(report, trace, span, pod, ticks, budget, words) | notes_of(pod, clock)
+        "podList": [pod_of(report, trace, span, pod, lanes, ticks, budget, words) | notes_of(pod, clock)
                     | summary_of(*ranks[pod.number], span) | deletion_of(trace, pod, span)
-                    | used_of(trace, pod, span, ticks, samples) | said_of(trace, span, pod, words, sayings)
-                    for pod in report.pods],
+                    | used_of(trace, pod, span, ticks, samples) | said_of(trace, span, pod, lanes, words, sayings)
+                    for pod in report.pods for lanes in (made.lanes_of(pod, trace),)],
         "causes": words.causes, "waits": words.waits, "saids": words.said,
     }
     refused = sorted({one["key"] for one in data["kubelet"]["refused"]} if data["kubelet"] else ())
@@ -294,8 +293,8 @@ def around_of(evicted: why.Evicted, span: Span) -> dict[str, Any]:
     }
 
 
-def pod_of(report: reports.Report, trace: traces.Trace | None, span: Span, pod: reports.Pod, ticks: why.Ticks,
-           budget: Budget, words: Words) -> dict[str, Any]:
+def pod_of(report: reports.Report, trace: traces.Trace | None, span: Span, pod: reports.Pod, lanes: made.Lanes,
+           ticks: why.Ticks, budget: Budget, words: Words) -> dict[str, Any]:
     """What the page shows of a pod: that of the report, and with a trace its listings and results."""
     ended, seen = reports.end_of(pod), summing.has_ticks(report, pod, trace)
     found = {
@@ -304,9 +303,10 @@ def pod_of(report: reports.Report, trace: traces.Trace | None, span: Span, pod: 
         "end": [span.of(ended[0]), ended[1]] if ended else None, "gone": span.of(pod.left),
         "unready": summing.unready_seconds(pod, span.last) if seen else 0,
         "ready": [[span.of(ready.since), int(ready.value == "True")]
-                  for ready in (reports.ready_spans(pod) if seen else [])],
+                  for ready in (lanes.ready if seen else [])],
         "conditions": [[one.kind, one.value, span.of(one.at) if seen else None, one.reason] for one in pod.conditions],
-        "containers": [container_of(span, pod, container, trace, seen) for container in pod.containers],
+        "containers": [container_of(span, pod, container, lane.states if seen else [], trace)
+                       for container, lane in zip(pod.containers, lanes.containers)],
         "events": events_of(span, pod, words),
     }
     if trace:
@@ -314,7 +314,7 @@ def pod_of(report: reports.Report, trace: traces.Trace | None, span: Span, pod: 
         of_pod = ticks.of(trace, ours)
         found |= {"policy": ours.policy, "priority": ours.priority,
                   "listings": [listings_of(span, of_pod, container.name) for container in pod.containers],
-                  "probes": probes_of(span, ours, of_pod, budget), "waits": waits_of(trace, span, pod, words)}
+                  "probes": probes_of(span, ours, of_pod, budget), "waits": waits_of(span, lanes, words)}
     return found
 
 
@@ -326,50 +326,40 @@ def notes_of(pod: reports.Pod, clock: Clock) -> dict[str, Any]:
     return {"notes": told} if told else {}
 
 
-def waits_of(trace: traces.Trace, span: Span, pod: reports.Pod, words: Words) -> list[list[int | None]]:
+def waits_of(span: Span, lanes: made.Lanes, words: Words) -> list[list[int | None]]:
     """Why its containers waited: the container's place, since when, until when, and the place of the words."""
-    names = [container.name for container in pod.containers]
-    return [[names.index(name), span.of(wait.since), span.of(wait.until), words.wait(wait)]
-            for name, wait in trace.reasons.waits_of(pod)]
+    return [[place, span.of(wait.since), span.of(wait.until), words.wait(wait)] for place, wait in lanes.waits()]
 
 
-def said_of(trace: traces.Trace | None, span: Span, pod: reports.Pod, words: Words,
+def said_of(trace: traces.Trace | None, span: Span, pod: reports.Pod, lanes: made.Lanes, words: Words,
             budget: Budget) -> dict[str, Any]:
     """What was said of it, as tools/why tells it: the moment, the container's place (-1 without), and the place of the
     words; and what stands beside the words of an event, by its place."""
     if trace is None:
         return {}
-    by_lane = trace.said.by_lane(pod.number, [container.name for container in pod.containers])
-    is_kept = budget.takes(sum(map(len, by_lane.values())))
+    is_kept = budget.takes(sum(map(len, lanes.said.values())))
     told = [[span.of(each.at), place, words.place(words.said, each.words())]
-            for place, said in (by_lane.items() if is_kept else ()) for each in said]
+            for place, said in (lanes.said.items() if is_kept else ()) for each in said]
     more = {str(place): telling.more_words(event, trace) for place, event in enumerate(pod.events)}
     more = {place: text for place, text in more.items() if text}
     return ({"said": told} if told else {}) | ({"more": more} if more else {})
 
 
-def container_of(span: Span, pod: reports.Pod, container: reports.Container, trace: traces.Trace | None,
-                 seen: bool) -> dict[str, Any]:
-    """A container's status, and its states as differences of moments, states, attempts and codes in one list."""
+def container_of(span: Span, pod: reports.Pod, container: reports.Container, states: list[made.State],
+                 trace: traces.Trace | None) -> dict[str, Any]:
+    """A container's status, and its states as differences of moments, states, attempts and codes in one list. A code is
+    0 where there is none, and None where it was guessed."""
     flat: list[int | None] = []
     before = 0
-    for state in reports.state_spans(pod, container.name) if seen else []:
+    for state in states:
         begun = before if state.since is None else span.of(state.since)
-        attempt, _, code = state.note.partition(" ")
-        flat += [begun - before, STATES.index(state.value), int(attempt or 0),
-                 code_of(trace, pod, container, attempt, code)]
+        flat += [begun - before, made.STATES.index(state.value), state.attempt or 0,
+                 None if state.is_guessed else state.code or 0]
         before = begun
     code = reasons.code_words(container.code, reasons.last_end(pod, container, trace))
     return {"name": container.name, "state": container.state, "code": records.none_of(code),
             "restarts": int(container.restarts), "ready": container.ready == "true",
             "started": container.started == "true", "states": flat}
-
-
-def code_of(trace: traces.Trace | None, pod: reports.Pod, container: reports.Container, attempt: str,
-            code: str) -> int | None:
-    """The code of an instance, 0 where it has none, and None where it was guessed."""
-    end = trace.reasons.ends.get((pod.number, container.name, int(attempt))) if trace and code else None
-    return None if end is not None and end.is_guessed else int(code or 0)
 
 
 def events_of(span: Span, pod: reports.Pod, words: Words) -> list[list[Any]]:
