@@ -13,7 +13,7 @@ import time
 import xml.dom.minidom
 
 import cases
-from checks import LONGEST, TOOLS, TOP, expect, expect_refused, read, run
+from checks import LONGEST, REPLAY, TOOLS, TOP, expect, expect_refused, read, run
 
 from replay_tools import asking, entry
 
@@ -302,7 +302,8 @@ def typed(shell, setup, lines, folder):
     child, terminal = pty.fork()
     if child == 0:
         os.chdir(folder)
-        os.environ.update(PATH=f"{TOOLS}:{os.environ['PATH']}", HOME=folder, TERM="vt100", PS1="ready> ")
+        os.environ.update(PATH=f"{TOOLS}:{os.environ['PATH']}", HOME=folder, TERM="vt100", PS1="ready> ",
+                          KUBELET_REPLAY=REPLAY)
         os.execvp(shell, [shell, *words, "-i"])
     shown = ""
     try:
