@@ -108,6 +108,24 @@ def test_import_of_keyed_lines():
     expect("import of keyed lines: the program takes it", checked(trace), 0)
 
 
+def test_import_of_failures_that_come_late():
+    """On a busy node a probe's results come late: where a line says that the failures led to a kill, none that has no
+    line was a success between them, though a period passed without one; and the rule kills by them too."""
+    lines = read(f"{FOLDER}/keyed.log").splitlines(keepends=True)
+    [first] = [each for each in lines if each.startswith("I0301 10:00:30.0") and "Liveness" in each]
+    early = [first.replace("10:00:30.0", "10:00:23.5") if each == first else each for each in lines]
+    text = "".join(sorted(early, key=lambda each: each[1:20]))
+    kill = "containerMessage="
+    for name, given, wanted in (("", text, []), (", and no kill", "".join(
+            each for each in text.splitlines(keepends=True) if kill not in each), [28])):
+        status, trace, _ = imported(given=given)
+        begun = json.loads(trace.splitlines()[1])["at"]
+        found = [tick["at"] - begun for tick in map(json.loads, trace.splitlines()) if tick["kind"] == "tick"
+                 for entry in tick["pods"] if entry["pod"] == "shop/web" for result in entry.get("probes") or []
+                 if result["probe"] == "liveness" and result["result"] == "success" and 23 < tick["at"] - begun < 35]
+        expect(f"import of late failures{name}: successes between them", (status, found), (0, wanted))
+
+
 def checked(trace):
     """The status with which the program checks a trace."""
     return run([REPLAY, "check", "/dev/stdin", "--extended"], trace)[0]

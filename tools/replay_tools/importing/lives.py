@@ -17,7 +17,7 @@ from . import marks
 from .instances import Chain, Instance, Instances
 from .outputs import why_killed
 from .placing import LATE_SECONDS
-from .probing import SUCCESS, Probing
+from .probing import FAILURE, SUCCESS, Probing
 
 if TYPE_CHECKING:
     from . import facts
@@ -343,8 +343,21 @@ class Life:
         for (container, probe), probing in self.probings.items():
             if name in (None, container) and placing.is_silent(probe):
                 self.set_phase(container, probe, probing)
-                found = probing.silent(until - probing.period / 2, placing.timeline.gaps)
+                found = probing.silent(until - probing.period / 2,
+                                       [*placing.timeline.gaps, *self.failing(pod, container, probe, probing)])
                 self.place_results(pod, container, found, placing)
+
+    def failing(self, pod: recorded.Pod, name: str, probe: str, probing: Probing) -> Iterator[tuple[float, float]]:
+        """From the first of the failures for which the kubelet ends an instance, as its line says, up to that line: on
+        a busy node results come late, and none between was a success."""
+        wanted = pod.failures_wanted(name, probe)
+        for chain in self.instances.chains:
+            for killing in [each.killing for each in chain.instances if chain.name == name and each.killing is not None]:
+                if why_killed(killing.why) == probe:
+                    known = {item.at for item in (*self.placed, *self.pending)
+                             if item.what == "result" and item.value == (name, probe, FAILURE)}
+                    failures = sorted(at for at in known.union(probing.failures) if at <= killing.at)[-wanted:]
+                    yield from [(failures[0], killing.at)] if failures else []
 
     def set_phase(self, container: str, probe: str, probing: Probing) -> None:
         """A probe comes at a period of its own, which the next line that it has shows too."""

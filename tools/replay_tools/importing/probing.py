@@ -26,10 +26,13 @@ class Probing:
         self.phase: Optional[float] = None
         self.due: Optional[float] = None
         self.successes = 0
+        # the moments of the failures since its last success
+        self.failures: list[float] = []
 
     def start(self, started: float, seen: float) -> None:
         """An instance runs; its first result comes with the first period behind its delay."""
         self.successes = 0
+        self.failures = []
         self.due = self.first_behind(max(seen + LOOK_SECONDS, started + self.delay))
 
     def end(self) -> None:
@@ -47,19 +50,22 @@ class Probing:
             self.due = moment + self.period
         if result != SUCCESS:
             self.successes = 0
+            self.failures += [moment] if result == FAILURE else []
             return result == FAILURE
         self.successes += 1
+        self.failures = []
         return self.successes <= self.wanted
 
-    def silent(self, until: float, gaps: Sequence[tuple[int, int]]) -> Iterator[Result]:
-        """The successes without a line that were due by a moment, up to those that are wanted: none in a gap, of which
-        no line is known."""
+    def silent(self, until: float, without: Sequence[tuple[float, float]]) -> Iterator[Result]:
+        """The successes without a line that were due by a moment, up to those that are wanted: none in a time without
+        them, as a gap, of which no line is known."""
         while self.due is not None and self.due <= until and self.successes < self.wanted:
-            behind = next((end for since, end in gaps if since < self.due < end), None)
+            behind = next((end for since, end in without if since < self.due < end), None)
             if behind is not None:
                 self.due = self.first_behind(behind)
                 continue
             self.successes += 1
+            self.failures = []
             yield Result(self.due, self.probe, SUCCESS)
             self.due += self.period
         if self.due is not None and self.due <= until:

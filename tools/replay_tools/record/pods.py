@@ -93,6 +93,9 @@ class Pod:
     def successes_wanted(self, container_name: str, probe: str) -> int:
         return self.probe(container_name, probe).get("successThreshold", 1)
 
+    def failures_wanted(self, container_name: str, probe: str) -> int:
+        return self.probe(container_name, probe).get("failureThreshold", 3)
+
 
 @reads("pods")
 def pods_of(text: Answer, what: str) -> list[Pod]:
