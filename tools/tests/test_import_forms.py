@@ -277,9 +277,10 @@ def test_import_of_containerd_by_version():
         in_unit = "".join(f"{moment} worker-3 containerd[71]: {each}\n" for (moment, _), each in zip(
             lines, as_text.splitlines()))
         for name, given in (("text", as_text), ("JSON", as_records), ("a journal", in_unit)):
-            status, trace, _ = imported("--node", "worker-3", given=given)
+            status, trace, said = imported("--node", "worker-3", given=given)
             rows = [(at - BEGUN, *rest[:4]) for at, _, *rest in listings_of(trace)]
             expect(f"import of containerd, {form}, {name}", (status, rows), (0, wanted))
+    expect("import of a journal without results of probes: what is said", "no results of probes" in said, True)
 
 
 def test_import_of_what_crio_removes():

@@ -16,7 +16,7 @@ from replay_tools.record.runtime import EXITED, LOST_CODE, RUNNING, Change, List
 from . import marks
 from .instances import Chain, Instance, Instances
 from .outputs import why_killed
-from .placing import LATE_SECONDS
+from .placing import LATE_SECONDS, PROBED
 from .probing import SUCCESS, Probing
 
 if TYPE_CHECKING:
@@ -202,6 +202,8 @@ class Life:
                     self.probings[container, probe] = Probing(
                         probe, pod.period(container, probe), pod.initial_delay(container, probe),
                         pod.successes_wanted(container, probe))
+        if self.probings:
+            placing.count(PROBED)
         return pod
 
     def made_pod(self) -> Optional[recorded.Pod]:
