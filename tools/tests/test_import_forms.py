@@ -300,6 +300,41 @@ def test_import_of_what_crio_removes():
         (6, "app", 0, "RUNNING"), (22, "app", 1, "RUNNING"), (60, "app", 1, "EXITED")]))
 
 
+# --- a journal that begins in the middle ---
+
+
+def finished(letter, code):
+    return f'"Generic (PLEG): container finished" podID="44444444" containerID="{identity_of(letter)}" exitCode={code}'
+
+
+def test_import_of_a_crash_behind_the_begin():
+    """No line has the start of what runs before: what exits first is the container, whose next start is another one of
+    it, and not the sandbox, which exits last."""
+    pod = {**PAIR, "spec": {"containers": [{"name": "one"}]}}
+    lines = [(30.0, finished("a", 3)), (30.01, event("ContainerDied", identity_of("a"))),
+             (41.0, event("ContainerStarted", identity_of("b"))),
+             (60.0, '"SyncLoop DELETE" source="api" pods=["shop/pair"]'),
+             (62.0, finished("b", 0)), (62.01, event("ContainerDied", identity_of("b"))),
+             (63.0, event("ContainerDied", identity_of("d"))),
+             (64.0, '"SyncLoop REMOVE" source="api" pods=["shop/pair"]')]
+    status, rows = rows_of(pod, *lines)
+    expect("import of a crash behind the begin", (status, [row[:5] for row in rows]), (0, [
+        (0, "one", 0, "RUNNING", None), (30, "one", 0, "EXITED", 3), (41, "one", 1, "RUNNING", None),
+        (62, "one", 1, "EXITED", 0)]))
+
+
+def test_import_of_a_pod_that_goes_behind_the_begin():
+    """The first line of a pod may be that it is deleted, or that its last container has exited: it was there before,
+    and what it ran is an app and no init container. Its sandbox is none of it."""
+    spec = {"initContainers": [{"name": "first"}], "containers": [{"name": "app"}]}
+    lines = [(32.0, event("ContainerDied", identity_of("a"))), (33.0, event("ContainerDied", identity_of("d"))),
+             (34.0, '"SyncLoop REMOVE" source="api" pods=["shop/pair"]')]
+    for name, before in (("deleted", [(30.0, '"SyncLoop DELETE" source="api" pods=["shop/pair"]')]), ("gone", [])):
+        status, rows = rows_of({**PAIR, "spec": spec}, *before, *lines)
+        expect(f"import of a pod that is {name} behind the begin", (status, [row[:4] for row in rows]), (0, [
+            (0, "app", 0, "RUNNING"), (32, "app", 0, "EXITED")]))
+
+
 # --- what a cluster says ---
 
 

@@ -67,7 +67,8 @@ class Life:
         self.added_at = at
         self.pod: Optional[recorded.Pod] = None
         self.is_template = False
-        self.was_added = False
+        # whether a line says that it comes, and whether it did not run before that
+        self.is_listed = self.was_added = False
         self.instances = Instances()
         self.probings: dict[tuple[str, str], Probing] = {}
         # what waits to be placed, and what is placed now
@@ -116,7 +117,7 @@ class Life:
                 instance.finished = fact.at
             if instance.seen is None:
                 # it ran before the journal begins, or came and went between two looks
-                is_met = is_met or self.may_have_run()
+                is_met, instance.is_unseen = is_met or self.may_have_run(), True
                 instance.seen, instance.is_met = (self.added_at, True) if is_met else (fact.at - BETWEEN_LOOKS, False)
             instance.gone = fact.at
 
@@ -176,7 +177,9 @@ class Life:
         the next one started, and the pod itself where another one has its name, without a line that says so."""
         if self.is_over or self.is_refused:
             return
-        self.instances.resolve(self.pod, self.added_at)
+        is_ending = self.decision is not None or any(at is not None for at in (
+            self.deleted_at, self.removed_at, self.cleaned_at, self.replaced_at))
+        self.instances.resolve(self.pod, self.added_at, self.is_listed, is_ending)
         for instance, after in self.instances.lost():
             start = after.seen or 0.0
             instance.gone = placing.hole_between(self.instances.heard(instance, start), start)
