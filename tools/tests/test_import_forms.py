@@ -9,7 +9,7 @@ import tempfile
 
 import cases
 from checks import expect, read
-from test_import import FOLDER, YEAR, as_json, imported, lines_of, listings_of, short_iso, stamp
+from test_import import FOLDER, YEAR, as_json, imported, lines_of, listings_of, pod_lines, short_iso, stamp
 from test_import_evictions import BEGUN, HOG_ID, KILLING, LATE, ended_in, with_lines, without
 
 load_tests = cases.loaded(__name__)
@@ -333,6 +333,30 @@ def test_import_of_a_pod_that_goes_behind_the_begin():
         status, rows = rows_of({**PAIR, "spec": spec}, *before, *lines)
         expect(f"import of a pod that is {name} behind the begin", (status, [row[:4] for row in rows]), (0, [
             (0, "app", 0, "RUNNING"), (32, "app", 0, "EXITED")]))
+
+
+def test_import_of_a_deletion_of_what_had_ended():
+    """A pod that was evicted long before, and is deleted now, runs nothing: it comes into no tick, as none of a line
+    alone does. One that ran in the journal and was forgotten does not come again."""
+    ends = [(60.0, '"SyncLoop DELETE" source="api" pods=["shop/pair"]'),
+            (60.1, '"SyncLoop REMOVE" source="api" pods=["shop/pair"]')]
+    expect("import of a deletion of what had ended before", rows_of(PAIR, *ends), (0, []))
+    with tempfile.NamedTemporaryFile("w", suffix=".json") as file:
+        json.dump(PAIR, file)
+        file.flush()
+        pods = [each["pod"]["metadata"]["name"] for each in pod_lines(imported(
+            "--pods", file.name, given=added(read(f"{FOLDER}/keyed.log"), *ends))[1])]
+        expect("import of a deletion of what had ended before: the pods", pods, ["web", "hog"])
+    looks = '"SyncLoop (probe)" probe="readiness" status="ready" pod="shop/web"'
+    late = [*LATE, (70.0, '"Eviction manager: pods successfully cleaned up" pods=["shop/hog"]'),
+            *((float(moment), looks) for moment in range(75, 2400, 5)),
+            (2400.0, '"SyncLoop DELETE" source="api" pods=["shop/hog"]'),
+            (2400.1, '"SyncLoop REMOVE" source="api" pods=["shop/hog"]'), (2410.0, looks)]
+    text = with_lines(*late).replace(line(100.0, '"SyncLoop REMOVE" source="api" pods=["shop/none"]').replace(
+        "a.go", "eviction_manager.go"), "")
+    trace = imported(given=text)[1]
+    expect("import of a deletion of what was evicted", [
+        each["pod"]["metadata"]["name"] for each in pod_lines(trace)], ["web", "hog"])
 
 
 # --- what a cluster says ---

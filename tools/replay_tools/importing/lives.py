@@ -162,6 +162,7 @@ class Life:
             return
         pod = self.pod if self.arrived is not None else self.arrive(placing)
         if pod is None:
+            self.is_over = self.removed_at is not None and self.removed_at <= horizon
             return
         leaves_at = self.leaves_at()
         until = horizon if leaves_at is None else min(horizon, leaves_at)
@@ -190,9 +191,10 @@ class Life:
 
     def arrive(self, placing: Placing) -> Optional[recorded.Pod]:
         """Its line, with a manifest, or with the containers that lines name where there is none; None where it has no
-        line yet, or no room."""
+        line yet, or no room, or where all that is known of it is that it goes: then it had ended before."""
         found = self.pod if self.pod is not None else self.made_pod()
-        if found is None:
+        has_ended = self.deleted_at is not None and not self.is_listed and not self.instances.by_id
+        if found is None or has_ended:
             return None
         if not placing.has_room(self):
             self.is_refused = True
