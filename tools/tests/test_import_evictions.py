@@ -93,11 +93,14 @@ def test_import_of_an_eviction_that_is_told_very_late():
     """What is more than ten minutes behind has the moment of the decision, in the first tick that can say it."""
     looks = '"SyncLoop (probe)" probe="readiness" status="ready" pod="shop/web"'
     late = without(LATE, SUCCESS, WAITING)
-    for until, wanted in ((600.0, 60), (900.0, 185)):
+    for until, is_late in ((600.0, False), (900.0, True)):
         lines = [*late, *((float(moment), looks) for moment in range(75, 1500, 5) if moment != until), (until, SUCCESS)]
         text = with_lines(*sorted(lines)).replace(line(100.0, '"SyncLoop REMOVE" source="api" pods=["shop/none"]'), "")
-        expect_eviction(f"import of an eviction that is told {until - 60:.0f} s late", text, (60, LOW), failed=wanted)
-    expect("import of an eviction that is told very late: the program takes it", checked(imported(given=text)[1]), 0)
+        trace = imported(given=text)[1]
+        told, [(failed, _)] = ended_in(trace)
+        expect(f"import of an eviction that is told {until - 60:.0f} s late", (told, failed > 60), (
+            [(60, "shop/hog", LOW)], is_late))
+        expect(f"import of an eviction that is told {until - 60:.0f} s late: the program takes it", checked(trace), 0)
 
 
 def test_import_of_an_eviction_whose_kill_fails():

@@ -9,7 +9,7 @@ import tempfile
 
 import cases
 from checks import expect, read
-from test_import import FOLDER, YEAR, as_json, imported, lines_of, listings_of, short_iso, stamp
+from test_import import FOLDER, YEAR, as_json, imported, lines_of, listings_of, pod_lines, short_iso, stamp
 from test_import_evictions import BEGUN, HOG_ID, KILLING, LATE, ended_in, with_lines, without
 
 load_tests = cases.loaded(__name__)
@@ -277,9 +277,10 @@ def test_import_of_containerd_by_version():
         in_unit = "".join(f"{moment} worker-3 containerd[71]: {each}\n" for (moment, _), each in zip(
             lines, as_text.splitlines()))
         for name, given in (("text", as_text), ("JSON", as_records), ("a journal", in_unit)):
-            status, trace, _ = imported("--node", "worker-3", given=given)
+            status, trace, said = imported("--node", "worker-3", given=given)
             rows = [(at - BEGUN, *rest[:4]) for at, _, *rest in listings_of(trace)]
             expect(f"import of containerd, {form}, {name}", (status, rows), (0, wanted))
+    expect("import of a journal without results of probes: what is said", "no results of probes" in said, True)
 
 
 def test_import_of_what_crio_removes():
@@ -297,6 +298,65 @@ def test_import_of_what_crio_removes():
     rows = [(at - BEGUN, *rest[:3]) for at, _, *rest in listings_of(trace)]
     expect("import of what CRI-O removes", (status, rows), (0, [
         (6, "app", 0, "RUNNING"), (22, "app", 1, "RUNNING"), (60, "app", 1, "EXITED")]))
+
+
+# --- a journal that begins in the middle ---
+
+
+def finished(letter, code):
+    return f'"Generic (PLEG): container finished" podID="44444444" containerID="{identity_of(letter)}" exitCode={code}'
+
+
+def test_import_of_a_crash_behind_the_begin():
+    """No line has the start of what runs before: what exits first is the container, whose next start is another one of
+    it, and not the sandbox, which exits last."""
+    pod = {**PAIR, "spec": {"containers": [{"name": "one"}]}}
+    lines = [(30.0, finished("a", 3)), (30.01, event("ContainerDied", identity_of("a"))),
+             (41.0, event("ContainerStarted", identity_of("b"))),
+             (60.0, '"SyncLoop DELETE" source="api" pods=["shop/pair"]'),
+             (62.0, finished("b", 0)), (62.01, event("ContainerDied", identity_of("b"))),
+             (63.0, event("ContainerDied", identity_of("d"))),
+             (64.0, '"SyncLoop REMOVE" source="api" pods=["shop/pair"]')]
+    status, rows = rows_of(pod, *lines)
+    expect("import of a crash behind the begin", (status, [row[:5] for row in rows]), (0, [
+        (0, "one", 0, "RUNNING", None), (30, "one", 0, "EXITED", 3), (41, "one", 1, "RUNNING", None),
+        (62, "one", 1, "EXITED", 0)]))
+
+
+def test_import_of_a_pod_that_goes_behind_the_begin():
+    """The first line of a pod may be that it is deleted, or that its last container has exited: it was there before,
+    and what it ran is an app and no init container. Its sandbox is none of it."""
+    spec = {"initContainers": [{"name": "first"}], "containers": [{"name": "app"}]}
+    lines = [(32.0, event("ContainerDied", identity_of("a"))), (33.0, event("ContainerDied", identity_of("d"))),
+             (34.0, '"SyncLoop REMOVE" source="api" pods=["shop/pair"]')]
+    for name, before in (("deleted", [(30.0, '"SyncLoop DELETE" source="api" pods=["shop/pair"]')]), ("gone", [])):
+        status, rows = rows_of({**PAIR, "spec": spec}, *before, *lines)
+        expect(f"import of a pod that is {name} behind the begin", (status, [row[:4] for row in rows]), (0, [
+            (0, "app", 0, "RUNNING"), (32, "app", 0, "EXITED")]))
+
+
+def test_import_of_a_deletion_of_what_had_ended():
+    """A pod that was evicted long before, and is deleted now, runs nothing: it comes into no tick, as none of a line
+    alone does. One that ran in the journal and was forgotten does not come again."""
+    ends = [(60.0, '"SyncLoop DELETE" source="api" pods=["shop/pair"]'),
+            (60.1, '"SyncLoop REMOVE" source="api" pods=["shop/pair"]')]
+    expect("import of a deletion of what had ended before", rows_of(PAIR, *ends), (0, []))
+    with tempfile.NamedTemporaryFile("w", suffix=".json") as file:
+        json.dump(PAIR, file)
+        file.flush()
+        pods = [each["pod"]["metadata"]["name"] for each in pod_lines(imported(
+            "--pods", file.name, given=added(read(f"{FOLDER}/keyed.log"), *ends))[1])]
+        expect("import of a deletion of what had ended before: the pods", pods, ["web", "hog"])
+    looks = '"SyncLoop (probe)" probe="readiness" status="ready" pod="shop/web"'
+    late = [*LATE, (70.0, '"Eviction manager: pods successfully cleaned up" pods=["shop/hog"]'),
+            *((float(moment), looks) for moment in range(75, 2400, 5)),
+            (2400.0, '"SyncLoop DELETE" source="api" pods=["shop/hog"]'),
+            (2400.1, '"SyncLoop REMOVE" source="api" pods=["shop/hog"]'), (2410.0, looks)]
+    text = with_lines(*late).replace(line(100.0, '"SyncLoop REMOVE" source="api" pods=["shop/none"]').replace(
+        "a.go", "eviction_manager.go"), "")
+    trace = imported(given=text)[1]
+    expect("import of a deletion of what was evicted", [
+        each["pod"]["metadata"]["name"] for each in pod_lines(trace)], ["web", "hog"])
 
 
 # --- what a cluster says ---

@@ -220,11 +220,12 @@ class Importer:
         life = self.life_of(fact.pod, fact.at, True)
         if life is None:
             return
+        life.is_listed = True
         # what a kubelet that is started anew finds was there before
         life.was_added = life.was_added or not self.is_begin_of_process(fact.at)
 
     def on_deleted(self, fact: facts.Deleted) -> None:
-        life = self.known_life(fact.pod)
+        life = self.life_there_before(self.life_of(fact.pod, fact.at))
         if life is not None and life.deleted_at is None:
             life.deleted_at = fact.at
             self.placing.count("pods deleted")
@@ -233,6 +234,13 @@ class Importer:
         life = self.known_life(fact.pod)
         if life is not None and life.removed_at is None:
             life.removed_at = fact.at
+
+    def life_there_before(self, life: Optional[Life]) -> Optional[Life]:
+        """A pod of which a line speaks that a kubelet writes where it writes too which pods come: without such a line
+        it was there before the journal begins, or goes on behind a gap."""
+        if life is not None and not life.is_listed and life.arrived is None:
+            life.added_at = min(life.added_at, max([self.begun or 0.0, *self.placing.behind]))
+        return life
 
     def known_life(self, pod: facts.Reference) -> Optional[Life]:
         found = self.by_uid.get(pod.uid) if pod.uid is not None else None
@@ -245,6 +253,8 @@ class Importer:
         life = self.heard(self.of_id.get(fact.id)) or self.life_of(fact.pod, fact.at)
         if life is None:
             return
+        if not fact.is_exact:
+            self.life_there_before(life)
         self.own(fact.id, life)
         self.has_turned = True
         life.turn(fact, not life.was_added and self.is_begin_of_process(fact.at))

@@ -48,8 +48,9 @@ class Instance:
     started_in: int = 0
     ended_in: int = 0
     has_ended: bool = False
-    # whether the kubelet's look found it
+    # whether the kubelet's look found it, and its exit alone
     is_looked: bool = False
+    is_unseen: bool = False
 
     @property
     def begin(self) -> Optional[float]:
@@ -161,9 +162,8 @@ class Instances:
 
     # --- which is the sandbox ---
 
-    def find_sandboxes(self) -> None:
+    def find_sandboxes(self, running: Optional[Instance]) -> None:
         """Of the starts that one look found, where no sandbox runs, the last is the sandbox's, or the first alone."""
-        running: Optional[Instance] = None
         for look in self.looks():
             known = [each for each in look if each.is_sandbox]
             if known:
@@ -173,6 +173,19 @@ class Instances:
                 if unknown and unknown[-1].written is None:
                     running = unknown[-1]
                     running.is_sandbox, running.name, running.is_found = True, None, False
+
+    def sandbox_before(self, most: int, is_ending: bool) -> Instance:
+        """The sandbox of a pod that was there before the journal begins, of whose start no line tells: of what exits
+        and was not seen to start the last one, if nothing of the pod runs behind it, and it is one more than the pod
+        has containers, or the pod ends. Until then none has a line."""
+        unseen = sorted((each for each in self.by_id.values() if each.is_unseen), key=lambda each: each.gone or 0)
+        last = unseen[-1] if unseen and (len(unseen) > most or is_ending) else None
+        if last is None or last.name is not None and not last.is_found or last.written is not None or any(
+                each.gone is None or each.gone > (last.gone or 0) for each in self.by_id.values()
+                if each.seen is not None and each.seen <= (last.gone or 0)):
+            return Instance("")
+        last.is_sandbox, last.name, last.is_found = True, None, False
+        return last
 
     def looks(self) -> list[list[Instance]]:
         """The instances that started, by the looks that found them."""
@@ -187,13 +200,17 @@ class Instances:
 
     # --- of which container an instance is ---
 
-    def resolve(self, pod: Optional[Pod], added_at: float) -> None:
-        """Finds the container of each instance that has not been written yet."""
+    def resolve(self, pod: Optional[Pod], added_at: float, is_listed: bool, is_ending: bool) -> None:
+        """Finds the container of each instance that has not been written yet. A pod of which no line says that it comes
+        was there before."""
         if not self.is_news:
             return
         self.is_news = False
         self.complete(added_at)
-        self.find_sandboxes()
+        is_before = not is_listed and any(each.is_met or each.is_unseen for each in self.by_id.values())
+        has_known = any(each.is_sandbox for each in self.by_id.values())
+        most = 1 if pod is None else len(pod.containers())
+        self.find_sandboxes(self.sandbox_before(most, is_ending) if is_before and not has_known else None)
         names = pod.containers() if pod is not None else list(self.names)
         of_inits = pod.manifest["spec"].get("initContainers") or [] if pod is not None else []
         inits = [each["name"] for each in of_inits]
@@ -268,8 +285,11 @@ class Linking:
         return found
 
     def init_name(self, instance: Instance) -> Optional[str]:
-        """The init container that starts next, while they do: the next one behind an exit with 0, else the same."""
+        """The init container that starts next, while they do: the next one behind an exit with 0, else the same. What
+        ran before the journal begins is most likely none: they are short."""
         ran = [chain for chain in self.chains if chain.name in self.inits]
+        if instance.is_met and not ran:
+            return None
         if not self.inits or any(chain.name is None or chain.name not in self.inits for chain in self.chains):
             return None
         if not ran:
@@ -341,7 +361,7 @@ class Linking:
         if any(chain.name is None for chain in self.chains):
             self.name_by(self.hints.waits, True)
             self.name_by(self.hints.probed, False)
-        left = [name for name in self.names if not self.is_taken(name)]
+        left = sorted((name for name in self.names if not self.is_taken(name)), key=lambda name: name in self.inits)
         for chain in self.chains:
             if chain.name is None:
                 chain.name = left.pop(0) if left else self.unnamed()

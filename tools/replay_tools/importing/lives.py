@@ -16,7 +16,7 @@ from replay_tools.record.runtime import EXITED, LOST_CODE, RUNNING, Change, List
 from . import marks
 from .instances import Chain, Instance, Instances
 from .outputs import why_killed
-from .placing import LATE_SECONDS
+from .placing import LATE_SECONDS, PROBED
 from .probing import FAILURE, SUCCESS, Probing
 
 if TYPE_CHECKING:
@@ -67,7 +67,8 @@ class Life:
         self.added_at = at
         self.pod: Optional[recorded.Pod] = None
         self.is_template = False
-        self.was_added = False
+        # whether a line says that it comes, and whether it did not run before that
+        self.is_listed = self.was_added = False
         self.instances = Instances()
         self.probings: dict[tuple[str, str], Probing] = {}
         # what waits to be placed, and what is placed now
@@ -116,7 +117,7 @@ class Life:
                 instance.finished = fact.at
             if instance.seen is None:
                 # it ran before the journal begins, or came and went between two looks
-                is_met = is_met or self.may_have_run()
+                is_met, instance.is_unseen = is_met or self.may_have_run(), True
                 instance.seen, instance.is_met = (self.added_at, True) if is_met else (fact.at - BETWEEN_LOOKS, False)
             instance.gone = fact.at
 
@@ -161,6 +162,7 @@ class Life:
             return
         pod = self.pod if self.arrived is not None else self.arrive(placing)
         if pod is None:
+            self.is_over = self.removed_at is not None and self.removed_at <= horizon
             return
         leaves_at = self.leaves_at()
         until = horizon if leaves_at is None else min(horizon, leaves_at)
@@ -176,7 +178,9 @@ class Life:
         the next one started, and the pod itself where another one has its name, without a line that says so."""
         if self.is_over or self.is_refused:
             return
-        self.instances.resolve(self.pod, self.added_at)
+        is_ending = self.decision is not None or any(at is not None for at in (
+            self.deleted_at, self.removed_at, self.cleaned_at, self.replaced_at))
+        self.instances.resolve(self.pod, self.added_at, self.is_listed, is_ending)
         for instance, after in self.instances.lost():
             start = after.seen or 0.0
             instance.gone = placing.hole_between(self.instances.heard(instance, start), start)
@@ -187,9 +191,10 @@ class Life:
 
     def arrive(self, placing: Placing) -> Optional[recorded.Pod]:
         """Its line, with a manifest, or with the containers that lines name where there is none; None where it has no
-        line yet, or no room."""
+        line yet, or no room, or where all that is known of it is that it goes: then it had ended before."""
         found = self.pod if self.pod is not None else self.made_pod()
-        if found is None:
+        has_ended = self.deleted_at is not None and not self.is_listed and not self.instances.by_id
+        if found is None or has_ended:
             return None
         if not placing.has_room(self):
             self.is_refused = True
@@ -202,6 +207,8 @@ class Life:
                     self.probings[container, probe] = Probing(
                         probe, pod.period(container, probe), pod.initial_delay(container, probe),
                         pod.successes_wanted(container, probe))
+        if self.probings:
+            placing.count(PROBED)
         return pod
 
     def made_pod(self) -> Optional[recorded.Pod]:

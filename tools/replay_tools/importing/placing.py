@@ -32,6 +32,8 @@ LATE_SECONDS = 60
 # what is counted: holes that the journal of the kubelet alone shows, those of a journal that another one fills, pods of
 # which no line behind a gap speaks, and how often the clock went back
 HOLES, FILLED, DOUBTED, TURNS = "holes", "filled holes", "pods in doubt", "turns"
+# and pods that have probes
+PROBED = "pods with probes"
 # a member of a pod's entry: what the kubelet said
 SAID, FAILED = "said", "failed"
 # of a gap: by how many seconds the clock went back there

@@ -35,12 +35,14 @@ MESSAGES = {json.dumps(words)[1:-1].encode() for words in keyed.FORMS}
 def is_skipped(text: bytes) -> bool:
     """Whether a line is a message of klog's that is of no form that is read, by its first word."""
     place = text.find(b"] ", SHORTEST, LONGEST_HEADER) + 2
-    return (place >= SHORTEST and text[0] in LETTERS and is_unwanted(text, place)) or is_record_skipped(text)
+    if place >= SHORTEST and text[0] in LETTERS:
+        return is_unwanted(text, place)
+    return text.startswith(RECORD) and is_record_skipped(text)
 
 
 def is_record_skipped(text: bytes) -> bool:
     """The same of a line of JSON, by all of its message."""
-    place = text.find(SAYS, 0, LONGEST_HEADER) + len(SAYS) if text.startswith(RECORD) else 0
+    place = text.find(SAYS, 0, LONGEST_HEADER) + len(SAYS)
     return (place >= len(SAYS) and text[place:text.find(b'"', place)] not in MESSAGES
             and not text.startswith(READ_FLAGS, place))
 

@@ -10,7 +10,7 @@ from typing import Any, TYPE_CHECKING
 from replay_tools import entry
 from replay_tools.traces import SIGNALS
 
-from .placing import DOUBTED, FILLED, HOLES, TURNS
+from .placing import DOUBTED, FILLED, HOLES, PROBED, TURNS
 from .thresholds import HARD, SOFT
 
 if TYPE_CHECKING:
@@ -84,6 +84,8 @@ def lacking(importer: Importer, kinds: Counter[str], placed: Counter[str]) -> li
     if kinds["Probed"] and importer.placing.is_silent("readiness"):
         said.append("no successes of probes (a kubelet writes them from -v=3 on): where a period passes without a "
                     "failure one is inferred")
+    elif placed[PROBED] and not kinds["Probed"] and importer.placing.is_silent("readiness"):
+        said.append("no results of probes (a kubelet writes failures from -v=1 on): each one is taken to succeed")
     for what, means in (("pods without a manifest", "they have the containers that lines name, and no probes"),
                         ("containers that no manifest has", "they are left out"),
                         ("pods left out", "a trace has at most 256 at once")):
