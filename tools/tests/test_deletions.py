@@ -4,6 +4,7 @@ import json
 
 import cases
 from checks import HERE, TOOLS, expect, read, run
+from into_plays import Into
 
 from replay_tools import traces
 from replay_tools.record.pods import deleted_at
@@ -59,3 +60,34 @@ def test_version_2_says_none():
     text = read(f"{RECORDED}/trace").replace('"version":3', '"version":2')
     text = "".join(f"{line}\n" for line in text.splitlines() if '"kind":"gone"' not in line)
     expect("deleted: version 2", traces.trace_of(text.encode(), "it").deleted, {})
+
+
+def goes(deleted, exited, **more):
+    """A play of a pod that is told to go at a moment, whose container exited at one."""
+    spec = {"containers": [{"name": "app"}], "restartPolicy": "Always"}
+    return {"begin": BEGIN, "pods": {"shop/web": {"spec": spec, "deleted": deleted, "grace": 30, "until": 60, **more}},
+            "containers": [{"id": "a0", "pod": "shop/web", "name": "app", "attempt": 0, "created": -9, "started": -9,
+                            "exited": exited, "code": 1, "told": exited}],
+            "samples": {str(at): {"memory": 2 ** 32 - at, "pods": {"uid-web": 9}} for at in range(-1, 60, 5)}}
+
+
+def test_when_it_goes():
+    """A pod of which nothing ran when it was told to go has gone then, though a list of pods says so later; one that
+    ran goes with its exit."""
+    for name, play, wanted in (
+        ("nothing ran", goes(21, 12.5), (21, 21)),
+        ("it ran on", goes(21, 26.5), (26, 27)),
+        ("it exited as it was told", goes(21, 21), (21, 21)),
+        ("not yet told", {**goes(21, 12.5), "pods": {"shop/web": {
+            **goes(21, 12.5)["pods"]["shop/web"], "deleted": 51}}}, (None, None)),
+    ):
+        place = Into(play)
+        status, trace, said = place.record("--extended", "--for", "45")
+        place.clean()
+        lines, at, gone, deleting = map(json.loads, trace.splitlines()), None, None, None
+        for line in lines:
+            at = line.get("at", at)
+            gone = at - BEGIN if line["kind"] == "gone" else gone
+            if any(entry.get("deleting") for entry in line.get("pods", [])):
+                deleting = at - BEGIN
+        expect(f"it goes, {name}", (status, said, deleting, gone), (0, "", *wanted))
