@@ -55,6 +55,7 @@ class Tick:
     waits: dict = field(default_factory=dict)
     beside: dict = field(default_factory=dict)
     used: dict = field(default_factory=dict)
+    throttled: dict = field(default_factory=dict)
     said: dict = field(default_factory=dict)
     signals: dict = field(default_factory=dict)
     ready: Optional[Ready] = None
@@ -221,6 +222,10 @@ class Timeline:
         """What a container used at a moment; that wants no tick."""
         self.tick(self.second_of(used.moment, arrived), False).used[pod.uid, container] = used
 
+    def place_throttled(self, pod: Pod, container: str, moment: float, value: int, arrived: int) -> None:
+        """For how long a container was throttled by a moment; that wants no tick."""
+        self.tick(self.second_of(moment, arrived), False).throttled[pod.uid, container] = moment, value
+
     def place_usage(self, pod: Pod, moment: float, resource: str, value: Any) -> None:
         tick = self.tick(self.second_of(moment), False)
         tick.usages.setdefault(pod.uid, {})[resource] = value
@@ -348,7 +353,7 @@ class Timeline:
         for uid, waits in tick.waits.items():
             self.asides.take_waits(uid, waits)
         self.asides.beside.update(tick.beside)
-        self.asides.used.take(second, tick.listings, tick.used)
+        self.asides.used.take(second, tick.listings, tick.used, tick.throttled)
         self.signals = without_nones({**self.signals, **tick.signals})
         signals = self.shown_signals(second, tick)
         if tick.is_wanted:
