@@ -4,11 +4,16 @@ import json
 
 import cases
 from checks import HERE, TOOLS, expect, read, run
-from into_plays import Into
+from into_plays import Clock, Into
 
+from player import Play
 from replay_tools import traces
+from replay_tools.record.output import Output
 from replay_tools.record.pods import deleted_at
+from replay_tools.record.program import Recording
+from replay_tools.record.sources import Sources
 from replay_tools.record.standing import Standing
+from replay_tools.record.words import words_of
 
 load_tests = cases.loaded(__name__)
 
@@ -91,3 +96,26 @@ def test_when_it_goes():
             if any(entry.get("deleting") for entry in line.get("pods", [])):
                 deleting = at - BEGIN
         expect(f"it goes, {name}", (status, said, deleting, gone), (0, "", *wanted))
+
+
+class Unwritten(Output):
+    """Lines that go nowhere."""
+
+    def write(self, lines):
+        pass
+
+
+def test_nothing_behind_it():
+    """What was seen of a pod behind the moment at which it had gone is not kept."""
+    play = goes(21, 12.5, waits=[{"container": "app", "from": 22, "reason": "CrashLoopBackOff"}])
+    play["samples"] = {str(at): {"memory": 2 ** 32 - at, "pods": {"uid-web": at + 9}, "containers": {
+        "uid-web": {"app": [at + 9, 9, 9, at]}}} for at in range(-1, 60, 2)}
+    place = Into(play)
+    clock, given = Clock(BEGIN), Play(f"{place.run}/play.json")
+    words = words_of(["--node", "n1", "--extended", "--for", "60"])
+    recording = Recording(words, Sources("n1", run=lambda asked, _: given.answer(asked, clock.now())), clock,
+                          Unwritten(words.ticks), lambda *_: None)
+    recording.run()
+    place.clean()
+    asides = recording.recorder.timeline.asides
+    expect("what is kept of a pod that has gone", (asides.waits, asides.used.newest, asides.beside), ({}, {}, {}))

@@ -62,6 +62,16 @@ class Tick:
     decisions: list = field(default_factory=list)
     departures: list = field(default_factory=list)
 
+    def forget(self, uid: str) -> None:
+        """What stands beside of a pod that has gone by then is no more."""
+        of_pods: dict
+        for of_pods in (self.usages, self.deleted, self.failed, self.waits, self.beside, self.said):
+            of_pods.pop(uid, None)
+        for of_pods in (self.used, self.throttled):
+            for place in [place for place in of_pods if place[0] == uid]:
+                del of_pods[place]
+        self.unsampled.discard(uid)
+
 
 def is_seamless(item: Any, after: Result | Change) -> bool:
     """An exit with the code 137 whose successor starts in the same sync: the start's tick says that exit and that code
@@ -176,6 +186,8 @@ class Timeline:
         last = [second + behind for (uid, *_), second in self.last_placed.items() if uid == pod.uid]
         second = self.second_of(moment, *last)
         self.tick(second, True).departures.append(pod)
+        for later in (tick for at, tick in self.ticks.items() if at > second):
+            later.forget(pod.uid)
         return second
 
     def place_decision(self, pod: Pod, moment: float, recorded: Recorded | None) -> int:
