@@ -145,8 +145,14 @@ LABELS = {"ContainerOutOfMemory": {"severity": "warning", "reason": "OOMKilled"}
           "ContainerKilledByProbe": {"severity": "warning", "probe": "liveness"}}
 
 
+def expressions():
+    """What the panels of the dashboard ask for."""
+    return [target["expr"] for panel in json.loads(read(DASHBOARD))["panels"] for target in panel["targets"]]
+
+
 def test_alerts():
-    """An alert comes with the first death and the first eviction too, which a series begins with, and goes."""
+    """An alert, and the panel of deaths, shows the first death and the first eviction too, which a series begins with,
+    and no old one."""
     if shutil.which("promtool") is None:
         return
     text = ALERTS.replace("{rules}", RULES)
@@ -155,6 +161,10 @@ def test_alerts():
             **LABELS[alert], **({"instance": name} if name in ("n1", "n2") else {
                 "instance": "n1", "namespace": "shop", "container": "app", "pod": name})}} for name in names]
         text += f"  - {json.dumps({'eval_time': f'{minutes}m', 'alertname': alert, 'exp_alerts': alerts})}\n"
+    text += "  promql_expr_test:\n"
+    [panel] = [expression for expression in expressions() if "recorder_deaths" in expression]
+    for minutes, samples in ((29, []), (32, [{"labels": '{reason="OOMKilled"}', "value": 1}]), (45, [])):
+        text += f"  - {json.dumps({'expr': panel, 'eval_time': f'{minutes}m', 'exp_samples': samples})}\n"
     with tempfile.TemporaryDirectory() as folder:
         with open(f"{folder}/alerts.yml", "w", encoding="utf-8") as file:
             file.write(text)
