@@ -5,6 +5,7 @@ was captured."""
 import json
 import os
 import re
+import shutil
 import signal
 import subprocess
 import time
@@ -304,6 +305,16 @@ def never(handler):
     handler.close_connection = True
 
 
+def recorded_until(words, settings, is_over):
+    """Records until something holds of what is written and said; the status and what was said."""
+    paths = [f"{settings['RUN']}/{name}" for name in ("trace", "said")]
+    with open(paths[0], "wb") as trace, open(paths[1], "wb") as said:
+        process = subprocess.Popen([*words, "--extended"], stdout=trace, stderr=said, env={**os.environ, **settings})
+    wait_until("the recording", lambda: is_over(*map(read, paths)))
+    process.send_signal(signal.SIGTERM)
+    return process.wait(), read(paths[1])
+
+
 class OfKubelet:
     """A recorder beside a kubelet that says this of throttling."""
 
@@ -320,13 +331,7 @@ class OfKubelet:
     def record(self, is_over):
         """Records until something holds of what it has written and said; its status and what it said."""
         self.kubelet.paths.clear()
-        paths = [f"{self.place.folder}/{name}" for name in ("trace", "said")]
-        with open(paths[0], "wb") as trace, open(paths[1], "wb") as said:
-            process = subprocess.Popen([*self.words, "--extended"], stdout=trace, stderr=said,
-                                       env={**os.environ, **self.place.settings})
-        wait_until("the recording", lambda: is_over(*map(read, paths)))
-        process.send_signal(signal.SIGTERM)
-        return process.wait(), read(paths[1])
+        return recorded_until(self.words, self.place.settings, is_over)
 
     def has_gone_on(self, count=3):
         """Whether so many looks came behind the one at which it was asked."""
@@ -376,6 +381,28 @@ def test_of_a_kubelet():
     expect("--check, left out", kubelet.check("--throttled", "no"),
            (0, "", [f"unasked  {PATH}: {LEFT_OUT}, as --throttled yes does not"]))
     kubelet.end()
+
+
+def test_by_commands():
+    """By kubectl's proxy, where it is asked for, and by a curl that is started for each answer."""
+    place = Place()
+    recording = f"{place.folder}/recording"
+    shutil.copytree(os.path.dirname(ANSWERS), recording)
+    for name, data in (("pods.json", limited_pods()), ("cadvisor.txt", of_the_server().encode())):
+        with open(f"{recording}/1/{name}", "wb") as file:
+            file.write(data)
+    settings = {**place.settings, "RECORDING": recording}
+    curl = place.curl_file('header = "Authorization: Bearer none"\nproxy = "http://127.0.0.1:1"\n')
+    for name, words, said in (
+        ("kubectl", ["--throttled", "yes"], ""),
+        ("curl", ["--kubelet", "https://127.0.0.1:10250", "--curl", curl],
+         f"record: {curl} has 'proxy', which is not read here: curl is started for each answer\n"),
+    ):
+        answer = recorded_until([f"{TOOLS}/record", "--node", "worker-3", *words], settings,
+                                lambda trace, _: '"throttled":12500' in trace)
+        expect(f"throttled by {name}", answer, (0, said))
+    expect("throttled: kubectl's proxy leaves nothing", place.left(), [])
+    place.remove()
 
 
 def test_no_look_waits():
