@@ -167,7 +167,7 @@ def test_when_it_is_asked():
     asked.come = {ID: APP}, 3.0
     expect("an answer that took 3 s", (asked.taken(), asked.looks(100, 159), len(works)), ({ID: APP}, (0, {}), 2))
     asked = Asked(line(), beside=lambda work: (_ for _ in ()).throw(Failed("can't be asked: no room")))
-    expect("no thread", (asked.looks(0, 30), set(asked.said)), ((0, {}), {f"can't be asked: no room; {LEFT_OUT}"}))
+    expect("no thread", (asked.looks(0, 30), set(asked.said)), ((0, {}), {f"{PATH} can't be asked: no room; {LEFT_OUT}"}))
 
 
 LIMITED = {"limits": {"cpu": "500m"}}

@@ -174,7 +174,7 @@ class Throttling:
         try:
             self.sources.beside(self.ask)
         except Failed as failed:
-            self.come = failed, 0
+            self.come = Failed(f"/{PATH} {failed}"), 0
 
     def ask(self) -> None:
         begun = time.monotonic()
