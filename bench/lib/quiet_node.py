@@ -1,5 +1,6 @@
 """A made-up node with its kubelet and its runtime, for a recorder that is measured: answers as long as those of a real
 one, and a container that crashes now and then."""
+import contextlib
 import json
 import os
 import ssl
@@ -14,6 +15,8 @@ RUN_SECONDS = 40
 PERIOD = 10
 # what a pod's status and manifest have beside what is read, in bytes
 PADDING = "x" * 4000
+# series of other metrics that a kubelet's /metrics/cadvisor has of a pod: with its sandbox, networks and disks
+OTHER_SERIES = 220
 CRICTL = '#!/bin/sh\nif [ "$1" = ps ]; then exec cat "{0}/ps.json"; fi\nexec cat "{0}/$4.json"\n'
 
 
@@ -81,7 +84,7 @@ class Node:
                          "annotations": {"padding": PADDING}},
             "spec": {"restartPolicy": "Always", "containers": [{
                 "name": "app", "image": "web:1", "env": self.environment,
-                "resources": {"requests": {"memory": "64Mi"}, "limits": {"memory": "128Mi"}},
+                "resources": {"requests": {"memory": "64Mi"}, "limits": {"cpu": "500m", "memory": "128Mi"}},
                 "livenessProbe": probe, "readinessProbe": probe}]},
             "status": {"phase": "Running", "containerStatuses": [
                 {"name": "app", "restartCount": 0, "ready": True, "started": True, "state": {"running": {}}}]}}
@@ -98,6 +101,21 @@ class Node:
                 lines.append(f'prober_probe_total{{{labels},result="successful"}} {count}')
                 lines += [f'prober_probe_duration_seconds_bucket{{{labels},le="{bound}"}} {count}'
                           for bound in (.005, .01, .025, .05, .1, .25, .5, 1, 2.5, 5, 10, "+Inf")]
+        return "\n".join(lines) + "\n"
+
+    def cadvisor(self, now):
+        """For how long each pod's processor was throttled, among the series of other metrics, a third of a kB each."""
+        lines, moment = [], int(now // PERIOD * PERIOD) * 1000
+        for number, attempt, _, end in self.listed(now):
+            identity = self.identity(number, attempt)
+            group = f"kubepods-burstable-pod{number:036x}.slice/cri-containerd-{identity}.scope"
+            labels = (f'container="app",id="/kubepods.slice/kubepods-burstable.slice/{group}",'
+                      f'image="registry.example/shop/web:1",name="{identity}",namespace="shop",pod="web-{number}"')
+            if end is None:
+                lines += [f"container_made_up_{series:03}_seconds_total{{{labels}}} {series} {moment}"
+                          for series in range(OTHER_SERIES)]
+                seconds = (now - self.begun) / 20
+                lines.append(f"container_cpu_cfs_throttled_seconds_total{{{labels}}} {seconds} {moment}")
         return "\n".join(lines) + "\n"
 
     def summary(self, now):
@@ -131,12 +149,14 @@ class Handler(BaseHTTPRequestHandler):
     def do_GET(self):
         node = self.server.node
         answers = {"/pods": node.pods_answer, "/metrics/probes": node.probes, "/stats/summary": node.summary,
-                   "/configz": node.configuration}
+                   "/metrics/cadvisor": node.cadvisor, "/configz": node.configuration}
         body = answers[self.path](time.time()).encode()
         self.send_response(200)
         self.send_header("Content-Length", str(len(body)))
         self.end_headers()
-        self.wfile.write(body)
+        # a recorder that ends waits for no answer
+        with contextlib.suppress(OSError):
+            self.wfile.write(body)
 
     def log_message(self, *_):
         pass

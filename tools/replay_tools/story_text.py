@@ -7,7 +7,8 @@ from typing import TYPE_CHECKING
 
 from replay_tools import asking, endings, kubelet as kubelets, reasons, report as reports, why_text
 from replay_tools.joined import told as told_of_several
-from replay_tools.telling import beside_words, containers_title, event_words, node_lines, node_rows, table
+from replay_tools.telling import (beside_words, containers_title, event_words, last_lines, node_lines, node_rows,
+                                  table)
 
 if TYPE_CHECKING:
     from replay_tools import traces
@@ -91,7 +92,9 @@ def events(report: reports.Report, pod: reports.Pod, show: Show, kubelet: kubele
     rows = [(at, ["-", "-", what]) for at, what, _ in (node_rows(trace, report, pod, show) if trace else ())]
     for event in pod.events:
         attempt, what = event_words(event, kubelet is not None, trace)
-        rows.append((event.at, [event.container or "-", attempt or "-", what + beside_words(pod, event, show)]))
+        cells = [event.container or "-", attempt or "-"]
+        rows.append((event.at, [*cells, what + beside_words(pod, event, show)]))
+        rows += [(event.at, [*cells, wrote]) for wrote in last_lines(event, trace)]
     rows += [(said.at, [said.container or "-", "-", said.words()])
              for said in (trace.said.of(pod.number) if trace else ())]
     fact = kubelet and kubelet.fact(pod.number)

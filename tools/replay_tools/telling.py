@@ -66,6 +66,12 @@ def event_words(event: reports.Event, is_beside: bool = False, trace: traces.Tra
     return kind.attempt(event.rest), f"{told}{more_words(event, trace)}"
 
 
+def last_lines(event: reports.Event, trace: traces.Trace | None) -> list[str]:
+    """What an instance that died wrote last, a line each, as far as the trace has it."""
+    end = trace.reasons.end_of(event) if trace is not None and event.word == "died" else None
+    return [f"it wrote last: {line}" for line in (end.log if end is not None else [])]
+
+
 def more_words(event: reports.Event, trace: traces.Trace | None) -> str:
     """What a trace says of an event beside what the report does: what a probe put out before a kill order, or that it
     is known within a second."""

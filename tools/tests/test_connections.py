@@ -34,10 +34,10 @@ class Kubelet(ThreadingHTTPServer):
     def __init__(self, folder, answers_each=10 ** 9, wants_certificate=False):
         super().__init__(("127.0.0.1", 0), Handler)
         self.connections, self.answers, self.answers_each, self.tokens = 0, 0, answers_each, {TOKEN}
-        # how often it was asked with each token
-        self.given = Counter()
+        # how often it was asked with each token, and for each path
+        self.given, self.paths = Counter(), Counter()
         # the tokens that came, and the answers that are others than the recorded ones: {path: (status, body, bytes that
-        # its length has beside those of the body)}
+        # its length has beside those of the body)}, or what is called with the handler
         self.came, self.others = [], {}
         self.port = self.server_address[1]
         self.url = f"http://127.0.0.1:{self.port}"
@@ -74,10 +74,13 @@ class Handler(BaseHTTPRequestHandler):
         self.given += 1
         self.server.came += filter(None, [self.headers["Authorization"]])
         self.server.given[self.headers["Authorization"]] += 1
+        self.server.paths[self.path] += 1
         if self.headers["Authorization"] not in self.server.tokens:
             self.answer(401, b"Unauthorized")
-        elif self.path in self.server.others:
-            self.answer(*self.server.others[self.path])
+        elif callable(other := self.server.others.get(self.path, ())):
+            other(self)
+        elif other:
+            self.answer(*other)
         else:
             self.answer(200, read(f"{ANSWERS}/{PATHS[self.path]}").encode())
         # as a server that closes what is idle, without a word of it

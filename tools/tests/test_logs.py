@@ -3,7 +3,7 @@
 import json
 
 import cases
-from checks import expect
+from checks import TOOLS, expect, run
 from into_plays import Into
 
 from replay_tools.record.logs import kept_of, lines_of
@@ -78,3 +78,16 @@ def test_lines_that_do_not_come():
     place.clean()
     expect("last lines that do not come", (status, log_in(trace), said),
            (0, [], "record: crictl logs a0 failed with status 1: no log\n"))
+
+
+def test_story():
+    """They stand beside the death, as far as they are kept."""
+    place = Into(play())
+    _, trace, _ = place.record("--extended", "--logs", "3", "--for", "20")
+    with open(f"{place.run}/it.trace", "w", encoding="utf-8") as file:
+        file.write(trace)
+    status, told, said = run([f"{TOOLS}/kubelet-replay", "story", "-f", f"{place.run}/it.trace", "shop/web"])
+    place.clean()
+    rows = [row.split("  ")[-1] for row in told.partition("\nEvents\n")[2].partition("\n\n")[0].split("\n")[1:]]
+    expect("last lines: the story", (status, said, rows[3:6]), (0, "", [
+        "died with code 1: Error", "it wrote last: Traceback (most recent call last)", "it wrote last: ValueError"]))

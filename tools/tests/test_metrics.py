@@ -5,6 +5,7 @@ import os
 import re
 import shutil
 import subprocess
+import tempfile
 
 import cases
 from checks import TOP, expect, read
@@ -74,7 +75,8 @@ def test_metrics():
     text, answer, _, _ = recorded()
     expect("metrics: the recording", answer, (0, []))
     expect("metrics: restarts and kills", series_of(text, "restarts", "kills"), {
-        ("restarts", "crash"): 2, ("restarts", "probed"): 1, ("kills", "probed", "liveness"): 1})
+        ("restarts", "crash"): 2, ("restarts", "probed"): 1, ("restarts", "done"): 0,
+        ("kills", "probed", "liveness"): 1})
     expect("metrics: deaths", series_of(text, "deaths"), {
         ("deaths", "crash", "Error", "1"): 1, ("deaths", "crash", "Error", "137"): 1,
         ("deaths", "crash", "Error", "3"): 1, ("deaths", "probed", "Error", "143"): 1,
@@ -106,6 +108,69 @@ def test_readers():
     for name, words, given in (("metrics", ["check", "metrics"], text), ("rules", ["check", "rules", RULES], "")):
         done = subprocess.run(["promtool", *words], input=given, capture_output=True, text=True, check=False)
         expect(f"metrics: promtool, {name}", (done.returncode, done.stderr), (0, ""))
+
+
+ALERTS = """\
+rule_files: ["{rules}"]
+evaluation_interval: 30s
+tests:
+- interval: 30s
+  input_series:
+  - {series: 'kubelet_recorder_deaths{pod="oom",container="app",namespace="shop",reason="OOMKilled",instance="n1"}',
+     values: '_x60 1x80'}
+  - {series: 'kubelet_recorder_deaths{pod="old",container="app",namespace="shop",reason="OOMKilled",instance="n1"}',
+     values: '3x200'}
+  - {series: 'kubelet_recorder_evictions{instance="n1"}', values: '0x60 1x80'}
+  - {series: 'kubelet_recorder_restarts{pod="oom",container="app",namespace="shop",instance="n1"}',
+     values: '0x60 1 2 3 4 5 6x80'}
+  - {series: 'kubelet_recorder_kills{pod="hung",container="app",namespace="shop",probe="liveness",instance="n1"}',
+     values: '_x60 1 1 2x80'}
+  - {series: 'kubelet_recorder_last_tick_seconds{instance="n1"}', values: '0+30x200'}
+  - {series: 'kubelet_recorder_last_tick_seconds{instance="n2"}', values: '0+30x50 1500x200'}
+  alert_rule_test:
+"""
+# when each alert is there: minutes since the recorders began, and of which pods, or of which node
+FIRED = (
+    ("ContainerOutOfMemory", 29, []), ("ContainerOutOfMemory", 32, ["oom"]), ("ContainerOutOfMemory", 50, []),
+    ("NodeEvicts", 29, []), ("NodeEvicts", 32, ["n1"]), ("NodeEvicts", 50, []),
+    ("ContainerRestarts", 30, []), ("ContainerRestarts", 34, ["oom"]), ("ContainerRestarts", 60, []),
+    ("ContainerKilledByProbe", 30, []), ("ContainerKilledByProbe", 32, ["hung"]), ("RecorderSilent", 32, []),
+    ("RecorderSilent", 40, ["n2"]))
+SAYS = {"ContainerOutOfMemory": "shop/{0} app ran out of memory", "NodeEvicts": "the kubelet of {0} evicts pods",
+        "ContainerRestarts": "shop/{0} app is restarted again and again",
+        "ContainerKilledByProbe": "the liveness probe of shop/{0} kills it",
+        "RecorderSilent": "the recorder of {0} has written nothing for five minutes"}
+LABELS = {"ContainerOutOfMemory": {"severity": "warning", "reason": "OOMKilled"}, "NodeEvicts": {"severity": "critical"},
+          "ContainerRestarts": {"severity": "warning"}, "RecorderSilent": {"severity": "warning"},
+          "ContainerKilledByProbe": {"severity": "warning", "probe": "liveness"}}
+
+
+def expressions():
+    """What the panels of the dashboard ask for."""
+    return [target["expr"] for panel in json.loads(read(DASHBOARD))["panels"] for target in panel["targets"]]
+
+
+def test_alerts():
+    """An alert, and the panel of deaths, shows the first death and the first eviction too, which a series begins with,
+    and no old one."""
+    if shutil.which("promtool") is None:
+        return
+    text = ALERTS.replace("{rules}", RULES)
+    for alert, minutes, names in FIRED:
+        alerts = [{"exp_annotations": {"summary": SAYS[alert].format(name)}, "exp_labels": {
+            **LABELS[alert], **({"instance": name} if name in ("n1", "n2") else {
+                "instance": "n1", "namespace": "shop", "container": "app", "pod": name})}} for name in names]
+        text += f"  - {json.dumps({'eval_time': f'{minutes}m', 'alertname': alert, 'exp_alerts': alerts})}\n"
+    text += "  promql_expr_test:\n"
+    [panel] = [expression for expression in expressions() if "recorder_deaths" in expression]
+    for minutes, samples in ((29, []), (32, [{"labels": '{reason="OOMKilled"}', "value": 1}]), (45, [])):
+        text += f"  - {json.dumps({'expr': panel, 'eval_time': f'{minutes}m', 'exp_samples': samples})}\n"
+    with tempfile.TemporaryDirectory() as folder:
+        with open(f"{folder}/alerts.yml", "w", encoding="utf-8") as file:
+            file.write(text)
+        done = subprocess.run(["promtool", "test", "rules", f"{folder}/alerts.yml"], capture_output=True, text=True,
+                              check=False)
+    expect("metrics: alerts", (done.returncode, done.stdout + done.stderr if done.returncode else ""), (0, ""))
 
 
 def test_files_that_cannot_be():

@@ -19,6 +19,8 @@ RECORDED = f"{TOP}/examples/recorded/out_of_memory.trace"
 SINCE = ("--since", "2026-01-01T03:00Z")
 NODES = (("worker-1", "recorder-a"), ("worker-2", "recorder-b"), ("node-a", "recorder-c"))
 OLD, NEW = "web-5f6d8", "web-7d4b9c"
+# what a container used that came to its limit
+WHOLE = {"workingSet": 64 << 20, "usage": 64 << 20, "cpu": 250}
 
 
 def line(value):
@@ -40,8 +42,8 @@ def trace(node, pods, ticks):
     return made
 
 
-def listed(attempt=0, code=None, reason=None, **more):
-    found = {"name": "app", "attempt": attempt, "state": "CONTAINER_RUNNING"}
+def listed(attempt=0, code=None, reason=None, beside=(), **more):
+    found = {"name": "app", "attempt": attempt, "state": "CONTAINER_RUNNING", **dict(beside)}
     found.update({} if code is None else {"state": "CONTAINER_EXITED", "exitCode": code})
     return {"containers": [{**found, **({"reason": reason} if reason else {})}], **more}
 
@@ -54,7 +56,9 @@ def traces():
     """What the recorders hold: a kill for memory, a pod that was deleted, and one whose readiness probe fails."""
     limit = {"resources": {"limits": {"memory": "64Mi"}}}
     first = trace("worker-1", {f"{NEW}-aaaaa": limit}, [
-        (0, {f"{NEW}-aaaaa": listed()}), (600, {f"{NEW}-aaaaa": listed(0, 137, "OOMKilled")}),
+        (0, {f"{NEW}-aaaaa": listed()}),
+        (596, {f"{NEW}-aaaaa": listed(beside={"used": WHOLE})}),
+        (600, {f"{NEW}-aaaaa": listed(0, 137, "OOMKilled", {"used": {**WHOLE, "age": 4}, "log": ["Out of memory"]})}),
         (611, {f"{NEW}-aaaaa": listed(1)}), (900, {f"{NEW}-aaaaa": listed(1)})])
     probe = {"readinessProbe": {"periodSeconds": 10, "failureThreshold": 1}}
     second = trace("worker-2", {f"{OLD}-bbbbb": {}, f"{NEW}-ccccc": probe, "other": {}}, [
@@ -146,15 +150,16 @@ deployment/web in shop, 2026-01-01 03:00:00Z to 2026-01-01 03:15:00Z: 3 pods on 
 Pods, the worst first
   pod               node      phase    restarts  in all  unready s  moment                worst event
   web-7d4b9c-aaaaa  worker-1  Running         1       1         11  2026-01-01 03:10:00Z  app died with code 137: \
-OOMKilled, its memory limit is 64Mi
+OOMKilled, its memory limit is 64Mi, it used 64Mi 4 s before
   web-7d4b9c-ccccc  worker-2  Running         0       0          0             03:12:00Z  app unready
   web-5f6d8-bbbbb   worker-2  Running         0       0          0             03:05:00Z  deleted
 
 What happened
   moment                node      pod               container  event
   2026-01-01 03:05:00Z  worker-2  web-5f6d8-bbbbb   -          being deleted from here on: nothing of it is restarted
-             03:10:00Z  worker-1  web-7d4b9c-aaaaa  app        died with code 137: OOMKilled, its memory limit is 64Mi \
-(attempt 0)
+             03:10:00Z  worker-1  web-7d4b9c-aaaaa  app        died with code 137: OOMKilled, its memory limit is 64Mi, \
+it used 64Mi 4 s before (attempt 0)
+             03:10:00Z  worker-1  web-7d4b9c-aaaaa  app        it wrote last: Out of memory
              03:10:00Z  worker-1  web-7d4b9c-aaaaa  app        unready
              03:10:00Z  worker-1  web-7d4b9c-aaaaa  app        restart (attempt 0)
              03:10:11Z  worker-1  web-7d4b9c-aaaaa  app        started (attempt 1)
@@ -208,7 +213,7 @@ def test_around_a_moment():
     with Cluster() as cluster:
         status, told, _ = cluster.run("story", "deploy/web", "--at", "2026-01-01T03:12Z")
         rows = [row.split()[-1] for row in told.partition("What happened")[2].split("\n")[2:-1]]
-        expect("story deploy/web --at", (status, "being deleted" in told, len(rows)), (0, True, 8))
+        expect("story deploy/web --at", (status, "being deleted" in told, len(rows)), (0, True, 9))
         status, told, said = cluster.run("story", "deploy/web", "--at", "2026-01-01T05:12Z")
         expect("story deploy/web --at another moment", (status, told, said.split("\n")[-2]), (
             1, "", "kubectl-replay: deployment/web in shop: nothing of it was recorded then on worker-1, worker-2, "

@@ -84,6 +84,7 @@ def of_pod(one: OnNode, pod: reports.Pod, show: Callable[[int], str]) -> list[Ro
         attempt, what = telling.event_words(event, one.kubelet is not None, trace)
         rows.append((event.at, event.container,
                      what + events.attempt_words(attempt) + telling.beside_words(pod, event, show)))
+        rows += [(event.at, event.container, wrote) for wrote in telling.last_lines(event, trace)]
     fact = one.kubelet and one.kubelet.fact(pod.number)
     if fact:
         rows.append((fact.decision.at, None, kubelets.event_words(fact.decision)))

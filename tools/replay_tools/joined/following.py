@@ -67,6 +67,8 @@ class Follower:
         for event in report.events:
             if least < event.at <= certain and not event.was_so and self.is_wanted(event.pod):
                 yield event.at, event_line(event, trace, kubelet is not None)
+                for wrote in telling.last_lines(event, trace):
+                    yield event.at, f"{event.pod} {event.container} {wrote}"
         for pod in report.pods:
             if self.is_wanted(pod.key):
                 yield from ((at, f"{pod.key} {what}") for at, what in asides(trace, pod) if least < at <= certain)

@@ -14,6 +14,7 @@ from .probes import counters_of
 from .runtime import inspected_of, instances_of
 from .sources import Failed, Refused
 from .summary import Summary, summary_of
+from .throttled import LEFT_OUT, PATH, Absent, asked
 
 if TYPE_CHECKING:
     from .lines import Format
@@ -34,6 +35,10 @@ DO = "; the rights of deploy/daemonset.yaml do here"
 
 class NotAsked(Exception):
     """A source that can't be asked; its text says why."""
+
+
+class Without(Exception):
+    """A source without which all else is recorded; its text says why it does not work."""
 
 
 def counted(count: int, what: str) -> str:
@@ -81,6 +86,21 @@ def node_checks(sources: Sources, node: str, trace_format: Format) -> list[tuple
             ("/configz", configure, wish(sources, "configz") + own)]
 
 
+def throttled_checks(sources: Sources, is_asked: bool) -> list[tuple[str, Callable[..., Any], str]]:
+    """What asks for how long processors were throttled."""
+    def ask() -> str:
+        if not is_asked:
+            raise NotAsked(f"{LEFT_OUT}, as --throttled yes does not")
+        try:
+            return f"{counted(len(asked(sources)), 'container')} whose processor has a limit"
+        except Absent as absent:
+            raise Without(f"{absent}, as where no container that runs has a limit of its processor") from None
+        except Failed as failed:
+            raise Without(f"{failed}; {wish(sources, 'metrics')}; {LEFT_OUT}") from None
+
+    return [(f"/{PATH}", ask, "")]
+
+
 def api_checks(sources: Sources) -> list[tuple[str, Callable[..., Any], str]]:
     """What asks the API server, where --events names it."""
     def listed() -> str:
@@ -97,7 +117,8 @@ def api_checks(sources: Sources) -> list[tuple[str, Callable[..., Any], str]]:
         (NODE, read, f"it wants the permission to get nodes{wanted}")]
 
 
-def checks_of(sources: Sources, node: str, trace_format: Format) -> list[tuple[str, Callable[..., Any], str]]:
+def checks_of(sources: Sources, node: str, trace_format: Format,
+              asks_throttled: bool) -> list[tuple[str, Callable[..., Any], str]]:
     """Each source with how it is asked and what it wants: (name, ask, wish)."""
     if sources.alone is not None:
         return runtime_checks(sources)
@@ -106,17 +127,21 @@ def checks_of(sources: Sources, node: str, trace_format: Format) -> list[tuple[s
             (sources.pods_name(), lambda: counted(len(pods_of(sources.pods(), sources.pods_name())), "pod"), pods),
             ("/metrics/probes", lambda: f"{counted(len(counters_of(sources.probes())), 'probe')} with results",
              wish(sources, "metrics")),
-            *node_checks(sources, node, trace_format), *api_checks(sources)]
+            *node_checks(sources, node, trace_format), *throttled_checks(sources, asks_throttled),
+            *api_checks(sources)]
 
 
-def check(sources: Sources, node: str, trace_format: Format, show: Callable[[str], None]) -> bool:
-    """Asks each source once and shows a line of each; whether all work."""
+def check(sources: Sources, node: str, trace_format: Format, show: Callable[[str], None],
+          asks_throttled: bool = False) -> bool:
+    """Asks each source once and shows a line of each; whether all work that are needed."""
     works = True
-    for name, ask, wanted in checks_of(sources, node, trace_format):
+    for name, ask, wanted in checks_of(sources, node, trace_format, asks_throttled):
         try:
             show(f"works    {name}: {ask()}")
         except NotAsked as reason:
             show(f"unasked  {name}: {reason}")
+        except Without as reason:
+            show(f"without  {reason}")
         except Failed as failed:
             works = False
             show(f"missing  {failed}; {wanted}")

@@ -23,8 +23,7 @@ from urllib.parse import urlsplit
 
 from .alone import ALONE, RuntimeAlone
 from .answers import Answer, decoded
-from .sources import (ENDPOINT_SECONDS, KUBECTL, MOST_BYTES, PART_BYTES, Failed, Refused, Sources, shown_line,
-                      too_long)
+from .sources import ENDPOINT_SECONDS, KUBECTL, PART_BYTES, Failed, Refused, Sources, Whole, shown_line
 
 # what an answer fails with: of the connection, and of an address or a header that can't be sent
 FAULTS = (http.client.HTTPException, OSError, ValueError)
@@ -120,6 +119,15 @@ class Kept:
         self.connect = connect
         self.connection: http.client.HTTPConnection | None = None
 
+    def read(self, path: str, headers: dict[str, str], take: Callable[[bytes], None]) -> None:
+        """Gives an answer to `take`, part by part, and keeps no connection; Failed where none comes."""
+        try:
+            self.asked(path, headers, take)
+        except FAULTS as error:
+            raise self.failed(error) from None
+        finally:
+            self.close()
+
     def get(self, path: str, headers: dict[str, str]) -> bytearray:
         """An answer; Failed where none comes."""
         is_kept = self.connection is not None
@@ -143,36 +151,42 @@ class Kept:
         said = unchecked or getattr(error, "strerror", None) or error
         return Failed(f"gave no answer: {said}{NOT_CHECKED if unchecked else ''}")
 
-    def asked(self, path: str, headers: dict[str, str]) -> bytearray:
+    def asked(self, path: str, headers: dict[str, str], take: Callable[[bytes], None] | None = None) -> bytearray:
+        """The body of an answer, or nothing where `take` is given it; what a refusal says is not."""
         until = time.monotonic() + ENDPOINT_SECONDS
         if self.connection is None:
             self.connection = self.connect()
         self.connection.request("GET", path, headers=headers)
-        answer = self.connection.getresponse()
-        body = self.body_of(answer, until)
+        answer, whole = self.connection.getresponse(), Whole()
+        try:
+            read_body(answer, until, whole.take if take is None or answer.status != 200 else take)
+        except Failed:
+            self.close()
+            raise
         if answer.will_close:
             self.close()
         if answer.status != 200:
-            raise Refused(answer.status, f"answered with {answer.status} {shown_line(answer.reason)}: {said_in(body)}")
-        return body
-
-    def body_of(self, answer: http.client.HTTPResponse, until: float) -> bytearray:
-        body = bytearray()
-        while part := answer.read(PART_BYTES):
-            body += part
-            if time.monotonic() > until:
-                raise TimeoutError
-            if len(body) > MOST_BYTES:
-                self.close()
-                raise too_long()
-        if answer.length:
-            raise ConnectionError("the answer ended before its length")
-        return body
+            raise Refused(answer.status,
+                          f"answered with {answer.status} {shown_line(answer.reason)}: {said_in(whole.body)}")
+        return whole.body
 
     def close(self) -> None:
         if self.connection is not None:
             self.connection.close()
             self.connection = None
+
+
+def read_body(answer: http.client.HTTPResponse, until: float, take: Callable[[bytes], None]) -> None:
+    """Gives the body of an answer to `take`, part by part, as it comes."""
+    left = answer.length
+    while left != 0 and (part := answer.read1(PART_BYTES if left is None else min(left, PART_BYTES))):
+        left = None if left is None else left - len(part)
+        take(part)
+        if time.monotonic() > until:
+            raise TimeoutError
+    if left:
+        raise ConnectionError("the answer ended before its length")
+    answer.close()
 
 
 def said_in(body: bytearray) -> str:
@@ -208,9 +222,9 @@ class Kubelet:
         self.url, self.curl_file = urlsplit(url), curl_file
         self.text: str | None = None
         self.kept = Kept(self.connected)
-        self.read()
+        self.read_settings()
 
-    def read(self) -> None:
+    def read_settings(self) -> None:
         text = text_of(self.curl_file)
         if text != self.text:
             self.settings, self.text = settings_of(text), text
@@ -230,14 +244,22 @@ class Kubelet:
 
     def endpoint(self, path: str) -> bytearray:
         try:
-            self.read()
+            self.read_settings()
         except (OSError, UnicodeDecodeError) as error:
             raise Failed(f"can't be asked: {self.curl_file} can't be read: {error}") from None
         except NotRead as other:
             raise Failed(f"can't be asked: {self.curl_file} has {other}, which is not read") from None
+        return self.kept.get(f"/{path}", self.checked_headers())
+
+    def checked_headers(self) -> dict[str, str]:
+        """What is sent; Failed where a token would go to whoever answers."""
         if self.url.scheme == "http" and self.settings.headers and not self.settings.is_insecure:
             raise Failed(f"is not asked: {UNSAFE.format(self.curl_file)}")
-        return self.kept.get(f"/{path}", self.settings.headers)
+        return self.settings.headers
+
+    def read(self, path: str, take: Callable[[bytes], None]) -> None:
+        """Gives an answer to `take`, with the settings as they were read last."""
+        Kept(self.connected).read(f"/{path}", self.checked_headers(), take)
 
     def pods(self) -> bytearray:
         return self.endpoint("pods")
@@ -261,6 +283,9 @@ class Unasked:
 
     def endpoint(self, path: str) -> bytearray:
         raise Failed(f"is not asked: {self.reason}")
+
+    def read(self, path: str, _: Callable[[bytes], None]) -> None:
+        self.endpoint(path)
 
     def pods(self) -> bytearray:
         return self.endpoint("pods")
@@ -385,6 +410,11 @@ class Proxy:
 
     def endpoint(self, path: str) -> bytearray:
         return self.get(f"/api/v1/nodes/{self.node}/proxy/{path}")
+
+    def read(self, path: str, take: Callable[[bytes], None]) -> None:
+        # it runs, since it was asked for the pods before, and where it has ended the next look starts it
+        there = self.socket
+        Kept(lambda: SocketConnection(there)).read(f"/api/v1/nodes/{self.node}/proxy/{path}", {}, take)
 
     def pods(self) -> bytearray:
         return self.get(f"/api/v1/pods?fieldSelector=spec.nodeName%3D{self.node}")

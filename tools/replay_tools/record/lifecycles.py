@@ -7,6 +7,7 @@ from typing import TYPE_CHECKING
 
 from .decisions import EVICTED, REFUSED
 from .formats import MOST_PODS
+from .runtime import EXITED
 from .seen import Recorded
 
 if TYPE_CHECKING:
@@ -67,7 +68,7 @@ class Lifecycles:
                 self.see_deletion(recorded, pod, seen)
             # the status of a pod that was evicted may be written anew
             if pod is None or pod.is_deleted or self.decisions.has(pod):
-                self.see_going(recorded, pod is not None, seen)
+                self.see_going(recorded, pod, seen)
         for pod in self.listed:
             if pod.uid not in self.recorded and pod.uid not in self.left_out:
                 self.arrive(pod, seen)
@@ -164,12 +165,12 @@ class Lifecycles:
             deletion = {} if pod is None else pod.deletion
             self.timeline.place_deletion(recorded.pod, max(moment, recorded.arrived), deletion)
 
-    def see_going(self, recorded: Recorded, is_listed: bool, seen: Seen) -> None:
+    def see_going(self, recorded: Recorded, pod: Pod | None, seen: Seen) -> None:
         """A pod is no longer listed, was told to go, or the kubelet ended it. It is gone once each of its containers
         has exited with a code that is known, or is no more, and one that was evicted once the kubelet goes on behind
         it; where a new pod of its name waits for that, at the latest after some seconds."""
         if not self.says_gone:
-            if not is_listed and not any(pod.key == recorded.pod.key for pod in self.listed):
+            if pod is None and not any(each.key == recorded.pod.key for each in self.listed):
                 self.say(f"{recorded.pod.key} is gone, and the replay goes on with it: cut the trace where pods go")
             return
         if seen.instances is None:
@@ -179,7 +180,7 @@ class Lifecycles:
         has_next, is_late = self.has_next(recorded.pod), seen.moment - recorded.going_since > GOING_SECONDS
         has_ended = all(instance.exit_code is not None for instance in instances)
         if (is_late and has_next) or (has_ended and (is_late or has_next or self.is_cleaned_up(recorded))):
-            self.depart(recorded, seen)
+            self.depart(recorded, seen, went_at(recorded, pod))
 
     def is_cleaned_up(self, recorded: Recorded) -> bool:
         """Whether the kubelet has gone on behind the pod's eviction, which it does once the pod is cleaned up: by a new
@@ -191,13 +192,14 @@ class Lifecycles:
         waiting = (each for each in self.listed if each.uid not in self.recorded and each.uid not in self.left_out)
         return any(each.key == pod.key for each in waiting)
 
-    def depart(self, recorded: Recorded, seen: Seen) -> None:
-        """A pod goes from the trace, behind what the same look saw of its containers."""
+    def depart(self, recorded: Recorded, seen: Seen, went_at: float | None = None) -> None:
+        """A pod goes from the trace, behind what the same look saw of its containers, or when it went, if that is
+        known."""
         if seen.instances is not None:
             self.containers.follow_to_the_end(recorded, seen.instances, seen.moment)
         self.containers.plan(recorded, seen.moment)
         recorded.is_followed = False
-        moment = max(seen.moment, recorded.changes_from)
+        moment = max(seen.moment if went_at is None else min(went_at, seen.moment), recorded.changes_from)
         self.gone_at[recorded.pod.key] = self.timeline.place_departure(recorded.pod, moment)
 
     # --- a recording that goes on for ever ---
@@ -219,3 +221,14 @@ class Lifecycles:
         for recorded in self.followed():
             recorded.arrived = recorded.changes_from = int(moment)
             recorded.going_since = None if recorded.going_since is None else moment
+
+
+def went_at(recorded: Recorded, pod: Pod | None) -> float | None:
+    """When a pod was told to go of which nothing ran then, so that the kubelet takes it for none that it may evict; a
+    list of pods may say that late. None of any other one."""
+    if pod is None or pod.deleted_at is None or recorded.evicted_at is not None:
+        return None
+    newest = [container.newest for container in recorded.containers.values()]
+    has_ended = all(each is not None and each.state == EXITED and each.finished is not None
+                    and each.finished <= pod.deleted_at for each in newest)
+    return pod.deleted_at if has_ended else None

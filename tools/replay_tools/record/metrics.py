@@ -52,6 +52,8 @@ class Metrics:
         self.before: dict[tuple[str, str], tuple[int | None, bool]] = {}
         self.killed: set[tuple[str, str, str, int]] = set()
         self.is_first = True
+        # whether it is known whom the kubelet evicts
+        self.has_kubelet = False
 
     def take(self, lines: Iterable[str]) -> None:
         """Lines that are written."""
@@ -61,6 +63,7 @@ class Metrics:
             self.standing.take(record)
             if record["kind"] == "node":
                 self.near.know(record)
+                self.has_kubelet = record.get("recordsKubelet") is True
             elif record["kind"] == "gone":
                 self.forget(record["pod"])
             elif record["kind"] == "tick":
@@ -122,11 +125,17 @@ class Metrics:
     # --- what is written ---
 
     def now(self) -> dict[str, dict[Labels, float]]:
-        """The present state, which is no count."""
+        """The present state, and counts that begin at 0: what has its first value as something happens has not risen,
+        for who asks by how much."""
         signals = self.standing.signals
         below = self.near.below(signals)
         pressed = dict.fromkeys(sorted(CONDITIONS.values()), 0) | {CONDITIONS[each.split(".")[0]]: 1 for each in below}
+        restarts, evictions = self.counts["restarts"], self.counts["evictions"]
+        containers = [(*of_pod(key), ("container", name))
+                      for key, pod in self.standing.pods.items() for name in pod.containers]
         return {"last_tick_seconds": {(): self.standing.at or 0},
+                "restarts": {labels: restarts[labels] for labels in containers},
+                "evictions": {(): evictions[()]} if self.has_kubelet else {},
                 "ready": {of_pod(key): int(is_ready(pod)) for key, pod in self.standing.pods.items()},
                 "pressure": {(("condition", name),): value for name, value in pressed.items()},
                 "available": {(("signal", name),): value for name, value in signals.items()}}

@@ -17,6 +17,7 @@ from .runtime import CREATED, EXITED, RUNNING, inspected_of, instances_of
 from .seen import PATIENCE, Seen
 from .sources import Failed
 from .summary import summary_of
+from .throttled import Throttling, are_limited
 
 if TYPE_CHECKING:
     from .events import Ready, Said
@@ -62,8 +63,9 @@ class Observer:
     of those that fail, and `now` gives the moment, by which a look has lasted."""
 
     def __init__(self, sources: Sources, summary_seconds: int, say: Callable[..., None],
-                 now: Callable[[], float] | None = None, log_lines: int = 0) -> None:
+                 now: Callable[[], float] | None = None, log_lines: int = 0, asks_throttled: bool = False) -> None:
         self.sources = sources
+        self.throttling = Throttling(sources, say) if asks_throttled else None
         self.log_lines = log_lines
         self.say = say
         self.now = now
@@ -117,6 +119,8 @@ class Observer:
     def look(self, moment: float) -> Seen:
         """What the sources show at a moment; a source that is silent shows nothing."""
         seen = Seen(moment)
+        if self.throttling is not None and are_limited(self.listed_pods.values(), self.instances or {}):
+            self.throttling.begin(moment)
         # the probes come first: a result that is counted was found on an instance that the list then shows
         seen.counters = self.attempt(PROBES, moment, lambda: counters_of(self.sources.probes()))
         if not self.wants_list(seen.counters, moment):
@@ -135,6 +139,7 @@ class Observer:
         seen.is_summary_silent, seen.low = SUMMARY in self.silent, self.near.low
         seen.said = self.events(moment)
         seen.ready = self.ready(moment)
+        seen.throttled = {} if self.throttling is None else self.throttling.taken()
         seen.took = 0 if self.now is None else max(self.now() - moment, 0)
         if self.answered is not None:
             self.answered(RUNTIME not in self.silent and not self.silent.keys() >= KUBELETS)

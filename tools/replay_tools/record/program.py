@@ -19,7 +19,7 @@ from .node import node_line_of, own_node_line
 from .observer import Observer
 from .output import Ended, Output, Stopped
 from .recorder import Recorder
-from .sources import Failed
+from .sources import INTERRUPTS, Failed
 from .words import BadWord, help_text, missing_commands, words_of
 
 if TYPE_CHECKING:
@@ -27,7 +27,6 @@ if TYPE_CHECKING:
     from .sources import Sources
     from .words import Words
 
-INTERRUPTS = (signal.SIGINT, signal.SIGTERM, signal.SIGHUP)
 # a recorder that goes on for ever does not grow by what it has said
 MOST_REMEMBERED = 10000
 # how often the summary is asked between two looks
@@ -58,7 +57,8 @@ class Recording:
         self.sources = sources
         self.clock = clock
         self.output = output
-        self.observer = Observer(sources, words.every, say, clock.now, words.log_lines)
+        self.observer = Observer(sources, words.every, say, clock.now, words.log_lines,
+                                 words.throttled and words.format.says_gone)
         self.recorder = Recorder(words.format, words.every, say)
         self.metrics = None if words.metrics is None else Metrics(words.metrics, say)
         # the moment of the first look, once that is taken
@@ -180,7 +180,8 @@ def status_of(recording: LastingRecording | Recording, say: Callable[..., None])
 
 def checked(words: Words, sources: Sources) -> int:
     """Shows which sources work; the status."""
-    works = check(sources, words.node, words.format, lambda line: print(outside.text_of(line), flush=True))
+    works = check(sources, words.node, words.format, lambda line: print(outside.text_of(line), flush=True),
+                  words.throttled)
     return 0 if works else 1
 
 

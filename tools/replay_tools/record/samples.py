@@ -41,6 +41,7 @@ class Sampling:
     def take(self, seen: Seen, followed: Iterable[Recorded]) -> None:
         """Samples of the kubelet's that are new stand at their own moments. Those of signals want a tick, but for one
         that is counted when it is asked, where it is not near its threshold; usage is in the next one."""
+        self.take_throttled(seen, followed)
         summary = seen.summary
         if summary is None:
             if seen.is_summary_silent and seen.moment - self.sampled_at > SIGNAL_AGE:
@@ -69,6 +70,23 @@ class Sampling:
                 if each.moment != recorded.used_at.get(name):
                     recorded.used_at[name] = each.moment
                     self.timeline.place_used(recorded.pod, name, each, recorded.arrived)
+
+    def take_throttled(self, seen: Seen, followed: Iterable[Recorded]) -> None:
+        """For how long the newest instances of the containers were throttled. The count of one instance only rises: one
+        that went back is none of its own."""
+        for recorded in followed if seen.throttled else ():
+            counts, recorded.throttled = recorded.throttled, {}
+            for name, container in recorded.containers.items():
+                identity = "" if container.newest is None else container.newest.id
+                count = counts.get(identity)
+                each = seen.throttled.get(identity)
+                if each is not None and each.pod == recorded.pod.key and each.container == name \
+                        and (count is None or each.value >= count):
+                    count = each.value
+                    moment = seen.moment if each.moment is None else min(each.moment, seen.end)
+                    self.timeline.place_throttled(recorded.pod, name, moment, each.value, recorded.arrived)
+                if count is not None:
+                    recorded.throttled[identity] = count
 
     def newest_moment(self, summary: Summary, seen: Seen) -> float:
         """When the newest sample of the node was taken."""

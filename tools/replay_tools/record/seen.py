@@ -15,6 +15,7 @@ if TYPE_CHECKING:
     from .reasons import Reason
     from .runtime import Change, Container, Instance
     from .summary import Sample, Summary
+    from .throttled import Throttled
 
 # how long what was seen waits for a source that is silent, since with it the moments can be told
 PATIENCE = 30
@@ -25,7 +26,7 @@ class Seen:
     """What one look saw that began at a moment in seconds since 1970, and `took` so many. None is what was not asked,
     or gave no answer: `instances` has the instances of each pod's uid, `counters` the counts of probes, `pods` those
     that are there, `low` the signals near their thresholds, `said` the Events of the pods that were asked for,
-    and `ready` whether the node is Ready."""
+    `ready` whether the node is Ready, and `throttled` for how long instances were throttled, by their ids."""
     moment: float
     instances: Optional[dict[str, list[Instance]]] = None
     counters: Optional[Counters] = None
@@ -35,6 +36,7 @@ class Seen:
     low: frozenset[str] = frozenset()
     said: dict[str, list[Said]] = field(default_factory=dict)
     ready: Optional[Ready] = None
+    throttled: dict[str, Throttled] = field(default_factory=dict)
     took: float = 0
 
     @property
@@ -49,8 +51,9 @@ class Recorded:
     what is not planned yet. `usage` has its newest samples, `sampled_at` is when a summary had it last, `unsampled_at`
     since when none has it; `waits` says why its containers wait, `waited` behind which attempts they have, and `found`
     what each of their probes found last. `ended` is the decision by which the node has ended it, `ended_at` when that
-    was seen; `beside` is what was placed of what its object says beside, `used_at` has
-    the moments of the newest samples of its containers, and `said` how often each Event was by then."""
+    was seen; `beside` is what was placed of what its object says beside, `used_at` has the moments of the newest
+    samples of its containers, `throttled` for how long the newest instances were throttled, by the ids of these, and
+    `said` how often each Event was by then."""
     pod: Pod
     arrived: int
     changes_from: int
@@ -71,6 +74,7 @@ class Recorded:
     is_end_placed: bool = False
     beside: Beside = field(default_factory=Beside)
     used_at: dict[str, float] = field(default_factory=dict)
+    throttled: dict[str, int] = field(default_factory=dict)
     said: dict[str, int] = field(default_factory=dict)
 
 

@@ -98,7 +98,8 @@ class Shipping:
             self.shipment.close()
         left = self.left()
         if left:
-            self.say(f"{len(left)} traces are not taken away yet, from {left[0].name} on: the next start does that")
+            count = "1 trace is" if len(left) == 1 else f"{len(left)} traces are"
+            self.say(f"{count} not taken away yet, from {left[0].name} on: the next start does that")
 
     def left(self) -> list[Trace]:
         """The traces that were not taken away, in their order."""

@@ -6,7 +6,9 @@ from __future__ import annotations
 import functools
 import os
 import selectors
+import signal
 import subprocess
+import threading
 import time
 from collections.abc import Callable
 from dataclasses import dataclass
@@ -28,6 +30,8 @@ MOST_SAID = 1 << 12
 MOST_SHOWN = 300
 
 
+# what the recorder is ended by, of which no other thread hears
+INTERRUPTS = (signal.SIGINT, signal.SIGTERM, signal.SIGHUP)
 # --events has this word where kubectl asks the API server
 KUBECTL = "kubectl"
 
@@ -44,8 +48,20 @@ class Refused(Failed):
         self.status = status
 
 
-def too_long() -> Failed:
-    return Failed(f"answered with more than {MOST_BYTES >> 20} MiB, the most that is read")
+def too_long(most: int = MOST_BYTES) -> Failed:
+    return Failed(f"answered with more than {most >> 20} MiB, the most that is read")
+
+
+class Whole:
+    """A whole answer, as long as one may be."""
+
+    def __init__(self) -> None:
+        self.body = bytearray()
+
+    def take(self, part: bytes) -> None:
+        self.body += part
+        if len(self.body) > MOST_BYTES:
+            raise too_long()
 
 
 def shown_line(text: str) -> str:
@@ -56,6 +72,14 @@ def shown_line(text: str) -> str:
 def run_command(words: list[str], seconds: float) -> bytearray:
     """What a command writes on standard output; Failed where it fails, takes longer than this many seconds, or writes
     more than is read."""
+    whole = Whole()
+    read_command(words, seconds, whole.take)
+    return whole.body
+
+
+def read_command(words: list[str], seconds: float, take: Callable[[bytes], None]) -> None:
+    """Gives what a command writes on standard output to `take`, part by part; Failed where it fails, or takes longer
+    than this many seconds."""
     try:
         process = subprocess.Popen(words, stdin=subprocess.DEVNULL, stdout=subprocess.PIPE, stderr=subprocess.PIPE)
     except FileNotFoundError:
@@ -65,7 +89,7 @@ def run_command(words: list[str], seconds: float) -> bytearray:
     until = time.monotonic() + seconds
     with process:
         try:
-            written, said = outputs_of(process, until)
+            said = read_outputs(process, until, take)
             status = process.wait(max(until - time.monotonic(), 0))
         except subprocess.TimeoutExpired:
             raise Failed(f"gave no answer within {seconds} s") from None
@@ -73,14 +97,13 @@ def run_command(words: list[str], seconds: float) -> bytearray:
             process.kill()
     if status != 0:
         raise Failed(f"failed with status {status}: {shown_line(said.decode('utf-8', 'replace'))}")
-    return written
 
 
-def outputs_of(process: subprocess.Popen[bytes], until: float) -> tuple[bytearray, bytearray]:
-    """What a command writes on standard output, and the begin of what it writes on standard error."""
-    written, said = bytearray(), bytearray()
+def read_outputs(process: subprocess.Popen[bytes], until: float, take: Callable[[bytes], None]) -> bytearray:
+    """Gives what a command writes on standard output to `take`; the begin of what it writes on standard error."""
+    said = bytearray()
     with selectors.DefaultSelector() as open_ones:
-        for pipe, taken in ((process.stdout, written), (process.stderr, said)):
+        for pipe, taken in ((process.stdout, take), (process.stderr, said.extend)):
             if pipe is not None:
                 open_ones.register(pipe, selectors.EVENT_READ, taken)
         while open_ones.get_map():
@@ -89,13 +112,22 @@ def outputs_of(process: subprocess.Popen[bytes], until: float) -> tuple[bytearra
                 raise subprocess.TimeoutExpired(process.args, 0)
             for key, _ in open_ones.select(left):
                 part = os.read(key.fd, PART_BYTES)
-                key.data.extend(part)
+                key.data(part)
                 if not part:
                     open_ones.unregister(key.fileobj)
             del said[MOST_SAID:]
-            if len(written) > MOST_BYTES:
-                raise too_long()
-    return written, said
+    return said
+
+
+def in_a_thread(work: Callable[[], None]) -> None:
+    """Begins some work beside what goes on; Failed where it can't be begun. It hears no interrupt."""
+    before = signal.pthread_sigmask(signal.SIG_BLOCK, INTERRUPTS)
+    try:
+        threading.Thread(target=work, daemon=True).start()
+    except RuntimeError:
+        raise Failed("can't be asked: there is no room for a thread") from None
+    finally:
+        signal.pthread_sigmask(signal.SIG_SETMASK, before)
 
 
 def reads(what: str) -> Callable[..., Any]:
@@ -127,6 +159,9 @@ class KubeletConnection(Connection, Protocol):
     def pods(self) -> Answer:
         """Its pods."""
 
+    def read(self, path: str, take: Callable[[bytes], None]) -> None:
+        """Gives an answer to `take`, part by part, by a connection of its own."""
+
     def works(self) -> bool:
         """Whether it is asked, and not by a command for each answer."""
 
@@ -142,6 +177,9 @@ class Sources:
     kubelet: Optional[str] = None
     curl_file: Optional[str] = None
     run: Callable[[list[str], float], Answer] = run_command
+    read: Callable[[list[str], float, Callable[[bytes], None]], None] = read_command
+    # begins what is asked beside the looks
+    beside: Callable[[Callable[[], None]], None] = in_a_thread
     keeps: Optional[KubeletConnection] = None
     crictl: tuple[str, ...] = ("crictl",)
     # in place of a kubelet, where none is asked
@@ -186,6 +224,14 @@ class Sources:
             return self.answer(f"/{path}", functools.partial(self.keeps.endpoint, path))
         # the command's own time-out comes first, and says more
         return self.ask(f"/{path}", self.endpoint_words(path), ENDPOINT_SECONDS + 5)
+
+    def stream(self, path: str, take: Callable[[bytes], None]) -> None:
+        """Gives an answer of the kubelet's to `take`, part by part; Failed where none comes. It may be asked beside the
+        other ones."""
+        if self.keeps is not None and self.keeps.works():
+            self.answer(f"/{path}", functools.partial(self.keeps.read, path, take))
+        else:
+            self.answer(f"/{path}", lambda: self.read(self.endpoint_words(path), ENDPOINT_SECONDS + 5, take))
 
     def listed(self) -> Answer:
         return self.ask("crictl ps", [*self.crictl, "ps", "-a", "-o", "json"], RUNTIME_SECONDS)

@@ -30,17 +30,19 @@ class Sample:
 
 @dataclass(frozen=True)
 class Used:
-    """What one container used at a moment in seconds since 1970: its working set and its whole memory in bytes, and its
-    processor time in thousandths of a core. What is not known is None."""
+    """What one container used at a moment in seconds since 1970: its working set and its whole memory in bytes, its
+    processor time in thousandths of a core, and for how many thousandths of a second it was throttled since it began.
+    What is not known is None."""
     moment: float
     working_set: Optional[int]
     usage: Optional[int]
     cpu: Optional[int]
+    throttled: Optional[int] = None
 
     def told(self, second: int) -> dict[str, int]:
         """What a tick says of it, with how many seconds before it that was."""
         return without_nones({"workingSet": self.working_set, "usage": self.usage, "cpu": self.cpu,
-                              "age": max(second - int(self.moment), 0) or None})
+                              "age": max(second - int(self.moment), 0) or None, "throttled": self.throttled})
 
 
 @dataclass(frozen=True)

@@ -55,11 +55,22 @@ class Tick:
     waits: dict = field(default_factory=dict)
     beside: dict = field(default_factory=dict)
     used: dict = field(default_factory=dict)
+    throttled: dict = field(default_factory=dict)
     said: dict = field(default_factory=dict)
     signals: dict = field(default_factory=dict)
     ready: Optional[Ready] = None
     decisions: list = field(default_factory=list)
     departures: list = field(default_factory=list)
+
+    def forget(self, uid: str) -> None:
+        """What stands beside of a pod that has gone by then is no more."""
+        of_pods: dict
+        for of_pods in (self.usages, self.deleted, self.failed, self.waits, self.beside, self.said):
+            of_pods.pop(uid, None)
+        for of_pods in (self.used, self.throttled):
+            for place in [place for place in of_pods if place[0] == uid]:
+                del of_pods[place]
+        self.unsampled.discard(uid)
 
 
 def is_seamless(item: Any, after: Result | Change) -> bool:
@@ -175,6 +186,8 @@ class Timeline:
         last = [second + behind for (uid, *_), second in self.last_placed.items() if uid == pod.uid]
         second = self.second_of(moment, *last)
         self.tick(second, True).departures.append(pod)
+        for later in (tick for at, tick in self.ticks.items() if at > second):
+            later.forget(pod.uid)
         return second
 
     def place_decision(self, pod: Pod, moment: float, recorded: Recorded | None) -> int:
@@ -220,6 +233,10 @@ class Timeline:
     def place_used(self, pod: Pod, container: str, used: Used, arrived: int) -> None:
         """What a container used at a moment; that wants no tick."""
         self.tick(self.second_of(used.moment, arrived), False).used[pod.uid, container] = used
+
+    def place_throttled(self, pod: Pod, container: str, moment: float, value: int, arrived: int) -> None:
+        """For how long a container was throttled by a moment; that wants no tick."""
+        self.tick(self.second_of(moment, arrived), False).throttled[pod.uid, container] = moment, value
 
     def place_usage(self, pod: Pod, moment: float, resource: str, value: Any) -> None:
         tick = self.tick(self.second_of(moment), False)
@@ -348,7 +365,7 @@ class Timeline:
         for uid, waits in tick.waits.items():
             self.asides.take_waits(uid, waits)
         self.asides.beside.update(tick.beside)
-        self.asides.used.take(second, tick.listings, tick.used)
+        self.asides.used.take(second, tick.listings, tick.used, tick.throttled)
         self.signals = without_nones({**self.signals, **tick.signals})
         signals = self.shown_signals(second, tick)
         if tick.is_wanted:

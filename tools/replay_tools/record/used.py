@@ -2,6 +2,7 @@
 
 from __future__ import annotations
 
+from dataclasses import replace
 from typing import Any, TYPE_CHECKING
 
 from .runtime import EXITED, RUNNING
@@ -16,6 +17,8 @@ Place = tuple[str, str]
 TOLD_SECONDS = 9
 # a sample that is so old at an exit says nothing of it
 OLD_SECONDS = 60
+# for how long it was throttled is told with a sample that was taken so long before or behind
+NEAR_SECONDS = 15
 
 
 class UsedByContainers:
@@ -26,6 +29,8 @@ class UsedByContainers:
         self.told: dict[Place, Used] = {}
         # of a container that has been started anew, the last of the instance before
         self.ended: dict[Place, Used] = {}
+        # for how long the newest instances were throttled, each by a moment
+        self.throttled: dict[Place, tuple[float, int]] = {}
         # where an instance exits in this second
         self.exits: set[Place] = set()
         self.second = 0
@@ -33,22 +38,33 @@ class UsedByContainers:
     def copied(self) -> UsedByContainers:
         copied = UsedByContainers()
         copied.newest, copied.told, copied.ended = dict(self.newest), dict(self.told), dict(self.ended)
+        copied.throttled = dict(self.throttled)
         return copied
 
     def depart(self, uid: str) -> None:
-        for kept in (self.newest, self.told, self.ended):
+        everything: list[dict[Place, Any]] = [self.newest, self.told, self.ended, self.throttled]
+        for kept in everything:
             for place in [place for place in kept if place[0] == uid]:
                 del kept[place]
 
-    def take(self, second: int, listings: dict[Place, Change], samples: dict[Place, Used]) -> None:
+    def take(self, second: int, listings: dict[Place, Change], samples: dict[Place, Used],
+             throttled: dict[Place, tuple[float, int]]) -> None:
         """What is new in a second. A sample of before an instance started is none of its own."""
         self.second, self.ended, self.exits = second, {}, set()
         for place, change in listings.items():
             if change.listing is not None and change.listing.state == EXITED:
                 self.exits.add(place)
-            elif change.listing is not None and change.listing.state == RUNNING and place in self.newest:
-                self.ended[place] = self.newest.pop(place)
+            elif change.listing is not None and change.listing.state == RUNNING:
+                if place in self.newest:
+                    self.ended[place] = self.with_throttled(place, self.newest.pop(place))
+                self.throttled.pop(place, None)
         self.newest.update(samples)
+        self.throttled.update(throttled)
+
+    def with_throttled(self, place: Place, used: Used) -> Used:
+        """A sample with for how long the instance was throttled at about its moment."""
+        moment, value = self.throttled.get(place, (float("-inf"), 0))
+        return replace(used, throttled=value) if abs(moment - used.moment) <= NEAR_SECONDS else used
 
     def of(self, uid: str, name: str) -> dict[str, Any]:
         """The member of a listing: what a container used, where that is to be told now."""
@@ -60,7 +76,7 @@ class UsedByContainers:
         if not (is_due or is_last):
             return {}
         self.told[uid, name] = used
-        return {"used": used.told(self.second)}
+        return {"used": self.with_throttled((uid, name), used).told(self.second)}
 
     def before(self, uid: str, name: str) -> dict[str, Any]:
         """The same of the instance before, whose exit a tick says with the start of the next one."""

@@ -20,7 +20,7 @@ from .sources import KUBECTL
 HELP = """\
 usage: tools/record [--node NAME] [--every SECONDS] [--look SECONDS] [--ticks N] [--for SECONDS]
                     [--kubelet URL [--curl FILE]] [--crictl WORDS] [--node-line FILE] [--logs N] [--metrics FILE]
-                    [--events API]
+                    [--events API] [--throttled yes|no]
                     [--standard | --extended [--eviction-pause N] [--simulate]] > TRACE
        tools/record --into FOLDER [--each 1h] [--keep 48h] [--most 2Gi] [--ship COMMAND], and the other words but
                     --standard
@@ -36,7 +36,10 @@ that exits with another code than 0 are asked for (crictl logs), and what of the
 With --events the Events of a pod are asked for, behind an exit, a probe that fails and a wait: of the API server at
 API, as https://kubernetes.default.svc, with the token of --curl, or of kubectl, where that is the word; it wants the
 right to list events. With --metrics FILE has what was recorded so far as OpenMetrics text: restarts, deaths, kills,
-readiness, pressure.
+readiness, pressure. With --throttled yes the kubelet's /metrics/cadvisor is asked for how long processors were
+throttled, with no leaves it out. It is asked by default where the kubelet is asked at its port, since an answer, of
+some MB where many pods run, goes through the API server otherwise, and in no case where no container that runs has a
+limit of its processor. It is read beside the looks, which do not wait for it, line by line, up to 64 MiB.
 
 --into FOLDER writes traces of the extended format one behind the other, as NODE.2026-11-27T05-00-00Z.trace.gz, until it
 is interrupted (docs/recorder.md). Each begins where the one before it ends: after --each (1h, by UTC), or earlier at
@@ -72,6 +75,9 @@ It asks                                  how often              for
                                          each look where the    kubelet sampled them
                                          kubelet may evict
   /configz                               once                   thresholds, graces and periods
+  /metrics/cadvisor                      10 s, or 20 times as   for how long processors were throttled, as far as the
+                                         long as an answer      kubelet has it
+                                         takes
 
 The kubelet may evict while a signal is below twice its threshold, and while the node is under pressure. What it did,
 why instances ended and why containers wait stands in the ticks, for the tools; the program does not read it.
@@ -103,7 +109,7 @@ group or others; or a source of --check does not work; 2: a bad word; 127: a com
 NUMBERS = {"--every": 86400, "--look": 3600, "--ticks": MOST_TICKS, "--for": 31622400, "--logs": MOST_LINES}
 LASTING = ("--each", "--keep", "--most", "--ship")
 TEXTS = ("--node", "--kubelet", "--curl", "--crictl", "--node-line", "--eviction-pause", "--metrics", "--events",
-         "--into", *LASTING, *NUMBERS)
+         "--throttled", "--into", *LASTING, *NUMBERS)
 # those whose value is a file or a folder
 FILES = ("--curl", "--node-line", "--metrics", "--into")
 SWITCHES = ("--standard", "--extended", "--simulate", "--check")
@@ -147,6 +153,7 @@ class Words:
     log_lines: int
     metrics: Optional[str]
     events: Optional[str]
+    throttled: bool
 
 
 def help_text() -> Any:
@@ -277,6 +284,14 @@ def events_api(given: dict[str, Any]) -> str | None:
     return api
 
 
+def asks_throttled(given: dict[str, Any], kubelet: str | None) -> bool:
+    """Whether the kubelet is asked for how long processors were throttled."""
+    word = given.get("--throttled")
+    if word not in (None, "yes", "no"):
+        raise BadWord(f"--throttled takes yes or no, not '{word}'")
+    return kubelet != ALONE and (kubelet is not None if word is None else word == "yes")
+
+
 def words_of(arguments: list[str]) -> Words:
     """What the arguments ask for; BadWord where they are mistaken."""
     given = split(arguments)
@@ -294,7 +309,7 @@ def words_of(arguments: list[str]) -> Words:
                  number(given, "--every") or 10, number(given, "--look") or 1, number(given, "--ticks") or MOST_TICKS,
                  number(given, "--for"), trace_format(given), "--check" in given, into(given, node),
                  command(given, "--crictl", "crictl", "chroot /host crictl"), number(given, "--logs") or 0,
-                 metrics_file(given), events_api(given))
+                 metrics_file(given), events_api(given), asks_throttled(given, kubelet))
 
 
 def missing_commands(commands: list[str]) -> list[str]:

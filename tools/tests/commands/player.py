@@ -27,7 +27,7 @@ def kind_of(words):
     text = " ".join(words)
     if re.search("/api/v1/nodes/[^/]+$", text):
         return "node", None
-    kinds = [kind for kind in ("events", "configz", "summary", "probes", "pods") if kind in text]
+    kinds = [kind for kind in ("cadvisor", "events", "configz", "summary", "probes", "pods") if kind in text]
     return kinds[0], text.rpartition("%3D")[2] if kinds[0] == "events" else None
 
 
@@ -48,6 +48,7 @@ class Play:
     probes      {"pod", "container", "probe", "result", "at": [moments that rise]}
     samples     {moment: {signal: value}} of the node, as the kubelet takes them; `pods` has the memory of each uid, and
                 `containers` {uid: {name: [working set, usage, nanocores, moment]}}
+    throttled   {moment: {container id: [seconds, moment]}}: for how long processors were throttled
     events      [{"at"}]: Events of the API, as they are from a moment on
     ready       [{"at", "status", "reason"}]: the condition Ready of the node's object
     fails       {"kind", "from", "until", "text"}: answers that do not come
@@ -209,6 +210,22 @@ class Play:
         return {"containers": [{"name": name, "cpu": {"usageNanoCores": cores}, "memory": {
             "time": moment_text(self.begin + at), "workingSetBytes": working_set, "usageBytes": usage}}
             for name, (working_set, usage, cores, at) in containers.items()]}
+
+    def cadvisor(self, moment):
+        """What the kubelet's /metrics/cadvisor says of throttling, among what it has of other metrics."""
+        answers = {float(at): answer for at, answer in self.script.get("throttled", {}).items()}
+        newest = max((at for at in answers if at <= moment), default=None)
+        made = {each["id"]: each for each in self.script["containers"]}
+        lines = ["# TYPE container_cpu_usage_seconds_total counter"]
+        for identity, (seconds, at) in answers.get(newest, {}).items():
+            namespace, pod = made[identity]["pod"].split("/")
+            group = f"/kubepods.slice/kubepods-pod{pod}.slice/cri-containerd-{identity}.scope"
+            labels = (f'container="{made[identity]["name"]}",id="{group}",image="web:1",name="{identity}",'
+                      f'namespace="{namespace}",pod="{pod}"')
+            sampled = round((self.begin + at) * 1000)
+            lines += [f'container_cpu_usage_seconds_total{{{labels},cpu="total"}} 1 {sampled}',
+                      f"container_cpu_cfs_throttled_seconds_total{{{labels}}} {seconds} {sampled}"]
+        return "\n".join(lines) + "\n"
 
     def events(self, uid, moment):
         """The Events of a pod, each as it was last."""
