@@ -1,5 +1,5 @@
 """Runs tests so many at a time, each in a process and with a folder of its own. One that crashes its process ends
-alone: a keeper stands above each, to which what a test has started and left comes, and which ends that with the test."""
+alone: a keeper stands above each, to which what a test has started and left comes, and which ends that with it."""
 
 import collections
 import contextlib
