@@ -436,7 +436,8 @@ def check_big(chromedriver, path):
         times = {name: timed(page, act) for name, act in steps}
         drawn = float(page.script("document.documentElement.dataset.drawn"))
         print(f"a page of 256 pods by 20,000 ticks: {load:.1f} s of a processor to load, "
-              f"{max(times.values()):.2f} s of a processor the longest step, {drawn:.0f} ms the last drawing", file=sys.stderr)
+              f"{max(times.values()):.2f} s of a processor the longest step, {drawn:.0f} ms the last drawing",
+              file=sys.stderr)
         slow = {name: took for name, took in times.items() if took > LONGEST_STEP}
         tell("a page of 256 pods by 20,000 ticks is quick", (slow, load < LONGEST_LOAD), ({}, True))
         elements = page.script("document.getElementsByTagName('*').length")

@@ -1,5 +1,5 @@
 """Runs the tests of the tools: each with recorded answers, known reports or words alone. README.md says what is kept
-here. With `--write` it writes what the tools answer in place of what was kept, to be looked at; with
+here. With `--write` it writes what the tools answer in place of what was kept, to be looked at, one by one; with
 `--without-program` it leaves out the tests that ask the program; `--jobs N` has so many run at a time; other words
 choose the tests whose names have one of them."""
 
@@ -75,7 +75,11 @@ def words_of(words):
     for name in ("--write", "--without-program"):
         kinds.add_argument(name, action="store_true")
     parser.add_argument("names", nargs="*", metavar="NAME")
-    return parser.parse_args(words)
+    found = parser.parse_args(words)
+    if found.write:
+        # two tests may write into one page of docs/
+        found.jobs = 1
+    return found
 
 
 def main(words, of_modules=None):

@@ -1,5 +1,5 @@
 """Runs tests so many at a time, each in a process and with a folder of its own. One that crashes its process ends
-alone: a keeper stands above each, to which what a test has started and left comes, and which ends that with the test."""
+alone: a keeper stands above each, to which what a test has started and left comes, and which ends that with it."""
 
 import collections
 import contextlib
@@ -25,6 +25,12 @@ PASSED, FAILED, LEFT_OUT, DONE, EXITED = "passed", "failed", "left out", "done",
 
 class Interrupted(Exception):
     """The run is to end; its number is the signal's."""
+
+
+def as_at_a_terminal():
+    """A test hears what ends it, also where the run does not, as one that a shell has begun in the background."""
+    for number in ending.INTERRUPTS:
+        signal.signal(number, signal.default_int_handler if number == signal.SIGINT else signal.SIG_DFL)
 
 
 class Interrupts:
@@ -117,7 +123,7 @@ def perform(test, pipe, room):
 # --- in the process of a keeper ---
 
 
-def keep(test, pipe, room, interrupts, run):
+def keep(test, pipe, room, run):
     """Has a process below this one run a test, and ends what that leaves; then this process ends. It does so too where
     it is told to, or where the run is gone."""
     try:
@@ -128,7 +134,7 @@ def keep(test, pipe, room, interrupts, run):
         ending.hear_interrupts()
         identity = os.fork()
         if identity == 0:
-            interrupts.as_before()
+            as_at_a_terminal()
             signal.pthread_sigmask(signal.SIG_UNBLOCK, ending.INTERRUPTS)
             perform(test, pipe, room)
         signal.pthread_sigmask(signal.SIG_UNBLOCK, ending.INTERRUPTS)
@@ -213,7 +219,7 @@ class Run:
         signal.pthread_sigmask(signal.SIG_BLOCK, ending.INTERRUPTS)
         keeper = os.fork()
         if keeper == 0:
-            keep(test, pipe, room, self.interrupts, run)
+            keep(test, pipe, room, run)
         self.jobs.register(read, selectors.EVENT_READ, Job(test, keeper, read, room))
         os.close(pipe)
         signal.pthread_sigmask(signal.SIG_UNBLOCK, ending.INTERRUPTS)

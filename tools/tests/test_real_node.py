@@ -237,6 +237,9 @@ def test_children():
     expect("ids behind the greatest", list(ending.numbers_since(18, 3, 20)), [19, 20, 2, 3])
     with subprocess.Popen(["sh", "-c", "cat & wait"], stdin=subprocess.PIPE) as shell:
         expect("a child", ending.children(), {shell.pid})
+        numbers_since, ending.numbers_since = ending.numbers_since, lambda *_: ()
+        expect("a child whose id was given out once more", ending.children(), {shell.pid})
+        ending.numbers_since = numbers_since
         shell.kill()
     expect("no child", ending.children(), set())
 

@@ -104,8 +104,9 @@ def test_commands_that_hang():
     shipping.look()
     place.moment += 5
     shipping.look()
-    expect("shipped: one that hangs", (shipping.shipment, place.said[0].split(";")[0], longest < ship.LONGEST_SECONDS / 2),
-           (None, "--ship: sh went on for 600 s, and was ended", True))
+    expect("shipped: one that hangs", (shipping.shipment, place.said[0].split(";")[0]),
+           (None, "--ship: sh went on for 600 s, and was ended"))
+    expect("shipped: no look waits for one that hangs", longest < ship.LONGEST_SECONDS / 2, True)
     identity = int(read(f"{place.taken}/pid"))
     wait_until("the end of what hangs", lambda: not os.path.exists(f"/proc/{identity}"))
     expect("shipped: what is kept of its words", len(shipping.said) <= 4096, True)

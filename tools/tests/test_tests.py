@@ -100,6 +100,9 @@ def test_one_that_is_the_other():
     checks.wait_until("the one", lambda: os.path.exists(f"{folder}/one"))
     checks.expect("the other", 1, 1)
 
+def test_one_that_hears_an_interrupt():
+    checks.expect("an interrupt", subprocess.run(["sh", "-c", "kill -INT $$"]).returncode, -signal.SIGINT)
+
 def test_that_goes_on():
     leave("goes_on")
     time.sleep(600)
@@ -169,15 +172,15 @@ class Room:
         os.mkdir(f"{self.path}/left")
         os.mkdir(f"{self.path}/rooms")
 
-    def start(self, *words):
+    def start(self, *words, hears=signal.SIG_DFL):
         return subprocess.Popen([sys.executable, "-c", CRASHES, HERE, f"{self.path}/left", *words],
                                 stdout=subprocess.PIPE, stderr=subprocess.PIPE, text=True,
                                 env={**os.environ, "KUBELET_REPLAY": f"{self.path}/replay",
                                      "TMPDIR": f"{self.path}/rooms"},
-                                preexec_fn=lambda: signal.signal(signal.SIGINT, signal.SIG_DFL))
+                                preexec_fn=lambda: signal.signal(signal.SIGINT, hears))
 
-    def run(self, *words):
-        process = self.start(*words)
+    def run(self, *words, **how):
+        process = self.start(*words, **how)
         told, said = process.communicate(timeout=2 * LONGEST)
         return process.returncode, told.splitlines(), said
 
@@ -237,6 +240,14 @@ def test_an_interrupt_ends_all():
             shutil.rmtree(f"{room.path}/rooms")
             os.mkdir(f"{room.path}/rooms")
         room.clean()
+
+
+def test_a_run_in_the_background():
+    """A test hears an interrupt, also where the run does not, as one that a shell has begun in the background."""
+    room = Room()
+    status, told, said = room.run("hears_an_interrupt", hears=signal.SIG_IGN)
+    expect("tests in the background", (status, told), (0, ["1 passed, 0 failed"]))
+    room.clean()
 
 
 def test_words_of_the_run():

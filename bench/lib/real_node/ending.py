@@ -58,13 +58,25 @@ def is_child(identity):
     return True
 
 
+def has_children():
+    """Whether this process has any, which may have ended."""
+    try:
+        os.waitid(os.P_ALL, 0, os.WEXITED | os.WNOHANG | os.WNOWAIT)
+    except ChildProcessError:
+        return False
+    return True
+
+
 def children():
     """The ids of this process' children. Not each kernel lists them, so it is asked of each id that may be one's."""
+    if not has_children():
+        return set()
     with open("/proc/loadavg", encoding="ascii") as file:
         last = int(file.read().split()[-1])
     with open("/proc/sys/kernel/pid_max", encoding="ascii") as file:
         most = int(file.read())
-    return set(filter(is_child, numbers_since(os.getpid(), last, most)))
+    # where the ids have all been given out since this process began, one before its own may be a child's too
+    return set(filter(is_child, numbers_since(os.getpid(), last, most))) or set(filter(is_child, range(2, most + 1)))
 
 
 def end_descendants(seconds=20):

@@ -24,8 +24,8 @@ KINDS = ("node", "pod", "tick")
 
 
 def search(file: IO[bytes], refusal: Refusal, is_extended: bool) -> tuple[list[Found], bytes]:
-    """The fields at fault of a trace that is open, for what is refused of it, and that line as bytes. Wrong where a line
-    is written otherwise than one that the program accepts, or refuses for that."""
+    """The fields at fault of a trace that is open, for what is refused of it, and that line as bytes. Wrong where a
+    line is written otherwise than one that the program accepts, or refuses for that."""
     file.seek(0)
     before, line = lines_before(file, refusal.line, refusal.number == 43)
     if refusal.number in (31, 32):
