@@ -11,14 +11,18 @@ from collections.abc import Iterable
 from replay_tools import entry
 
 TOP = os.path.dirname(os.path.dirname(os.path.dirname(os.path.realpath(__file__))))
+# in a release it stands aside, so that its users see one command, kubelet-replay
+RELEASED = "lib/kubelet_replay"
 # in a checkout ./kubelet_replay is a script that builds this program, and looks at each run whether it is current
 BUILT = "crates/replay_program/out/replay_program"
 SMALLEST = b'{"kind":"node","name":"n1"}\n'
 
 
 def path() -> str:
-    """The absolute path of the program: KUBELET_REPLAY, or ./kubelet_replay beside the tools."""
-    return os.path.abspath(os.environ.get("KUBELET_REPLAY") or os.path.join(TOP, "kubelet_replay"))
+    """The absolute path of the program: KUBELET_REPLAY, or that of the release or the checkout."""
+    released = os.path.join(TOP, RELEASED)
+    own = released if os.path.exists(released) else os.path.join(TOP, "kubelet_replay")
+    return os.path.abspath(os.environ.get("KUBELET_REPLAY") or own)
 
 
 def checked_path() -> str:

@@ -348,7 +348,10 @@ def test_program_of_a_checkout():
     settings = {"PYTHONPATH": f"{folder}/tools", "KUBELET_REPLAY": ""}
     expect("the program of a checkout", run(ask, **settings), (0, f"{built}\n", ""))
     os.remove(built)
-    expect("the program of a release", run(ask, **settings), (0, f"{folder}/kubelet_replay\n", ""))
+    expect("a program beside the tools", run(ask, **settings), (0, f"{folder}/kubelet_replay\n", ""))
+    os.mkdir(f"{folder}/lib")
+    os.rename(f"{folder}/kubelet_replay", f"{folder}/lib/kubelet_replay")
+    expect("the program of a release", run(ask, **settings), (0, f"{folder}/lib/kubelet_replay\n", ""))
     shutil.rmtree(folder)
 
 
