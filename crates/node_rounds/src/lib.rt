@@ -12,8 +12,8 @@
 //! end     pods and book come back; the events are added, tick after tick; one pod at most is evicted
 //! ```
 //!
-//! What it keeps is said of all its ticks at once (`HasTaken`, in the module `Node` of `specs/`), and a round leads from
-//! `HasTaken` of some to that of these and those (`IsNextBy`).
+//! What it keeps is said of all its ticks at once (`HasTaken`, in the module `Node` of `specs/`), and a round leads
+//! from `HasTaken` of some to that of these and those (`IsNextBy`).
 #![tactic(auto)]
 
 mod evict;
