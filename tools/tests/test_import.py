@@ -154,9 +154,8 @@ def test_import_forms():
 
 
 def test_import_into():
-    """Traces one behind the other have what the one trace has, each as the program takes it."""
+    """Traces one behind the other have what the one trace has, each as the program takes it; the folder is made."""
     folder = tempfile.mkdtemp()
-    os.mkdir(f"{folder}/into", 0o755)
     status, out, _ = imported("--journal", f"{FOLDER}/keyed.log", "--into", f"{folder}/into", "--each", "1m")
     names = sorted(os.listdir(f"{folder}/into"))
     expect("import --into", (status, out, names), (0, "", [
@@ -412,9 +411,11 @@ def test_import_of_what_is_no_journal():
             answer = imported(*node, *words_of, given=given)
             expect_refused(f"import of {name} into {written}", answer, status, words)
         expect(f"import of {name}: the folder", os.listdir(into), [])
+        answer = imported(*([] if "nodes" in name else ["--node", "worker-3"]), "--into", f"{into}/new", given=given)
+        expect(f"import of {name}: no folder is made", (answer[0], os.listdir(into)), (status, []))
     for words, said in ((["--journal", "/nonexistent"], "can't be read"), (["--pods", "/nonexistent"], "can't be read"),
                         (["--zone", "CET"], "--zone takes"), (["--year", "26"], "--year takes"),
-                        (["--node", "../x"], "--node takes"), (["--into", "/nonexistent"], "is no folder"),
+                        (["--node", "../x"], "--node takes"), (["--into", "/nonexistent/a"], "is no folder"),
                         (["--each", "1s"], "--each takes"), (["--all"], "is no word of it"),
                         (["--journal", "a", "--journal", "a"], "has a file twice")):
         expect_refused(f"import {' '.join(words)}", run([IMPORT, *words], text), 2, said)

@@ -8,7 +8,7 @@ from collections.abc import Callable
 from typing import Any, Optional
 
 from replay_tools import entry
-from replay_tools.record.folder import Folder, Refused
+from replay_tools.record.folder import Folder, Refused, made, may_be_made
 from replay_tools.record.formats import MOST_TICKS, shown
 from replay_tools.record.into import Traces
 
@@ -41,7 +41,7 @@ class Folded(Writer):
     """Traces in a folder, each whole by itself. Nothing is made there before there is something to write."""
 
     def __init__(self, path: str, each: int, say: Callable[..., None]) -> None:
-        if not os.path.isdir(path):
+        if not os.path.isdir(path) and not may_be_made(path):
             raise entry.Fault(f"--into: '{path}' is no folder")
         self.path = path
         self.each = each
@@ -59,6 +59,7 @@ class Folded(Writer):
 
     def begin_in(self, node: dict[str, Any]) -> None:
         try:
+            made(self.path)
             folder = Folder(self.path, node["name"], KEPT_SECONDS, KEPT_BYTES, self.say)
         except Refused as refused:
             raise entry.Fault(str(refused), 1) from None

@@ -48,6 +48,21 @@ def why(error: Any) -> Any:
     return error.strerror or str(error) if isinstance(error, OSError) else str(error)
 
 
+def may_be_made(path: str) -> bool:
+    """Whether nothing is there, in a folder that is."""
+    return not os.path.lexists(path) and os.path.isdir(os.path.dirname(os.path.abspath(path)))
+
+
+def made(path: str) -> None:
+    """Makes a folder that is not there, for its owner to write."""
+    try:
+        os.mkdir(path, 0o755)
+    except FileExistsError:
+        return
+    except OSError as error:
+        raise Refused(f"--into: '{path}' can't be made: {why(error)}") from None
+
+
 class Folder:
     """A folder that one recorder writes into, and the traces of its node there; it keeps them for some seconds, and
     some bytes of them. `say` takes what is said."""

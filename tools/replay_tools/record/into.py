@@ -3,12 +3,11 @@ whole by itself, and begins in the second in which the one before it ends."""
 
 from __future__ import annotations
 
-import os
 from collections.abc import Callable
 from typing import Any, TYPE_CHECKING
 
 from .answered import Answered
-from .folder import Folder, Refused, why
+from .folder import Folder, Refused, made
 from .lasting import LastingRecorder, forget_strangers, set_back
 from .left import Left, damages, end_of_newest
 from .output import Ended
@@ -102,16 +101,6 @@ class LastingRecording(Recording):
                     self.shipping.end()
         if self.output.is_lost and self.output.last is None:
             raise Ended(1)
-
-
-def made(path: str) -> None:
-    """Makes a folder that is not there, for its owner to write."""
-    try:
-        os.mkdir(path, 0o755)
-    except FileExistsError:
-        return
-    except OSError as error:
-        raise Refused(f"--into: '{path}' can't be made: {why(error)}") from None
 
 
 def recorded_into(words: Words, into: Into, sources: Sources, clock: Any, say: Callable[..., None]) -> int:

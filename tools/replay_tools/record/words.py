@@ -12,6 +12,7 @@ from typing import Any, Optional
 
 from . import lines
 from .alone import ALONE
+from .folder import may_be_made
 from .formats import MOST_TICKS, name_fault
 from .logs import MOST_LINES
 from .metrics import fault_of
@@ -249,8 +250,7 @@ def into(given: dict[str, Any], node: str) -> Into | None:
             raise BadWord(f"{alone[0]} goes with --into")
         return None
     folder = given["--into"]
-    can_be_made = not os.path.lexists(folder) and os.path.isdir(os.path.dirname(os.path.abspath(folder)))
-    if not os.path.isdir(folder) and not can_be_made:
+    if not os.path.isdir(folder) and not may_be_made(folder):
         raise BadWord(f"--into: '{folder}' is no folder")
     if name_fault(node) is not None:
         raise BadWord(f"--into wants --node with a name of the formats, not '{node}'")
