@@ -69,7 +69,7 @@ SKIPPED = Line(None, b"")
 @dataclass
 class Skipping:
     """Which messages are not read: whether a line is one of these, whether one is whose words stand at a place, and
-    many lines with None in place of these."""
+    the lines of blocks with None in place of these."""
     is_skipped: Callable[[bytes], bool]
     is_unwanted: Callable[[bytes, int], bool]
     left_out: Callable[[Iterator[bytes]], Iterator[Optional[bytes]]]
@@ -90,27 +90,34 @@ class Counts:
     faults: list = field(default_factory=list)
 
 
-def blocks_of(file: BinaryIO, counts: Counts) -> Iterator[list[bytes]]:
-    """The lines of a file without their ends, many at once; one that is too long is cut."""
+def blocks_of(file: BinaryIO, counts: Counts) -> Iterator[bytes]:
+    """The lines of a file, many at once, with their ends between them; one that is too long is cut."""
     rest, is_cut = b"", False
     while piece := file.read(PIECE):
         counts.size += len(piece)
-        lines = (rest + piece).split(b"\n")
-        rest = lines.pop()
-        if is_cut and lines:
-            # the end of the line that was cut
-            lines, is_cut = lines[1:], False
-        counts.lines += len(lines)
-        yield lines
-        if is_cut:
-            rest = b""
-        elif len(rest) > LONGEST_LINE:
+        whole, end, part = piece.rpartition(b"\n")
+        if end:
+            block, rest = rest + whole, part
+            if is_cut:
+                # the end of the line that was cut
+                _, end, block = block.partition(b"\n")
+                is_cut = False
+            if end:
+                counts.lines += block.count(b"\n") + 1
+                yield block
+        elif not is_cut:
+            rest += part
+        if len(rest) > LONGEST_LINE:
             counts.cut += 1
-            yield [rest[:LONGEST_LINE]]
+            yield rest[:LONGEST_LINE]
             rest, is_cut = b"", True
     if rest:
         counts.lines += 1
-        yield [rest]
+        yield rest
+
+
+def lines_of(blocks: Iterator[bytes]) -> Iterator[bytes]:
+    return itertools.chain.from_iterable(block.split(b"\n") for block in blocks)
 
 
 # --- forms ---
@@ -236,10 +243,10 @@ def of_container(lines: Iterator[Optional[bytes]], _counts: Counts) -> Iterator[
         parts = []
 
 
-def of_plain(lines: Iterator[bytes], skipping: Skipping) -> Iterator[Line]:
+def of_plain(blocks: Iterator[bytes], skipping: Skipping) -> Iterator[Line]:
     """A log as the process writes it, whose messages have their moments. In place of messages that are not read, which
     most are, there is one line."""
-    for text in skipping.left_out(lines):
+    for text in skipping.left_out(blocks):
         yield SKIPPED if text is None else Line(None, text)
 
 
@@ -318,7 +325,7 @@ class Journal:
         which is kept."""
         try:
             if self.form == "plain":
-                yield from of_plain(itertools.chain.from_iterable(blocks_of(self.file, self.counts)), skipping)
+                yield from of_plain(blocks_of(self.file, self.counts), skipping)
                 return
             for line in self.read(klog, skipping):
                 yield SKIPPED if skipping.is_skipped(line.text) else line
@@ -328,7 +335,7 @@ class Journal:
     def read(self, klog: Klog, skipping: Skipping) -> Iterator[Line]:
         if self.form == "export":
             return of_export(self.file, self.counts)
-        all_lines = itertools.chain.from_iterable(blocks_of(self.file, self.counts))
+        all_lines = lines_of(blocks_of(self.file, self.counts))
         if self.form == "json":
             return of_json(all_lines, self.counts, skipping)
         lines = without_skipped(all_lines, HEADERS[self.form], skipping)

@@ -4,6 +4,7 @@ a log are these, so they are passed over before anything is taken apart."""
 from __future__ import annotations
 
 import json
+import re
 from collections.abc import Iterator
 from typing import Optional
 
@@ -20,7 +21,10 @@ SHORTEST, LONGEST_HEADER, LONGEST_WORD = 24, 260, 64
 LETTERS = b"IWEF"
 # the first bytes of a word tell of most that they are none of these
 BEGIN = 3
-BEGINS = {word[:BEGIN] for word in WANTED}
+BEGINS = sorted({re.escape(word[:BEGIN]) for word in WANTED})
+# the end of a line behind which one comes that these do not tell to be skipped
+KEPT = re.compile(rb"\n(?![%b][^\]\n]{%d,%d}\] (?!%b))" % (LETTERS, SHORTEST - 1, LONGEST_HEADER - 3,
+                                                          b"|".join(BEGINS)))
 # how messages begin that begin as others do, and say nothing
 SILENT = (b"SyncLoop (RECONCILE", b"SyncLoop (SYNC)", b"SyncLoop (housekeeping", b"Error getting ",
           b"Container runtime ", b"eviction manager: no resources", b"Failed to remove container",
@@ -32,9 +36,18 @@ RECORD, SAYS = b'{"ts":', b'"msg":"'
 MESSAGES = {json.dumps(words)[1:-1].encode() for words in keyed.FORMS}
 
 
+def place_of_words(text: bytes) -> int:
+    """Where a line's words begin behind klog's header; less than SHORTEST in one that has none."""
+    return text.find(b"] ", SHORTEST, LONGEST_HEADER) + 2
+
+
 def is_skipped(text: bytes) -> bool:
     """Whether a line is a message of klog's that is of no form that is read, by its first word."""
-    place = text.find(b"] ", SHORTEST, LONGEST_HEADER) + 2
+    return is_skipped_at(text, place_of_words(text))
+
+
+def is_skipped_at(text: bytes, place: int) -> bool:
+    """The same of a line whose words stand at a place."""
     if place >= SHORTEST and text[0] in LETTERS:
         return is_unwanted(text, place)
     return text.startswith(RECORD) and is_record_skipped(text)
@@ -53,21 +66,28 @@ def is_unwanted(text: bytes, place: int) -> bool:
     return word not in WANTED or (word == FLAG and not text.startswith(READ_FLAGS, place))
 
 
-def left_out(lines: Iterator[bytes]) -> Iterator[Optional[bytes]]:
-    """Lines as a process writes them, with None for one or more that are skipped: most are, so each is looked at by as
-    little as tells that. A silent one is skipped where its process is that of the line before it that is not."""
+def left_out(blocks: Iterator[bytes]) -> Iterator[Optional[bytes]]:
+    """The lines of a log as a process writes it, with None for one or more that are skipped. Most are, by their first
+    bytes and many at once. A silent one is skipped where its process is that of the line before it that is not."""
     is_behind_skipped, process = False, b""
-    for text in lines:
-        place = text.find(b"] ", SHORTEST, LONGEST_HEADER) + 2
-        if (place > 1 and text[place:place + BEGIN] not in BEGINS and text[0] in LETTERS) or is_skipped(text) or (
-                text.startswith(SILENT, place) and text[PROCESS] == process):
-            is_behind_skipped = True
-            continue
-        if is_behind_skipped:
-            is_behind_skipped = False
-            yield None
-        process = text[PROCESS]
-        yield text
+    for block in blocks:
+        block, before = b"\n" + block, 0
+        for found in KEPT.finditer(block):
+            begin = found.end()
+            end = block.find(b"\n", begin)
+            end = len(block) if end < 0 else end
+            text = block[begin:end]
+            is_behind_skipped, before = is_behind_skipped or found.start() > before, end
+            place = place_of_words(text)
+            if is_skipped_at(text, place) or (text.startswith(SILENT, place) and text[PROCESS] == process):
+                is_behind_skipped = True
+                continue
+            if is_behind_skipped:
+                is_behind_skipped = False
+                yield None
+            process = text[PROCESS]
+            yield text
+        is_behind_skipped = is_behind_skipped or before < len(block)
     if is_behind_skipped:
         yield None
 

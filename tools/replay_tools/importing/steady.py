@@ -110,3 +110,6 @@ class ImportedTimeline(Timeline):
         super().depart(pods)
         for pod in pods:
             self.forget(pod.uid)
+            # a journal has more pods than a trace, and each of them looks through what is kept of the others
+            self.last_placed = {place: second for place, second in self.last_placed.items() if place[0] != pod.uid}
+            self.successes = {place: run for place, run in self.successes.items() if place[0] != pod.uid}
