@@ -3,6 +3,7 @@
 import gzip
 import json
 import os
+import re
 import shutil
 import signal
 import subprocess
@@ -29,6 +30,8 @@ load_tests = cases.loaded(__name__)
 RECORDINGS = f"{HERE}/recordings"
 COMMANDS = f"{HERE}/commands"
 TEXTS = f"{TOP}/crates/case_runner/data/texts"
+# what came up in an answer of another shape, and where
+PLACED = re.compile(r" \(\w+, \w+\.py:\d+\)$")
 
 
 class Recorder:
@@ -155,7 +158,8 @@ def test_odd_answers():
             try:
                 reader(text)
             except Failed as failed:
-                faults += [text] if "\n" in str(failed) else []
+                said = str(failed)
+                faults += [text] if "\n" in said or ("another shape" in said and not PLACED.search(said)) else []
             except Exception as error:  # noqa: BLE001 what a test looks for
                 faults.append(f"{error!r}: {text}")
         expect(f"odd answers: {kind}", faults[:1], [])

@@ -34,6 +34,7 @@ MOST_SHOWN = 300
 INTERRUPTS = (signal.SIGINT, signal.SIGTERM, signal.SIGHUP)
 # --events has this word where kubectl asks the API server
 KUBECTL = "kubectl"
+PACKAGE = os.path.dirname(os.path.dirname(os.path.realpath(__file__)))
 
 
 class Failed(Exception):
@@ -137,10 +138,21 @@ def reads(what: str) -> Callable[..., Any]:
         def checked(*given: Any) -> Any:
             try:
                 return read(*given)
-            except (ValueError, TypeError, KeyError, AttributeError, OverflowError):
-                raise Failed(f"{what}: the answer has another shape than is read") from None
+            except (ValueError, TypeError, KeyError, AttributeError, OverflowError) as fault:
+                raise Failed(f"{what}: the answer has another shape than is read ({place_of(fault)})") from None
         return checked
     return marked
+
+
+def place_of(fault: BaseException) -> str:
+    """Which fault it is, and where in these tools it came up, so that one of the tools themselves is found. The fault's
+    own text may have words of the answer, which are told to nobody."""
+    place, step = "", fault.__traceback__
+    while step is not None:
+        path = step.tb_frame.f_code.co_filename
+        place = f", {os.path.basename(path)}:{step.tb_lineno}" if path.startswith(PACKAGE) else place
+        step = step.tb_next
+    return type(fault).__name__ + place
 
 
 class Connection(Protocol):
