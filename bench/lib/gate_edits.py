@@ -1,6 +1,7 @@
 """The edits of the gate, as bench/edits.tsv keeps them: what each one alone shows, and what its check cost."""
 import csv
 import io
+import itertools
 import os
 
 import script
@@ -9,10 +10,10 @@ from paragraphs import wrapped
 EDITS = "bench/edits.tsv"
 EDIT_COLUMNS = ("crate", "edit", "seconds", "what it alone shows")
 WORDS = """
-The promise that no other edit of the gate breaks, and behind the name the processor seconds of its check, where they
-were measured (`bench/wrong_bodies --gate`). Before the first edit of a crate the gate checks the crate once more, which
-[gate.md](gate.md) counts with its edits: so one edit alone in a crate is dear, and stands there where what it shows is
-worth that.
+The promise that no other edit of the gate breaks. Behind the name of a crate are the processor seconds of its edits
+together, as [gate.md](gate.md) has them. Before the first of them the gate checks the crate once more, which is counted
+there: so one edit alone in a crate is dear, and stands there where what it shows is worth that. Behind the name of an
+edit are those of its own check, where they were measured (`bench/wrong_bodies --gate`).
 """
 
 
@@ -48,11 +49,16 @@ def without_words(edits, there):
     return f"bench/edits.tsv: the gate has no edit {'/'.join(gone[0])}" if gone else None
 
 
-def lines_of_edits(edits):
-    """A line for each edit of the gate."""
-    for (crate, edit), (seconds, shows) in edits.items():
-        took = "" if seconds is None else f" ({seconds} s)"
-        yield wrapped(f"`{crate}/{edit}`{took}: {shows}.", "- ", "  ")
+def lines_of_edits(edits, spent):
+    """A line for each crate that has edits of the gate, with the processor seconds of these where they are known, and
+    one for each edit."""
+    for crate, of_crate in itertools.groupby(edits.items(), lambda item: item[0][0]):
+        rows = list(of_crate)
+        took = f", {spent[crate]:.0f} s" if spent.get(crate) else ""
+        yield f"- `{crate}`: {len(rows)} edit{'s' if len(rows) > 1 else ''}{took}"
+        for (_, edit), (seconds, shows) in rows:
+            took = "" if seconds is None else f" ({seconds} s)"
+            yield wrapped(f"`{edit}`{took}: {shows}.", "  - ", "    ")
 
 
 def record_seconds(top, name, edit, seconds):

@@ -62,8 +62,8 @@ def line_of_row(row, notes):
     return line_of([named, f"note {len(notes)}", *cells[1:]])
 
 
-def page_of(rows, edits):
-    """The text of the page."""
+def page_of(rows, edits, spent):
+    """The text of the page, with the processor seconds that the edits of each crate take where they are known."""
     sums = {column: sum(int(row[column] or 0) for row in rows) for column in COUNTS}
     head = [wrapped(paragraph.format(**sums)) for paragraph in HEAD]
     titles = [column.capitalize() for column in COLUMNS[:-1]]
@@ -75,5 +75,5 @@ def page_of(rows, edits):
     noted = ["The notes, of rows that are longer than a line:", "\n".join(notes)] if notes else []
     parts = ["# What was planted", *head, "\n".join(table), *noted,
              "What was proved all the same:", "\n".join(reasons),
-             "## What each edit of the gate alone shows", wrapped(WORDS), "\n".join(lines_of_edits(edits))]
+             "## What each edit of the gate alone shows", wrapped(WORDS), "\n".join(lines_of_edits(edits, spent))]
     return "\n\n".join(parts) + "\n"

@@ -4,6 +4,7 @@ import tempfile
 
 from common import Case, read, run, write
 import gate_edits
+import gate_figures
 import planted_page
 
 HEAD = "\t".join(planted_page.COLUMNS)
@@ -32,8 +33,12 @@ class Planted(Case):
         rows = ["a\tfirst\t12\tit is first", "a\tsecond\t\tit is second"]
         self.put_edits(*rows)
         self.assertEqual(self.planted(HEAD, ROW), (0, "", ""))
-        self.assertIn("\n- `a/first` (12 s): it is first.\n- `a/second`: it is second.\n",
-                      read(self.top, "docs/planted.md"))
+        shown = "\n  - `first` (12 s): it is first.\n  - `second`: it is second.\n"
+        self.assertIn("\n- `a`: 2 edits" + shown, read(self.top, "docs/planted.md"))
+        figure = gate_figures.Figure(30.0, 60.0, 1e9, 40.2, "2 passed, 0 failed", "c1", "kit", "machine")
+        gate_figures.keep(self.top, ["a"], "a", figure)
+        self.assertEqual(self.planted(HEAD, ROW), (0, "", ""))
+        self.assertIn("\n- `a`: 2 edits, 40 s" + shown, read(self.top, "docs/planted.md"))
         for lines, said in ((rows[:1], ": it is not said what a/second alone shows"),
                             ([*rows, "b\tthird\t\tno edit of the gate"], ": the gate has no edit b/third"),
                             ([*rows, "a"], ":4: 1 cells, not 4"),
