@@ -17,7 +17,7 @@ if TYPE_CHECKING:
     from replay_tools.record.lines import Format
     from replay_tools.record.pods import Pod
     from replay_tools.record.seen import Recorded
-    from replay_tools.record.timeline import Tick
+    from replay_tools.record.ticks import Tick
 
 # what is told once, as a message, is out of an entry when it has been made so often
 STEADY = 3

@@ -18,7 +18,7 @@ if TYPE_CHECKING:
     from .pods import Pod
     from .samples import Sampling
     from .seen import Course, Recorded, Seen
-    from .timeline import Timeline
+    from .ticks import Ticks
 
 EVICTED, REFUSED, ENDED = "evicted", "refused", "ended"
 # the reason that a kubelet gives for both of the first
@@ -88,7 +88,7 @@ def moment_in(status: dict[str, Any]) -> float | None:
 class Decisions:
     """What the kubelet was seen to decide, each of which is written once; `say` takes what is said."""
 
-    def __init__(self, timeline: Timeline, course: Course, sampling: Sampling, say: Callable[..., None]) -> None:
+    def __init__(self, timeline: Ticks, course: Course, sampling: Sampling, say: Callable[..., None]) -> None:
         self.timeline = timeline
         self.course = course
         self.sampling = sampling

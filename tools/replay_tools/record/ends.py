@@ -13,7 +13,7 @@ if TYPE_CHECKING:
     from collections.abc import Iterable
 
     from .seen import Recorded
-    from .timeline import Timeline
+    from .ticks import Ticks
 
 
 def open_exits(recorded: Recorded) -> dict[str, float]:
@@ -31,7 +31,7 @@ def wants_start(recorded: Recorded, name: str) -> bool:
     return newest is not None and newest.exit_code is not None and recorded.pod.is_restarted(name, newest.exit_code)
 
 
-def second_of_end(recorded: Recorded, timeline: Timeline) -> int:
+def second_of_end(recorded: Recorded, timeline: Ticks) -> int:
     """The second in which the node has ended a pod: that of its eviction; else of the first exit that the end led to,
     if that is before it was seen. Where none of them wants a start it is the last one, if all have exited."""
     if recorded.evicted_at is not None:

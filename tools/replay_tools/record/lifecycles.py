@@ -17,7 +17,7 @@ if TYPE_CHECKING:
     from .reasons import Reason
     from .samples import Sampling
     from .seen import Course, Seen
-    from .timeline import Timeline
+    from .ticks import Ticks
 
 # how long the new pod of a name waits for the containers of the one before to exit
 GOING_SECONDS = 30
@@ -29,7 +29,7 @@ LEFT_OUT = {EVICTED: "the kubelet had evicted it before it was seen",
 class Lifecycles:
     """Follows the pods that come, and those that go until their containers have exited; `say` takes what is said."""
 
-    def __init__(self, timeline: Timeline, course: Course, containers: Containers, decisions: Decisions,
+    def __init__(self, timeline: Ticks, course: Course, containers: Containers, decisions: Decisions,
                  sampling: Sampling, say: Callable[..., None]) -> None:
         self.timeline = timeline
         self.course = course
