@@ -1,26 +1,27 @@
-"""One pod of a journal: what is known of it, and how that is placed on the seconds of a trace once it is settled."""
+"""One pod of a journal, and how what is known of it is placed on the seconds of a trace once it is settled."""
 
 from __future__ import annotations
 
 from collections.abc import Iterator
-from dataclasses import dataclass, field, replace
-from typing import Any, Optional, TYPE_CHECKING
+from dataclasses import replace
+from typing import Optional, TYPE_CHECKING
 
 from replay_tools.record import pods as recorded
-from replay_tools.record.decisions import EVICTED, EVICTION, Decision
 from replay_tools.record.formats import without_nones
 from replay_tools.record.probes import PROBES, Result
-from replay_tools.record.reasons import Reason, reason_of
+from replay_tools.record.reasons import reason_of
 from replay_tools.record.runtime import EXITED, LOST_CODE, RUNNING, Change, Listing
 
 from . import marks
-from .instances import Chain, Instance, Instances
+from .accounts import ORDER, Account, Item
 from .outputs import why_killed
-from .placing import LATE_SECONDS, PROBED
+from .placing import PROBED
 from .probing import FAILURE, SUCCESS, Probing
 
 if TYPE_CHECKING:
-    from . import facts
+    from replay_tools.record.reasons import Reason
+
+    from .instances import Chain, Instance
     from .placing import Placing
 
 STARTUP, LIVENESS, READINESS = PROBES
@@ -28,15 +29,6 @@ STARTUP, LIVENESS, READINESS = PROBES
 WHOLE = 0.999
 # a start that comes so soon behind an exit is of the same second
 AFTER = 0.0001
-# how long an exit is waited for where its pod has been removed
-GOING_SECONDS = 30
-# what came and went between two looks of the kubelet's
-BETWEEN_LOOKS = 0.9
-# a line that a pod is evicted stands at most so long behind that its last container was found to have exited
-STOPPED_SECONDS = 2.0
-# by how much a look of the kubelet's may be late
-LOOK_SECONDS = 1.0
-ORDER = {"start": 0, "result": 1, "kill": 2, "exit": 3, "wait": 4}
 
 
 class ByItself(Change):
@@ -47,112 +39,23 @@ class ByItself(Change):
         return True
 
 
-@dataclass(order=True)
-class Item:
-    """Something that happened in a pod, in the order in which it is placed."""
-    at: float
-    order: int
-    number: int
-    what: str
-    value: Any = field(compare=False)
-
-
-class Life:
-    """One pod, from its first line to its last."""
+class Life(Account):
+    """One pod, from its first line to its last, as a trace has it."""
 
     def __init__(self, number: int, key: str, uid: Optional[str], at: float) -> None:
-        self.number = number
-        self.key = key
-        self.uid = uid
-        self.added_at = at
-        self.pod: Optional[recorded.Pod] = None
-        self.is_template = False
-        # whether a line says that it comes, and whether it did not run before that
-        self.is_listed = self.was_added = False
-        self.instances = Instances()
+        super().__init__(number, key, uid, at)
         self.probings: dict[tuple[str, str], Probing] = {}
-        # what waits to be placed, and what is placed now
-        self.pending: list[Item] = []
+        # what is placed now
         self.placed: list[Item] = []
         self.waits: dict[str, Reason] = {}
         self.attempts: dict[str, int] = {}
         self.started: dict[str, float] = {}
-        # when it was told to go, is gone for the kubelet, was cleaned up behind its eviction, or came anew
-        self.deleted_at: Optional[float] = None
-        self.removed_at: Optional[float] = None
-        self.cleaned_at: Optional[float] = None
-        self.replaced_at: Optional[float] = None
-        # when a line spoke of it last
-        self.heard_at = at
-        # the moment and the message of the Event of its eviction
-        self.evicting: Optional[tuple[float, str]] = None
-        self.decision: Optional[Decision] = None
-        # when a line said that it is evicted, and whether one told the moment of that decision
-        self.told_at = 0.0
-        self.is_moment_told = False
-        self.is_decided = False
         # the second of its line, and that from which on its containers change
         self.arrived: Optional[int] = None
         self.changes_from = 0
         self.is_deleting = False
         self.is_over = False
         self.is_refused = False
-
-    # --- what lines say ---
-
-    def add(self, at: float, what: str, value: Any) -> None:
-        self.pending.append(Item(at, ORDER[what], len(self.pending), what, value))
-
-    def turn(self, fact: facts.Turned, is_met: bool) -> None:
-        """A start or an exit, which may be told more than once: the first counts, and the runtime's is exact."""
-        instance = self.instances.of(fact.id)
-        instance.is_looked = instance.is_looked or not fact.is_exact
-        if fact.what == "started":
-            if fact.is_exact:
-                instance.started = fact.at if instance.started is None else instance.started
-            if instance.seen is None and not instance.has_ended:
-                instance.seen, instance.is_met = fact.at, is_met
-        elif instance.gone is None:
-            if fact.is_exact and instance.finished is None:
-                instance.finished = fact.at
-            if instance.seen is None:
-                # it ran before the journal begins, or came and went between two looks
-                is_met, instance.is_unseen = is_met or self.may_have_run(), True
-                instance.seen, instance.is_met = (self.added_at, True) if is_met else (fact.at - BETWEEN_LOOKS, False)
-            instance.gone = fact.at
-
-    def take_event_of_eviction(self, at: float, message: str) -> None:
-        self.evicting = at, message
-        if self.decision is not None and message and not self.is_decided:
-            self.decision = replace(self.decision, message=message)
-
-    def said_of_eviction(self) -> str:
-        return self.evicting[1] if self.evicting is not None else ""
-
-    def evict(self, at: float, ranked_at: Optional[float], message: str) -> None:
-        """A line says that the kubelet has evicted it. It decided that as it ranked the pods; of a pod that no ranking
-        has, as one that has reached a limit of its own, as it made the Event, or gave the first order to stop what ran
-        by then."""
-        moments = [ranked_at] if ranked_at is not None else [
-            moment for moment in (self.evicting and self.evicting[0], self.stopped_since(at)) if moment is not None]
-        self.told_at, self.is_moment_told = at, bool(moments)
-        self.decision = Decision(EVICTED, min([at, *moments]), EVICTION, message)
-
-    def stopped_since(self, at: float) -> Optional[float]:
-        """The first order to stop what ran shortly before a moment, for no reason of a container's own, and not since
-        the pod was deleted."""
-        orders = [each.killing.at for each in self.instances.by_id.values() if each.killing is not None
-                  and not each.killing.why and (each.gone is None or each.gone >= at - STOPPED_SECONDS)]
-        return min((each for each in orders if self.deleted_at is None or each < self.deleted_at), default=None)
-
-    def may_have_run(self) -> bool:
-        """Whether a container of it may have run before its first line: no line says that it came."""
-        met = sum(each.is_met for each in self.instances.by_id.values())
-        return not self.was_added and met < (1 if self.pod is None else len(self.pod.containers()))
-
-    def known_uid(self) -> str:
-        """The uid as a trace's pod has it; one that no cluster gives where it is not known."""
-        return self.uid if self.uid is not None else f"?{self.number}"
 
     # --- what is placed ---
 
@@ -358,8 +261,8 @@ class Life:
         """From the first of the failures for which the kubelet ends an instance, as its line says, up to that line: on
         a busy node results come late, and none between was a success."""
         wanted = pod.failures_wanted(name, probe)
-        for chain in self.instances.chains:
-            for killing in [each.killing for each in chain.instances if chain.name == name and each.killing is not None]:
+        for chain in [each for each in self.instances.chains if each.name == name]:
+            for killing in [each.killing for each in chain.instances if each.killing is not None]:
                 if why_killed(killing.why) == probe:
                     known = {item.at for item in (*self.placed, *self.pending)
                              if item.what == "result" and item.value == (name, probe, FAILURE)}
@@ -398,57 +301,8 @@ class Life:
         decision = replace(self.decision, moment=self.moment_of(self.decision))
         self.changes_from = placing.decide(self, pod, decision) + 1
 
-    def is_settled(self, decision: Decision, horizon: float) -> bool:
-        """Whether it is known what happened up to the line that it is evicted, as far as its tick can wait for that."""
-        known = min(self.told_at + LOOK_SECONDS, (decision.moment or 0.0) + LATE_SECONDS - 1)
-        leaves_at = self.leaves_at()
-        return horizon >= (known if leaves_at is None else min(known, leaves_at))
-
-    def moment_of(self, decision: Decision) -> float:
-        """When the kubelet decided; where no line tells that, with the first of the last exits, if it is of the second
-        before the line that it is evicted."""
-        moment = decision.moment or 0.0
-        ends = [] if self.is_moment_told else [chain.newest.end for chain in self.instances.chains]
-        return min([moment, *(end for end in ends if end is not None and end >= moment - 1)])
-
-    def failed_in(self, second: int, decision: Decision) -> int:
-        """The second in which it has failed, as a kubelet says where it begins to stop the containers: that of its
-        eviction. Where one started behind that, since its sync was on its way, it is that of this start, and where one
-        had exited by itself, which the next look found, of this exit."""
-        at, instances = decision.moment or 0.0, [each for chain in self.instances.chains for each in chain.instances]
-        starts = [each.started_in for each in instances if (each.begin or 0.0) <= self.told_at + LOOK_SECONDS]
-        exits = [each.ended_in for each in instances
-                 if each.killing is None and each.gone is not None and each.gone <= at + LOOK_SECONDS]
-        return max([second, *starts, *exits])
-
-    def leaves_at(self) -> Optional[float]:
-        """When it is no more: once it was told to go and all its instances have exited, else when the kubelet has
-        removed it, has cleaned up behind its eviction, or has another pod of its name."""
-        instances = [each for chain in self.instances.chains for each in chain.instances]
-        ends = [each.end for each in instances]
-        ended = None
-        if self.deleted_at is not None and instances and all(end is not None for end in ends):
-            ended = max([self.deleted_at, *(end for end in ends if end is not None)])
-        known = [at for at in (ended, self.removed_at, self.cleaned_at, self.replaced_at) if at is not None]
-        if not known:
-            return None
-        at = min(known)
-        # what is deleted by force exits behind that
-        return max([at, *(end for end in ends if end is not None and at < end <= at + GOING_SECONDS)])
-
     def leave(self, pod: recorded.Pod, horizon: float, placing: Placing) -> None:
         at = self.leaves_at()
         if at is not None and at <= horizon:
             self.is_over = True
             placing.depart(pod, max(at, float(self.changes_from)))
-
-    def forget(self, before: float) -> None:
-        self.instances.forget(before)
-
-    def pod_refused(self, decision: Decision) -> recorded.Pod:
-        """It never ran, and has no line."""
-        return recorded.Pod(self.key, self.known_uid(), {}, None, frozenset(), decision)
-
-    def entry_of_wait(self, fact: facts.Waits) -> dict[str, Reason]:
-        found = reason_of(without_nones({"reason": fact.reason, "message": fact.message}))
-        return {} if found is None else {fact.container: found}

@@ -45,8 +45,8 @@ class Nearness:
                          if limit.signal in signals and 1000 * signals[limit.signal] < limit.limit)
 
     def see(self, signals: dict[str, int], moment: float) -> None:
-        """Takes a sample for each threshold. One that is due stays so up to what is to be reclaimed, and one whose grace
-        period runs up to its limit."""
+        """Takes a sample for each threshold. One that is due stays so up to what is to be reclaimed, and one whose
+        grace period runs up to its limit."""
         for limit in self.thresholds:
             if limit.signal in signals:
                 value, name = 1000 * signals[limit.signal], (limit.signal, limit.kind)
