@@ -213,6 +213,16 @@ def run(tool: str, main: Callable[[], int]) -> int:
             signal.pthread_sigmask(signal.SIG_BLOCK, [signal.SIGINT])
     except KeyboardInterrupt:
         return 130
+    except RuntimeError as fault:
+        if is_interrupt(fault):
+            return 130
+        raise
+
+
+def is_interrupt(fault: BaseException) -> bool:
+    """Whether a fault stands for an interrupt: Python before 3.12 makes one of it that comes as a class is made, whose
+    cause it is."""
+    return isinstance(fault, KeyboardInterrupt) or (fault.__cause__ is not None and is_interrupt(fault.__cause__))
 
 
 def answered(tool: str, main: Callable[[], int], words: list[str]) -> int:

@@ -311,6 +311,12 @@ def main():
 sys.exit(entry.run("story", main))
 """
     expect("an interrupt that Python drops", run([sys.executable, "-c", program, TOOLS]), (130, "", ""))
+    naming = program.replace("__del__(self)", "__set_name__(self, *_)").replace("    Dropping()", """    class Made:
+        name = Dropping()""")
+    expect("an interrupt as a class is made", run([sys.executable, "-c", naming, TOOLS]), (130, "", ""))
+    failing = naming.replace("signal.raise_signal(signal.SIGINT)", "raise ValueError('no interrupt')")
+    answer = run([sys.executable, "-c", failing, TOOLS])
+    expect("another fault as a class is made", (answer[0], "no interrupt" in answer[2]), (1, True))
 
 
 def test_lost_outputs():
