@@ -23,8 +23,8 @@ process alone, and no sum.
 What passed on the machine is kept there by the kit, so each command proves its own crate alone, with its tests and its
 edits; the tests and the programs of the crates below run again. A crate that was kept has the figures of the run that
 proved it last, and `bench/gate.tsv` the commit of each. Other work may have gone on beside a command, crates of other
-checkouts too, whose rows were put together: that makes processors slower ([working.md](working.md#the-figures-of-the-gate)
-has how these were made).
+checkouts too, whose rows were put together: that makes processors slower
+([working.md](working.md#the-figures-of-the-gate) has how these were made).
 
 {chain}
 
