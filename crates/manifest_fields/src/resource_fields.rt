@@ -4,7 +4,7 @@ ghost use Rattle.std.specs.Prelude.{◌≡◌, false, option_map, OnOk};
 ghost use Rattle.serde_json.specs.View.{view};
 ghost use Rattle.json_fields.specs.state.Reading.{GivesExactly};
 ghost use Rattle.manifest.specs.rule.Resources.{some_above};
-ghost use Rattle.manifest_fields.specs.rule.ResourceFields.{quantity_at, amounts_in, amounts_of, within};
+ghost use Rattle.manifest_fields.specs.rule.ResourceFields.{quantity_at, amounts_in, amounts_of, none_above};
 ghost use Rattle.manifest_fields.specs.rule.ResourceFields.{resources_in, resources_of};
 
 use crate::fault::{Field, ManifestFault};
@@ -44,8 +44,8 @@ fn amounts_of(found: Option<&Value>) -> Result<Amounts, ManifestFault>
     }
 }
 
-fn within(requests: &Amounts, limits: &Amounts) -> Result<(), ManifestFault>
-    ensures gives { GivesExactly (λ t. t) result (within requests.now limits.now) }
+fn none_above(requests: &Amounts, limits: &Amounts) -> Result<(), ManifestFault>
+    ensures gives { GivesExactly (λ t. t) result (none_above requests.now limits.now) }
     ensures within { OnOk result (some_above requests.now limits.now ≡ false) }
 {
     if requests.some_above(limits) {
@@ -61,7 +61,7 @@ fn resources_in(value: &Value) -> Result<Resources, ManifestFault>
     let resources = object(Field::Resources, Some(value))?;
     let requests = amounts_of(field(resources, "requests"))?;
     let limits = amounts_of(field(resources, "limits"))?;
-    within(&requests, &limits)?;
+    none_above(&requests, &limits)?;
     Ok(Resources::new(requests, limits))
 }
 

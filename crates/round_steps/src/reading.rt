@@ -75,7 +75,7 @@ fn read_lines(alloc: Global, text: &[u8]) -> Result<Sequence<Step>, StepsFault>
 }
 
 /// Whether the text is not too long. It takes no memory.
-fn within(text: &[u8]) -> Result<(), StepsFault>
+fn check_length(text: &[u8]) -> Result<(), StepsFault>
     ensures { IsWithin text.now result }
 {
     if text.len() > LONGEST_STEPS_FILE {
@@ -93,6 +93,6 @@ pub fn read_steps(alloc: Global, text: &[u8]) -> Result<Sequence<Step>, StepsFau
     ensures ok { IfOk result (λ steps. (length text.now ≤ longest_steps_file) × AreSteps (lines_of text.now) steps) }
     ensures err { IfErr result (Refuses text.now) }
 {
-    within(text)?;
+    check_length(text)?;
     read_lines(alloc, text)
 }

@@ -54,7 +54,7 @@ fn workers_of(text: &[u8]) -> Option<(usize, usize)>
 }
 
 /// What stands behind the word with which the line begins.
-fn behind<'a>(line: &'a [u8], word: &[u8]) -> Option<&'a [u8]>
+fn after_word<'a>(line: &'a [u8], word: &[u8]) -> Option<&'a [u8]>
     ensures { MatchOption result ((rest : List ℕ) → line.now ≢ word.now ++ rest)
         (λ rest. line.now ≡ word.now ++ rest.now) }
 {
@@ -65,15 +65,15 @@ fn behind<'a>(line: &'a [u8], word: &[u8]) -> Option<&'a [u8]>
 pub(crate) fn step_of(line: &[u8]) -> Option<Step>
     ensures { MatchOption result ((step : Step) → Spells line.now step → ⊥) (Spells line.now) }
 {
-    if let Some(worker) = behind(line, b"pop ") {
+    if let Some(worker) = after_word(line, b"pop ") {
         return Some(Step::Pop(worker_of(worker)?));
     }
-    if let Some(worker) = behind(line, b"update ") {
+    if let Some(worker) = after_word(line, b"update ") {
         return Some(Step::Update(worker_of(worker)?));
     }
-    if let Some(worker) = behind(line, b"enter ") {
+    if let Some(worker) = after_word(line, b"enter ") {
         return Some(Step::Enter(worker_of(worker)?));
     }
-    let (thief, owner) = workers_of(behind(line, b"steal ")?)?;
+    let (thief, owner) = workers_of(after_word(line, b"steal ")?)?;
     Some(Step::Steal { thief, owner })
 }

@@ -31,8 +31,8 @@ use Rattle.manifest_fields.specs.rule.ResourceFields.{resources_of}
 use Rattle.node_config.specs.declared.node.Format.{Format}
 use Rattle.tick_lines.specs.declared.truth.TruthMember.{TruthMember}
 use Rattle.tick_lines.specs.rule.Truths.{truth_of}
-use Rattle.trace.specs.declared.fault.FaultKind.{FaultKind}
-use Rattle.trace.specs.declared.fault.FaultKind.TheVariants.{Manifest}
+use Rattle.line_faults.specs.declared.fault.FaultKind.{FaultKind}
+use Rattle.line_faults.specs.declared.fault.FaultKind.TheVariants.{Manifest}
 use Rattle.trace.specs.declared.trace_so_far.Trace.{Trace}
 use Rattle.trace.specs.state.Laws.{Says, says_node, says_pod, says_gone, says_tick}
 use Rattle.trace.specs.rule.TraceSoFar.{TraceSoFar, heeds}

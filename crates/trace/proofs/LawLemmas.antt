@@ -22,10 +22,10 @@ use Rattle.json_fields.proofs.Steps.{bind_ok}
 use Rattle.trace.proofs.Whole.{gone_said, gone_whole, tick_whole, pod_whole, line_whole}
 use Rattle.trace.proofs.Versions.{some_node}
 use Rattle.manifest.specs.declared.pod.PodSpec.{PodSpec}
-use Rattle.trace.specs.declared.fault.FaultKind.{FaultKind}
-use Rattle.trace.specs.declared.fault.FaultKind.TheVariants.{TooLong, DuplicatePod, UnknownKind, Order, TooMany}
-use Rattle.trace.specs.declared.fault.FaultKind.TheVariants.{StrangerPod}
-use Rattle.trace.specs.declared.fault.LineFault.{LineFault}
+use Rattle.line_faults.specs.declared.fault.FaultKind.{FaultKind}
+use Rattle.line_faults.specs.declared.fault.FaultKind.TheVariants.{TooLong, DuplicatePod, UnknownKind, Order, TooMany}
+use Rattle.line_faults.specs.declared.fault.FaultKind.TheVariants.{StrangerPod}
+use Rattle.line_faults.specs.declared.fault.LineFault.{LineFault}
 use Rattle.node_config.specs.declared.node.NodeConfig.{NodeConfig}
 use Rattle.trace.specs.declared.trace_so_far.Trace.{Trace}
 use Rattle.trace.specs.declared.trace_so_far.LineKind.{LineKind}

@@ -7,7 +7,7 @@ use Rattle.node_config.specs.declared.node.Format.{Format}
 use Rattle.node_config.specs.declared.node.NodeConfig.{NodeConfig}
 use Rattle.node_config.specs.declared.node.Version.{Version}
 use Rattle.node_config.specs.declared.node.Version.TheVariants.{One, Two, Three}
-use Rattle.trace.specs.declared.fault.LineFault.{LineFault}
+use Rattle.line_faults.specs.declared.fault.LineFault.{LineFault}
 use Rattle.trace.specs.declared.trace_so_far.LineKind.TheVariants as kinds
 use Rattle.trace.specs.declared.trace_so_far.Trace.{Trace}
 use Rattle.trace.specs.state.Memory.{GivesAt}

@@ -6,9 +6,9 @@ use Rattle.manifest_fields.specs.declared.fault.ManifestFault.{ManifestFault}
 use Rattle.manifest_fields.specs.declared.fault.ManifestFault.TheVariants as faults
 use Rattle.manifest_reader.specs.rule.Manifest.{pod_at}
 use Rattle.manifest_reader.proofs.NeverMemory.{IsFound, pod_at_only}
-use Rattle.trace.specs.declared.fault.FaultKind.{FaultKind}
-use Rattle.trace.specs.declared.fault.FaultKind.TheVariants.{Manifest}
-use Rattle.trace.specs.state.Faults.{kind_of_manifest_fault}
+use Rattle.line_faults.specs.declared.fault.FaultKind.{FaultKind}
+use Rattle.line_faults.specs.declared.fault.FaultKind.TheVariants.{Manifest}
+use Rattle.line_faults.specs.state.Faults.{kind_of_manifest_fault}
 use Rattle.trace.specs.rule.Pod.{of_manifest}
 
 kept : (fault : ManifestFault) → IsFound fault → kind_of_manifest_fault fault ≡ Manifest fault

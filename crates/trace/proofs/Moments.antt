@@ -10,7 +10,7 @@ use Rattle.serde_json.specs.Find.{as_number, as_u64}
 use Rattle.histories.specs.rule.Histories.{Recorded, recorded, moment_at, last_moment}
 use Rattle.histories.specs.state.Histories.{IsRising, EndsBefore}
 use Rattle.histories.proofs.Moments.{IsRising-more}
-use Rattle.trace.specs.declared.fault.FaultKind.TheVariants.{Moment}
+use Rattle.line_faults.specs.declared.fault.FaultKind.TheVariants.{Moment}
 use Rattle.observations.specs.declared.tick.TickObs.{TickObs}
 use Rattle.following.specs.state.Followed.{EndBefore}
 use Rattle.trace.specs.state.Sound.{AreRising}

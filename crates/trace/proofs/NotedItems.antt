@@ -14,8 +14,8 @@ use Rattle.observations.specs.declared.container.ContainerObs.{ContainerObs}
 use Rattle.serde_json.specs.Data.{Data}
 use Rattle.tick_lines.specs.rule.Listings.{listing_of}
 use Rattle.tick_lines.specs.rule.Results.{result_of}
-use Rattle.trace.specs.declared.fault.FaultKind.{FaultKind}
-use Rattle.trace.specs.declared.fault.FaultKind.TheVariants.{StrangerContainer}
+use Rattle.line_faults.specs.declared.fault.FaultKind.{FaultKind}
+use Rattle.line_faults.specs.declared.fault.FaultKind.TheVariants.{StrangerContainer}
 use Rattle.trace.specs.declared.placing.PlacedListing.{PlacedListing}
 use Rattle.trace.specs.declared.placing.PlacedResult.{PlacedResult}
 use Rattle.trace.specs.state.Noted.{NotesListing, NotesResult, ListingsNoted, ResultsNoted, AreUnknown, unknown}

@@ -39,7 +39,7 @@ use Rattle.tick_lines.specs.rule.Listings.{listing_of, listings_of}
 use Rattle.tick_lines.specs.rule.Results.{result_of, results_of}
 use Rattle.tick_lines.specs.state.Tape.{left_in, IsEntry, IsLine, HasSamples}
 use Rattle.trace.specs.state.Ahead.{IsShown}
-use Rattle.trace.specs.declared.fault.FaultKind.{FaultKind}
+use Rattle.line_faults.specs.declared.fault.FaultKind.{FaultKind}
 use Rattle.trace.specs.declared.placing.EntrySaid.{EntrySaid}
 use Rattle.trace.specs.declared.placing.PlacedEntry.{PlacedEntry}
 use Rattle.trace.specs.declared.placing.PlacedListing.{PlacedListing}

@@ -14,7 +14,7 @@ use Rattle.trace.specs.declared.placing.PlacedEntry.{PlacedEntry}
 use Rattle.trace.specs.declared.placing.PlacedListing.{PlacedListing}
 use Rattle.trace.specs.declared.placing.PlacedResult.{PlacedResult}
 use Rattle.json_fields.specs.rule.Reading.{refused_if}
-use Rattle.trace.specs.declared.fault.FaultKind.{FaultKind}
+use Rattle.line_faults.specs.declared.fault.FaultKind.{FaultKind}
 use Rattle.roster.specs.rule.Roll.{Roll, is_present}
 use Rattle.trace.specs.rule.Observed.{entry_for, listings_of, results_of, pod_observed, pods_from, containers_from}
 use Rattle.trace.specs.rule.Observed.{observed}

@@ -16,7 +16,7 @@ use Rattle.observations.specs.rule.Observations.{shown_of, listed_in, history}
 use Rattle.observations.specs.state.Observations.{seen_of}
 use Rattle.observations.proofs.OwnTicks.{seen_shown, history_shown, history_rests}
 use Rattle.node_config.specs.declared.node.Format.{Format}
-use Rattle.trace.specs.declared.fault.LineFault.{LineFault}
+use Rattle.line_faults.specs.declared.fault.LineFault.{LineFault}
 use Rattle.trace.specs.declared.trace_so_far.Trace.{Trace}
 use Rattle.following.specs.rule.Backwards.{is_backwards}
 use Rattle.trace.specs.state.Memory.{GivesAt}

@@ -20,9 +20,9 @@ use Rattle.observations.specs.declared.tick.TickObs.{TickObs}
 use Rattle.roster.specs.rule.Roll.{Roll}
 use Rattle.tick_lines.specs.declared.fault.TickLineFault.{TickLineFault}
 use Rattle.tick_lines.specs.declared.line.TickLine.{TickLine}
-use Rattle.trace.specs.declared.fault.FaultKind.{FaultKind}
-use Rattle.trace.specs.declared.fault.FaultKind.TheVariants.{Moment, Backwards}
-use Rattle.trace.specs.declared.fault.LineFault.{LineFault}
+use Rattle.line_faults.specs.declared.fault.FaultKind.{FaultKind}
+use Rattle.line_faults.specs.declared.fault.FaultKind.TheVariants.{Moment, Backwards}
+use Rattle.line_faults.specs.declared.fault.LineFault.{LineFault}
 use Rattle.trace.specs.declared.trace_so_far.LineKind.TheVariants as line_kinds
 use Rattle.trace.specs.declared.trace_so_far.Turn.{Turn}
 use Rattle.trace.specs.declared.placing.PlacedEntry.{PlacedEntry}

@@ -10,9 +10,9 @@ use Rattle.node_config.specs.declared.node.Version.{Version}
 use Rattle.observations.specs.declared.tick.TickObs.{TickObs}
 use Rattle.observations.specs.rule.Limits.{most_pods, most_ticks}
 use Rattle.tick_lines.specs.declared.line.TickLine.{TickLine}
-use Rattle.trace.specs.declared.fault.FaultKind.{FaultKind}
-use Rattle.trace.specs.declared.fault.FaultKind.TheVariants.{TooLong, UnknownKind, Order, TooMany, DuplicatePod}
-use Rattle.trace.specs.declared.fault.FaultKind.TheVariants.{Backwards, ExitCode, StrangerPod}
+use Rattle.line_faults.specs.declared.fault.FaultKind.{FaultKind}
+use Rattle.line_faults.specs.declared.fault.FaultKind.TheVariants.{TooLong, UnknownKind, Order, TooMany, DuplicatePod}
+use Rattle.line_faults.specs.declared.fault.FaultKind.TheVariants.{Backwards, ExitCode, StrangerPod}
 use Rattle.trace.specs.declared.trace_so_far.LineKind.{LineKind}
 use Rattle.trace.specs.declared.placing.PlacedEntry.{PlacedEntry}
 use Rattle.json_lines.specs.rule.Lines.{longest_line}

@@ -1,4 +1,3 @@
-pub mod Faults
 pub mod Memory
 pub mod Pod
 pub mod Placing

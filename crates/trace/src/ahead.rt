@@ -2,18 +2,18 @@
 
 ghost use Rattle.std.specs.Prelude.{◌≡◌, ◌≢◌, ◌<◌, false, length, All, IfOk, IfSome, OnErr, OnOk};
 ghost use Rattle.json_lines.specs.state.Lines.{Tick, data_of, line_data};
-ghost use Rattle.trace.specs.declared.fault.FaultKind.TheVariants.{OutOfMemory};
+ghost use Rattle.line_faults.specs.declared.fault.FaultKind.TheVariants.{OutOfMemory};
 ghost use Rattle.trace.specs.state.Ahead.{AreAhead, IsAhead, IsShown};
 ghost use Rattle.trace.specs.rule.Observed.{observed};
 ghost use Rattle.trace.specs.rule.Placing.{are_of_one_pod, has_twice};
 
 use crate::by_pod::entries_by_pod;
-use crate::fault::FaultKind;
 use crate::placing::{PlacedEntry, some_entry_repeats};
 use crate::tape::shown_on_tape;
 use crate::tick::{observed, placed_by, some_code_missing};
 use crate::words::line_has_other_kind;
 use json_lines::{LONGEST_TAPE, LineBuffers, TextLine, TickRecord, other_line, text_line};
+use line_faults::FaultKind;
 use observations::TickObs;
 use roster::Roster;
 use std::alloc::{AllocError, Global};

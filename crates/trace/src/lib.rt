@@ -17,7 +17,6 @@
 
 mod ahead;
 mod by_pod;
-mod fault;
 pub mod laws;
 mod noted;
 mod placing;
@@ -31,7 +30,7 @@ mod trace_so_far;
 mod windows;
 mod words;
 
-pub use fault::{FaultKind, LineFault};
+pub use line_faults::{FaultKind, LineFault};
 pub use node_config::{Format, NodeConfig, Version};
 pub use text::{read_trace, read_trace_by_workers};
 pub use trace_so_far::Trace;

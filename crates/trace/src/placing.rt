@@ -11,8 +11,8 @@ ghost use Rattle.trace.specs.rule.Placing.{are_of_one_probe, repeats, sampled_or
 ghost use Rattle.trace.specs.rule.Placing.{sampling_of, reason_given, words_of, said_in, placed_entry, placed_of};
 ghost use Rattle.std.specs.List.{list_any};
 
-use crate::fault::FaultKind;
 use crate::words::says_so;
+use line_faults::FaultKind;
 use lists::Sequence;
 use manifest::{Outcome, PodSpec, ProbeKind};
 use observations::{EndReason, PodWords, Sampling, Usage};
@@ -55,7 +55,7 @@ pub(crate) struct PlacedEntry {
 pub(crate) trait Place<T> {
     ghost use Rattle.std.specs.Prelude.{Result};
     ghost use Rattle.json_fields.specs.state.Reading.{GivesExactly};
-    ghost use Rattle.trace.specs.declared.fault.FaultKind.{FaultKind};
+    ghost use Rattle.line_faults.specs.declared.fault.FaultKind.{FaultKind};
 
     type Placed: Drop;
 

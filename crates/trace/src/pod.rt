@@ -8,14 +8,14 @@ ghost use Rattle.roster.specs.rule.Roll.{key_of_pod, number_of};
 ghost use Rattle.trace.specs.state.Memory.{is_memory};
 ghost use Rattle.manifest_fields.specs.declared.fault.Field.TheVariants as fields;
 ghost use Rattle.manifest_fields.specs.declared.fault.ManifestFault.TheVariants.{WrongKind};
-ghost use Rattle.trace.specs.declared.fault.FaultKind.TheVariants.{DuplicatePod, Manifest};
+ghost use Rattle.line_faults.specs.declared.fault.FaultKind.TheVariants.{DuplicatePod, Manifest};
 ghost use Rattle.trace.specs.rule.Written.{is_of_other_kind};
 ghost use Rattle.trace.specs.rule.Pod.{has_key, new_key, room_for_pod, manifest_of, pod_from, pod_of_line};
 
-use crate::fault::{FaultKind, refused_if};
 use crate::trace_so_far::TraceSoFar;
 use crate::words::{is_of_other_kind, says_so};
 use json_fields::field;
+use line_faults::{FaultKind, refused_if};
 use manifest::PodSpec;
 use manifest_reader::{Field, ManifestFault, read_pod};
 use observations::MOST_PODS;

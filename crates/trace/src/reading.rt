@@ -6,24 +6,25 @@ ghost use Rattle.node_lines.specs.rule.Node.{whole_number};
 ghost use Rattle.serde_json.specs.View.{view};
 ghost use Rattle.json_fields.specs.state.Reading.{GivesExactly, GivesUnless};
 ghost use Rattle.json_lines.specs.state.Lines.{LineData, data_of};
+ghost use Rattle.line_faults.specs.state.Text.{said_at};
 ghost use Rattle.trace.specs.state.Ahead.{IsReadAhead, IsShown, may_stand};
 ghost use Rattle.trace.specs.state.Memory.{is_memory};
 ghost use Rattle.roster.specs.rule.Roll.{key_of_pod, number_of};
 ghost use Rattle.trace.specs.rule.Written.{is_three, is_foreign, node_in};
 ghost use Rattle.trace.specs.rule.TraceSoFar.{version_in, heeds, with_pod, without};
 ghost use Rattle.trace.specs.rule.Pod.{named_in};
-ghost use Rattle.trace.specs.state.Taken.{tick_line_at, value_at, any_line_at, said_at};
+ghost use Rattle.trace.specs.state.Taken.{tick_line_at, value_at, any_line_at};
 ghost use Rattle.trace.specs.rule.Trace.{gone_in, kind_from, kind_of_line, with_node, with_new_pod, is_late, pod_in};
 ghost use Rattle.trace.specs.rule.Trace.{pod_line_at, gone_line_at, turn_of, in_order};
 ghost use Rattle.trace.specs.rule.Tick.{tick_at};
 ghost use Rattle.trace.specs.state.Tick.{MayStandBehind};
 
-use crate::fault::{FaultKind, refused_if};
 use crate::pod::{new_key, pod_of_line, room_for_pod};
 use crate::tick::{is_backwards, moment_in, room, take_tick, with_tick};
 use crate::trace_so_far::{LineKind, TraceSoFar, Turn, heeds_words};
 use json_fields::{field, text_at};
 use json_lines::{TextLine, TickRecord, tick_record};
+use line_faults::{FaultKind, check_text, refused_if};
 use manifest::PodSpec;
 use node_config::{Format, NodeConfig, Version};
 use node_lines::node_of;
@@ -378,13 +379,14 @@ pub(crate) fn take_line(
     ensures gives { GivesUnless is_memory (λ r. r) result (any_line_at so_far (data_of line.now)) }
     ensures faults { IfErr (said_at (data_of line.now)) (IsErrOf result) }
 {
-    let kind = match line {
-        TextLine::Blank => return Ok(so_far),
-        TextLine::Tick(tick) => return take_tick_line(alloc, so_far, tick),
-        TextLine::Json(value) => return take_value(alloc, so_far, value),
-        TextLine::TooLong => FaultKind::TooLong,
-        TextLine::NotJson => FaultKind::NotJson,
-    };
-    drop(so_far);
-    Err(kind)
+    if let Err(kind) = check_text(line) {
+        drop(so_far);
+        return Err(kind);
+    }
+    match line {
+        TextLine::Tick(tick) => take_tick_line(alloc, so_far, tick),
+        TextLine::Json(value) => take_value(alloc, so_far, value),
+        // A blank line: what is too long or no JSON was refused.
+        _ => Ok(so_far),
+    }
 }

@@ -16,7 +16,6 @@ ghost use Rattle.trace.specs.rule.Trace.{at_line, finished, nothing, trace_of};
 ghost use Rattle.trace.specs.rule.TraceSoFar.{heeds};
 
 use crate::ahead::{LineAhead, line_ahead};
-use crate::fault::{FaultKind, LineFault};
 use crate::reading::{take_line, take_shown};
 use crate::trace_so_far::{Trace, TraceSoFar, heeds_words};
 use crate::windows::{
@@ -24,6 +23,7 @@ use crate::windows::{
 };
 use following::ListingOrder;
 use json_lines::{LineBuffers, TextLine, skip_blank_lines};
+use line_faults::{FaultKind, LineFault};
 use lists::Sequence;
 use node_config::Format;
 use roster::Roster;

@@ -9,7 +9,7 @@ ghost use Rattle.trace.specs.state.Memory.{is_memory};
 ghost use Rattle.trace.specs.rule.TraceSoFar.{with_tick};
 ghost use Rattle.trace.specs.state.ByPod.{AreFirst};
 ghost use Rattle.trace.specs.rule.Placing.{placed_of, is_doubled, repeats};
-ghost use Rattle.trace.specs.declared.fault.FaultKind.TheVariants.{Backwards, Doubled, ExitCode};
+ghost use Rattle.line_faults.specs.declared.fault.FaultKind.TheVariants.{Backwards, Doubled, ExitCode};
 ghost use Rattle.trace.specs.rule.Observed.{seen_in, outcome_in, results_in, listings_of, results_of, said_from};
 ghost use Rattle.trace.specs.rule.Observed.{seen_listed, containers_from, pod_observed, pods_from, observed};
 ghost use Rattle.trace.specs.rule.Observed.{lacks_code, some_code_missing};
@@ -21,7 +21,6 @@ ghost use Rattle.trace.specs.rule.Tick.{moment_from, room_for_tick, observed_in}
 ghost use Rattle.trace.specs.state.Tick.{MayStandBehind};
 
 use crate::by_pod::{EntriesByPod, entries_by_pod, entry_for};
-use crate::fault::{FaultKind, refused_if};
 use crate::placing::{
     EntrySaid, PlacedEntry, PlacedListing, PlacedResult, check_placed, entries_of_pods,
     is_of_probe, place_each, some_entry_repeats,
@@ -29,6 +28,7 @@ use crate::placing::{
 use crate::trace_so_far::{TraceSoFar, heeds_words};
 use crate::words::{is_judged, written_in};
 use json_lines::TickRecord;
+use line_faults::{FaultKind, refused_if};
 use lists::Sequence;
 use manifest::{ContainerSpec, Outcome, PodSpec, ProbeKind};
 use observations::{ContainerObs, MOST_TICKS, NO_WORDS, PodObs, PodWords, Sampling, TickObs};
@@ -180,7 +180,7 @@ fn pod_observed(
 }
 
 /// What a tick shows of a pod, if it is present.
-fn shown(
+fn observed_if_present(
     alloc: Global,
     at: u64,
     entry: Option<&PlacedEntry>,
@@ -211,7 +211,7 @@ fn pods_observed(
     let mut all = Vec::with_capacity(alloc, pods.len())?;
     for (number, pod) in pods.iter().enumerate() {
         let entry = entry_for(entries, first, number);
-        all.push(shown(alloc, at, entry, pod, roster.is_present(number))?)?;
+        all.push(observed_if_present(alloc, at, entry, pod, roster.is_present(number))?)?;
     }
     Ok(all)
 }

@@ -8,7 +8,7 @@ ghost use Rattle.trace.specs.rule.Placing.{says_so};
 ghost use Rattle.trace.specs.rule.Written.{is_of_other_kind, is_no_reason, has_other_kind, line_has_other_kind};
 ghost use Rattle.trace.specs.rule.Written.{heeded, written_in};
 
-use crate::fault::{FaultKind, refused_if};
+use line_faults::{FaultKind, refused_if};
 use tick_lines::{ReasonMember, TickEntry, TickLine, TickLineFault, TruthMember};
 
 pub(crate) fn says_so(member: TruthMember) -> bool

@@ -2,9 +2,9 @@
 use Rattle.std.specs.Prelude.{ℕ, List, [], ◌∷◌, Option, Some, None, codes}
 use Rattle.std.specs.Fmt.{decimal}
 use Rattle.manifest_fields.specs.state.Fault.{number_of as manifest_number}
-use Rattle.trace.specs.declared.fault.FaultKind.{FaultKind}
-use Rattle.trace.specs.declared.fault.FaultKind.TheVariants.{Manifest}
-use Rattle.trace.specs.state.Faults.{number_of, word_of}
+use Rattle.line_faults.specs.declared.fault.FaultKind.{FaultKind}
+use Rattle.line_faults.specs.declared.fault.FaultKind.TheVariants.{Manifest}
+use Rattle.line_faults.specs.state.Faults.{number_of, word_of}
 use Rattle.event_list.specs.rule.Text.{joined}
 use Rattle.kubelet_replay.specs.declared.fault.RunFault.{RunFault}
 use Rattle.kubelet_replay.specs.declared.fault.RunFault.TheVariants.{Read, TooLong, Line, OutOfMemory, Write}

@@ -35,15 +35,15 @@ abbrev pub amounts_of : Option Data → Result Amounts ManifestFault
 amounts_of None = Ok nothing
 amounts_of (Some d) = amounts_in d
 
-abbrev pub within : Amounts → Amounts → Result ⊤ ManifestFault
-within requests limits = refused_if (some_above requests limits) RequestAboveLimit
+abbrev pub none_above : Amounts → Amounts → Result ⊤ ManifestFault
+none_above requests limits = refused_if (some_above requests limits) RequestAboveLimit
 
 unfoldable pub resources_in : Data → Result Resources ManifestFault
 resources_in d = do
   resources ← object_of fields.Resources (Some d)
   requests ← amounts_of (field_at (codes "requests") resources)
   limits ← amounts_of (field_at (codes "limits") resources)
-  none_above ← within requests limits
+  low ← none_above requests limits
   Ok (record { requests = requests; limits = limits })
 
 -- a container's resources, which may be left out

@@ -9,9 +9,9 @@ use Rattle.json_fields.specs.rule.Reading.{◌>>=◌, refused_if}
 use Rattle.json_fields.proofs.Only.{no_fault, same_fault}
 use Rattle.json_fields.proofs.Steps.{bind_err, then_ok}
 use Rattle.manifest.specs.declared.pod.PodSpec.{PodSpec}
-use Rattle.trace.specs.declared.fault.FaultKind.{FaultKind}
-use Rattle.trace.specs.declared.fault.FaultKind.TheVariants.{TooLong, UnknownKind, Order, TooMany, DuplicatePod}
-use Rattle.trace.specs.declared.fault.FaultKind.TheVariants.{Doubled, Backwards, ExitCode, StrangerPod}
+use Rattle.line_faults.specs.declared.fault.FaultKind.{FaultKind}
+use Rattle.line_faults.specs.declared.fault.FaultKind.TheVariants.{TooLong, UnknownKind, Order, TooMany, DuplicatePod}
+use Rattle.line_faults.specs.declared.fault.FaultKind.TheVariants.{Doubled, Backwards, ExitCode, StrangerPod}
 use Rattle.node_config.specs.declared.node.NodeConfig.{NodeConfig}
 use Rattle.node_config.specs.declared.node.Version.{Version}
 use Rattle.node_config.specs.declared.node.Version.TheVariants.{One, Two, Three}

@@ -9,7 +9,7 @@ use Rattle.node_config.specs.declared.node.NodeConfig.{NodeConfig}
 use Rattle.node_lines.specs.rule.Node.{node_of}
 use Rattle.manifest.specs.declared.pod.PodSpec.{PodSpec}
 use Rattle.tick_lines.specs.declared.line.TickLine.{TickLine}
-use Rattle.trace.specs.declared.fault.FaultKind.TheVariants.{Config}
+use Rattle.line_faults.specs.declared.fault.FaultKind.TheVariants.{Config}
 use Rattle.trace.specs.declared.trace_so_far.LineKind.{LineKind}
 use Rattle.trace.specs.declared.trace_so_far.LineKind.TheVariants as kinds
 use Rattle.trace.specs.declared.placing.PlacedEntry.{PlacedEntry}

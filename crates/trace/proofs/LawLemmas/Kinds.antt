@@ -8,10 +8,10 @@ use Rattle.serde_json.specs.Find.{as_number, as_u64}
 use Rattle.json_fields.specs.rule.Fields.{field_at}
 use Rattle.json_fields.specs.rule.Reading.{refused_if}
 use Rattle.manifest.specs.declared.pod.PodSpec.{PodSpec}
-use Rattle.trace.specs.declared.fault.FaultKind.{FaultKind}
-use Rattle.trace.specs.declared.fault.FaultKind.TheVariants.{NotJson, Config, SoftWithoutGrace, Manifest, Moment}
-use Rattle.trace.specs.declared.fault.FaultKind.TheVariants.{Usage, StrangerPod, StrangerContainer, Order}
-use Rattle.trace.specs.declared.fault.LineFault.{LineFault}
+use Rattle.line_faults.specs.declared.fault.FaultKind.{FaultKind}
+use Rattle.line_faults.specs.declared.fault.FaultKind.TheVariants.{NotJson, Config, SoftWithoutGrace, Manifest, Moment}
+use Rattle.line_faults.specs.declared.fault.FaultKind.TheVariants.{Usage, StrangerPod, StrangerContainer, Order}
+use Rattle.line_faults.specs.declared.fault.LineFault.{LineFault}
 use Rattle.observations.specs.declared.tick.TickObs.{TickObs}
 use Rattle.tick_lines.specs.declared.entry.TickEntry.{TickEntry}
 use Rattle.tick_lines.specs.declared.probing.ProbeResult.{ProbeResult}
@@ -48,7 +48,7 @@ use Rattle.tick_lines.specs.declared.fault.TickLineFault.{TickLineFault}
 use Rattle.tick_lines.specs.declared.line.TickLine.{TickLine}
 use Rattle.tick_lines.specs.rule.Line.{tick_line_of}
 use Rattle.tick_lines.proofs.OnlyUsage.{IsUsageFault, one_kind}
-use Rattle.trace.specs.rule.Faults.{kind_of_node_fault, kind_of_tick_fault}
+use Rattle.line_faults.specs.rule.Faults.{kind_of_node_fault, kind_of_tick_fault}
 use Rattle.trace.specs.rule.Written.{is_foreign, of_node_line, of_tick_line, node_in, is_of_other_kind}
 use Rattle.trace.specs.rule.Written.{line_has_other_kind, heeded}
 use Rattle.trace.specs.rule.Written.{tick_line_in}

@@ -8,8 +8,8 @@ use Rattle.lists.specs.rule.Names.{place_of}
 use Rattle.manifest.specs.declared.pod.PodSpec.{PodSpec}
 use Rattle.manifest.specs.rule.Containers.{names_of}
 use Rattle.trace.specs.declared.placing.EntrySaid.{EntrySaid}
-use Rattle.trace.specs.declared.fault.FaultKind.{FaultKind}
-use Rattle.trace.specs.declared.fault.FaultKind.TheVariants.{StrangerPod, StrangerContainer}
+use Rattle.line_faults.specs.declared.fault.FaultKind.{FaultKind}
+use Rattle.line_faults.specs.declared.fault.FaultKind.TheVariants.{StrangerPod, StrangerContainer}
 use Rattle.tick_lines.specs.declared.listing.Listing.{Listing}
 use Rattle.tick_lines.specs.declared.entry.TickEntry.{TickEntry}
 use Rattle.tick_lines.specs.declared.probing.ProbeResult.{ProbeResult}

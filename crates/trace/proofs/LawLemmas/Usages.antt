@@ -31,9 +31,9 @@ use Rattle.tick_lines.specs.rule.Line.{tick_line_of}
 use Rattle.tick_lines.specs.rule.Truths.{truth_of}
 use Rattle.tick_lines.proofs.Quantities.{samples_said}
 use Rattle.tick_lines.proofs.Truths.{says_truth}
-use Rattle.trace.specs.declared.fault.FaultKind.{FaultKind}
-use Rattle.trace.specs.declared.fault.FaultKind.TheVariants as faults
-use Rattle.trace.specs.declared.fault.FaultKind.TheVariants.{StrangerPod}
+use Rattle.line_faults.specs.declared.fault.FaultKind.{FaultKind}
+use Rattle.line_faults.specs.declared.fault.FaultKind.TheVariants as faults
+use Rattle.line_faults.specs.declared.fault.FaultKind.TheVariants.{StrangerPod}
 use Rattle.trace.specs.declared.placing.EntrySaid.{EntrySaid}
 use Rattle.trace.specs.declared.placing.PlacedEntry.{PlacedEntry}
 use Rattle.trace.specs.rule.Observed.{said_from, entry_for, observed}

@@ -10,8 +10,8 @@ use Rattle.observations.specs.declared.usage.Sampling.{Sampling}
 use Rattle.observations.specs.declared.usage.Sampling.TheVariants.{Unsaid, Unsampled, Sampled}
 use Rattle.observations.specs.declared.usage.Usage.{Usage}
 use Rattle.observations.specs.declared.words.PodWords.{PodWords}
-use Rattle.trace.specs.declared.fault.FaultKind.{FaultKind}
-use Rattle.trace.specs.declared.fault.FaultKind.TheVariants.{StrangerPod, StrangerContainer}
+use Rattle.line_faults.specs.declared.fault.FaultKind.{FaultKind}
+use Rattle.line_faults.specs.declared.fault.FaultKind.TheVariants.{StrangerPod, StrangerContainer}
 use Rattle.tick_lines.specs.declared.listing.Listing.{Listing}
 use Rattle.tick_lines.specs.declared.entry.TickEntry.{TickEntry}
 use Rattle.tick_lines.specs.declared.probing.ProbeResult.{ProbeResult}

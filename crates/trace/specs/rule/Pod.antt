@@ -15,8 +15,8 @@ use Rattle.tick_lines.specs.declared.truth.TruthMember.{TruthMember}
 use Rattle.tick_lines.specs.rule.Truths.{truth_of}
 use Rattle.trace.specs.rule.Placing.{says_so}
 use Rattle.trace.specs.rule.Written.{is_of_other_kind}
-use Rattle.trace.specs.declared.fault.FaultKind.{FaultKind}
-use Rattle.trace.specs.declared.fault.FaultKind.TheVariants.{Manifest, DuplicatePod, TooMany}
+use Rattle.line_faults.specs.declared.fault.FaultKind.{FaultKind}
+use Rattle.line_faults.specs.declared.fault.FaultKind.TheVariants.{Manifest, DuplicatePod, TooMany}
 
 -- there is room for one pod more
 abbrev pub room_for_pod : List PodSpec → Result ⊤ FaultKind

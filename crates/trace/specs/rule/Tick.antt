@@ -7,8 +7,8 @@ use Rattle.serde_json.specs.Data.{Data}
 use Rattle.serde_json.specs.Find.{as_number, as_u64}
 use Rattle.json_fields.specs.rule.Fields.{field_at}
 use Rattle.json_fields.specs.rule.Reading.{◌>>=◌, refused_if}
-use Rattle.trace.specs.declared.fault.FaultKind.{FaultKind}
-use Rattle.trace.specs.declared.fault.FaultKind.TheVariants.{TooMany, Moment, Doubled, Backwards, ExitCode}
+use Rattle.line_faults.specs.declared.fault.FaultKind.{FaultKind}
+use Rattle.line_faults.specs.declared.fault.FaultKind.TheVariants.{TooMany, Moment, Doubled, Backwards, ExitCode}
 use Rattle.observations.specs.declared.tick.TickObs.{TickObs}
 use Rattle.observations.specs.rule.Limits.{most_ticks}
 use Rattle.tick_lines.specs.declared.line.TickLine.{TickLine}

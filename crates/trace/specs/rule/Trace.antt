@@ -6,9 +6,9 @@ use Rattle.json_fields.specs.rule.Fields.{text_at}
 use Rattle.manifest.specs.declared.pod.PodSpec.{PodSpec}
 use Rattle.observations.specs.declared.tick.TickObs.{TickObs}
 use Rattle.json_fields.specs.rule.Reading.{◌>>=◌, refused_if, some_or}
-use Rattle.trace.specs.declared.fault.FaultKind.{FaultKind}
-use Rattle.trace.specs.declared.fault.FaultKind.TheVariants.{TooLong, NotJson, UnknownKind, Order, StrangerPod}
-use Rattle.trace.specs.declared.fault.LineFault.{LineFault}
+use Rattle.line_faults.specs.declared.fault.FaultKind.{FaultKind}
+use Rattle.line_faults.specs.declared.fault.FaultKind.TheVariants.{TooLong, NotJson, UnknownKind, Order, StrangerPod}
+use Rattle.line_faults.specs.declared.fault.LineFault.{LineFault}
 use Rattle.node_config.specs.declared.node.NodeConfig.{NodeConfig}
 use Rattle.node_config.specs.declared.node.Format.{Format}
 use Rattle.node_config.specs.declared.node.Version.{Version}

@@ -19,9 +19,9 @@ use Rattle.tick_lines.specs.declared.reason.ReasonMember.TheVariants as reasons
 use Rattle.tick_lines.specs.declared.truth.TruthMember.{TruthMember}
 use Rattle.tick_lines.specs.declared.truth.TruthMember.TheVariants.{No, Yes, OfOtherKind}
 use Rattle.tick_lines.specs.rule.Line.{tick_line_of}
-use Rattle.trace.specs.declared.fault.FaultKind.{FaultKind}
-use Rattle.trace.specs.declared.fault.FaultKind.TheVariants.{Config, Usage}
-use Rattle.trace.specs.rule.Faults.{kind_of_node_fault, kind_of_tick_fault}
+use Rattle.line_faults.specs.declared.fault.FaultKind.{FaultKind}
+use Rattle.line_faults.specs.declared.fault.FaultKind.TheVariants.{Config, Usage}
+use Rattle.line_faults.specs.rule.Faults.{kind_of_node_fault, kind_of_tick_fault}
 
 abbrev pub of_node_line : {A : Type 0} → Result A NodeFault → Result A FaultKind
 of_node_line (Ok x) = Ok x

@@ -10,8 +10,8 @@ use Rattle.roster.specs.rule.Roll.{Roll}
 use Rattle.tick_lines.specs.declared.line.TickLine.{TickLine}
 use Rattle.trace.specs.declared.ahead.LineAhead.{LineAhead}
 use Rattle.trace.specs.declared.ahead.LineAhead.TheVariants as lines_ahead
-use Rattle.trace.specs.declared.fault.FaultKind.{FaultKind}
-use Rattle.trace.specs.declared.fault.FaultKind.TheVariants.{Backwards}
+use Rattle.line_faults.specs.declared.fault.FaultKind.{FaultKind}
+use Rattle.line_faults.specs.declared.fault.FaultKind.TheVariants.{Backwards}
 use Rattle.trace.specs.declared.trace_so_far.LineKind.TheVariants as line_kinds
 use Rattle.trace.specs.declared.placing.PlacedEntry.{PlacedEntry}
 use Rattle.trace.specs.rule.Observed.{observed, some_code_missing}

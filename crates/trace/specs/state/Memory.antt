@@ -1,9 +1,9 @@
 -- Which fault of a line says that memory ran out.
 use Rattle.std.specs.Prelude.{Bool, true, false, Result}
 use Rattle.json_fields.specs.state.Reading.{GivesUnless}
-use Rattle.trace.specs.declared.fault.FaultKind.{FaultKind}
-use Rattle.trace.specs.declared.fault.FaultKind.TheVariants.{OutOfMemory}
-use Rattle.trace.specs.declared.fault.LineFault.{LineFault}
+use Rattle.line_faults.specs.declared.fault.FaultKind.{FaultKind}
+use Rattle.line_faults.specs.declared.fault.FaultKind.TheVariants.{OutOfMemory}
+use Rattle.line_faults.specs.declared.fault.LineFault.{LineFault}
 
 abbrev pub is_memory : FaultKind → Bool
 is_memory OutOfMemory = true

@@ -3,7 +3,7 @@ use Rattle.std.specs.Prelude.{ℕ, Bool, List, [], ◌∷◌, Result, Ok}
 use Rattle.json_fields.specs.rule.Reading.{◌>>=◌}
 use Rattle.manifest.specs.declared.pod.PodSpec.{PodSpec}
 use Rattle.tick_lines.specs.declared.entry.TickEntry.{TickEntry}
-use Rattle.trace.specs.declared.fault.FaultKind.{FaultKind}
+use Rattle.line_faults.specs.declared.fault.FaultKind.{FaultKind}
 use Rattle.trace.specs.declared.placing.PlacedEntry.{PlacedEntry}
 use Rattle.trace.specs.rule.Placing.{entry_of_pod}
 

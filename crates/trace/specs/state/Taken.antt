@@ -1,14 +1,14 @@
 -- What lines say behind what is past, by what each says by itself.
-use Rattle.std.specs.Prelude.{ℕ, ⊤, ◌+◌, List, [], ◌∷◌, Option, Result, Ok, Err}
+use Rattle.std.specs.Prelude.{ℕ, ◌+◌, List, [], ◌∷◌, Option, Result, Ok, Err}
 use Rattle.serde_json.specs.Data.{Data}
 use Rattle.json_fields.specs.rule.Reading.{◌>>=◌}
 use Rattle.json_lines.specs.state.Lines.{LineData, Blank, TooLong, NotJson, Tick, Json}
 use Rattle.observations.specs.declared.tick.TickObs.{TickObs}
 use Rattle.tick_lines.specs.declared.fault.TickLineFault.{TickLineFault}
 use Rattle.tick_lines.specs.declared.line.TickLine.{TickLine}
-use Rattle.trace.specs.declared.fault.FaultKind.{FaultKind}
-use Rattle.trace.specs.declared.fault.FaultKind.TheVariants as kinds
-use Rattle.trace.specs.declared.fault.LineFault.{LineFault}
+use Rattle.line_faults.specs.declared.fault.FaultKind.{FaultKind}
+use Rattle.line_faults.specs.declared.fault.FaultKind.TheVariants as kinds
+use Rattle.line_faults.specs.declared.fault.LineFault.{LineFault}
 use Rattle.trace.specs.declared.trace_so_far.LineKind.TheVariants as line_kinds
 use Rattle.trace.specs.rule.TraceSoFar.{TraceSoFar, version_in, heeds, with_tick}
 use Rattle.trace.specs.declared.placing.PlacedEntry.{PlacedEntry}
@@ -55,14 +55,6 @@ any_line_at past TooLong = Err kinds.TooLong
 any_line_at past NotJson = Err kinds.NotJson
 any_line_at past (Tick moment said) = tick_line_at past moment said
 any_line_at past (Json d) = value_at past d
-
--- a line says something, whatever is past
-abbrev pub said_at : LineData → Result ⊤ FaultKind
-said_at Blank = Ok tt
-said_at TooLong = Err kinds.TooLong
-said_at NotJson = Err kinds.NotJson
-said_at (Tick moment said) = Ok tt
-said_at (Json d) = Ok tt
 
 -- lines after those that say what is past, the first of which has this number
 abbrev pub lines_at : ℕ → TraceSoFar → List LineData → Result TraceSoFar LineFault

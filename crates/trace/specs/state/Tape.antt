@@ -13,8 +13,8 @@ use Rattle.tick_lines.specs.rule.Listings.{listing_of}
 use Rattle.tick_lines.specs.rule.Results.{result_of}
 use Rattle.tick_lines.specs.rule.Reasons.{reason_member_of}
 use Rattle.tick_lines.specs.rule.Truths.{truth_of}
-use Rattle.trace.specs.declared.fault.FaultKind.{FaultKind}
-use Rattle.trace.specs.declared.fault.FaultKind.TheVariants.{Usage}
+use Rattle.line_faults.specs.declared.fault.FaultKind.{FaultKind}
+use Rattle.line_faults.specs.declared.fault.FaultKind.TheVariants.{Usage}
 use Rattle.trace.specs.declared.placing.PlacedEntry.{PlacedEntry}
 use Rattle.trace.specs.declared.placing.PlacedListing.{PlacedListing}
 use Rattle.trace.specs.declared.placing.PlacedResult.{PlacedResult}

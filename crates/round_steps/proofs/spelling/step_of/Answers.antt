@@ -13,25 +13,25 @@ returns-in-Some c = spells_pop c.in-Some.worker.now _ c.in-Some.ensures c.in_ok-
 pub returns-in_err-worker_of-2 : goal.returns-in_err-worker_of-2
 returns-in_err-worker_of-2 c =
     rw c.from_residual-in_err-worker_of-2.ensures
-    (not_update c.args.line.now c.in-Some-behind.worker.now c.in-Some-behind.ensures c.in_err-worker_of-2.ensures)
+    (not_update c.args.line.now c.in-Some-after_word.worker.now c.in-Some-after_word.ensures c.in_err-worker_of-2.ensures)
 
-pub returns-in-Some-behind : goal.returns-in-Some-behind
-returns-in-Some-behind c =
-    spells_update c.in-Some-behind.worker.now _ c.in-Some-behind.ensures c.in_ok-worker_of-2.ensures
+pub returns-in-Some-after_word : goal.returns-in-Some-after_word
+returns-in-Some-after_word c =
+    spells_update c.in-Some-after_word.worker.now _ c.in-Some-after_word.ensures c.in_ok-worker_of-2.ensures
 
 pub returns-in_err-worker_of-3 : goal.returns-in_err-worker_of-3
 returns-in_err-worker_of-3 c =
     rw c.from_residual-in_err-worker_of-3.ensures
-    (not_enter c.args.line.now c.in-Some-behind-2.worker.now c.in-Some-behind-2.ensures c.in_err-worker_of-3.ensures)
+    (not_enter c.args.line.now c.in-Some-after_word-2.worker.now c.in-Some-after_word-2.ensures c.in_err-worker_of-3.ensures)
 
-pub returns-in-Some-behind-2 : goal.returns-in-Some-behind-2
-returns-in-Some-behind-2 c =
-    spells_enter c.in-Some-behind-2.worker.now _ c.in-Some-behind-2.ensures c.in_ok-worker_of-3.ensures
+pub returns-in-Some-after_word-2 : goal.returns-in-Some-after_word-2
+returns-in-Some-after_word-2 c =
+    spells_enter c.in-Some-after_word-2.worker.now _ c.in-Some-after_word-2.ensures c.in_ok-worker_of-3.ensures
 
 pub returns-in_err-thief : goal.returns-in_err-thief
 returns-in_err-thief c =
     rw c.from_residual-in_err-thief.ensures
-    (not_steal c.args.line.now c.in_ok-behind.field-0.now c.in_ok-behind.ensures c.in_err-thief.ensures)
+    (not_steal c.args.line.now c.in_ok-after_word.field-0.now c.in_ok-after_word.ensures c.in_err-thief.ensures)
 
 pub returns : goal.returns
-returns c = spells_steal c.in_ok-behind.field-0.now _ _ c.in_ok-behind.ensures c.in_ok-thief.ensures
+returns c = spells_steal c.in_ok-after_word.field-0.now _ _ c.in_ok-after_word.ensures c.in_ok-thief.ensures

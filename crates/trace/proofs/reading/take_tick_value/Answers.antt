@@ -1,6 +1,6 @@
 use Rattle.std.proofs.Common.{Result, subst}
 use Rattle.serde_json.specs.View.{view}
-use Rattle.trace.specs.declared.fault.FaultKind.{FaultKind}
+use Rattle.line_faults.specs.declared.fault.FaultKind.{FaultKind}
 use Rattle.json_fields.specs.state.Reading.{GivesUnless}
 use Rattle.trace.specs.state.Memory.{is_memory}
 use Rattle.trace.specs.rule.TraceSoFar.{TraceSoFar}

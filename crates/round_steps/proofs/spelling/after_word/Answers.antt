@@ -1,6 +1,6 @@
 use Rattle.std.proofs.lemmas.Bool.Decides.{Decides-eqb}
 use Rattle.std.proofs.lemmas.Slice.Eq.{strip_prefix_is}
-use Rattle.round_steps.proofs.spelling.behind.Goals as goal
+use Rattle.round_steps.proofs.spelling.after_word.Goals as goal
 
 pub returns : goal.returns
 returns c =

@@ -3,10 +3,10 @@ use Rattle.node_lines.specs.declared.fault.NodeFault.{NodeFault}
 use Rattle.node_lines.specs.declared.fault.NodeFault.TheVariants as node_faults
 use Rattle.tick_lines.specs.declared.fault.TickLineFault.{TickLineFault}
 use Rattle.tick_lines.specs.declared.fault.TickLineFault.TheVariants as tick_faults
-use Rattle.trace.specs.declared.fault.FaultKind.{FaultKind}
-use Rattle.trace.specs.declared.fault.FaultKind.TheVariants.{Config}
-use Rattle.trace.specs.declared.fault.FaultKind.TheVariants.{SoftWithoutGrace}
-use Rattle.trace.specs.declared.fault.FaultKind.TheVariants.{Usage, OutOfMemory}
+use Rattle.line_faults.specs.declared.fault.FaultKind.{FaultKind}
+use Rattle.line_faults.specs.declared.fault.FaultKind.TheVariants.{Config}
+use Rattle.line_faults.specs.declared.fault.FaultKind.TheVariants.{SoftWithoutGrace}
+use Rattle.line_faults.specs.declared.fault.FaultKind.TheVariants.{Usage, OutOfMemory}
 
 abbrev pub kind_of_node_fault : NodeFault → FaultKind
 kind_of_node_fault node_faults.Config = Config

@@ -1,20 +1,20 @@
-//! Why a trace was refused.
+//! Why a line of a trace is refused.
 
 ghost use Rattle.std.specs.Prelude.{◌≡◌};
-ghost use Rattle.trace.specs.declared.fault.FaultKind.TheVariants.{OutOfMemory};
+ghost use Rattle.line_faults.specs.declared.fault.FaultKind.TheVariants.{OutOfMemory};
 ghost use Rattle.json_fields.specs.rule.Reading.{refused_if};
 ghost use Rattle.json_fields.specs.state.Reading.{GivesExactly};
-ghost use Rattle.trace.specs.rule.Faults.{kind_of_node_fault, kind_of_tick_fault};
-ghost use Rattle.trace.specs.state.Faults.{kind_of_manifest_fault};
+ghost use Rattle.line_faults.specs.rule.Faults.{kind_of_node_fault, kind_of_tick_fault};
+ghost use Rattle.line_faults.specs.state.Faults.{kind_of_manifest_fault};
 
-use manifest_reader::ManifestFault;
+use manifest_fields::ManifestFault;
 use node_lines::NodeFault;
 use std::alloc::AllocError;
 use thiserror::Error;
 use tick_lines::TickLineFault;
 
 /// What is wrong with a line. The kinds stand by their numbers; the order of checks is that of
-/// `laws::first_check`.
+/// `trace::laws::first_check`.
 #[derive(Clone, Copy, Debug, PartialEq, Eq, Error)]
 pub enum FaultKind {
     #[error("the line is longer than 1 MiB")]
@@ -54,7 +54,7 @@ pub enum FaultKind {
 }
 
 impl FaultKind {
-    ghost use Rattle.trace.specs.state.Faults.{number_of, word_of};
+    ghost use Rattle.line_faults.specs.state.Faults.{number_of, word_of};
 
     /// The number and the word by which a refusal names the kind.
     fn refusal(self) -> (u8, &'static str)
@@ -139,7 +139,8 @@ impl From<TickLineFault> for FaultKind {
     }
 }
 
-pub(crate) fn refused_if(test: bool, kind: FaultKind) -> Result<(), FaultKind>
+/// The kind, if the test is true.
+pub fn refused_if(test: bool, kind: FaultKind) -> Result<(), FaultKind>
     ensures { GivesExactly (λ t. t) result (refused_if test kind) }
 {
     if test { Err(kind) } else { Ok(()) }
