@@ -50,8 +50,8 @@ def test_import_passes_over_what_it_would_skip():
         lines = [line for line in lines_made(chance) if line or chance.random() < 0.5]
         cuts = sorted(chance.randrange(len(lines) + 1) for _ in range(chance.randrange(4)))
         blocks = [lines[begin:end] for begin, end in zip([0, *cuts], [*cuts, len(lines)]) if begin < end]
-        expect(f"lines that are passed over: {seed}", list(skipping.left_out(b"\n".join(each) for each in blocks)),
-               left_out(lines))
+        found = skipping.left_out((b"\n".join(each) for each in blocks), journals.PLAIN)
+        expect(f"lines that are passed over: {seed}", list(found), left_out(lines))
 
 
 def test_import_of_lines_that_are_too_long():

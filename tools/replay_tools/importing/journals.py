@@ -3,6 +3,7 @@ the first lines of a file; several files are read as one, by their moments."""
 
 from __future__ import annotations
 
+import functools
 import gzip
 import io
 import itertools
@@ -25,9 +26,13 @@ LONGEST_LINE = 1 << 18
 MOST_PARTS = 64
 # so many bytes say which form a journal has
 LOOKED_AT = 1 << 16
+# so many seconds and programs are kept, since most lines have those of the line before
+MOST_KEPT = 16
 STANDARD_INPUT = "-"
+# the form of a log as a process writes it
+PLAIN = "plain"
 
-ISO = re.compile(rb"(\d{4}-\d\d-\d\dT\d\d:\d\d:\d\d(?:[.,]\d+)?(?:Z|[+-]\d\d:?\d\d))")
+ISO = re.compile(rb"(\d{4}-\d\d-\d\dT\d\d:\d\d:\d\d)(?:[.,](\d+))?(Z|[+-]\d\d:?\d\d)")
 SHORT_ISO = re.compile(ISO.pattern + rb" (\S+) ([^\s:\[]+)(?:\[(\d+)\])?: ")
 # what a runtime keeps of a container's output: the moment, the stream, whether the line is whole
 CONTAINER = re.compile(ISO.pattern + rb" (?:stdout|stderr) ([FP])(?:\S*) ")
@@ -36,11 +41,9 @@ SYSLOG = re.compile(rb"([A-Z][a-z]{2}) +(\d{1,2}) (\d\d):(\d\d):(\d\d)(?:\.(\d{1
                     rb"(?:\[(\d+)\])?: ")
 MONTHS = {name: place + 1 for place, name in enumerate(
     (b"Jan", b"Feb", b"Mar", b"Apr", b"May", b"Jun", b"Jul", b"Aug", b"Sep", b"Oct", b"Nov", b"Dec"))}
-# klog's header as it stands in a line of a form
+# klog's header, and how it stands in a record of JSON
 HEADER = rb"[IWEF]\d{4} [\d:.]{8,18} +\d+ [^\]\s\"\\]{1,200}:\d+\] "
-HEADERS = {form: re.compile(before + HEADER + behind) for form, before, behind in (
-    ("json", rb'"MESSAGE" ?: ?"', rb'\\?'), ("short-iso", rb"\]: ", b""), ("syslog", rb"\]: ", b""),
-    ("container", rb" F ", b""))}
+JSON_HEADER = re.compile(rb'"MESSAGE" ?: ?"' + HEADER + rb'\\?')
 EXPORTED = re.compile(rb"__(?:CURSOR|REALTIME_TIMESTAMP|SEQNUM)=")
 
 
@@ -69,10 +72,10 @@ SKIPPED = Line(None, b"")
 @dataclass
 class Skipping:
     """Which messages are not read: whether a line is one of these, whether one is whose words stand at a place, and
-    the lines of blocks with None in place of these."""
+    the lines of blocks of a form with None in place of these."""
     is_skipped: Callable[[bytes], bool]
     is_unwanted: Callable[[bytes, int], bool]
-    left_out: Callable[[Iterator[bytes]], Iterator[Optional[bytes]]]
+    left_out: Callable[[Iterator[bytes], str], Iterator[Optional[bytes]]]
 
 
 @dataclass
@@ -125,9 +128,9 @@ def lines_of(blocks: Iterator[bytes]) -> Iterator[bytes]:
 
 def of_json(lines: Iterator[bytes], counts: Counts, skipping: Skipping) -> Iterator[Line]:
     """`journalctl -o json`. A message that is no text is a list of bytes. Each record's number is read."""
-    numbers, header = Numbers(), HEADERS["json"]
+    numbers = Numbers()
     for text in lines:
-        behind, found = numbers.before_json(text), header.search(text)
+        behind, found = numbers.before_json(text), JSON_HEADER.search(text)
         if found is not None and behind is None and skipping.is_unwanted(text, found.end()):
             yield SKIPPED
             continue
@@ -198,14 +201,31 @@ def of_short_iso(lines: Iterator[Optional[bytes]], counts: Counts) -> Iterator[L
             yield SKIPPED
             continue
         found = SHORT_ISO.match(text)
-        moment = None if found is None else moment_of_iso(found[1].decode())
+        moment = None if found is None else moment_of(found)
         if found is None or moment is None:
             if not text.startswith((b"-- ", b" ", b"\t")):
                 counts.foreign += bool(text.strip())
             yield Line(None, text)
             continue
-        yield Line(moment, text[found.end():], found[3].decode("utf-8", "replace"), int(found[4] or 0),
-                   found[2].decode("utf-8", "replace"))
+        yield Line(moment, text[found.end():], *speaker_of(*found.group(5, 6, 4)))
+
+
+def moment_of(found: re.Match[bytes]) -> Optional[float]:
+    """The moment with which a line begins, by what ISO finds of it."""
+    second = second_of(found[1], found[3])
+    return None if second is None else second + float(b"0." + (found[2] or b"0"))
+
+
+@functools.lru_cache(MOST_KEPT)
+def second_of(clock: bytes, zone: bytes) -> Optional[float]:
+    """The same without a fraction."""
+    return moment_of_iso((clock + zone).decode())
+
+
+@functools.lru_cache(MOST_KEPT)
+def speaker_of(unit: bytes, process: Optional[bytes], node: bytes) -> tuple[str, int, str]:
+    """The unit, the process and the node of a line."""
+    return unit.decode("utf-8", "replace"), int(process or 0), node.decode("utf-8", "replace")
 
 
 def of_syslog(lines: Iterator[Optional[bytes]], counts: Counts, klog: Klog) -> Iterator[Line]:
@@ -235,37 +255,18 @@ def of_container(lines: Iterator[Optional[bytes]], _counts: Counts) -> Iterator[
             continue
         found = CONTAINER.match(text) or STAMPED.match(text)
         said = text if found is None else text[found.end():]
-        if found is not None and found.re is CONTAINER and found[2] == b"P" and len(parts) < MOST_PARTS:
+        if found is not None and found.re is CONTAINER and found[4] == b"P" and len(parts) < MOST_PARTS:
             parts.append(said)
             continue
-        yield Line(None if found is None else moment_of_iso(found[1].decode()),
+        yield Line(None if found is None else moment_of(found),
                    b"".join([*parts, said])[:LONGEST_LINE] if parts else said)
         parts = []
 
 
-def of_plain(blocks: Iterator[bytes], skipping: Skipping) -> Iterator[Line]:
-    """A log as the process writes it, whose messages have their moments. In place of messages that are not read, which
-    most are, there is one line."""
-    for text in skipping.left_out(blocks):
-        yield SKIPPED if text is None else Line(None, text)
-
-
-def without_skipped(lines: Iterator[bytes], header: re.Pattern[bytes],
-                    skipping: Skipping) -> Iterator[Optional[bytes]]:
-    """The lines of a form in which klog's header stands somewhere in a line, with None for one or more that are not
-    read; these are told before more of them is read."""
-    is_behind_skipped = False
+def of_plain(lines: Iterator[Optional[bytes]], _counts: Counts) -> Iterator[Line]:
+    """A log as the process writes it, whose messages have their moments."""
     for text in lines:
-        found = header.search(text)
-        if found is not None and skipping.is_unwanted(text, found.end()):
-            is_behind_skipped = True
-            continue
-        if is_behind_skipped:
-            is_behind_skipped = False
-            yield None
-        yield text
-    if is_behind_skipped:
-        yield None
+        yield SKIPPED if text is None else Line(None, text)
 
 
 def form_of(head: bytes) -> str:
@@ -282,7 +283,7 @@ def form_of(head: bytes) -> str:
             return "container"
         if SYSLOG.match(line):
             return "syslog"
-    return "plain"
+    return PLAIN
 
 
 # --- files ---
@@ -324,24 +325,24 @@ class Journal:
         """Its lines, with one for messages that are not read; one behind which the file can't be read further ends it,
         which is kept."""
         try:
-            if self.form == "plain":
-                yield from of_plain(blocks_of(self.file, self.counts), skipping)
+            if self.form == PLAIN:
+                yield from self.read(klog, skipping)
                 return
             for line in self.read(klog, skipping):
-                yield SKIPPED if skipping.is_skipped(line.text) else line
+                yield SKIPPED if line is not SKIPPED and skipping.is_skipped(line.text) else line
         except packed.DAMAGES as fault:
             self.counts.faults.append(f"{self.name} can't be read to its end: {why(fault)}")
 
     def read(self, klog: Klog, skipping: Skipping) -> Iterator[Line]:
         if self.form == "export":
             return of_export(self.file, self.counts)
-        all_lines = lines_of(blocks_of(self.file, self.counts))
+        blocks = blocks_of(self.file, self.counts)
         if self.form == "json":
-            return of_json(all_lines, self.counts, skipping)
-        lines = without_skipped(all_lines, HEADERS[self.form], skipping)
+            return of_json(lines_of(blocks), self.counts, skipping)
+        lines = skipping.left_out(blocks, self.form)
         if self.form == "syslog":
             return of_syslog(lines, self.counts, klog)
-        readers = {"short-iso": of_short_iso, "container": of_container}
+        readers = {"short-iso": of_short_iso, "container": of_container, PLAIN: of_plain}
         return readers[self.form](lines, self.counts)
 
 
