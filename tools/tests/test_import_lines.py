@@ -9,7 +9,7 @@ import cases
 from checks import expect
 from test_import_reading import HEADER, WORDS
 
-from replay_tools.importing import journals, moments, skipping
+from replay_tools.importing import journals, messages, moments, skipping
 
 load_tests = cases.loaded(__name__)
 
@@ -95,10 +95,10 @@ def read_by_line(text):
     return once(made), foreign, counts.cut
 
 
-def read_as_journal(text):
+def read_as_journal(text, form="short-iso"):
     counts, made = journals.Counts(), []
     journal = journals.Journal.__new__(journals.Journal)
-    journal.file, journal.counts, journal.form = io.BytesIO(text), counts, "short-iso"
+    journal.file, journal.counts, journal.form = io.BytesIO(text), counts, form
     for line in journal.lines(moments.Klog(2026, 0, 0.0), skipping.SKIPPING):
         fields = line.moment, line.text, line.unit, line.process, line.node
         made.append(None if line is journals.SKIPPED else fields)
@@ -114,3 +114,15 @@ def test_import_reads_short_iso_as_line_by_line():
             expect(f"lines of short-iso: {seed}", read_as_journal(text), read_by_line(text))
     finally:
         journals.LONGEST_LINE, journals.PIECE = kept, piece
+
+
+def test_import_of_processes_of_many_digits():
+    """Python takes no number of thousands of digits; what has one is no line of its form, and no message."""
+    digits = "1" * 5000
+    for form, text in (("short-iso", f"{MOMENTS['short-iso']} worker-3 kubelet[{digits}]: hello"),
+                       ("syslog", f"{MOMENTS['syslog']} worker-3 kubelet[{digits}]: hello")):
+        expect(f"a process of many digits: {form}", read_as_journal(text.encode(), form),
+               ([(None, text.encode(), "", 0, "")], 1, 0))
+    line = journals.Line(None, f"{HEADER.format(process=digits, line=7)}SyncLoop (ADD): pod".encode())
+    found = list(messages.messages_of(iter([line]), moments.Klog(2026, 0, 0.0)))
+    expect("a process of many digits: klog", found, [line])

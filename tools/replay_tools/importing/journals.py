@@ -33,16 +33,16 @@ STANDARD_INPUT = "-"
 PLAIN = "plain"
 
 ISO = re.compile(rb"(\d{4}-\d\d-\d\dT\d\d:\d\d:\d\d)(?:[.,](\d+))?(Z|[+-]\d\d:?\d\d)")
-SHORT_ISO = re.compile(ISO.pattern + rb" (\S+) ([^\s:\[]+)(?:\[(\d+)\])?: ")
+SHORT_ISO = re.compile(ISO.pattern + rb" (\S+) ([^\s:\[]+)(?:\[(\d{1,10})\])?: ")
 # what a runtime keeps of a container's output: the moment, the stream, whether the line is whole
 CONTAINER = re.compile(ISO.pattern + rb" (?:stdout|stderr) ([FP])(?:\S*) ")
 STAMPED = re.compile(ISO.pattern + rb" ")
 SYSLOG = re.compile(rb"([A-Z][a-z]{2}) +(\d{1,2}) (\d\d):(\d\d):(\d\d)(?:\.(\d{1,9}))? (\S+) ([^\s:\[]+)"
-                    rb"(?:\[(\d+)\])?: ")
+                    rb"(?:\[(\d{1,10})\])?: ")
 MONTHS = {name: place + 1 for place, name in enumerate(
     (b"Jan", b"Feb", b"Mar", b"Apr", b"May", b"Jun", b"Jul", b"Aug", b"Sep", b"Oct", b"Nov", b"Dec"))}
 # klog's header, and how it stands in a record of JSON
-HEADER = rb"[IWEF]\d{4} [\d:.]{8,18} +\d+ [^\]\s\"\\]{1,200}:\d+\] "
+HEADER = rb"[IWEF]\d{4} [\d:.]{8,18} +\d{1,10} [^\]\s\"\\]{1,200}:\d+\] "
 JSON_HEADER = re.compile(rb'"MESSAGE" ?: ?"' + HEADER + rb'\\?')
 EXPORTED = re.compile(rb"__(?:CURSOR|REALTIME_TIMESTAMP|SEQNUM)=")
 

@@ -14,7 +14,7 @@ from .journals import SKIPPED, Hole, Line
 from .moments import Klog, moment_of_iso
 from .runtimes import KEYS, OF_RUNTIME
 
-HEADER = re.compile(rb"[IWEF](\d{4} \d\d:\d\d:\d\d)(\.\d{1,9}) +(\d+) [^\]\s]{1,200}:\d+\] ")
+HEADER = re.compile(rb"[IWEF](\d{4} \d\d:\d\d:\d\d)(\.\d{1,9}) +(\d{1,10}) [^\]\s]{1,200}:\d+\] ")
 # key="value" or key=value behind a quoted message; a value may have blanks in brackets, and one of several lines has a
 # tab before each, for which journalctl prints eight blanks
 KEY = re.compile(r' ([A-Za-z][\w./-]*)=("[^"\\]*(?:\\.[^"\\]*)*"|\{[^\n]*?\}(?= [A-Za-z][\w./-]*=|$)|\[[^\]\n]*\]'
