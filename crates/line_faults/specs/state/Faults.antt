@@ -3,9 +3,10 @@ use Rattle.std.specs.Prelude.{ℕ, List, codes}
 use Rattle.manifest_fields.specs.declared.fault.ManifestFault.{ManifestFault}
 use Rattle.manifest_fields.specs.declared.fault.ManifestFault.TheVariants as manifest_faults
 use Rattle.line_faults.specs.declared.fault.FaultKind.{FaultKind}
-use Rattle.line_faults.specs.declared.fault.FaultKind.TheVariants.{TooLong, NotJson, UnknownKind, Order, Manifest, Config}
-use Rattle.line_faults.specs.declared.fault.FaultKind.TheVariants.{SoftWithoutGrace, DuplicatePod, StrangerPod}
-use Rattle.line_faults.specs.declared.fault.FaultKind.TheVariants.{StrangerContainer, Doubled, Moment, Backwards, ExitCode}
+use Rattle.line_faults.specs.declared.fault.FaultKind.TheVariants.{TooLong, NotJson, UnknownKind, Order}
+use Rattle.line_faults.specs.declared.fault.FaultKind.TheVariants.{Manifest, Config, SoftWithoutGrace}
+use Rattle.line_faults.specs.declared.fault.FaultKind.TheVariants.{DuplicatePod, StrangerPod, StrangerContainer}
+use Rattle.line_faults.specs.declared.fault.FaultKind.TheVariants.{Doubled, Moment, Backwards, ExitCode}
 use Rattle.line_faults.specs.declared.fault.FaultKind.TheVariants.{TooMany, Usage, OutOfMemory}
 
 -- the number and the word by which a refusal names the kind

@@ -5,9 +5,10 @@ use Rattle.std.specs.Prelude.{slice_get, Bool, Option, Some, None, is_some, opti
 use Rattle.serde_json.specs.Data.{Data, boolean}
 use Rattle.json_fields.specs.rule.Fields.{field_at, text_at}
 use Rattle.line_faults.specs.declared.fault.FaultKind.{FaultKind}
-use Rattle.line_faults.specs.declared.fault.FaultKind.TheVariants.{TooLong, NotJson, UnknownKind, Order, Manifest, Config}
-use Rattle.line_faults.specs.declared.fault.FaultKind.TheVariants.{SoftWithoutGrace, DuplicatePod, StrangerPod}
-use Rattle.line_faults.specs.declared.fault.FaultKind.TheVariants.{StrangerContainer, Doubled, Moment, Backwards, ExitCode}
+use Rattle.line_faults.specs.declared.fault.FaultKind.TheVariants.{TooLong, NotJson, UnknownKind, Order}
+use Rattle.line_faults.specs.declared.fault.FaultKind.TheVariants.{Manifest, Config, SoftWithoutGrace}
+use Rattle.line_faults.specs.declared.fault.FaultKind.TheVariants.{DuplicatePod, StrangerPod, StrangerContainer}
+use Rattle.line_faults.specs.declared.fault.FaultKind.TheVariants.{Doubled, Moment, Backwards, ExitCode}
 use Rattle.line_faults.specs.declared.fault.FaultKind.TheVariants.{TooMany, Usage, OutOfMemory}
 use Rattle.line_faults.specs.declared.fault.LineFault.{LineFault}
 use Rattle.trace.specs.declared.trace_so_far.Trace.{Trace}

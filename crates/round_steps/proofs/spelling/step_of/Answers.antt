@@ -13,7 +13,8 @@ returns-in-Some c = spells_pop c.in-Some.worker.now _ c.in-Some.ensures c.in_ok-
 pub returns-in_err-worker_of-2 : goal.returns-in_err-worker_of-2
 returns-in_err-worker_of-2 c =
     rw c.from_residual-in_err-worker_of-2.ensures
-    (not_update c.args.line.now c.in-Some-after_word.worker.now c.in-Some-after_word.ensures c.in_err-worker_of-2.ensures)
+    (not_update c.args.line.now c.in-Some-after_word.worker.now c.in-Some-after_word.ensures
+    c.in_err-worker_of-2.ensures)
 
 pub returns-in-Some-after_word : goal.returns-in-Some-after_word
 returns-in-Some-after_word c =
@@ -22,7 +23,8 @@ returns-in-Some-after_word c =
 pub returns-in_err-worker_of-3 : goal.returns-in_err-worker_of-3
 returns-in_err-worker_of-3 c =
     rw c.from_residual-in_err-worker_of-3.ensures
-    (not_enter c.args.line.now c.in-Some-after_word-2.worker.now c.in-Some-after_word-2.ensures c.in_err-worker_of-3.ensures)
+    (not_enter c.args.line.now c.in-Some-after_word-2.worker.now c.in-Some-after_word-2.ensures
+    c.in_err-worker_of-3.ensures)
 
 pub returns-in-Some-after_word-2 : goal.returns-in-Some-after_word-2
 returns-in-Some-after_word-2 c =
