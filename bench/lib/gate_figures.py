@@ -62,7 +62,18 @@ def read_figures(top):
     if not os.path.isfile(path):
         return {}
     with open(path, newline="", encoding="utf-8") as file:
-        rows = list(csv.DictReader(file, delimiter="\t"))
+        return _figures_in(file)
+
+
+def figures_at(top, commit):
+    """Those that a commit has of them; none where it has no table, or git does not know it."""
+    done = subprocess.run(["git", "show", f"{commit}:./{FIGURES}"], cwd=top, stdin=subprocess.DEVNULL,
+                          capture_output=True, text=True, check=False)
+    return _figures_in(done.stdout.splitlines(keepends=True)) if done.returncode == 0 else {}
+
+
+def _figures_in(lines):
+    rows = list(csv.DictReader(lines, delimiter="\t"))
     return {row["crate"]: Figure(*(float(row[column]) for column in COLUMNS[1:4]), _number(row[COLUMNS[4]]),
                                  *(row[column] for column in COLUMNS[5:])) for row in rows}
 
@@ -72,9 +83,10 @@ READ = re.compile(r"crates/(\w+)/(?:src|specs|proofs|must-fail|data|stdin|stdout
 
 
 @functools.cache
-def changed_since(top, commit):
-    """The crates of which the gate reads something else now than at a commit; none where git does not know the commit."""
-    done = subprocess.run(["git", "diff", "--name-only", commit, "--", "crates"], cwd=top, stdin=subprocess.DEVNULL,
+def changed_since(top, *commits):
+    """The crates of which the gate reads something else at a second commit, or now, than at a first one; none where git
+    does not know one of them."""
+    done = subprocess.run(["git", "diff", "--name-only", *commits, "--", "crates"], cwd=top, stdin=subprocess.DEVNULL,
                           capture_output=True, text=True, check=False)
     return {found[1] for found in READ.finditer(done.stdout)} if done.returncode == 0 else None
 
@@ -87,6 +99,13 @@ def since(top, below, name, commit):
     if name in changed:
         return "itself"
     return "below" if changed & standing_below(below, name) else "no"
+
+
+def unchanged_between(top, before, found):
+    """The crates of two tables whose own files were the same when both were measured."""
+    both = [name for name in found if name in before and name != WHOLE]
+    changed = {name: changed_since(top, before[name].commit, found[name].commit) for name in both}
+    return [name for name in both if changed[name] is not None and name not in changed[name]]
 
 
 def _number(text):

@@ -2,7 +2,8 @@
 import os
 import textwrap
 
-from gate_figures import WHOLE, edits_of, longest_chain, since
+import script
+from gate_figures import WHOLE, edits_of, longest_chain, since, unchanged_between
 from shelf import COLUMNS, read_found
 
 PAGE = "docs/gate.md"
@@ -130,6 +131,22 @@ def chain_text(below, found):
     steps = [f"{name} ({minutes(found[name].waited_for())})" for name in chain if name in found]
     return filled("A crate waits for those that `crates.txt` lists below it, and not for their edits. The longest chain "
                   f"takes {minutes(length)} processor minutes without edits: {', '.join(steps)}.")
+
+
+def beside_text(top, below, before, found):
+    """How much slower processors were than those of a table before, by the crates that are as they were then, and what
+    the gate would have taken on those."""
+    same = unchanged_between(top, before, found)
+    if not same:
+        raise script.Fault("no crate stands in both tables as it was")
+    then, now = (sum(table[name].spent for name in same) for table in (before, found))
+    ratios = sorted(found[name].spent / before[name].spent for name in same)
+    whole, (chain, _) = sum(found[name].spent for name in below if name in found), longest_chain(found, below)
+    return filled(f"{len(same)} crates whose own files are as they were then ({', '.join(same)}) took {minutes(then)} "
+                  f"processor minutes there and {minutes(now)} here, {now / then:.2f} times as much, single ones "
+                  f"{ratios[0]:.2f} to {ratios[-1]:.2f} times. By that the {minutes(whole)} minutes of all are "
+                  f"{minutes(whole * then / now)} of those, and the {minutes(chain)} of the longest chain "
+                  f"{minutes(chain * then / now)}.")
 
 
 def machines(found):

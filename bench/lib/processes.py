@@ -105,4 +105,14 @@ def machine():
     """What the machine has, in words."""
     with open("/proc/meminfo", encoding="ascii") as file:
         memory = int(file.readline().split()[1]) / 1024 ** 2
-    return f"{len(os.sched_getaffinity(0))} processors, {memory:.0f} GB"
+    with open("/proc/cpuinfo", encoding="utf-8") as file:
+        kind = kind_in(file.read())
+    return f"{len(os.sched_getaffinity(0))} processors{kind}, {memory:.0f} GB"
+
+
+def kind_in(text):
+    """Of which kind the processors are, in brackets, by the system's text of them; nothing where it does not say."""
+    found = {line.partition(":")[0].strip(): line.partition(":")[2].strip() for line in reversed(text.splitlines())}
+    said = [found[key] if key == "model name" else f"{key} {found[key]}"
+            for key in ("model name", "model", "stepping") if key in found]
+    return f" ({', '.join(said)})" if said else ""

@@ -117,7 +117,7 @@ class Words(Case):
         with tempfile.TemporaryDirectory() as top:
             small(top)
             self.assertEqual(gate(top, "marks", "nothing"), (2, "", "bench/gate: there is no crate nothing\n"))
-            self.assertEqual(gate(top, "--all"), (3, "", "usage: bench/gate [NAME.. | --page | --costs]\n"))
+            self.assertEqual(gate(top, "--all"), (3, "", "usage: bench/gate [NAME.. | --page | --costs | --beside COMMIT]\n"))
 
 
 class Figures(Case):
@@ -200,6 +200,30 @@ class Page(Case):
         rows = re.findall(r"(?m)^\| (\w+) \|.* GB \| ([^|]+) \|$", self.text())
         self.assertEqual(rows, [("marks", "no"), ("text", "itself"), ("grading", "no"), ("event_book", "no"),
                                 ("kubelet_replay", "below"), ("all", "-")])
+
+    def test_beside_a_table_before(self):
+        first = git(self.top, "rev-parse", "--short=10", "HEAD")
+        figures = read(HERE, "gate.tsv").replace("0123456789", first).replace("abcdef0123", first)
+        write(figures, self.top, "bench/gate.tsv")
+        git(self.top, "commit", "--quiet", "--all", "--message", "figures")
+        before = git(self.top, "rev-parse", "HEAD")
+        os.makedirs(f"{self.top}/crates/text/src")
+        write("//! Sheets.\n", self.top, "crates/text/src/lib.rt")
+        git(self.top, "add", ".")
+        git(self.top, "commit", "--quiet", "--message", "sheets")
+        second = git(self.top, "rev-parse", "--short=10", "HEAD")
+        for name, spent in (("marks", "351.0"), ("text", "404.0"), ("event_book", "15.0")):
+            figures = re.sub(rf"(?m)^({name}\t[\d.]+\t)[\d.]+(\t.*){first}", rf"\g<1>{spent}\g<2>{second}", figures)
+        write(figures, self.top, "bench/gate.tsv")
+        status, told, said = gate(self.top, "--beside", before)
+        self.assertEqual((status, said), (0, ""))
+        self.assertEqual(" ".join(told.split()), (
+            "4 crates whose own files are as they were then (marks, grading, event_book, kubelet_replay) took 10.6 "
+            "processor minutes there and 13.6 here, 1.28 times as much, single ones 1.00 to 2.00 times. By that the 20.4 "
+            "minutes of all are 15.9 of those, and the 17.6 of the longest chain 13.7."))
+        for none in "0123456789", f"{before}~1^{{tree}}":
+            self.assertEqual(gate(self.top, "--beside", none), (
+                1, "", "bench/gate: no crate stands in both tables as it was\n"))
 
     def test_costs_alone_are_written_anew(self):
         page = read(HERE, "gate.md")

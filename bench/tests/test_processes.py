@@ -111,4 +111,10 @@ class Processes(Case):
             self.assertEqual(started[0].returncode, ended, words)
 
     def test_the_machine(self):
-        self.assertRegex(processes.machine(), r"^\d+ processors, \d+ GB$")
+        self.assertRegex(processes.machine(), r"^\d+ processors( \(.+\))?, \d+ GB$")
+
+    def test_the_kind_of_the_processors(self):
+        self.assertEqual(processes.kind_in("processor\t: 0\nmodel\t\t: 85\nmodel name\t: Fast @ 2GHz\nstepping\t: 4\n\n"
+                                           "processor\t: 1\nmodel\t\t: 86\nmodel name\t: Slow\nstepping\t: 5\n"),
+                         " (Fast @ 2GHz, model 85, stepping 4)")
+        self.assertEqual(processes.kind_in("processor\t: 0\nBogoMIPS\t: 50\n"), "")
