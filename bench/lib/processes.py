@@ -63,25 +63,53 @@ def run(words, given=subprocess.DEVNULL, written=subprocess.DEVNULL, said=None, 
     return Cost(child.returncode, peak, bool(late))
 
 
+class Commands:
+    """Commands that run side by side, each in a folder, and at nothing of which is looked before its end. While there
+    are any, the process has no other children. Where it is interrupted, they are asked to end too, and have some
+    seconds for it."""
+
+    def __init__(self):
+        self.running = {}
+
+    def __enter__(self):
+        return self
+
+    def __exit__(self, *_):
+        for child, _, _ in self.running.values():
+            ask(child)
+        for child, _, _ in self.running.values():
+            see_end(child)
+
+    def begin(self, key, words, folder, said):
+        """What it says goes into a file."""
+        child = subprocess.Popen(words, cwd=folder, stdin=subprocess.DEVNULL, stdout=said, stderr=subprocess.STDOUT,
+                                 process_group=0)
+        self.running[child.pid] = child, key, time.monotonic()
+
+    def wait_for_one(self):
+        """The key of one that has ended, and what it was."""
+        pid, status, used = os.wait4(-1, 0)
+        child, key, began = self.running.pop(pid)
+        child.returncode = os.waitstatus_to_exitcode(status)
+        return key, Whole(child.returncode, time.monotonic() - began, used.ru_utime + used.ru_stime,
+                          used.ru_maxrss * 1024)
+
+
 def run_whole(words, folder, said):
-    """Runs a command in a folder to its end, and looks at nothing of it before. What it says goes into a file. Where
-    this is interrupted, the command is asked to end too, and has some seconds for it."""
-    began = time.monotonic()
-    child = subprocess.Popen(words, cwd=folder, stdin=subprocess.DEVNULL, stdout=said, stderr=subprocess.STDOUT,
-                             process_group=0)
-    try:
-        _, status, used = os.wait4(child.pid, 0)
-    except BaseException:
-        ask_to_end(child)
-        raise
-    child.returncode = os.waitstatus_to_exitcode(status)
-    return Whole(child.returncode, time.monotonic() - began, used.ru_utime + used.ru_stime, used.ru_maxrss * 1024)
+    """Runs a command in a folder to its end. What it says goes into a file."""
+    with Commands() as commands:
+        commands.begin(None, words, folder, said)
+        return commands.wait_for_one()[1]
 
 
-def ask_to_end(child):
-    """Ends the group of a child by a signal that it hears, and after some seconds by one that it does not."""
+def ask(child):
+    """Asks the group of a child to end."""
     with contextlib.suppress(ProcessLookupError):
         os.killpg(child.pid, signal.SIGTERM)
+
+
+def see_end(child):
+    """Ends the group of a child that was asked to end, after some seconds by a signal that it does not hear."""
     try:
         child.wait(GRACE)
     except subprocess.TimeoutExpired:

@@ -41,7 +41,15 @@ if [ -d "crates/$2/must-fail" ]; then
 fi
 echo "$*${{edits-}}" >>"$top/out/ran"
 case " ${{FAILS-}} " in *" $2 "*) echo 'rt: it is not proved'; echo '0 passed, 1 failed'; exit 1 ;; esac
-case " ${{WAITS-}} " in *" $2 "*) echo $$ >"$top/out/pid"; mv "$top/out/pid" "$top/out/waits"; exec sleep 50 ;; esac
+case " ${{WAITS-}} " in *" $2 "*) echo $$ >"$top/out/pid.$2"; mv "$top/out/pid.$2" "$top/out/waits.$2"
+                               exec sleep 50 ;; esac
+case " ${{MEETS-}} " in *" $2 "*)
+    : >"$top/out/here.$2"
+    for other in $MEETS; do
+        looks=0
+        until [ -e "$top/out/here.$other" ]; do looks=$((looks + 1)); [ "$looks" -lt 500 ] || exit 8; sleep 0.02; done
+    done ;;
+esac
 case " ${{KEPT-}} " in *" $2 "*) ;; *) echo "$said" ;; esac
 case " ${{BOTH-}} " in *" $2 "*) echo "rt: marks proved" ;; esac
 case $2${{edits-}} in text | marks,*) {sys.executable} -S -c '{WORK}' ;; esac
@@ -117,7 +125,9 @@ class Words(Case):
         with tempfile.TemporaryDirectory() as top:
             small(top)
             self.assertEqual(gate(top, "marks", "nothing"), (2, "", "bench/gate: there is no crate nothing\n"))
-            self.assertEqual(gate(top, "--all"), (3, "", "usage: bench/gate [NAME.. | --page | --costs | --beside COMMIT]\n"))
+            for words in ("--all",), ("--jobs",), ("--jobs", "0"), ("--jobs", "12"), ("--jobs", "2", "--page"):
+                self.assertEqual(gate(top, *words), (
+                    3, "", "usage: bench/gate [[--jobs 1..9] [NAME..] | --page | --costs | --beside COMMIT]\n"), words)
 
 
 class Figures(Case):
@@ -219,8 +229,8 @@ class Page(Case):
         self.assertEqual((status, said), (0, ""))
         self.assertEqual(" ".join(told.split()), (
             "4 crates whose own files are as they were then (marks, grading, event_book, kubelet_replay) took 10.6 "
-            "processor minutes there and 13.6 here, 1.28 times as much, single ones 1.00 to 2.00 times. By that the 20.4 "
-            "minutes of all are 15.9 of those, and the 17.6 of the longest chain 13.7."))
+            "processor minutes there and 13.6 here, 1.28 times as much, single ones 1.00 to 2.00 times. By that the "
+            "20.4 minutes of all are 15.9 of those, and the 17.6 of the longest chain 13.7."))
         for none in "0123456789", f"{before}~1^{{tree}}":
             self.assertEqual(gate(self.top, "--beside", none), (
                 1, "", "bench/gate: no crate stands in both tables as it was\n"))
@@ -288,6 +298,18 @@ class Whole(Case):
         self.assertIn(f"Of 5 crates 4 were proved anew at the commit `{new['text'].commit}`.", " ".join(page.split()))
         self.assertIn("\n      2000     0.04\n", page)
 
+    def test_two_commands_at_once(self):
+        status, told, said = gate(self.top, "--jobs", "2", MEETS="marks event_book")
+        self.assertEqual((status, said, sorted(self.ran())), (0, "", sorted(RUNS)))
+        self.assertEqual(sorted(self.new()), sorted(["marks", "text", "event_book", "kubelet_replay", "./test"]))
+        ran = self.ran()
+        for first, later in (("ci marks", "ci text"), ("ci marks", "ci marks, its edits"),
+                             ("ci marks, its edits", "ci grading, its edits"),
+                             ("ci text", "ci kubelet_replay"), ("ci grading", "ci kubelet_replay")):
+            self.assertLess(ran.index(first), ran.index(later))
+        self.assertIn(f"\nThe machine: {processes.machine()}, 2 commands at once; the kit: `kit`.\n",
+                      read(self.top, "docs/gate.md"))
+
     def test_a_gate_goes_on_behind_what_it_measured(self):
         gate(self.top, FAILS="event_book")
         self.assertEqual(self.ran(), RUNS[:6])
@@ -329,20 +351,25 @@ class Whole(Case):
         self.assertEqual((self.ran(), self.new(), self.page()), (RUNS, [], False))
 
     def test_a_run_that_is_ended(self):
-        for number, ends in ((signal.SIGTERM, 143), (signal.SIGINT, 130)):
-            with subprocess.Popen([f"{self.top}/bench/gate"], stdout=subprocess.PIPE, stderr=subprocess.PIPE,
+        for words, waits, number, ends in (((), "text", signal.SIGTERM, 143), ((), "text", signal.SIGINT, 130),
+                                           (("--jobs", "2"), "text event_book", signal.SIGTERM, 143),
+                                           (("--jobs", "2"), "text event_book", signal.SIGINT, 130)):
+            marks = [f"{self.top}/out/waits.{name}" for name in waits.split()]
+            with subprocess.Popen([f"{self.top}/bench/gate", *words], stdout=subprocess.PIPE, stderr=subprocess.PIPE,
                                   # what a shell begins in the background ignores an interrupt
                                   preexec_fn=lambda: signal.signal(signal.SIGINT, signal.default_int_handler),
-                                  env=settings_of(self.top, {"WAITS": "text"})) as gate_:
-                while not os.path.exists(f"{self.top}/out/waits") and gate_.poll() is None:
+                                  env=settings_of(self.top, {"WAITS": waits, "KEPT": "grading"})) as gate_:
+                while not all(map(os.path.exists, marks)) and gate_.poll() is None:
                     time.sleep(0.01)
                 gate_.send_signal(number)
                 _, said = gate_.communicate(timeout=LONGEST)
             self.assertEqual((gate_.returncode, said), (ends, b""))
-            self.assertEqual((self.ran()[-1], self.new(), self.page()), ("ci text", ["marks"], False))
-            waited = int(read(self.top, "out/waits"))
-            wait_until(lambda: not os.path.exists(f"/proc/{waited}"))
-            os.remove(f"{self.top}/out/waits")
+            self.assertEqual((self.new(), self.page()), (["marks"], False))
+            self.assertIn("ci text", self.ran() if words else self.ran()[-1:])
+            for mark in marks:
+                waited = int(read(mark))
+                wait_until(lambda waited=waited: not os.path.exists(f"/proc/{waited}"))
+                os.remove(mark)
 
     def test_some_crates_and_those_below_them(self):
         status, told, said = gate(self.top, "kubelet_replay", "text", GATE_ENDS="1")
