@@ -10,13 +10,13 @@ PAGE = "docs/gate.md"
 HEAD = """\
 # What the gate costs
 
-`bench/gate` writes this page; no figure is by hand but some sums over mutants, as said there. In a new clone of the
-commit, which no run has touched, it runs `rt ci NAME` for each crate, one after the other in the order of `crates.txt`,
-and then `./test`. A crate with edits is run without them first, and then with them, which tries them alone. It times
-each of these commands as a whole, and looks at nothing while it runs. Its seconds go by the clock. What it cost is
-what the operating system says of a child that has ended (`wait4`): the processor seconds, user and system, are those of
-the command and of all processes below it that were waited for; the peak of memory (`ru_maxrss`) is that of the largest
-process alone, and no sum.
+`bench/gate` writes this page; no figure is by hand but some sums over mutants, as said there. In new clones of the
+commit, which no run has touched, it runs `rt ci NAME` for each crate, and then `./test`. The commands run one after the
+other in the order of `crates.txt`, or side by side where the line of the machine says how many at once. A crate with
+edits is run without them first, and then with them, which tries them alone. It times each of these commands as a whole,
+and looks at nothing while it runs. Its seconds go by the clock. What it cost is what the operating system says of a
+child that has ended (`wait4`): the processor seconds, user and system, are those of the command and of all processes
+below it that were waited for; the peak of memory (`ru_maxrss`) is that of the largest process alone, and no sum.
 {machine}
 
 {whole}
@@ -111,7 +111,7 @@ def whole_text(below, found):
     measured = [found[name] for name in below if name in found]
     missing = [name for name in below if name not in found]
     said = [f"From nothing the gate takes {minutes(sum(it.spent for it in measured))} processor minutes, the sum over "
-            f"the crates; one after the other the commands took {minutes(sum(it.seconds for it in measured))} minutes."]
+            f"the crates; by the clock the commands took {minutes(sum(it.seconds for it in measured))} minutes in sum."]
     if missing:
         said.append(f"Not measured, and not in the sums: {', '.join(missing)}.")
     if WHOLE in found:
