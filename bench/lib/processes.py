@@ -95,13 +95,6 @@ class Commands:
                           used.ru_maxrss * 1024)
 
 
-def run_whole(words, folder, said):
-    """Runs a command in a folder to its end. What it says goes into a file."""
-    with Commands() as commands:
-        commands.begin(None, words, folder, said)
-        return commands.wait_for_one()[1]
-
-
 def ask(child):
     """Asks the group of a child to end."""
     with contextlib.suppress(ProcessLookupError):

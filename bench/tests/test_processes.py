@@ -77,8 +77,11 @@ class Processes(Case):
     def test_a_whole_command(self):
         with tempfile.TemporaryDirectory() as folder, tempfile.TemporaryFile() as said:
             # the shell waits for what works, and so the system counts that too
-            ran = processes.run_whole(["sh", "-c", '"$0" -c "$1"; pwd; echo text >&2; exit 3', sys.executable, WORK],
-                                      folder, said)
+            with processes.Commands() as commands:
+                commands.begin("key", ["sh", "-c", '"$0" -c "$1"; pwd; echo text >&2; exit 3', sys.executable, WORK],
+                               folder, said)
+                key, ran = commands.wait_for_one()
+            self.assertEqual(key, "key")
             said.seek(0)
             self.assertEqual((ran.status, said.read()), (3, f"{os.path.realpath(folder)}\ntext\n".encode()))
         self.assertTrue(0.15 < ran.spent, ran)
@@ -104,8 +107,9 @@ class Processes(Case):
 
             with mock.patch.object(processes.subprocess, "Popen", popen), \
                     mock.patch.object(processes.os, "wait4", wait4), mock.patch.object(processes, "GRACE", grace), \
-                    self.assertRaises(KeyboardInterrupt):
-                processes.run_whole(["sh", "-c", words], "/", said)
+                    self.assertRaises(KeyboardInterrupt), processes.Commands() as commands:
+                commands.begin("key", ["sh", "-c", words], "/", said)
+                commands.wait_for_one()
             os.close(read_end)
             os.close(write_end)
             self.assertEqual(started[0].returncode, ended, words)
