@@ -12,7 +12,8 @@ from crates import standing_below
 from edits import paths_of
 
 WHOLE = "./test"
-COLUMNS = ("crate", "seconds", "processor seconds", "peak bytes", "of edits", "last line", "commit", "kit", "machine")
+COLUMNS = ("crate", "seconds", "processor seconds", "peak bytes", "of edits", "last line", "commit", "kit", "machine",
+           "again")
 FIGURES = "bench/gate.tsv"
 
 
@@ -26,15 +27,24 @@ class Figure(NamedTuple):
     commit: str
     kit: str
     machine: str
+    again: float | None = None      # processor seconds of the same command where all is kept; None: not measured
+
+    def on(self):
+        """What it was measured on."""
+        return self.commit, self.kit, self.machine
 
     def with_edits(self, tried):
         """Together with the command that tried the edits."""
         return tried._replace(seconds=self.seconds + tried.seconds, spent=self.spent + tried.spent,
                               peak=max(self.peak, tried.peak), edits=tried.spent)
 
+    def ran_again(self):
+        """The processor seconds that its commands, two where it has edits, took for what had passed before."""
+        return (self.again or 0) * (2 if self.edits else 1)
+
     def waited_for(self):
         """The processor seconds for which the crates above wait."""
-        return self.spent - (self.edits or 0)
+        return self.spent - (self.edits or 0) - (self.again or 0)
 
 
 def last_line(log):
@@ -74,8 +84,10 @@ def figures_at(top, commit):
 
 def _figures_in(lines):
     rows = list(csv.DictReader(lines, delimiter="\t"))
+    # a table of before 30 November 2026 has no column "again"
     return {row["crate"]: Figure(*(float(row[column]) for column in COLUMNS[1:4]), _number(row[COLUMNS[4]]),
-                                 *(row[column] for column in COLUMNS[5:])) for row in rows}
+                                 *(row[column] for column in COLUMNS[5:9]), _number(row.get(COLUMNS[9])))
+            for row in rows}
 
 
 # what the gate reads of a crate; a README and the shelf are no part of it
@@ -109,7 +121,11 @@ def unchanged_between(top, before, found):
 
 
 def _number(text):
-    return None if text == "-" else float(text)
+    return None if text in (None, "-") else float(text)
+
+
+def _text(number):
+    return "-" if number is None else f"{number:.1f}"
 
 
 def keep(top, crates, name, figure):
@@ -118,15 +134,23 @@ def keep(top, crates, name, figure):
     rows = [COLUMNS]
     for it in (*crates, WHOLE):
         if it in found:
-            seconds, spent, peak, edits, *words = found[it]
-            apart = "-" if edits is None else f"{edits:.1f}"
-            rows.append((it, f"{seconds:.1f}", f"{spent:.1f}", f"{peak:.0f}", apart, *words))
+            seconds, spent, peak, edits, *words, again = found[it]
+            rows.append((it, f"{seconds:.1f}", f"{spent:.1f}", f"{peak:.0f}", _text(edits), *words, _text(again)))
     script.write(os.path.join(top, FIGURES), "".join("\t".join(row) + "\n" for row in rows))
 
 
+def gate_seconds(found, below):
+    """The processor seconds of ./test from nothing, by those of all commands without what each of them ran again, which
+    ./test behind them ran once; None where something of it was not measured."""
+    rows = [found[name] for name in below if name in found]
+    if WHOLE not in found or len(rows) < len(below) or any(it.again is None for it in rows):
+        return None
+    return found[WHOLE].spent + sum(it.spent - it.ran_again() for it in rows)
+
+
 def longest_chain(found, below):
-    """The crates that wait for one another longest, by the processor seconds of each without its edits. The crates stand
-    in the order of crates.txt."""
+    """The crates that wait for one another longest, by the processor seconds of each without its edits and without what
+    ran again. The crates stand in the order of crates.txt."""
     chains = {}
     for name in below:
         spent, names = max((chains[it] for it in below[name]), default=(0, []))

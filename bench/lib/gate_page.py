@@ -3,7 +3,7 @@ import os
 import textwrap
 
 import script
-from gate_figures import WHOLE, edits_of, longest_chain, since, unchanged_between
+from gate_figures import WHOLE, edits_of, gate_seconds, longest_chain, since, unchanged_between
 from shelf import COLUMNS, read_found
 
 PAGE = "docs/gate.md"
@@ -22,16 +22,17 @@ below it that were waited for; the peak of memory (`ru_maxrss`) is that of the l
 {whole}
 
 What passed on the machine is kept there by the kit, so each command proves its own crate alone, with its tests and its
-edits; the tests and the programs of the crates below run again. A crate that was kept has the figures of the run that
-proved it last, and `bench/gate.tsv` the commit of each. Other work may have gone on beside a command, crates of other
-checkouts too, whose rows were put together: that makes processors slower
-([working.md](working.md#the-figures-of-the-gate) has how these were made).
+edits; the tests and the programs of the crates below run again. What that takes stands in the column *again*: the
+processor seconds of the same command where all is kept, by `bench/gate --again`. They are a part of the seconds, twice
+where there are edits. A crate that was kept has the figures of the run that proved it last, and `bench/gate.tsv` the
+commit of each. Other work may have gone on beside a command, crates of other checkouts too, whose rows were put
+together: that makes processors slower ([working.md](working.md#the-figures-of-the-gate) has how these were made).
 
 {chain}
 
 Lines are those of `src/`, `specs/` and `proofs/`; edits are the mutants in `must-fail/`. Of the processor seconds those
-of edits are a part; where there is none (-), they were not timed apart. The last column says whether the crate itself
-has changed since it was measured, or one below it.
+of edits are a part; what was not measured apart is `-`. The last column says whether the crate itself has changed since
+it was measured, or one below it.
 
 """
 OUTSIDE = "## Mutants outside of the gate"
@@ -65,19 +66,21 @@ def row(name, numbers, peak, changed="-"):
 
 def table(top, crates, found):
     """A row for each crate, and one for their sum."""
-    rows = ["| Crate | code | specs | proofs | edits | seconds | processor s | of edits | peak memory | changed |",
-            "|---|---|---|---|---|---|---|---|---|---|"]
-    sums, most = [0] * 7, 0
+    rows = ["| Crate | code | specs | proofs | edits | seconds | processor s | of edits | again | peak memory "
+            "| changed |",
+            "|---|---|---|---|---|---|---|---|---|---|---|"]
+    sums, most = [0] * 8, 0
     for name in crates:
         counts = [*(lines_of(top, name, part) for part in ("src", "specs", "proofs")), edits_of(top, name)]
         if name not in found:
-            rows.append(f"| {name} | {' | '.join(f'{it:,}' for it in counts)} | - | - | - | - | - |")
-            sums = [a + b for a, b in zip(sums, [*counts, 0, 0, 0])]
+            rows.append(f"| {name} | {' | '.join(f'{it:,}' for it in counts)} | - | - | - | - | - | - |")
+            sums = [a + b for a, b in zip(sums, [*counts, 0, 0, 0, 0])]
             continue
         figure = found[name]
-        numbers = [*counts, round(figure.seconds), round(figure.spent), round(figure.edits or 0)]
+        parts = [figure.edits, figure.again]
+        numbers = [*counts, round(figure.seconds), round(figure.spent), *(round(it or 0) for it in parts)]
         sums, most = [a + b for a, b in zip(sums, numbers)], max(most, figure.peak)
-        rows.append(row(name, [*numbers[:-1], "-" if figure.edits is None else numbers[-1]], figure.peak,
+        rows.append(row(name, [*numbers[:-2], *("-" if it is None else round(it) for it in parts)], figure.peak,
                         since(top, crates, name, figure.commit)))
     return [*rows, row("all", sums, most)]
 
@@ -110,18 +113,23 @@ def whole_text(below, found):
     """What the gate takes from nothing, and what ./test took."""
     measured = [found[name] for name in below if name in found]
     missing = [name for name in below if name not in found]
-    said = [f"From nothing the gate takes {minutes(sum(it.spent for it in measured))} processor minutes, the sum over "
-            f"the crates; by the clock the commands took {minutes(sum(it.seconds for it in measured))} minutes in sum."]
+    spent, gate = sum(it.spent for it in measured), gate_seconds(found, below)
+    said = [f"The commands of all crates took {minutes(spent)} processor minutes in sum, and "
+            f"{minutes(sum(it.seconds for it in measured))} minutes by the clock."]
     if missing:
         said.append(f"Not measured, and not in the sums: {', '.join(missing)}.")
     if WHOLE in found:
         run = found[WHOLE]
         anew = sum(it.commit == run.commit for it in measured)
-        said.append(f"Of {len(below)} crates {anew} were proved anew at the commit `{run.commit}`. `./test` behind them "
-                    f"ended in `{run.last}`, and took {minutes(run.seconds)} minutes, {minutes(run.spent)} processor "
+        said.append(f"Of {len(below)} crates {anew} were proved anew at the commit `{run.commit}`. `./test` behind "
+                    f"them ended in `{run.last}`, and took {minutes(run.seconds)} minutes, {minutes(run.spent)} processor "
                     f"minutes and {run.peak / 1e9:.1f} GB.")
     else:
         said.append("`./test` has not been measured behind them.")
+    if gate is not None:
+        said.append(f"Of the sum {minutes(sum(it.ran_again() for it in measured))} minutes are of what the commands "
+                    f"run again, which `./test` runs once. So from nothing `./test` takes {minutes(gate)} processor "
+                    "minutes.")
     return filled(" ".join(said))
 
 
@@ -129,8 +137,8 @@ def chain_text(below, found):
     """The sentence on the longest chain."""
     length, chain = longest_chain(found, below)
     steps = [f"{name} ({minutes(found[name].waited_for())})" for name in chain if name in found]
-    return filled("A crate waits for those that `crates.txt` lists below it, and not for their edits. The longest chain "
-                  f"takes {minutes(length)} processor minutes without edits: {', '.join(steps)}.")
+    return filled("A crate waits for those that `crates.txt` lists below it, and not for their edits. The longest "
+                  f"chain takes {minutes(length)} processor minutes without edits: {', '.join(steps)}.")
 
 
 def beside_text(top, below, before, found):
@@ -141,18 +149,20 @@ def beside_text(top, below, before, found):
         raise script.Fault("no crate stands in both tables as it was")
     then, now = (sum(table[name].spent for name in same) for table in (before, found))
     ratios = sorted(found[name].spent / before[name].spent for name in same)
-    whole, (chain, _) = sum(found[name].spent for name in below if name in found), longest_chain(found, below)
+    sums, gate = sum(found[name].spent for name in below if name in found), gate_seconds(found, below)
+    chain, _ = longest_chain(found, below)
     return filled(f"{len(same)} crates whose own files are as they were then ({', '.join(same)}) took {minutes(then)} "
                   f"processor minutes there and {minutes(now)} here, {now / then:.2f} times as much, single ones "
-                  f"{ratios[0]:.2f} to {ratios[-1]:.2f} times. By that the {minutes(whole)} minutes of all are "
-                  f"{minutes(whole * then / now)} of those, and the {minutes(chain)} of the longest chain "
-                  f"{minutes(chain * then / now)}.")
+                  f"{ratios[0]:.2f} to {ratios[-1]:.2f} times. By that the {minutes(sums)} minutes of all are "
+                  f"{minutes(sums * then / now)} of those, "
+                  + (f"the {minutes(gate)} of `./test` from nothing {minutes(gate * then / now)}, " if gate else "")
+                  + f"and the {minutes(chain)} of the longest chain {minutes(chain * then / now)}.")
 
 
 def machines(found):
     """On what the figures were made."""
     pairs = dict.fromkeys((it.machine, it.kit) for it in found.values())
-    return "\n".join(f"The machine: {machine}; the kit: `{kit}`." for machine, kit in pairs)
+    return "\n".join(filled(f"The machine: {machine}; the kit: `{kit}`.") for machine, kit in pairs)
 
 
 def text_of(top, below, found, told):

@@ -125,9 +125,12 @@ class Words(Case):
         with tempfile.TemporaryDirectory() as top:
             small(top)
             self.assertEqual(gate(top, "marks", "nothing"), (2, "", "bench/gate: there is no crate nothing\n"))
-            for words in ("--all",), ("--jobs",), ("--jobs", "0"), ("--jobs", "12"), ("--jobs", "2", "--page"):
+            self.assertEqual(gate(top, "--again", "nothing"), (2, "", "bench/gate: there is no crate nothing\n"))
+            for words in (("--all",), ("--jobs",), ("--jobs", "0"), ("--jobs", "12"), ("--jobs", "2", "--page"),
+                          ("--jobs", "2", "--again"), ("--again", "--costs"), ("--again", "--page")):
                 self.assertEqual(gate(top, *words), (
-                    3, "", "usage: bench/gate [[--jobs 1..9] [NAME..] | --page | --costs | --beside COMMIT]\n"), words)
+                    3, "", "usage: bench/gate [[--jobs 1..9 | --again] [NAME..] | --page | --costs | --beside COMMIT]\n"),
+                    words)
 
 
 class Figures(Case):
@@ -143,8 +146,9 @@ class Figures(Case):
             small(top)
             below, found = crates.below_of(top), gate_figures.read_figures(top)
             self.assertEqual(found["marks"], Figure(90.0, 175.5, 900000000, 60.5, "3 passed, 0 failed", "0123456789",
-                                                    "kit", "4 processors, 24 GB"))
+                                                    "kit", "4 processors, 24 GB", 5.5))
             self.assertEqual((found["text"].edits, found["grading"].edits), (0.0, None))
+            self.assertEqual((found["text"].again, found["./test"].again), (2.0, None))
             for name in ["./test", *NAMES]:
                 gate_figures.keep(top, below, name, found[name])
             self.assertEqual(read(top, "bench/gate.tsv"), read(HERE, "gate.tsv"))
@@ -166,6 +170,19 @@ class Figures(Case):
         self.assertEqual(gate_figures.longest_chain(found, below), (8, ["a", "b", "d"]))
         del found["b"]
         self.assertEqual(gate_figures.longest_chain(found, below), (7, ["a", "c", "d"]))
+
+    def test_what_runs_again_is_no_part_of_the_gate(self):
+        below = {"a": [], "b": ["a"]}
+        found = {name: Figure(0, spent, 0, edits, "", "", "", "", again)
+                 for name, spent, edits, again in (("a", 20, 8, 3), ("b", 50, 0, 7), ("./test", 11, 0, None))}
+        self.assertEqual([found[name].ran_again() for name in found], [6, 7, 0])
+        self.assertEqual([found[name].waited_for() for name in "ab"], [9, 43])
+        self.assertEqual(gate_figures.gate_seconds(found, below), 20 - 6 + 50 - 7 + 11)
+        for name in found:
+            self.assertIsNone(gate_figures.gate_seconds({it: found[it] for it in found if it != name}, below))
+        found["a"] = found["a"]._replace(again=None)
+        self.assertIsNone(gate_figures.gate_seconds(found, below))
+        self.assertEqual((found["a"].ran_again(), found["a"].waited_for()), (0, 12))
 
     def test_edits_are_a_part(self):
         proof = Figure(10, 12, 500, 0, "2 passed, 0 failed", "0123456789", "kit", "machine")
@@ -195,8 +212,9 @@ class Page(Case):
         self.assertIn("Not measured, and not in the sums: grading.", text)
         self.assertIn("`./test` has not been measured behind them.", text)
         self.assertIn("| grading | 0 | 14 | 0 | 1 | - | - | - | - | - |", text)
-        self.assertIn("The longest chain takes 8.6 processor minutes without edits: marks (1.9), text (0.7), "
-                      "kubelet_replay (6.0).", text)
+        self.assertIn("The longest chain takes 8.1 processor minutes without edits: marks (1.8), text (0.6), "
+                      "kubelet_replay (5.7).", text)
+        self.assertNotIn("From nothing", text)
 
     def test_what_has_changed_since(self):
         head = git(self.top, "rev-parse", "--short=10", "HEAD")
@@ -230,7 +248,11 @@ class Page(Case):
         self.assertEqual(" ".join(told.split()), (
             "4 crates whose own files are as they were then (marks, grading, event_book, kubelet_replay) took 10.6 "
             "processor minutes there and 13.6 here, 1.28 times as much, single ones 1.00 to 2.00 times. By that the "
-            "20.4 minutes of all are 15.9 of those, and the 17.6 of the longest chain 13.7."))
+            "20.4 minutes of all are 15.9 of those, the 30.0 of `./test` from nothing 23.3, and the 17.1 of the longest "
+            "chain 13.4."))
+        write(re.sub(r"(?m)\t[^\t]+$", "", figures), self.top, "bench/gate.tsv")
+        self.assertIn("By that the 20.4 minutes of all are 15.9 of those, and the 17.6 of the longest chain 13.7.",
+                      " ".join(gate(self.top, "--beside", before)[1].split()))
         for none in "0123456789", f"{before}~1^{{tree}}":
             self.assertEqual(gate(self.top, "--beside", none), (
                 1, "", "bench/gate: no crate stands in both tables as it was\n"))
@@ -288,7 +310,7 @@ class Whole(Case):
         self.assertTrue(0.2 < new["marks"].edits <= new["marks"].spent, new)
         self.assertEqual((new["text"].edits, new["text"].last, new["./test"].last),
                          (0.0, "1 passed, 0 failed", "104 passed, 0 failed"))
-        self.assertEqual(new["text"][-3:], (git(self.top, "rev-parse", "--short=10", "HEAD"), "kit",
+        self.assertEqual(new["text"].on(), (git(self.top, "rev-parse", "--short=10", "HEAD"), "kit",
                                             processes.machine()))
         self.assertEqual((read(self.top, "out/gate.log"), read(self.top, "out/gate/marks.log"),
                           read(self.top, "out/gate/marks.edits.log")),
@@ -307,8 +329,35 @@ class Whole(Case):
                              ("ci marks, its edits", "ci grading, its edits"),
                              ("ci text", "ci kubelet_replay"), ("ci grading", "ci kubelet_replay")):
             self.assertLess(ran.index(first), ran.index(later))
-        self.assertIn(f"\nThe machine: {processes.machine()}, 2 commands at once; the kit: `kit`.\n",
-                      read(self.top, "docs/gate.md"))
+        self.assertIn(f" The machine: {processes.machine()}, 2 commands at once; the kit: `kit`. ",
+                      " ".join(read(self.top, "docs/gate.md").split()))
+
+    def test_what_runs_again(self):
+        gate(self.top, "--jobs", "2")
+        os.remove(f"{self.top}/out/ran")
+        self.old = gate_figures.read_figures(self.top)
+        # a crate of which something is proved, and one whose figures are of a commit that there is not
+        status, told, said = gate(self.top, "--again", KEPT="marks text event_book")
+        self.assertEqual((status, said, self.ran()), (
+            0, "", ["ci marks, its edits", "ci text", "ci event_book", "ci kubelet_replay"]))
+        lines = self.lines(told)
+        self.assertEqual((lines["grading"], lines["kubelet_replay"]), (
+            "not measured, since its figures are of other sources or of another machine",
+            "not measured, since this was proved: kubelet_replay"))
+        self.assertEqual(self.new(), ["marks", "text", "event_book"])
+        new = gate_figures.read_figures(self.top)
+        self.assertEqual(new["text"]._replace(again=None), self.old["text"])
+        self.assertTrue(0.2 < new["text"].again < 20, new)
+        self.assertEqual(lines["text"], f"{new['text'].again:.1f} processor s again")
+        self.assertEqual(read(self.top, "out/gate/text.again.log"), "1 passed, 0 failed\n")
+        # two of them, of which one has changed
+        os.makedirs(f"{self.top}/crates/text/src")
+        write("//! Sheets.\n", self.top, "crates/text/src/lib.rt")
+        git(self.top, "add", ".")
+        git(self.top, "commit", "--quiet", "--message", "sheets")
+        os.remove(f"{self.top}/out/ran")
+        _, told, _ = gate(self.top, "--again", "text", "event_book", KEPT="text event_book")
+        self.assertEqual((self.ran(), self.lines(told)["text"]), (["ci event_book"], lines["grading"]))
 
     def test_a_gate_goes_on_behind_what_it_measured(self):
         gate(self.top, FAILS="event_book")
