@@ -1,19 +1,24 @@
 //! The lines of events, and the words of evictions, as `docs/report.md` writes them.
 
-use crate::pods::first_pieces;
-use crate::scenario::Scenario;
-use crate::traces::trace_text;
 use containers::PodEventKind;
 use event_list::{Event, EventKind, Names, event_text, eviction_words};
 use eviction::Eviction;
-use kubelet_replay::NoGate;
+use manifest::MaxRestartDelay;
 use node_signals::{NodeCondition, NodeEvent, ThresholdKey};
 use phase::Phase;
-use pod_piece::EvictOrder;
+use pod_piece::{EvictOrder, PodPiece};
 use pod_state::PodEvent;
 use probes::Cause;
 use signals::{Signal, ThresholdKind};
+use std::alloc::Global;
 use std::test::Fail;
+use trace::{Format, read_trace};
+
+/// A node with two pods of one container each.
+const PODS: &str = r#"{"kind":"node","name":"n1"}
+{"kind":"pod","pod":{"metadata":{"name":"p0"},"spec":{"containers":[{"name":"c"}]}}}
+{"kind":"pod","pod":{"metadata":{"name":"p1"},"spec":{"containers":[{"name":"c"}]}}}
+"#;
 
 /// The second of two pods is evicted.
 const EVICTION: Eviction = Eviction {
@@ -150,10 +155,20 @@ const OTHER_EVENTS: [(EventKind, &str); 7] = [
     ),
 ];
 
+/// The pods, of which no tick has shown anything.
+fn two_pods(alloc: Global) -> Result<Vec<PodPiece>, Fail> {
+    let trace = read_trace(alloc, Format::Standard, PODS.as_bytes())?;
+    let mut pieces = Vec::new(alloc);
+    for pod in trace.pods.into_vec() {
+        let number = pieces.len();
+        pieces.push(PodPiece::new(alloc, number, pod, MaxRestartDelay::unset())?)?;
+    }
+    Ok(pieces)
+}
+
 #[test]
 fn events_have_a_line_each(rt: HostRuntime) -> Result<(), Fail> {
-    let text = trace_text(rt.alloc(), 2, 1)?;
-    let pieces = first_pieces(rt.alloc(), &Scenario::new(text.as_str(), 1, &NoGate))?;
+    let pieces = two_pods(rt.alloc())?;
     for (number, container, kind, line) in POD_EVENTS {
         let kind = EventKind::Pod {
             number,
@@ -171,8 +186,7 @@ fn events_have_a_line_each(rt: HostRuntime) -> Result<(), Fail> {
 
 #[test]
 fn names_have_the_keys_of_their_pods(rt: HostRuntime) -> Result<(), Fail> {
-    let text = trace_text(rt.alloc(), 2, 1)?;
-    let pieces = first_pieces(rt.alloc(), &Scenario::new(text.as_str(), 1, &NoGate))?;
+    let pieces = two_pods(rt.alloc())?;
     for (number, wanted) in [(0, "default/p0"), (1, "default/p1"), (2, "")] {
         let key = Names::of(&pieces).key(rt.alloc(), number)?;
         assert_eq!(rt; key.as_str(), wanted);
