@@ -122,8 +122,8 @@ def whole_text(below, found):
         run = found[WHOLE]
         anew = sum(it.commit == run.commit for it in measured)
         said.append(f"Of {len(below)} crates {anew} were proved anew at the commit `{run.commit}`. `./test` behind "
-                    f"them ended in `{run.last}`, and took {minutes(run.seconds)} minutes, {minutes(run.spent)} processor "
-                    f"minutes and {run.peak / 1e9:.1f} GB.")
+                    f"them ended in `{run.last}`, and took {minutes(run.seconds)} minutes, {minutes(run.spent)} "
+                    f"processor minutes and {run.peak / 1e9:.1f} GB.")
     else:
         said.append("`./test` has not been measured behind them.")
     if gate is not None:

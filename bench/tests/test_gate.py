@@ -128,9 +128,8 @@ class Words(Case):
             self.assertEqual(gate(top, "--again", "nothing"), (2, "", "bench/gate: there is no crate nothing\n"))
             for words in (("--all",), ("--jobs",), ("--jobs", "0"), ("--jobs", "12"), ("--jobs", "2", "--page"),
                           ("--jobs", "2", "--again"), ("--again", "--costs"), ("--again", "--page")):
-                self.assertEqual(gate(top, *words), (
-                    3, "", "usage: bench/gate [[--jobs 1..9 | --again] [NAME..] | --page | --costs | --beside COMMIT]\n"),
-                    words)
+                self.assertEqual(gate(top, *words), (3, "", (
+                    "usage: bench/gate [[--jobs 1..9 | --again] [NAME..] | --page | --costs | --beside COMMIT]\n")), words)
 
 
 class Figures(Case):
@@ -248,8 +247,8 @@ class Page(Case):
         self.assertEqual(" ".join(told.split()), (
             "4 crates whose own files are as they were then (marks, grading, event_book, kubelet_replay) took 10.6 "
             "processor minutes there and 13.6 here, 1.28 times as much, single ones 1.00 to 2.00 times. By that the "
-            "20.4 minutes of all are 15.9 of those, the 30.0 of `./test` from nothing 23.3, and the 17.1 of the longest "
-            "chain 13.4."))
+            "20.4 minutes of all are 15.9 of those, the 30.0 of `./test` from nothing 23.3, and the 17.1 of the "
+            "longest chain 13.4."))
         write(re.sub(r"(?m)\t[^\t]+$", "", figures), self.top, "bench/gate.tsv")
         self.assertIn("By that the 20.4 minutes of all are 15.9 of those, and the 17.6 of the longest chain 13.7.",
                       " ".join(gate(self.top, "--beside", before)[1].split()))
