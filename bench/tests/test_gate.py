@@ -129,7 +129,8 @@ class Words(Case):
             for words in (("--all",), ("--jobs",), ("--jobs", "0"), ("--jobs", "12"), ("--jobs", "2", "--page"),
                           ("--jobs", "2", "--again"), ("--again", "--costs"), ("--again", "--page")):
                 self.assertEqual(gate(top, *words), (3, "", (
-                    "usage: bench/gate [[--jobs 1..9 | --again] [NAME..] | --page | --costs | --beside COMMIT]\n")), words)
+                    "usage: bench/gate [[--jobs 1..9 | --again] [NAME..] | --page | --costs | --beside COMMIT]\n"
+                )), words)
 
 
 class Figures(Case):
