@@ -18,7 +18,7 @@ use Rattle.eviction.specs.state.Pausing.{Kept, kept, still}
 use Rattle.eviction.specs.rule.Replay.{pod_ticks, unless_recorded}
 use Rattle.totals.specs.declared.totals.Totals.{Totals}
 use Rattle.totals.specs.state.Totals.{plus}
-use Rattle.totals.specs.state.Rounds.{AreAdditionsOf, sums_of_additions}
+use Rattle.totals.specs.state.Rounds.{AreAdditionsOf, sums_of_additions, AreAdded}
 use Rattle.event_list.specs.declared.event.Event.{Event}
 use Rattle.event_list.specs.declared.tick.TickEvents.{TickEvents}
 use Rattle.event_list.specs.rule.Events.{of_choice}
@@ -39,7 +39,6 @@ use Rattle.node_rounds.specs.state.Stretch.{IsSampled, heeded_in, IsCalm, AreCal
 use Rattle.node_rounds.specs.state.Stretch.{IsOpen}
 use Rattle.node_rounds.specs.state.Stretch.{MayGoOn, GoesOnWith, Takes, IsStretchOf, IsPassed, MayClose, MayEnd}
 use Rattle.node_rounds.specs.state.Stretch.{CanEnd, IsOut, HasRoom, IsRefusedIn}
-use Rattle.node_rounds.specs.state.Added.{AreAdded}
 use Rattle.node_rounds.proofs.Counts.{AreRows, totals_added}
 use Rattle.node_rounds.proofs.Ends.{closes}
 use Rattle.node_rounds.proofs.Evicts.{get_pod}

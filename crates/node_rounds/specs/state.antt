@@ -1,4 +1,3 @@
-pub mod Added
 pub mod Evict
 pub mod Node
 pub mod Round

@@ -6,12 +6,11 @@ use Rattle.std.specs.List.{All}
 use Rattle.pod_piece.specs.rule.Piece.{Piece}
 use Rattle.totals.specs.declared.totals.Totals.{Totals}
 use Rattle.totals.specs.state.Totals.{plus}
-use Rattle.totals.specs.state.Rounds.{AreAdditionsOf, sums_of_additions}
+use Rattle.totals.specs.state.Rounds.{AreAdditionsOf, sums_of_additions, AreAdded}
 use Rattle.piece_deques.specs.state.Rule.{AreNumbered}
 use Rattle.node_pods.specs.state.Pods.{sent_from}
 use Rattle.node_pods.proofs.Sent.{sent_at}
 use Rattle.tick_round.specs.state.Update.{MayUpdate}
-use Rattle.node_rounds.specs.state.Added.{AreAdded}
 
 item_at : (pieces : List Piece) (n : ℕ) (d : Piece) → n < length pieces → slice_get pieces n ≡ Some (get_or pieces n d)
 item_at [] n d lt = absurd (omega arith)

@@ -17,7 +17,7 @@ use Rattle.eviction.specs.rule.Replay.{pod_ticks}
 use Rattle.totals.specs.declared.totals.Entry.{Entry}
 use Rattle.totals.specs.declared.totals.Totals.{Totals}
 use Rattle.totals.specs.state.Totals.{sums_of, plus, one_update}
-use Rattle.totals.specs.state.Rounds.{IsAdditionOf, sums_of_additions}
+use Rattle.totals.specs.state.Rounds.{IsAdditionOf, sums_of_additions, AreAdded}
 use Rattle.totals.proofs.Made.{entry_added}
 use Rattle.node_pods.specs.state.Pods.{MayBeHanded, sent_from}
 use Rattle.node_pods.proofs.Sent.{sent_at, sent_count}
@@ -26,7 +26,6 @@ use Rattle.node_rounds.specs.state.Node.{State}
 use Rattle.node_rounds.specs.state.Round.{IsKept}
 use Rattle.node_rounds.specs.state.Stretch.{handed_all}
 use Rattle.tick_round.specs.state.Update.{AreEntered}
-use Rattle.node_rounds.specs.state.Added.{AreAdded}
 use Rattle.node_rounds.proofs.Handing.{IsGrown, not_grown, handed_at, handed_all-length}
 use Rattle.node_rounds.proofs.Opens.{rest_of}
 use Rattle.node_rounds.proofs.Owns.{own_few}

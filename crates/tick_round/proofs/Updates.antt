@@ -16,10 +16,9 @@ use Rattle.totals.specs.declared.totals.Totals.{Totals}
 use Rattle.totals.specs.state.Totals.{plus}
 use Rattle.event_book.specs.state.Shares.{AreWithin}
 use Rattle.totals.specs.state.Limits.{greatest_total, most_round_events, IsLowAddition}
-use Rattle.totals.specs.state.Rounds.{IsAdditionOf, sums_of_additions}
+use Rattle.totals.specs.state.Rounds.{IsAdditionOf, sums_of_additions, AreAdded}
 use Rattle.node_pods.proofs.Candidates.{same_piece}
 use Rattle.tick_round.specs.state.Update.{AreUpTo, MayUpdate, UpdatesAt}
-use Rattle.node_rounds.specs.state.Added.{AreAdded}
 
 abbrev totals : ℕ → ℕ → ℕ → Totals
 totals updates events orders = record { updates = updates; events = events; orders = orders }

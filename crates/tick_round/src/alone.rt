@@ -8,7 +8,7 @@ ghost use Rattle.totals.specs.state.Limits.{most_round_events, greatest_total};
 ghost use Rattle.pod_pool.specs.state.Gated.{WereGated, AreGated, WasRefused};
 ghost use Rattle.tick_round.specs.state.Update.{IsGatedAt};
 ghost use Rattle.tick_round.specs.state.Update.{AreUpTo, MayUpdate, IsAdded, UpdatesAt};
-ghost use Rattle.node_rounds.specs.state.Added.{AreAdded};
+ghost use Rattle.totals.specs.state.Rounds.{AreAdded};
 
 use event_book::WholeBook;
 use pod_piece::{Gate, PodPiece};

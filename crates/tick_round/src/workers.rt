@@ -9,7 +9,7 @@ ghost use Rattle.worker_count.specs.rule.Limit.{most_workers};
 ghost use Rattle.piece_deques.specs.state.Rule.{AreNumbered};
 ghost use Rattle.pod_pool.specs.state.Gated.{AreGated, WasRefused};
 ghost use Rattle.tick_round.specs.state.Update.{MayUpdate};
-ghost use Rattle.node_rounds.specs.state.Added.{AreAdded};
+ghost use Rattle.totals.specs.state.Rounds.{AreAdded};
 ghost use Rattle.tick_round.specs.state.Workers.{worth_their_start, running};
 
 use crate::alone::update_alone;

@@ -22,7 +22,7 @@ use Rattle.node_rounds.specs.declared.stretch.Stretch.{Stretch}
 use Rattle.node_rounds.specs.declared.stretch.Round.{Round}
 use Rattle.node_rounds.specs.state.Node.{State, FitAll}
 use Rattle.node_rounds.specs.state.Round.{IsKept}
-use Rattle.node_rounds.specs.state.Added.{AreAdded}
+use Rattle.totals.specs.state.Rounds.{AreAdded}
 
 -- what the samples of a tick make of the node
 pub record IsSampled (config : NodeConfig) (old : NodeSignals) (tick : TickObs) (new : NodeSignals)

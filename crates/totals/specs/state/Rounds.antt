@@ -6,6 +6,7 @@ use Rattle.pod_piece.specs.state.Made.{MadeEvent, round_length, AreRoundEvents}
 use Rattle.totals.specs.declared.totals.Entry.{Entry}
 use Rattle.totals.specs.declared.totals.Totals.{Totals}
 use Rattle.totals.specs.rule.Totals.{is_order}
+use Rattle.totals.specs.state.Totals.{plus}
 
 abbrev pub is_made_order : MadeEvent → Bool
 is_made_order made = is_order made.event
@@ -40,3 +41,9 @@ sums_of_additions additions = record {
   events = sum_by (λ (t : Totals). t.events) additions;
   orders = sum_by (λ (t : Totals). t.orders) additions;
 }
+
+-- what the rounds of these pieces add was added to the totals
+pub record AreAdded (pieces : List Piece) (old new : Totals) : Type 0 where
+  pub additions : List Totals
+  pub are_additions : AreAdditionsOf pieces additions
+  pub totals : new ≡ plus old (sums_of_additions additions)
