@@ -1,12 +1,2 @@
-pub mod Sums
-pub mod Numbers
-pub mod InOrder
-pub mod Room
-pub mod Laid
-pub mod FilledDeques
-pub mod Dealing
-pub mod FinishedWorkers
-pub mod Additions
 pub mod Due
 pub mod Returned
-pub mod Gated

@@ -2,7 +2,7 @@
 use Rattle.std.proofs.Common.{◌≡◌, ℕ, List, ◌++◌, map, length, take, drop, sym, ap, ◌∙◌, subst}
 use Rattle.std.proofs.lemmas.List.{length-map, take_at}
 use Rattle.pod_piece.specs.rule.Piece.{Piece}
-use Rattle.pod_pool.specs.state.Contexts.{Tag, AreLaid}
+use Rattle.pool_workers.specs.state.Contexts.{Tag, AreLaid}
 
 pub returned : {X Y : Type 0} (f : X → Y) (was given now : List X) (n : ℕ) → given ≡ was → map f now ≡ map f given
     → length was ≡ n → map f (take n (now ++ drop (length now) was)) ≡ map f was

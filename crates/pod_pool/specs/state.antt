@@ -1,11 +1,1 @@
-pub mod Done
-pub mod WorkerResults
-pub mod Dealing
-pub mod Permits
-pub mod Contexts
-pub mod Slots
-pub mod Order
-pub mod FinishedWorkers
-pub mod Rooms
 pub mod Faults
-pub mod Gated

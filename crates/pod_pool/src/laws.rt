@@ -1,7 +1,7 @@
 //! What the definitions of the deal and of a refused update imply. A function does nothing; its contract is the law.
 
-ghost use Rattle.pod_pool.specs.state.Dealing.{DealtByRemainder};
-ghost use Rattle.pod_pool.specs.state.Done.{LeftAsDealt};
+ghost use Rattle.pool_workers.specs.state.Dealing.{DealtByRemainder};
+ghost use Rattle.worker_results.specs.state.Done.{LeftAsDealt};
 
 /// A worker is dealt just the pieces whose numbers leave its own, divided by how many workers there are, in their
 /// order.

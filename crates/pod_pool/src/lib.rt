@@ -46,32 +46,11 @@
 //! anew.
 #![tactic(auto)]
 
-mod absorb;
-mod buffers;
-mod collect;
-mod context;
-mod contexts;
-mod deal;
-mod drain;
 mod fault;
-mod finish;
-mod finished_worker;
-mod gathered;
-mod handle;
 pub mod laws;
-mod order;
-mod permits;
 mod pool;
-mod round_gate;
-mod run;
-mod settle;
-mod slot;
-mod spawner;
-mod take_apart;
-mod work;
-mod worker_result;
 
 pub use fault::PoolFault;
-pub use finish::update_waiting;
 pub use pool::update_all;
-pub use spawner::Spawner;
+pub use pool_workers::Spawner;
+pub use worker_results::update_waiting;

@@ -7,24 +7,20 @@ ghost use Rattle.event_book.specs.state.Shares.{most_parts};
 ghost use Rattle.worker_count.specs.rule.Limit.{most_workers};
 ghost use Rattle.totals.specs.state.Limits.{AreLow};
 ghost use Rattle.piece_deques.specs.state.Rule.{AreNumbered};
-ghost use Rattle.pod_pool.specs.state.Faults.{GivesBack};
-ghost use Rattle.pod_pool.specs.state.Order.{HasEntered};
-ghost use Rattle.pod_pool.specs.state.Gated.{AreGated, IsRefusalOf};
+ghost use Rattle.worker_results.specs.state.Gated.{AreGated};
+ghost use Rattle.pool_workers.specs.state.Order.{HasEntered};
+ghost use Rattle.pod_pool.specs.state.Faults.{GivesBack, IsRefusalOf};
 
-use crate::buffers::make_buffers;
-use crate::contexts::lay_out;
 use crate::fault::PoolFault;
-use crate::gathered::{ResultBuffers, gather};
-use crate::round_gate::RoundGate;
-use crate::run::run;
-use crate::spawner::Spawner;
 use event_book::{EventBook, Shares};
 use piece_deques::Deal;
 use pod_piece::{Gate, PodPiece};
+use pool_workers::{ResultBuffers, Spawner, gather, lay_out, make_buffers, run};
 use std::alloc::Global;
 use std::marker::{Brand, PhantomData};
 use std::sync::Mutex;
 use std::sync::ledger::Ledger;
+use worker_results::RoundGate;
 
 /// This many workers have something to do: no more than pieces, and one at least.
 fn busy(workers: usize, pieces: usize) -> usize

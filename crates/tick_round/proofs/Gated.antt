@@ -15,8 +15,8 @@ use Rattle.pod_piece.specs.rule.Piece.{Piece, taken}
 use Rattle.pod_piece.specs.state.Piece.{all_updated, with_number}
 use Rattle.pod_piece.proofs.Waiting.{taken_is}
 use Rattle.eviction.specs.rule.Replay.{pod_ticks}
-use Rattle.pod_pool.specs.state.Done.{with_waiting}
-use Rattle.pod_pool.specs.state.Gated.{WereGated, AreGated}
+use Rattle.worker_results.specs.state.Done.{with_waiting}
+use Rattle.worker_results.specs.state.Gated.{WereGated, AreGated}
 use Rattle.node_pods.specs.state.Pods.{sent_from}
 use Rattle.node_pods.proofs.Sent.{goes_out}
 use Rattle.tick_round.specs.rule.Gated.{IsUpdateGated, AreUpdatesGated}

@@ -1,6 +1,4 @@
 pub mod After
-pub mod Updates
-pub mod GatedBelow
 pub mod Rounds
 pub mod Gated
 pub mod Rest

@@ -16,7 +16,7 @@ use Rattle.node_pods.proofs.Sent.{sent_at, sent_few}
 use Rattle.node_rounds.specs.state.Node.{State}
 use Rattle.node_rounds.specs.state.Round.{IsKept}
 use Rattle.node_rounds.specs.state.Stretch.{handed_all}
-use Rattle.tick_round.specs.state.Update.{MayUpdate}
+use Rattle.round_updates.specs.state.Update.{MayUpdate}
 use Rattle.node_rounds.proofs.Handing.{handed_all-length}
 
 -- ticks that show no more pods than a node may have make no more updates than that each

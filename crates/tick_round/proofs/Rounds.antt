@@ -10,17 +10,8 @@ use Rattle.totals.specs.state.Rounds.{AreAdditionsOf, sums_of_additions, AreAdde
 use Rattle.piece_deques.specs.state.Rule.{AreNumbered}
 use Rattle.node_pods.specs.state.Pods.{sent_from}
 use Rattle.node_pods.proofs.Sent.{sent_at}
-use Rattle.tick_round.specs.state.Update.{MayUpdate}
-
-item_at : (pieces : List Piece) (n : ℕ) (d : Piece) → n < length pieces → slice_get pieces n ≡ Some (get_or pieces n d)
-item_at [] n d lt = absurd (omega arith)
-item_at (p ∷ pieces) zero d lt = refl
-item_at (p ∷ pieces) (suc n) d lt = item_at pieces n d (omega arith)
-
--- what holds of the piece at each place holds of all
-pub all_by : (P : Piece → Type 0) (pieces : List Piece)
-    → ((n : ℕ) (piece : Piece) → slice_get pieces n ≡ Some piece → P piece) → All P pieces
-all_by P pieces each = λ n d lt. each n (get_or pieces n d) (item_at pieces n d lt)
+use Rattle.round_updates.specs.state.Update.{MayUpdate}
+use Rattle.round_updates.proofs.Pieces.{all_by}
 
 -- pieces that may be updated are all pending
 pub all_pending : (pieces : List Piece) (totals : Totals) → MayUpdate pieces totals

@@ -25,11 +25,11 @@ use Rattle.node_pods.proofs.Candidates.{same_piece}
 use Rattle.node_rounds.specs.state.Node.{State}
 use Rattle.node_rounds.specs.state.Round.{IsKept}
 use Rattle.node_rounds.specs.state.Stretch.{handed_all}
-use Rattle.tick_round.specs.state.Update.{AreEntered}
+use Rattle.round_updates.specs.state.Update.{AreEntered}
 use Rattle.node_rounds.proofs.Handing.{IsGrown, not_grown, handed_at, handed_all-length}
 use Rattle.node_rounds.proofs.Opens.{rest_of}
 use Rattle.node_rounds.proofs.Owns.{own_few}
-use Rattle.tick_round.proofs.Updates.{same_totals}
+use Rattle.round_updates.proofs.Updates.{same_totals}
 
 -- what entries add up to, with one update each
 single_sums : (entries : List Entry) → sums_of_additions (map one_update entries) ≡ sums_of entries

@@ -1,4 +1,2 @@
-pub mod Update
-pub mod Played
 pub mod Node
 pub mod Workers

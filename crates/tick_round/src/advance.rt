@@ -9,16 +9,15 @@ ghost use Rattle.observations.specs.rule.Observations.{all_shown};
 ghost use Rattle.worker_count.specs.rule.Limit.{most_workers};
 ghost use Rattle.node_rounds.specs.state.Node.{Fits, FitAll, IsNextBy};
 ghost use Rattle.tick_round.specs.state.Node.{AreNextGated, HasTakenSome};
-ghost use Rattle.tick_round.specs.state.Played.{AreFinished};
+ghost use Rattle.round_updates.specs.state.Played.{AreFinished};
 
-use crate::alone::update_alone;
-use crate::steps::update_by_steps;
 use crate::workers::update_by_workers;
 use node_rounds::Running;
 use observations::TickObs;
 use pod_piece::{Gate, NoGate};
 use pod_pool::Spawner;
 use round_steps::Step;
+use round_updates::{update_alone, update_by_steps};
 use std::alloc::AllocError;
 use std::sync::ledger::Ledger;
 use std::vec::IntoIter;

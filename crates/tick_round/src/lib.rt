@@ -25,13 +25,10 @@
 #![tactic(auto)]
 
 mod advance;
-mod alone;
 mod fault;
 mod node;
-mod steps;
 mod workers;
 
-pub use alone::update_alone;
 pub use fault::TickFault;
 pub use node::Node;
 pub use node_rounds::{ConditionStatus, Summary, carry_out, choice_for};
@@ -40,5 +37,5 @@ pub use pod_piece::{Gate, NoGate};
 pub use pod_pool::Spawner;
 pub use round_core::laws;
 pub use round_steps::Step;
-pub use steps::update_by_steps;
+pub use round_updates::{update_alone, update_by_steps};
 pub use workers::update_by_workers;

@@ -12,7 +12,7 @@ ghost use Rattle.worker_count.specs.rule.Limit.{most_workers};
 ghost use Rattle.tick_round.specs.declared.fault.TickFault.TheVariants.{Halted};
 ghost use Rattle.tick_round.specs.state.Node.{IsAfter, MayTake, MayTakeAll, HasRoom, TakesTick, TakesTicks};
 ghost use Rattle.tick_round.specs.state.Node.{GatesUpdates};
-ghost use Rattle.tick_round.specs.state.Played.{AreFinished};
+ghost use Rattle.round_updates.specs.state.Played.{AreFinished};
 ghost use Rattle.node_rounds.specs.state.Summary.{IsSummary};
 
 use crate::advance::{advance, advance_all, advance_alone, advance_played};

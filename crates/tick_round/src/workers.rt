@@ -7,15 +7,15 @@ ghost use Rattle.pod_piece.specs.state.Piece.{all_updated};
 ghost use Rattle.event_book.specs.state.Shares.{most_parts};
 ghost use Rattle.worker_count.specs.rule.Limit.{most_workers};
 ghost use Rattle.piece_deques.specs.state.Rule.{AreNumbered};
-ghost use Rattle.pod_pool.specs.state.Gated.{AreGated, WasRefused};
-ghost use Rattle.tick_round.specs.state.Update.{MayUpdate};
+ghost use Rattle.worker_results.specs.state.Gated.{AreGated, WasRefused};
+ghost use Rattle.round_updates.specs.state.Update.{MayUpdate};
 ghost use Rattle.totals.specs.state.Rounds.{AreAdded};
 ghost use Rattle.tick_round.specs.state.Workers.{worth_their_start, running};
 
-use crate::alone::update_alone;
 use event_book::{EventBook, Shares, WholeBook};
 use pod_piece::{Gate, PodPiece};
 use pod_pool::{PoolFault, Spawner, update_all};
+use round_updates::update_alone;
 use std::alloc::{AllocError, Global};
 use std::sync::Mutex;
 use std::sync::ledger::Ledger;

@@ -1,4 +1,4 @@
-use Rattle.pod_pool.proofs.Numbers.{left_as_dealt as lemma}
+use Rattle.worker_results.proofs.Numbers.{left_as_dealt as lemma}
 use Rattle.pod_pool.proofs.laws.left_as_dealt.Goals as goal
 
 pub returns : goal.returns

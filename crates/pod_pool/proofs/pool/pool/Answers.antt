@@ -1,8 +1,8 @@
 use Rattle.std.proofs.Common.{Bool, List, All, map, length, sym, ap, subst, arith}
 use Rattle.pod_piece.specs.rule.Piece.{Piece}
 use Rattle.piece_deques.specs.state.Rule.{IsPieceDue, AreNumbered}
-use Rattle.pod_pool.specs.state.Contexts.{context_tag}
-use Rattle.pod_pool.specs.state.Gated.{AreGated}
+use Rattle.pool_workers.specs.state.Contexts.{context_tag}
+use Rattle.worker_results.specs.state.Gated.{AreGated}
 use Rattle.pod_pool.proofs.Due.{all_due}
 use Rattle.pod_pool.proofs.Returned.{returned, still_laid}
 use Rattle.pod_pool.proofs.pool.pool.Goals as goal

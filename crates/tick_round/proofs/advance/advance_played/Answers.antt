@@ -1,8 +1,8 @@
 use Rattle.std.proofs.Common.{◌≡◌, ℕ, [], ◌∷◌, map, subst}
-use Rattle.tick_round.specs.state.Played.{AreFinished}
+use Rattle.round_updates.specs.state.Played.{AreFinished}
 use Rattle.node_rounds.proofs.Opens.{can_end, may_end, fit_one}
 use Rattle.tick_round.proofs.Out.{may_update}
-use Rattle.tick_round.proofs.Rounds.{all_by}
+use Rattle.round_updates.proofs.Pieces.{all_by}
 use Rattle.tick_round.proofs.Single.{one_waits, one_added, one_each}
 use Rattle.pod_piece.specs.rule.Piece.{Piece}
 use Rattle.tick_round.proofs.advance.advance_played.Goals as goal

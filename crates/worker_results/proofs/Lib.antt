@@ -1,0 +1,4 @@
+pub mod Numbers
+pub mod Sums
+pub mod InOrder
+pub mod Gated
