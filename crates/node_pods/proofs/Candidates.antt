@@ -14,11 +14,11 @@ use Rattle.pod_piece.specs.rule.Piece.{Piece, ticks}
 use Rattle.pod_piece.specs.state.Piece.{with_eviction}
 use Rattle.pod_piece.specs.state.Status.{IsStatusOf}
 use Rattle.ranking.specs.rule.Order.{IsVictim}
-use Rattle.ranking.specs.state.Index.{AreHeldAfter}
+use Rattle.ranking.specs.state.Index.{AreHeldAfter, IsRanked}
 use Rattle.ranking.proofs.LawLemmas.{RankAlike, before_alike}
 use Rattle.node_pods.specs.state.Laws.{AreAlike, EvictedIsNoCandidate}
 use Rattle.node_pods.specs.state.Pods.{Pods, IsCandidate}
-use Rattle.node_pods.specs.state.Ranked.{IsHeldAt, AreHeld, AreHeldBelow, IsRanked}
+use Rattle.node_pods.specs.state.Ranked.{IsHeldAt, AreHeld, AreHeldBelow}
 use Rattle.node_pods.proofs.Statuses.{alike, rank_alike, evicted_ended}
 
 -- a place has one piece

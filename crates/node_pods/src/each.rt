@@ -2,7 +2,6 @@
 
 ghost use Rattle.std.specs.Prelude.{◌≡◌, ◌↔◌, ℕ, ◌<◌, ◌++◌, ◌∷◌, [], length, map, slice_get, Option, Some, None};
 ghost use Rattle.std.specs.Prelude.{IsTrue, IfSome, IfOk, OnOk, OnErr, option_map, option_to_list};
-ghost use Rattle.histories.specs.rule.Histories.{last_moment};
 ghost use Rattle.histories.specs.state.Histories.{EndsBefore};
 ghost use Rattle.pod_piece.specs.declared.status.PodStatus.{PodStatus};
 ghost use Rattle.pod_piece.specs.rule.Piece.{Piece};
@@ -11,7 +10,7 @@ ghost use Rattle.node_pods.specs.state.Pods.{AreNext, handed_one, handed_each, s
 ghost use Rattle.node_pods.specs.state.Pods.{IsEvictable, AreEvicted};
 ghost use Rattle.node_pods.specs.state.Steps.{AreFree, IsShownNext, IsNextAt, AreNextBelow, MayTake, IsChangedAt};
 ghost use Rattle.node_pods.specs.state.Steps.{AreHandedBelow};
-ghost use Rattle.node_pods.specs.state.Ranked.{IsRanked, AreHeldBelow};
+ghost use Rattle.node_pods.specs.state.Ranked.{AreHeldBelow};
 ghost use Rattle.ranking.specs.state.Index.{IsIndexOf};
 
 use histories::is_before;
@@ -195,28 +194,6 @@ pub(crate) fn all_joined(
     Ok(all)
 }
 
-/// Whether the tick of the moment, in seconds, was handed to the pod.
-fn is_present(piece: &PodPiece, moment: u64) -> bool
-    requires { piece.now.waiting ≡ 0 }
-    ensures { IsTrue result ↔ (last_moment piece.now.handed ≡ Some moment) }
-{
-    piece.last_at() == Some(moment)
-}
-
-/// Gives the pod its place in the index, if it is present at the moment.
-fn rank_one(index: &mut RankIndex, piece: &PodPiece, moment: u64) -> Result<(), AllocError>
-    requires { piece.now.waiting ≡ 0 }
-    ensures signal { index.new.signal ≡ index.old.signal }
-    ensures dedicated { index.new.has_dedicated_imagefs ≡ index.old.has_dedicated_imagefs }
-    ensures held { OnOk result ((held : ℕ → Option PodStatus) → IsIndexOf held index.old
-        → (after : ℕ → Option PodStatus) × IsIndexOf after index.new × IsRanked moment piece.now held after) }
-{
-    if is_present(piece, moment) {
-        index.update(piece.status(), moment)?;
-    }
-    Ok(())
-}
-
 /// Gives each pod that is present at the moment its place in an index that holds none.
 pub(crate) fn rank_all(
     index: &mut RankIndex,
@@ -232,7 +209,7 @@ pub(crate) fn rank_all(
         × AreHeldBelow pieces.now moment (length pieces.now) held) }
 {
     for number in 0..pieces.len() {
-        rank_one(index, piece_at(pieces, number), moment)?;
+        index.rank(piece_at(pieces, number), moment)?;
     }
     Ok(())
 }

@@ -8,6 +8,7 @@ mod amounts;
 mod index;
 mod key;
 pub mod laws;
+mod present;
 
 pub use index::RankIndex;
 pub use key::{RankKey, rank_key};

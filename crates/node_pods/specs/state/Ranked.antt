@@ -1,10 +1,7 @@
 -- What an index of a node's pods holds.
-use Rattle.std.specs.Prelude.{◌≡◌, ◌⊎◌, ℕ, ◌<◌, ◌≤◌, List, Option, Some, None, IsSome}
-use Rattle.histories.specs.rule.Histories.{last_moment}
+use Rattle.std.specs.Prelude.{◌≡◌, ℕ, ◌<◌, ◌≤◌, List, Option, Some, None, IsSome}
 use Rattle.pod_piece.specs.declared.status.PodStatus.{PodStatus}
 use Rattle.pod_piece.specs.rule.Piece.{Piece}
-use Rattle.pod_piece.specs.state.Status.{IsStatusOf}
-use Rattle.ranking.specs.state.Index.{AreHeldAfter}
 use Rattle.node_pods.specs.state.Pods.{IsCandidate}
 
 -- what is held under a number is the pod of that number, if it is a candidate at the moment
@@ -20,10 +17,3 @@ AreHeld pieces moment held = (n : ℕ) → IsHeldAt pieces moment held n
 pub record AreHeldBelow (pieces : List Piece) (moment i : ℕ) (held : ℕ → Option PodStatus) : Type 0 where
   pub below : (n : ℕ) → n < i → IsHeldAt pieces moment held n
   pub rest : (n : ℕ) → i ≤ n → held n ≡ None
-
--- the pod has its place, if it is present at the moment; else the same pods are held as before
-abbrev pub IsRanked : ℕ → Piece → (ℕ → Option PodStatus) → (ℕ → Option PodStatus) → Type 0
-IsRanked moment piece held after =
-    ((last_moment piece.handed ≡ Some moment)
-    × (status : PodStatus) × IsStatusOf piece status × AreHeldAfter moment held status after)
-    ⊎ ((last_moment piece.handed ≡ Some moment → ⊥) × ((n : ℕ) → after n ≡ held n))

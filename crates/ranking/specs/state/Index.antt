@@ -1,11 +1,14 @@
 -- What an index of ranks holds.
-use Rattle.std.specs.Prelude.{◌≡◌, ◌≢◌, ℕ, List, Bool, Option, Some, None, IsTrue, option_map}
+use Rattle.std.specs.Prelude.{◌≡◌, ◌≢◌, ◌⊎◌, ℕ, List, Bool, Option, Some, None, IsTrue, option_map}
 use Rattle.std.specs.Map.{lookup}
 use Rattle.std.specs.Ordering.{nat_cmp}
 use Rattle.std.specs.BTreeMap.{is_at}
+use Rattle.histories.specs.rule.Histories.{last_moment}
 use Rattle.signals.specs.declared.signal.Signal.{Signal}
 use Rattle.pod_piece.specs.declared.status.PodStatus.{PodStatus}
+use Rattle.pod_piece.specs.rule.Piece.{Piece}
 use Rattle.pod_piece.specs.rule.Status.{MayBeEvicted}
+use Rattle.pod_piece.specs.state.Status.{IsStatusOf}
 use Rattle.ranking.specs.declared.key.RankKey.{RankKey}
 use Rattle.ranking.specs.state.Keys.{key_of}
 
@@ -47,3 +50,10 @@ pub record AreHeldAfter (moment : ℕ) (held : ℕ → Option PodStatus) (status
   pub out : (MayBeEvicted moment status → ⊥) → after status.number ≡ None
   pub in_place : MayBeEvicted moment status → after status.number ≡ Some status
   pub others : (n : ℕ) → n ≢ status.number → after n ≡ held n
+
+-- the pod has its place, if it is present at the moment; else the same pods are held as before
+abbrev pub IsRanked : ℕ → Piece → (ℕ → Option PodStatus) → (ℕ → Option PodStatus) → Type 0
+IsRanked moment piece held after =
+    ((last_moment piece.handed ≡ Some moment)
+    × (status : PodStatus) × IsStatusOf piece status × AreHeldAfter moment held status after)
+    ⊎ ((last_moment piece.handed ≡ Some moment → ⊥) × ((n : ℕ) → after n ≡ held n))

@@ -12,13 +12,13 @@ loop-number-init c = record {
 
 pub loop-number-preserved : goal.loop-number-preserved
 loop-number-preserved c = record {
-  signal = c.rank_one.ensures.signal ∙ c.loop-number.invariant.signal;
-  dedicated = c.rank_one.ensures.dedicated ∙ c.loop-number.invariant.dedicated;
+  signal = c.rank.ensures.signal ∙ c.loop-number.invariant.signal;
+  dedicated = c.rank.ensures.dedicated ∙ c.loop-number.invariant.dedicated;
   held = λ is.
       let i = c.loop-number.number in
       let piece = c.piece_at.result.now in
       let w = c.loop-number.invariant.held is in
-      let next = c.in_ok-rank_one.ensures.held w.0 w.1 in (
+      let next = c.in_ok-rank.ensures.held w.0 w.1 in (
         next.0,
         next.1,
         ranked_more c.args.pieces.now c.args.moment i piece w.0 next.0 c.piece_at.ensures

@@ -1,6 +1,6 @@
 use Rattle.std.proofs.Common.{inl}
 use Rattle.ranking.proofs.LawLemmas.{one_is_held_after}
-use Rattle.node_pods.proofs.each.rank_one.Goals as goal
+use Rattle.ranking.proofs.index.RankIndex.rank.Goals as goal
 
 pub returns-in_ok-update-clause-held : goal.returns-in_ok-update-clause-held
 returns-in_ok-update-clause-held c = λ held is.

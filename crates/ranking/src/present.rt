@@ -1,0 +1,35 @@
+//! Pods that are present at a moment.
+
+ghost use Rattle.std.specs.Prelude.{◌≡◌, ◌↔◌, ℕ, Option, Some, IsTrue, OnOk};
+ghost use Rattle.histories.specs.rule.Histories.{last_moment};
+ghost use Rattle.pod_piece.specs.declared.status.PodStatus.{PodStatus as SomeStatus};
+ghost use Rattle.ranking.specs.state.Index.{IsIndexOf, IsRanked};
+
+use crate::index::RankIndex;
+use pod_piece::PodPiece;
+use std::alloc::AllocError;
+
+/// Whether the tick of the moment, in seconds, was handed to the pod.
+fn is_present(piece: &PodPiece, moment: u64) -> bool
+    requires { piece.now.waiting ≡ 0 }
+    ensures { IsTrue result ↔ (last_moment piece.now.handed ≡ Some moment) }
+{
+    piece.last_at() == Some(moment)
+}
+
+impl RankIndex {
+    /// Gives the pod its present place, as [`RankIndex::update`] does, if the tick of the moment, in seconds, shows it;
+    /// else it changes nothing. An `Err` says that a growth of memory was refused.
+    pub fn rank(&mut self, piece: &PodPiece, moment: u64) -> Result<(), AllocError>
+        requires { piece.now.waiting ≡ 0 }
+        ensures signal { self.new.signal ≡ self.old.signal }
+        ensures dedicated { self.new.has_dedicated_imagefs ≡ self.old.has_dedicated_imagefs }
+        ensures held { OnOk result ((held : ℕ → Option SomeStatus) → IsIndexOf held self.old
+            → (after : ℕ → Option SomeStatus) × IsIndexOf after self.new × IsRanked moment piece.now held after) }
+    {
+        if is_present(piece, moment) {
+            self.update(piece.status(), moment)?;
+        }
+        Ok(())
+    }
+}
