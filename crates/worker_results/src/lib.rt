@@ -3,9 +3,8 @@
 //! the order of the pieces' numbers.
 //!
 //! ```text
-//! deque ──take──> piece ──update_waiting──> all its ticks taken ──enter──> done        (the book had room)
-//!                                       └─> an update refused              uncounted   (it had none)
-//!                                                   └────────────────────> refused
+//! deque ──take──> piece ──update_waiting──> all its ticks are taken ──enter──> done, or uncounted: the book was full
+//!                             └───────────> an update was refused ───────────> refused
 //! ```
 //!
 //! By its type a worker's result is right at each moment: what it keeps as done are pieces of the round with all their
