@@ -1,7 +1,7 @@
 use Rattle.std.proofs.Common.{rules}
 use Rattle.piece_deques.proofs.Lists.{maps_same}
 use Rattle.pool_workers.specs.state.Contexts.{context_tag}
-use Rattle.pool_workers.proofs.run.run.Goals as goal
+use Rattle.pool_workers.proofs.threads.run.Goals as goal
 
 pub returns-clause-same : goal.returns-clause-same
 returns-clause-same g c = maps_same context_tag _ _ (search rules) (λ k d in'. search rules)
