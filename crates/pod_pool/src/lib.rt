@@ -16,6 +16,9 @@
 //! once, by its owner or by one thief, follows from the deques' permits (`piece_deques`), and not from a count at the
 //! end; that all are updated when the workers have ended follows from the last look into each deque (`settle`).
 //!
+//! What a worker does with a piece is said in `worker_results`; how workers are made ready, dealt, run and gathered in
+//! `pool_workers`. Here these steps are put one behind the other.
+//!
 //! A refused update or missing room ends the round with a fault that gives the piece back. A `pod_piece::Gate` makes
 //! each update: the program's counts ticks, those of tests hold updates back, so that thefts can be made to happen.
 //!

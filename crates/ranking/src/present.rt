@@ -1,4 +1,4 @@
-//! Pods that are present at a moment.
+//! The pods that are present at a moment: those that its tick shows.
 
 ghost use Rattle.std.specs.Prelude.{◌≡◌, ◌↔◌, ℕ, Option, Some, IsTrue, OnOk};
 ghost use Rattle.histories.specs.rule.Histories.{last_moment};

@@ -11,6 +11,7 @@
 //! begin   a tick's samples into the node's signals, observations into the pods
 //! go on   the same with each further tick; then the pods for which ticks wait, and the book, go out
 //! update  on one thread  |  by steps that are played, one tick  |  by workers that steal
+//!         (`round_updates`)                                       (`pod_pool`)
 //! end     pods and book come back; the events are added, tick after tick; one pod at most is evicted
 //! ```
 //!

@@ -42,7 +42,7 @@ sums_of_additions additions = record {
   orders = sum_by (λ (t : Totals). t.orders) additions;
 }
 
--- what the rounds of these pieces add was added to the totals
+-- to the totals was added what the rounds of these pieces add
 pub record AreAdded (pieces : List Piece) (old new : Totals) : Type 0 where
   pub additions : List Totals
   pub are_additions : AreAdditionsOf pieces additions
