@@ -1,4 +1,4 @@
-//! All pods of a node at one tick.
+//! What a tick, a round and an eviction make of all pods of a node.
 
 ghost use Rattle.std.specs.Prelude.{◌≡◌, ◌↔◌, ℕ, ◌<◌, ◌++◌, ◌∷◌, [], length, map, slice_get, Option, Some, None};
 ghost use Rattle.std.specs.Prelude.{IsTrue, IfSome, IfOk, OnOk, OnErr, option_map, option_to_list};
