@@ -91,16 +91,16 @@ def _figures_in(lines):
 
 
 # what the gate reads of a crate; a README and the shelf are no part of it
-READ = re.compile(r"crates/(\w+)/(?:src|specs|proofs|must-fail|data|stdin|stdout|args|status)\b")
+READ = re.compile(r"crates/(\w+)/(src|specs|proofs|must-fail|data|stdin|stdout|args|status)\b")
 
 
 @functools.cache
 def changed_since(top, *commits):
-    """The crates of which the gate reads something else at a second commit, or now, than at a first one; none where git
-    does not know one of them."""
+    """Of which crates the gate reads something else at a second commit, or now, than at a first one, each with what of
+    it; none where git does not know one of them."""
     done = subprocess.run(["git", "diff", "--name-only", *commits, "--", "crates"], cwd=top, stdin=subprocess.DEVNULL,
                           capture_output=True, text=True, check=False)
-    return {found[1] for found in READ.finditer(done.stdout)} if done.returncode == 0 else None
+    return {(found[1], found[2]) for found in READ.finditer(done.stdout)} if done.returncode == 0 else None
 
 
 def since(top, below, name, commit):
@@ -108,16 +108,18 @@ def since(top, below, name, commit):
     changed = changed_since(top, commit)
     if changed is None:
         return "?"
-    if name in changed:
+    if name in {crate for crate, _ in changed}:
         return "itself"
-    return "below" if changed & standing_below(below, name) else "no"
+    # no crate stands on the mutants of another
+    read = {crate for crate, part in changed if part != "must-fail"}
+    return "below" if read & standing_below(below, name) else "no"
 
 
 def unchanged_between(top, before, found):
     """The crates of two tables whose own files were the same when both were measured."""
     both = [name for name in found if name in before and name != WHOLE]
     changed = {name: changed_since(top, before[name].commit, found[name].commit) for name in both}
-    return [name for name in both if changed[name] is not None and name not in changed[name]]
+    return [name for name in both if changed[name] is not None and name not in {crate for crate, _ in changed[name]}]
 
 
 def _number(text):

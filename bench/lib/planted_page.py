@@ -21,7 +21,7 @@ stands. The date is the day on which the figure was written down.
 """, """
 A refusal where the search for a proof gave up at one of its limits says less than one where it ended: nothing was found
 that is wrong, and a longer search might have found a proof. An audit counted some 27 edits of the gate and the shelf
-that are refused by that alone; of the gate's 60 they are 17, by the log of the gate, which says it of each. Five of the
+that are refused by that alone; of the gate's 60 they are 16, by the log of the gate, which says it of each. Five of the
 27 turned an answer, all of `trace`: `doubled_container_accepted`, `doubled_pod_accepted`,
 `extended_trace_in_the_standard_format`, `second_pod_of_a_key_accepted` and `unsampled_read_in_versions_1_and_2`. What
 they turn is now a function of its own over plain values, of which the search finds values that refute them.

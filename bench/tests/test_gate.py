@@ -229,6 +229,18 @@ class Page(Case):
         self.assertEqual(rows, [("marks", "no"), ("text", "itself"), ("grading", "no"), ("event_book", "no"),
                                 ("kubelet_replay", "below"), ("all", "-")])
 
+    def test_no_crate_stands_on_the_mutants_of_another(self):
+        head = git(self.top, "rev-parse", "--short=10", "HEAD")
+        figures = read(HERE, "gate.tsv").replace("0123456789", head).replace("abcdef0123", head)
+        write(figures, self.top, "bench/gate.tsv")
+        os.makedirs(f"{self.top}/crates/text/must-fail", exist_ok=True)
+        write("file: src/lib.rt\n", self.top, "crates/text/must-fail/empty_sheet.edit")
+        git(self.top, "add", ".")
+        git(self.top, "commit", "--quiet", "--message", "a mutant")
+        rows = re.findall(r"(?m)^\| (\w+) \|.* GB \| ([^|]+) \|$", self.text())
+        self.assertEqual(rows, [("marks", "no"), ("text", "itself"), ("grading", "no"), ("event_book", "no"),
+                                ("kubelet_replay", "no"), ("all", "-")])
+
     def test_beside_a_table_before(self):
         first = git(self.top, "rev-parse", "--short=10", "HEAD")
         figures = read(HERE, "gate.tsv").replace("0123456789", first).replace("abcdef0123", first)
