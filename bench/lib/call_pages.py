@@ -31,8 +31,7 @@ refusal. Where all are "of `Ok` alone", it has nothing in it but why, and what w
 a call borrows (`&T`) stays as it is in each case. `AllocError` says that memory was refused.
 """, """
 Of a definition the list says which public calls have it in their clauses. What shows an example is a case, a table or a
-folder of cases of `case_runner`, with a slash, below `crates/case_runner/data`; else a test of `calls_tests` or of
-`worker_tests`.
+folder of cases of `case_runner`, with a slash, below `crates/case_runner/data`; else a test of `calls_tests`.
 """)
 
 

@@ -1,19 +1,49 @@
-//! Tests of calls that no text of a case reaches: quantities made of numbers, readers and writers over memory, a caller
-//! from memory to memory, inputs that are cut or stop, writers that stop, and the lines of events.
+//! Tests of calls of a replay, of its ticks and of its rounds that no text of a case reaches: a caller from memory to
+//! memory, inputs that are cut or stop, writers that stop; and what workers do in threads: how many updates stand side
+//! by side, that each passes the gate once, that one which is refused ends the replay, that pods are stolen, and that
+//! rounds of several ticks tell what their ticks tell one after the other; a full book, and the ticks that a node takes.
 #![tactic(auto)]
 
 #[cfg(test)]
+mod book_tests;
+#[cfg(test)]
 mod calls;
 #[cfg(test)]
-mod event_tests;
+mod gates;
 #[cfg(test)]
 mod halting;
 #[cfg(test)]
-mod quantity_tests;
+mod node_tests;
 #[cfg(test)]
-mod replay_stream_tests;
+mod overlap_tests;
+#[cfg(test)]
+mod pods;
+#[cfg(test)]
+mod refusal;
+#[cfg(test)]
+mod refusal_tests;
 #[cfg(test)]
 mod replay_tests;
+#[cfg(test)]
+mod replays;
+#[cfg(test)]
+mod rounds;
+#[cfg(test)]
+mod scenario;
+#[cfg(test)]
+mod steal_tests;
+#[cfg(test)]
+mod stretch_tests;
+#[cfg(test)]
+mod stretches;
+#[cfg(test)]
+mod tally;
+#[cfg(test)]
+mod test_gate;
+#[cfg(test)]
+mod traces;
+#[cfg(test)]
+mod turns;
 mod uses;
 #[cfg(test)]
 mod uses_tests;

@@ -1,5 +1,5 @@
 use Rattle.test_pods.specs.state.Pods.{ArePending}
-use Rattle.worker_tests.proofs.pods.pieces_of.Given as goal
+use Rattle.calls_tests.proofs.pods.pieces_of.Given as goal
 
 abbrev pub invariant-loop-pod : goal.invariant-loop-pod
 invariant-loop-pod l = ArePending l.pieces.items

@@ -1,4 +1,4 @@
-use Rattle.worker_tests.proofs.rounds.over_book.Given as goal
+use Rattle.calls_tests.proofs.rounds.over_book.Given as goal
 
 abbrev pub ghosts-make-U-Ledger : goal.ghosts-make-U-Ledger
 ghosts-make-U-Ledger g a = record { name = a.blanks.updates.name; parts = a.blanks.updates.parts }

@@ -1,6 +1,6 @@
 use Rattle.std.proofs.Common.{◌∙◌}
 use Rattle.test_pods.proofs.Pieces.{one_more}
-use Rattle.worker_tests.proofs.pods.add.Goals as goal
+use Rattle.calls_tests.proofs.pods.add.Goals as goal
 
 pub returns : goal.returns
 returns c =
