@@ -7,7 +7,8 @@ ghost use Rattle.piece_deques.specs.state.Rule.{all_parts};
 ghost use Rattle.worker_results.specs.state.Gated.{IsRefused};
 ghost use Rattle.pool_workers.specs.state.Permits.{pushed_count, taken_by};
 ghost use Rattle.pool_workers.specs.state.Contexts.{context_deque, context_tag, IsLaid};
-ghost use Rattle.pool_workers.specs.state.FinishedWorkers.{finished_deque, finished_kept, finished_taken, IsAway, IsRow};
+ghost use Rattle.pool_workers.specs.state.FinishedWorkers.{finished_deque, finished_kept, finished_taken};
+ghost use Rattle.pool_workers.specs.state.FinishedWorkers.{IsAway, IsRow};
 
 use crate::context::WorkerContext;
 use crate::finished_worker::FinishedWorker;

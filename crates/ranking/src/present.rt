@@ -1,8 +1,9 @@
 //! The pods that are present at a moment: those that its tick shows.
 
-ghost use Rattle.std.specs.Prelude.{◌≡◌, ◌↔◌, ℕ, Option, Some, IsTrue, OnOk};
+ghost use Rattle.std.specs.Prelude.{◌≡◌, ◌↔◌, ℕ, ⊥, Option, Some, IsTrue, IsOk, OnOk, OnErr};
 ghost use Rattle.histories.specs.rule.Histories.{last_moment};
 ghost use Rattle.pod_piece.specs.declared.status.PodStatus.{PodStatus as SomeStatus};
+ghost use Rattle.pod_piece.specs.state.Status.{IsEvictableAt};
 ghost use Rattle.ranking.specs.state.Index.{IsIndexOf, IsRanked};
 
 use crate::index::RankIndex;
@@ -19,13 +20,17 @@ fn is_present(piece: &PodPiece, moment: u64) -> bool
 
 impl RankIndex {
     /// Gives the pod its present place, as [`RankIndex::update`] does, if the tick of the moment, in seconds, shows it;
-    /// else it changes nothing. An `Err` says that a growth of memory was refused.
+    /// else it changes nothing. An `Err` says that a growth of memory was refused, and changes nothing; it comes for no
+    /// pod that is gone, nor for one that may not be evicted.
     pub fn rank(&mut self, piece: &PodPiece, moment: u64) -> Result<(), AllocError>
         requires { piece.now.waiting ≡ 0 }
         ensures signal { self.new.signal ≡ self.old.signal }
         ensures dedicated { self.new.has_dedicated_imagefs ≡ self.old.has_dedicated_imagefs }
         ensures held { OnOk result ((held : ℕ → Option SomeStatus) → IsIndexOf held self.old
             → (after : ℕ → Option SomeStatus) × IsIndexOf after self.new × IsRanked moment piece.now held after) }
+        ensures out { ((last_moment piece.now.handed ≡ Some moment) × IsEvictableAt moment piece.now → ⊥)
+            → IsOk result }
+        ensures err { OnErr result (self.new ≡ self.old) }
     {
         if is_present(piece, moment) {
             self.update(piece.status(), moment)?;
