@@ -1,6 +1,6 @@
 //! The pods that are present at a moment: those that its tick shows.
 
-ghost use Rattle.std.specs.Prelude.{◌≡◌, ◌↔◌, ℕ, ⊥, Option, Some, IsTrue, IsOk, OnOk, OnErr};
+ghost use Rattle.std.specs.Prelude.{◌≡◌, ◌↔◌, ℕ, Option, Some, IsTrue, IsOk, OnOk, OnErr};
 ghost use Rattle.histories.specs.rule.Histories.{last_moment};
 ghost use Rattle.pod_piece.specs.declared.status.PodStatus.{PodStatus as SomeStatus};
 ghost use Rattle.pod_piece.specs.state.Status.{IsEvictableAt};
