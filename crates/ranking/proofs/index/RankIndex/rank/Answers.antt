@@ -1,4 +1,4 @@
-use Rattle.std.proofs.Common.{inl}
+use Rattle.std.proofs.Common.{inl, absurd}
 use Rattle.ranking.proofs.LawLemmas.{one_is_held_after}
 use Rattle.ranking.proofs.index.RankIndex.rank.Goals as goal
 
@@ -10,3 +10,8 @@ returns-in_ok-update-clause-held c = λ held is.
       c.in_ok-update.ensures.updated held after.0 is after.1,
       inl (c.is_present.ensures.0 c.if-is_present.true, status, c.status.ensures, after.1),
     )
+
+pub returns-in_err-update-clause-out : goal.returns-in_err-update-clause-out
+returns-in_err-update-clause-out c = λ may_not.
+    absurd (c.in_err-update.ensures.out (λ may.
+    may_not (c.is_present.ensures.0 c.if-is_present.true, c.status.result.now, c.status.ensures, may)))
