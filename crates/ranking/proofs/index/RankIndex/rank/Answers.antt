@@ -1,4 +1,4 @@
-use Rattle.std.proofs.Common.{inl}
+use Rattle.std.proofs.Common.{◌≡◌, inl, true, false}
 use Rattle.ranking.proofs.LawLemmas.{one_is_held_after}
 use Rattle.ranking.proofs.index.RankIndex.rank.Goals as goal
 
@@ -13,5 +13,6 @@ returns-in_ok-update-clause-held c = λ held is.
 
 pub returns-in_err-update-clause-out : goal.returns-in_err-update-clause-out
 returns-in_err-update-clause-out c = λ may_not.
-    absurd (c.in_err-update.ensures.out (λ may.
-    may_not (c.is_present.ensures.0 c.if-is_present.true, (c.status.result.now, c.status.ensures, may))))
+    let no : false ≡ true = c.in_err-update.ensures.out (λ may.
+    may_not (c.is_present.ensures.0 c.if-is_present.true, (c.status.result.now, c.status.ensures, may))) in
+    absurd (cc)
