@@ -13,14 +13,33 @@ use std::alloc::Global;
 use std::test::Fail;
 use test_pods::hand;
 
-/// A pod to which an observation was handed.
+/// The pod, to which the observation was handed.
+fn handed(piece: PodPiece, observed: PodObs) -> Result<PodPiece, Fail>
+    ensures number { IfOk result (λ pending. pending.number ≡ piece.number) }
+    ensures pending { IfOk result (λ pending. 0 < pending.waiting) }
+{
+    let mut piece = piece;
+    match hand(&mut piece, observed) {
+        Ok(()) => Ok(piece),
+        Err(fault) => {
+            drop(piece);
+            Err(fault.into())
+        }
+    }
+}
+
+/// A pod that is made, to which the observation was handed.
 fn pending(alloc: Global, number: usize, pod: PodSpec, observed: PodObs) -> Result<PodPiece, Fail>
     ensures number { IfOk result (λ piece. piece.number ≡ number) }
     ensures pending { IfOk result (λ piece. 0 < piece.waiting) }
 {
-    let mut piece = PodPiece::new(alloc, number, pod, MaxRestartDelay::unset())?;
-    hand(&mut piece, observed)?;
-    Ok(piece)
+    match PodPiece::new(alloc, number, pod, MaxRestartDelay::unset()) {
+        Ok(piece) => handed(piece, observed),
+        Err(fault) => {
+            drop(observed);
+            Err(fault.into())
+        }
+    }
 }
 
 /// A pod behind those before it, with what the tick shows of it.
@@ -53,6 +72,27 @@ fn pieces_of(alloc: Global, pods: Vec<PodSpec>, tick: TickObs) -> Result<Vec<Pod
     Ok(pieces)
 }
 
+/// The first of these ticks.
+pub(crate) fn first_of(ticks: Vec<TickObs>) -> Result<TickObs, Fail> {
+    match ticks.into_iter().next() {
+        Some(tick) => Ok(tick),
+        None => Err(Fail::new("the trace has no tick")),
+    }
+}
+
+/// These pods, at most 256, each with what the tick shows of it.
+fn few_pieces_of(alloc: Global, pods: Vec<PodSpec>, tick: TickObs) -> Result<Vec<PodPiece>, Fail>
+    ensures pending { IfOk result (λ pieces. ArePending pieces.items) }
+    ensures few { IfOk result (λ pieces. length pieces.items ≤ most_pods) }
+{
+    let pieces = pieces_of(alloc, pods, tick)?;
+    if pieces.len() > MOST_PODS {
+        drop(pieces);
+        return Err(Fail::new("the trace has too many pods"));
+    }
+    Ok(pieces)
+}
+
 /// The pods of the scenario's trace, to which the first tick was handed.
 pub(crate) fn first_pieces<G: Gate>(
     alloc: Global,
@@ -62,12 +102,11 @@ pub(crate) fn first_pieces<G: Gate>(
     ensures few { IfOk result (λ pieces. length pieces.items ≤ most_pods) }
 {
     let trace = scenario.trace(alloc)?;
-    let Some(tick) = trace.ticks.into_vec().into_iter().next() else {
-        return Err(Fail::new("the trace has no tick"));
-    };
-    let pieces = pieces_of(alloc, trace.pods.into_vec(), tick)?;
-    if pieces.len() > MOST_PODS {
-        return Err(Fail::new("the trace has too many pods"));
+    match first_of(trace.ticks.into_vec()) {
+        Ok(tick) => few_pieces_of(alloc, trace.pods.into_vec(), tick),
+        Err(fault) => {
+            drop(trace.pods);
+            Err(fault)
+        }
     }
-    Ok(pieces)
 }

@@ -5,16 +5,19 @@ ghost use Rattle.totals.specs.state.Totals.{nothing};
 ghost use Rattle.event_book.specs.state.Shares.{most_parts, share_with};
 
 use crate::book_tests::fill;
-use crate::pods::first_pieces;
+use crate::pods::{first_of, first_pieces};
 use crate::replays::replay_text;
 use crate::scenario::Scenario;
 use event_book::{Blanks, EventBook, Shares, WholeBook};
 use kubelet_replay::Gate;
 use lists::Sequence;
-use observations::{MOST_PODS, TickObs};
+use manifest::PodSpec;
+use node_config::NodeConfig;
+use observations::{MOST_PODS, PodObs, TickObs};
 use pod_pool::{PoolFault, update_all};
 use std::alloc::{AllocGlobal, Global};
 use std::marker::Brand;
+use std::mem::replace;
 use std::process::Abort;
 use std::sync::ledger::Ledger;
 use std::sync::{Mutex, Wait};
@@ -57,10 +60,46 @@ fn take<U: Ledger + Send, E: Ledger + Send, O: Ledger + Send, R: Threads + Wait 
     scenario: &Scenario<'_, G>,
 ) -> Result<(), Fail> {
     if !node.fits(&tick) {
+        drop(tick);
         return Err(Fail::new("the node does not take its tick"));
     }
     node.tick(rt, tick, scenario.workers, scenario.gate)?;
     Ok(())
+}
+
+/// The node takes these ticks.
+fn take_all<
+    U: Ledger + Send,
+    E: Ledger + Send,
+    O: Ledger + Send,
+    R: Threads + Wait + Sync,
+    G: Gate,
+>(
+    rt: &R,
+    node: &mut Node<U, E, O>,
+    ticks: Vec<TickObs>,
+    scenario: &Scenario<'_, G>,
+) -> Result<(), Fail> {
+    for tick in ticks {
+        take(rt, node, tick, scenario)?;
+    }
+    Ok(())
+}
+
+/// A node with these pods, before any tick.
+fn node_of<U: Ledger, E: Ledger, O: Ledger>(
+    alloc: Global,
+    config: NodeConfig,
+    pods: Vec<PodSpec>,
+    book: WholeBook<U, E, O>,
+) -> Result<Node<U, E, O>, Fail>
+    requires { book ≡ nothing }
+{
+    if pods.len() > MOST_PODS {
+        drop((config, pods, book));
+        return Err(Fail::new("the trace has too many pods"));
+    }
+    Ok(Node::new(alloc, config, pods, book)?)
 }
 
 /// A node with the pods of the scenario's trace takes the trace's ticks.
@@ -73,15 +112,61 @@ fn run<U: Ledger + Send, E: Ledger + Send, O: Ledger + Send, R: Threads + Wait +
     requires { book ≡ nothing }
 {
     let trace = scenario.trace(alloc)?;
-    let pods = trace.pods.into_vec();
-    if pods.len() > MOST_PODS {
-        return Err(Fail::new("the trace has too many pods"));
+    match node_of(alloc, trace.node, trace.pods.into_vec(), book) {
+        Ok(node) => {
+            let mut node = node;
+            let answer = take_all(rt, &mut node, trace.ticks.into_vec(), scenario);
+            drop(node);
+            answer
+        }
+        Err(fault) => {
+            drop(trace.ticks);
+            Err(fault)
+        }
     }
-    let mut node = Node::new(alloc, trace.node, pods, book)?;
-    for tick in trace.ticks.into_vec() {
-        take(rt, &mut node, tick, scenario)?;
+}
+
+/// Whether the node may take the tick with these pods in place of its own, with which it may.
+fn fits_with<U: Ledger, E: Ledger, O: Ledger>(
+    node: &Node<U, E, O>,
+    tick: TickObs,
+    pods: Vec<Option<PodObs>>,
+) -> Result<bool, Fail> {
+    if !node.fits(&tick) {
+        drop((tick, pods));
+        return Err(Fail::new("the node does not take its tick"));
     }
-    Ok(())
+    let mut tick = tick;
+    drop(replace(&mut tick.pods, Sequence::from_vec(pods)));
+    let fits = node.fits(&tick);
+    drop(tick);
+    Ok(fits)
+}
+
+/// This many pods of which nothing is shown.
+fn left_out(alloc: Global, count: usize) -> Result<Vec<Option<PodObs>>, Fail> {
+    let mut pods = Vec::new(alloc);
+    for _ in 0..count {
+        pods.push(None)?;
+    }
+    Ok(pods)
+}
+
+/// Whether the node may take the first of these ticks with so many pods left out.
+fn fits_without<U: Ledger, E: Ledger, O: Ledger>(
+    alloc: Global,
+    node: &Node<U, E, O>,
+    ticks: Vec<TickObs>,
+    count: usize,
+) -> Result<bool, Fail> {
+    let tick = first_of(ticks)?;
+    match left_out(alloc, count) {
+        Ok(pods) => fits_with(node, tick, pods),
+        Err(fault) => {
+            drop(tick);
+            Err(fault)
+        }
+    }
 }
 
 /// Whether a node with the pods of the trace that the text says may take its first tick, with all of them left out.
@@ -94,25 +179,18 @@ fn leave_out<U: Ledger, E: Ledger, O: Ledger>(
 {
     let trace = read_trace(alloc, Format::Extended, text.as_bytes())?;
     let pods = trace.pods.into_vec();
-    if pods.len() > MOST_PODS {
-        return Err(Fail::new("the trace has too many pods"));
+    let count = pods.len();
+    match node_of(alloc, trace.node, pods, book) {
+        Ok(node) => {
+            let fits = fits_without(alloc, &node, trace.ticks.into_vec(), count);
+            drop(node);
+            fits
+        }
+        Err(fault) => {
+            drop(trace.ticks);
+            Err(fault)
+        }
     }
-    let mut left_out = Vec::new(alloc);
-    for _ in 0..pods.len() {
-        left_out.push(None)?;
-    }
-    let node = Node::new(alloc, trace.node, pods, book)?;
-    let Some(first) = trace.ticks.into_vec().into_iter().next() else {
-        return Err(Fail::new("the trace has no tick"));
-    };
-    if !node.fits(&first) {
-        return Err(Fail::new("the node does not take its tick"));
-    }
-    let tick = TickObs {
-        pods: Sequence::from_vec(left_out),
-        ..first
-    };
-    Ok(node.fits(&tick))
 }
 
 /// The pods of the scenario's trace take the first tick, as this round's pieces.

@@ -6,7 +6,7 @@ use crate::said::{
 };
 use json_fields::{TapeItems, TapeValue};
 use json_lines::{
-    LONGEST_TAPE, LineBuffers, joined, other_line, tape_moment, text_line, tick_tape,
+    LONGEST_TAPE, LineBuffers, TextLine, joined, other_line, tape_moment, text_line, tick_tape,
 };
 use std::alloc::{AllocError, Global};
 use std::thread::{Threads, map_chunks};
@@ -129,6 +129,18 @@ fn on_tape(
     }
 }
 
+/// What a line says of which this was read.
+fn said_of(alloc: Global, read: TextLine) -> Result<String, AllocError> {
+    let said = line_said(alloc, &read);
+    drop(read);
+    said
+}
+
+/// What a line says to `text_line`.
+fn said_alone(alloc: Global, line: &[u8], buffers: &mut LineBuffers) -> Result<String, AllocError> {
+    said_of(alloc, text_line(alloc, line, buffers)?)
+}
+
 /// Reads a line as `trace` does.
 fn read_ahead(
     alloc: Global,
@@ -137,19 +149,47 @@ fn read_ahead(
 ) -> Result<(Reader, String), AllocError> {
     match on_tape(alloc, line, buffers)? {
         Some(Some(said)) => Ok((Reader::Tape, said)),
-        Some(None) => {
-            let read = text_line(alloc, line, buffers)?;
-            Ok((Reader::AfterTape, line_said(alloc, &read)?))
-        }
+        Some(None) => Ok((Reader::AfterTape, said_alone(alloc, line, buffers)?)),
         None if line.len() > LONGEST_TAPE => {
-            let read = text_line(alloc, line, buffers)?;
-            Ok((Reader::NoTape, line_said(alloc, &read)?))
+            Ok((Reader::NoTape, said_alone(alloc, line, buffers)?))
         }
-        None => {
-            let read = other_line(alloc, line)?;
-            Ok((Reader::NoTape, line_said(alloc, &read)?))
+        None => Ok((Reader::NoTape, said_of(alloc, other_line(alloc, line)?)?)),
+    }
+}
+
+/// Reads a line as `trace` does, and by `text_line`, which has read each line before it too.
+fn read_both(
+    alloc: Global,
+    line: &[u8],
+    buffers: &mut LineBuffers,
+    buffers_alone: &mut LineBuffers,
+) -> Result<Read, AllocError> {
+    let (reader, said) = read_ahead(alloc, line, buffers)?;
+    match said_alone(alloc, line, buffers_alone) {
+        Ok(said_alone) => Ok(Read {
+            reader,
+            said,
+            said_alone,
+        }),
+        Err(refused) => {
+            drop(said);
+            Err(refused)
         }
     }
+}
+
+/// Adds what is read of each line.
+fn add_reads(
+    alloc: Global,
+    lines: &[&[u8]],
+    reads: &mut Vec<Read>,
+    buffers: &mut LineBuffers,
+    buffers_alone: &mut LineBuffers,
+) -> Result<(), AllocError> {
+    for line in lines {
+        reads.push(read_both(alloc, line, buffers, buffers_alone)?)?;
+    }
+    Ok(())
 }
 
 /// Reads each line, in their order.
@@ -157,17 +197,15 @@ fn read_each(alloc: Global, lines: &[&[u8]]) -> Result<Vec<Read>, AllocError> {
     let mut buffers = LineBuffers::new(alloc);
     let mut buffers_alone = LineBuffers::new(alloc);
     let mut reads = Vec::new(alloc);
-    for line in lines {
-        let (reader, said) = read_ahead(alloc, line, &mut buffers)?;
-        let read = text_line(alloc, line, &mut buffers_alone)?;
-        let said_alone = line_said(alloc, &read)?;
-        reads.push(Read {
-            reader,
-            said,
-            said_alone,
-        })?;
+    let answer = add_reads(alloc, lines, &mut reads, &mut buffers, &mut buffers_alone);
+    drop((buffers, buffers_alone));
+    match answer {
+        Ok(()) => Ok(reads),
+        Err(refused) => {
+            drop(reads);
+            Err(refused)
+        }
     }
-    Ok(reads)
 }
 
 /// Reads the lines of a window, which this many workers share.

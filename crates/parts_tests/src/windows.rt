@@ -5,6 +5,7 @@ use crate::ahead::{Read, Reader, read_lines};
 use crate::said::line_said;
 use json_lines::{TextLine, next_tick_lines, skip_blank_lines, window_alone, window_by_workers};
 use std::alloc::{AllocError, AllocGlobal, Global};
+use std::mem::replace;
 use std::process::Abort;
 use std::thread::Threads;
 use std::vec::IntoIter;
@@ -80,7 +81,7 @@ impl<'t> ModelLines<'t> {
             window_by_workers(rt, rt.alloc(), self.rest, self.workers.max(1))?
         };
         self.rest = window.rest;
-        self.read = window.lines.into_iter();
+        drop(replace(&mut self.read, window.lines.into_iter()));
         Ok(self.read.next())
     }
 }
@@ -91,32 +92,6 @@ fn may_be_left(line: &TextLine) -> bool {
         TextLine::Tick(tick) => tick.written.is_err() || tick.at.is_none() || tick.at == Some(LEFT),
         _ => false,
     }
-}
-
-/// Compares what was read of the line of this number, counted from 0, with what it says.
-fn expect_line<H: Abort + AllocGlobal>(
-    rt: &H,
-    number: usize,
-    wanted: &TextLine,
-    read: &Read,
-) -> Result<(), AllocError> {
-    let said = line_said(rt.alloc(), wanted)?;
-    let reader = read.reader;
-    assert_eq!(rt;
-        read.said.as_str(),
-        said.as_str(),
-        "line {number}, {reader:?}"
-    );
-    assert_eq!(rt;
-        read.said_alone.as_str(),
-        said.as_str(),
-        "line {number}, by itself"
-    );
-    assert!(rt;
-        reader != Reader::AfterTape || may_be_left(wanted),
-        "line {number} was left by the tape's readers"
-    );
-    Ok(())
 }
 
 /// What was found in the lines so far.
@@ -142,6 +117,47 @@ impl Found {
     }
 }
 
+/// Compares what was read of the next line with what it says, and says whether it is blank.
+fn expect_line<H: Abort + AllocGlobal>(
+    rt: &H,
+    wanted: &TextLine,
+    read: &Read,
+    found: &mut Found,
+) -> Result<bool, AllocError> {
+    let said = line_said(rt.alloc(), wanted)?;
+    let (number, reader) = (found.lines, read.reader);
+    assert_eq!(rt;
+        read.said.as_str(),
+        said.as_str(),
+        "line {number}, {reader:?}"
+    );
+    assert_eq!(rt;
+        read.said_alone.as_str(),
+        said.as_str(),
+        "line {number}, by itself"
+    );
+    assert!(rt;
+        reader != Reader::AfterTape || may_be_left(wanted),
+        "line {number} was left by the tape's readers"
+    );
+    *found = found.with(wanted, reader);
+    Ok(matches!(wanted, TextLine::Blank))
+}
+
+/// Compares what was read of the next line with what the windows have, and says whether it is blank.
+fn expect_next<H: Abort + AllocGlobal + Threads + Sync>(
+    rt: &H,
+    model: &mut ModelLines<'_>,
+    read: &Read,
+    found: &mut Found,
+) -> Result<bool, AllocError> {
+    let next = model.next(rt)?;
+    let wanted = next.expect(rt, "the windows have fewer lines");
+    let is_blank = expect_line(rt, &wanted, read, found);
+    drop(wanted);
+    is_blank
+}
+
 /// Compares what was read of the lines of a window, and says whether the last one is blank.
 fn expect_lines<H: Abort + AllocGlobal + Threads + Sync>(
     rt: &H,
@@ -151,11 +167,7 @@ fn expect_lines<H: Abort + AllocGlobal + Threads + Sync>(
 ) -> Result<bool, AllocError> {
     let mut ends_blank = false;
     for read in reads {
-        let next = model.next(rt)?;
-        let wanted = next.expect(rt, "the windows have fewer lines");
-        expect_line(rt, found.lines, &wanted, read)?;
-        *found = found.with(&wanted, read.reader);
-        ends_blank = matches!(wanted, TextLine::Blank);
+        ends_blank = expect_next(rt, model, read, found)?;
     }
     Ok(ends_blank)
 }
@@ -168,10 +180,9 @@ fn expect_blanks<H: Abort + AllocGlobal + Threads + Sync>(
 ) -> Result<(), AllocError> {
     for _ in 0..count {
         let next = model.next(rt)?;
-        assert!(rt;
-            matches!(next, Some(TextLine::Blank)),
-            "a line was skipped that is not blank"
-        );
+        let is_blank = matches!(next, Some(TextLine::Blank));
+        drop(next);
+        assert!(rt; is_blank, "a line was skipped that is not blank");
     }
     Ok(())
 }
@@ -183,32 +194,42 @@ fn window_behind(had: usize) -> usize {
         .max(SMALLEST_WINDOW)
 }
 
-/// Compares the two readings of a text, whose first window has so many bytes.
-pub(crate) fn expect_same<H: Abort + AllocGlobal + Threads + Sync>(
+/// Compares the two readings of the next window, of so many bytes, and gives what is behind it, and whether its last
+/// line is blank.
+fn expect_window<'t, H: Abort + AllocGlobal + Threads + Sync>(
     rt: &H,
+    model: &mut ModelLines<'_>,
+    rest: &'t [u8],
+    bytes: usize,
+    reading: Reading,
+    found: &mut Found,
+) -> Result<(&'t [u8], bool), AllocError> {
+    let most = found.ticks.max(reading.first).min(reading.most);
+    let (lines, after) = next_tick_lines(rt.alloc(), rest, bytes.max(1), most.max(1))?;
+    let reads = read_lines(rt, rt.alloc(), &lines, reading.workers)?;
+    let ends_blank = expect_lines(rt, model, &reads, found);
+    drop(reads);
+    Ok((after, ends_blank?))
+}
+
+/// Compares the readings of a text, of which the model has read nothing.
+fn expect_all<H: Abort + AllocGlobal + Threads + Sync>(
+    rt: &H,
+    model: &mut ModelLines<'_>,
     text: &[u8],
     first_bytes: usize,
     reading: Reading,
 ) -> Result<Found, AllocError> {
-    let alloc = rt.alloc();
-    let mut model = ModelLines {
-        read: Vec::new(alloc).into_iter(),
-        rest: text,
-        workers: reading.workers,
-    };
     let mut found = Found::default();
     let mut rest = text;
     let mut bytes = first_bytes;
     for _ in 0..=text.len() {
-        let most = found.ticks.max(reading.first).min(reading.most);
-        let (lines, after) = next_tick_lines(alloc, rest, bytes.max(1), most.max(1))?;
-        let reads = read_lines(rt, alloc, &lines, reading.workers)?;
-        let ends_blank = expect_lines(rt, &mut model, &reads, &mut found)?;
+        let (after, ends_blank) = expect_window(rt, model, rest, bytes, reading, &mut found)?;
         bytes = window_behind(rest.len().saturating_sub(after.len()));
         rest = after;
         if ends_blank {
             let (blanks, behind) = skip_blank_lines(rest);
-            expect_blanks(rt, &mut model, blanks)?;
+            expect_blanks(rt, model, blanks)?;
             rest = behind;
         }
         if rest.is_empty() {
@@ -216,9 +237,28 @@ pub(crate) fn expect_same<H: Abort + AllocGlobal + Threads + Sync>(
         }
     }
     let next = model.next(rt)?;
-    assert!(rt; next.is_none(), "the windows have more lines");
+    let has_ended = next.is_none();
+    drop(next);
+    assert!(rt; has_ended, "the windows have more lines");
     assert!(rt; rest.is_empty());
     Ok(found)
+}
+
+/// Compares the two readings of a text, whose first window has so many bytes.
+pub(crate) fn expect_same<H: Abort + AllocGlobal + Threads + Sync>(
+    rt: &H,
+    text: &[u8],
+    first_bytes: usize,
+    reading: Reading,
+) -> Result<Found, AllocError> {
+    let mut model = ModelLines {
+        read: Vec::new(rt.alloc()).into_iter(),
+        rest: text,
+        workers: reading.workers,
+    };
+    let found = expect_all(rt, &mut model, text, first_bytes, reading);
+    drop(model);
+    found
 }
 
 /// Compares the two readings of a text, by 1, 2, 3 and 64 workers.
