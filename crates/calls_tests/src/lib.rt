@@ -1,7 +1,8 @@
 //! Tests of calls of a replay, of its ticks and of its rounds that no text of a case reaches: a caller from memory to
 //! memory, inputs that are cut or stop, writers that stop; and what workers do in threads: how many updates stand side
 //! by side, that each passes the gate once, that one which is refused ends the replay, that pods are stolen, and that
-//! rounds of several ticks tell what their ticks tell one after the other; a full book, and the ticks that a node takes.
+//! rounds of several ticks tell what their ticks tell one after the other. And a full book, and which ticks a node
+//! takes.
 #![tactic(auto)]
 
 #[cfg(test)]
