@@ -188,9 +188,9 @@ view_of spec h =
       record { role = refl; newest = seen.1; set_up = set_up.1; was_started = started.1 },
     )
 
-pub status_of : (spec : ContainerSpec) (is_evicted : Type 0) (h : List ContainerTick) → OrNot is_evicted
-    → (status : ContainerStatus) × IsShown spec is_evicted h status
-status_of spec is_evicted h evicted_or_not =
+pub status_of : (spec : ContainerSpec) (is_ended_by_node : Type 0) (h : List ContainerTick) → OrNot is_ended_by_node
+    → (status : ContainerStatus) × IsShown spec is_ended_by_node h status
+status_of spec is_ended_by_node h evicted_or_not =
     let view = view_of spec h in
     let seen = view.0.seen in
     let ready = test_of (both (negated evicted_or_not) (ready_or_not spec h)) in
@@ -214,5 +214,5 @@ status_of spec is_evicted h evicted_or_not =
 pub some_status : SomeStatus
 some_status = record {
   view = view_of;
-  shown = λ spec is_evicted h. status_of spec (IsTrue is_evicted) h (true_or_not is_evicted);
+  shown = λ spec is_ended_by_node h. status_of spec (IsTrue is_ended_by_node) h (true_or_not is_ended_by_node);
 }

@@ -108,18 +108,19 @@ impl Container {
         self.serves() && self.probes.ready()
     }
 
-    /// What its pod's status shows of it; `is_evicted` says whether the pod was evicted.
-    pub fn status(&self, is_evicted: bool) -> ContainerStatus
+    /// Returns what its pod's status shows of it; `is_ended_by_node`: the node has ended the pod, by an eviction or for
+    /// another reason of its own.
+    pub fn status(&self, is_ended_by_node: bool) -> ContainerStatus
         ensures { (spec : ContainerSpec) (max_restart_delay : ℕ) (h : List ContainerTick)
-            → IsStateOf spec max_restart_delay h self.now → IsShown spec (IsTrue is_evicted) h result }
+            → IsStateOf spec max_restart_delay h self.now → IsShown spec (IsTrue is_ended_by_node) h result }
     {
         let view = self.view();
         ContainerStatus {
             state: container_state(&view),
             code: view.exit_code(),
             restarts: view.restarts(),
-            ready: is_shown(self.is_ready(), is_evicted),
-            started: is_shown(self.is_started(), is_evicted),
+            ready: is_shown(self.is_ready(), is_ended_by_node),
+            started: is_shown(self.is_started(), is_ended_by_node),
         }
     }
 
@@ -260,8 +261,8 @@ fn is_up(role: Role, seen: Option<Seen>) -> bool
 }
 
 /// Whether a fact is shown, which none is in a pod that was evicted.
-fn is_shown(is_so: bool, is_evicted: bool) -> bool
-    ensures { IsTrue result ↔ ((IsTrue is_evicted → ⊥) × IsTrue is_so) }
+fn is_shown(is_so: bool, is_ended_by_node: bool) -> bool
+    ensures { IsTrue result ↔ ((IsTrue is_ended_by_node → ⊥) × IsTrue is_so) }
 {
-    is_so && !is_evicted
+    is_so && !is_ended_by_node
 }

@@ -64,7 +64,8 @@ fn is_heeded_in(version: Version) -> bool
     matches!(version, Version::Three)
 }
 
-/// Whether the words of tick lines are heeded: in version 3 alone.
+/// Returns whether the version reads the extended format's members of pod lines, tick lines and entries: only version 3
+/// does.
 pub(crate) fn heeds_words(so_far: &TraceSoFar) -> bool
     ensures { result ≡ heeds so_far.now }
 {

@@ -33,12 +33,12 @@ IsRestarts h restarts =
 abbrev pub HasExitedWith : List Tick → ℤ → Type 0
 HasExitedWith h code = (a : ℕ) × IsNewest h a × IsExitCode h a code
 
--- what is shown of the container after these ticks: in a pod that was evicted none is ready or
--- started
-pub record IsShown (spec : ContainerSpec) (is_evicted : Type 0) (h : List ContainerTick)
+-- what is shown of the container after these ticks: in a pod that the node has ended, by an eviction or for a reason
+-- of its own, no container is ready or started
+pub record IsShown (spec : ContainerSpec) (is_ended_by_node : Type 0) (h : List ContainerTick)
     (status : ContainerStatus) : Type 0 where
   pub state : IsContainerState (listings h) status.state
   pub code : (code : ℤ) → ((status.code ≡ Some code) ↔ HasExitedWith (listings h) code)
   pub restarts : IsRestarts (listings h) status.restarts
-  pub ready : IsTrue status.ready ↔ ((is_evicted → ⊥) × IsContainerReady spec h)
-  pub started : IsTrue status.started ↔ ((is_evicted → ⊥) × IsStarted spec h)
+  pub ready : IsTrue status.ready ↔ ((is_ended_by_node → ⊥) × IsContainerReady spec h)
+  pub started : IsTrue status.started ↔ ((is_ended_by_node → ⊥) × IsStarted spec h)

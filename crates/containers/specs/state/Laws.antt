@@ -32,8 +32,8 @@ SomeListOfResults = (h : List ContainerTick) (a : ℕ) → (ticks : List ProbeTi
 -- a container has a view, and a status in a pod that was evicted or was not
 pub record SomeStatus : Type 0 where
   pub view : (spec : ContainerSpec) (h : List ContainerTick) → (view : ContainerView) × IsViewOf spec h view
-  pub shown : (spec : ContainerSpec) (is_evicted : Bool) (h : List ContainerTick)
-      → (status : ContainerStatus) × IsShown spec (IsTrue is_evicted) h status
+  pub shown : (spec : ContainerSpec) (is_ended_by_node : Bool) (h : List ContainerTick)
+      → (status : ContainerStatus) × IsShown spec (IsTrue is_ended_by_node) h status
 
 -- a container has at most one list of exits
 abbrev pub OneListOfExits : Type 0

@@ -21,7 +21,8 @@ pub record TraceSoFar : Type 0 where
 abbrev pub version_in : TraceSoFar → Option Version
 version_in past = option_map (λ (node : NodeConfig). node.version) past.node
 
--- the words of tick lines are heeded in version 3 alone
+-- whether the version reads the extended format's members of pod lines (`spared`), tick lines (`judged`) and their
+-- entries (`unsampled`, `deleting`, `failed`): version 3 alone does; the others ignore them
 abbrev pub heeds_words : Option Version → Bool
 heeds_words None = false
 heeds_words (Some One) = false
