@@ -11,6 +11,10 @@ from typing import NamedTuple
 import script
 
 STOREYS = ("Base", "Format", "Rules", "Threads", "Node", "Program", "Tests")
+# the crates that move pods between threads, and the ones above them that know of no thread: what these define and promise
+# of a node holds for one thread
+POOL = ("piece_deques", "worker_results", "pool_workers", "pod_pool")
+WITHOUT_POOL = ("node_pods", "event_list", "node_rounds", "node_report")
 
 
 class Crate(NamedTuple):
@@ -60,6 +64,26 @@ def faults_of_order(crates):
     order = [STOREYS.index(crate.storey) for crate in crates]
     faults += [f"the storey {STOREYS[later]} comes after {STOREYS[first]}"
                for first, later in zip(order, order[1:]) if later < first]
+    return [f"crates.txt: {fault}" for fault in [*faults, *faults_of_threads(crates)]]
+
+
+def faults_of_threads(crates):
+    """The crates of WITHOUT_POOL that reach the pool, also through others."""
+    below = {crate.name: crate.below for crate in crates}
+    for name in WITHOUT_POOL:
+        reached = standing_below(below, name) if name in below else set()
+        if pool := [other for other in POOL if other in reached]:
+            yield f"{name} reaches {pool[0]}, which moves pods between threads"
+
+
+def faults_of_folders(top, crates):
+    """A crate that has two lines, a line without its folder, and a folder without a line."""
+    names = [crate.name for crate in crates]
+    faults = [f"{name} has {names.count(name)} lines" for name in dict.fromkeys(names) if names.count(name) > 1]
+    folders = sorted(name for name in os.listdir(os.path.join(top, "crates"))
+                     if os.path.isdir(os.path.join(top, "crates", name)))
+    faults += [f"crates/{name} has no line" for name in folders if name not in names]
+    faults += [f"{name} has no folder crates/{name}" for name in dict.fromkeys(names) if name not in folders]
     return [f"crates.txt: {fault}" for fault in faults]
 
 

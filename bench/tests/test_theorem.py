@@ -5,10 +5,11 @@ import os
 import re
 import tempfile
 
-from common import SMALL, TESTS, Case, lay_over, read, run, write
+from common import SMALL, TESTS, Case, lay_over, loaded, read, run, write
 import entries
 import links
 import pages
+import reach
 
 FAULTS = os.path.join(TESTS, "theorem/faults")
 NAMING = ("rules.md", "formats.md", "extended.md", "report.md", "quantities.md")
@@ -26,6 +27,26 @@ def keys_of(crate, **counts):
 def length(keys):
     """As if each definition had 100 lines."""
     return 100 * len(keys)
+
+
+class Private(Case):
+    """Private fields of types, and the definitions that name them."""
+
+    def faults(self, text):
+        nodes = {}
+        for kind, name, words, below in (("type", "Share", "pub struct Share {\n    held: u64,\n}", []),
+                                         ("type", "Other", "pub struct Other {\n    pub held: u64,\n}", []),
+                                         ("definition", "of_other", "of_other o = o.held", ["Other"]),
+                                         ("definition", "of_share", text, ["Share"])):
+            node = reach.Node(kind, "marks", "lib.rt", name, "", words, "lib.rt", 1,
+                              [("marks", "lib.rt", other) for other in below])
+            nodes[node.key] = node
+        return loaded("theorem").private_in(nodes)
+
+    def test_a_field_of_the_same_name_in_another_type_does_not_count(self):
+        self.assertEqual(self.faults("of_share s = 0"),
+                         ["lib.rt:1: the field held of Share is private, and no definition names it"])
+        self.assertEqual(self.faults("of_share s = s.held"), [])
 
 
 class Pages(Case):

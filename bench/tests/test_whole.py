@@ -82,6 +82,30 @@ class Whole(Case):
     def program(self):
         return f"{os.path.realpath(self.top)}/crates/replay_program/out/replay_program"
 
+    def test_a_program_that_is_another_one_at_the_end(self):
+        """The copy that was tried next to the proofs is no longer the program, so the program is tried too."""
+        self.put("kit/rt", KIT.replace("echo \"rt: calls_tests", "echo other >crates/replay_program/out/replay_program\n"
+                                       "echo \"rt: calls_tests"))
+        status, said, _ = self.run_copy()
+        self.assertEqual((status, said[-1]), (0, "47 passed, 0 failed"))
+        self.assertEqual(self.ran(said).count("cases"), 2)
+        self.assertIn("ran cases " + self.program(), said)
+
+    def test_help(self):
+        status, said, fault = self.run_copy("proved", 0, "", 0, "--help")
+        self.assertEqual((status, fault), (0, ""))
+        self.assertIn("  ./test [--install] [--without-tools]", said)
+        self.assertEqual(self.ran(said), [])
+
+    def test_without_the_kit_nothing_is_installed(self):
+        os.mkdir(f"{self.top}/commands")
+        self.put("commands/apt-get", "#!/bin/sh\ntouch installed\n")
+        done = subprocess.run([f"{self.top}/test", "--install"], stdin=subprocess.DEVNULL, capture_output=True, text=True,
+                              check=False, cwd=self.top, env={"PATH": f"{self.top}/commands:/usr/bin:/bin"})
+        self.assertEqual((done.returncode, done.stdout), (127, ""))
+        self.assertEqual(done.stderr, "test: the Rattle kit is missing: put its command rt on the PATH\n")
+        self.assertFalse(os.path.exists(f"{self.top}/installed"))
+
     def test_a_part_that_fails(self):
         for name in ("cases", "edges", "version", "release", "test"):
             with self.subTest(name):

@@ -74,6 +74,26 @@ class Found(Case):
                 "a\t0\t0\t0\t0\t0", "c\t3\t3\t0\t0\t9", "")))
 
 
+class Shelf(Case):
+    """The repository's own edits outside of the gate."""
+
+    def test_each_edit_fits_its_file(self):
+        for name in sorted(os.listdir(f"{TOP}/crates")):
+            for edit in (*edits.paths_of(TOP, name, "wrong-bodies"), *edits.paths_of(TOP, name, "must-fail")):
+                with self.subTest(edit):
+                    self.assertIsNotNone(edits.texts_of(edit, f"{TOP}/crates/{name}"))
+
+    def test_each_row_has_the_number_of_its_folder(self):
+        rows = {row["crate"]: int(row["edits"]) for row in shelf.read_found(TOP)}
+        counts = {name: len(edits.paths_of(TOP, name, "wrong-bodies")) for name in os.listdir(f"{TOP}/crates")}
+        self.assertEqual(rows, {name: count for name, count in counts.items() if count})
+
+    def test_each_edit_was_judged(self):
+        for row in shelf.read_found(TOP):
+            with self.subTest(row["crate"]):
+                self.assertEqual(int(row["edits"]), sum(int(row[kind]) for kind in shelf.KINDS))
+
+
 class Whole(Case):
     def setUp(self):
         self.top = self.enterContext(tempfile.TemporaryDirectory())
