@@ -94,7 +94,7 @@ class Signed(Case):
         for words in KEYS[signer]:
             subprocess.run(words, cwd=room, check=True, capture_output=True)
         status, made, said = run("release", "--program", PROGRAM, "--sign", f"{room}/KEY.sec", room)
-        self.assertEqual((status, made.splitlines()[2:]), (0, [f"{room}/SHA256SUMS", f"{room}/SHA256SUMS.sig"]), said)
+        self.assertEqual((status, made.splitlines()[3:]), (0, [f"{room}/SHA256SUMS", f"{room}/SHA256SUMS.sig"]), said)
         [words] = [line[4:].split() for line in read(TOP, "bench/release").splitlines()
                    if line.startswith(f"#   {signer} ")]
         whole = subprocess.run(words, cwd=room, check=False, capture_output=True)

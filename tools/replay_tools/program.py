@@ -33,11 +33,19 @@ def checked_path() -> str:
     try:
         done = subprocess.run([found, "run", "/dev/stdin"], input=SMALLEST, stdout=subprocess.PIPE, check=False)
     except OSError as fault:
-        raise entry.Fault(f"{found} is missing or can't be started: {fault.strerror}", 127) from None
+        raise entry.Fault(missing(found, fault), 127) from None
     if done.returncode != 0 or not done.stdout.startswith(b"node n1 "):
         raise entry.Fault(f"{found} writes no report (status {done.returncode})", 127)
     built = os.path.join(TOP, BUILT)
     return built if found == os.path.join(TOP, "kubelet_replay") and os.access(built, os.X_OK) else found
+
+
+def missing(found: str, fault: OSError) -> str:
+    """Why the program can't be started, and, in the tools' own archive, where it is."""
+    if not os.environ.get("KUBELET_REPLAY") and os.path.exists(os.path.join(TOP, "BUILD")):
+        return ("this needs the program, which is not in the tools' archive: it is in the archive for Linux on x86-64; "
+                "KUBELET_REPLAY names it. A report needs no program")
+    return f"{found} is missing or can't be started: {fault.strerror}"
 
 
 def format_words(lines: Iterable[bytes]) -> list[str]:

@@ -44,7 +44,7 @@ def verdict_of(path: str, is_extended: bool) -> Verdict:
     try:
         done = subprocess.run(words, stdin=subprocess.DEVNULL, capture_output=True, check=False)
     except OSError as fault:
-        raise entry.Fault(f"{program} is missing or can't be started: {fault.strerror}", 127) from None
+        raise entry.Fault(programs.missing(program, fault), 127) from None
     said = (done.stdout if done.returncode == 0 else done.stderr).decode("utf-8", "replace").split("\n")[0]
     found = REFUSED.fullmatch(said)
     if done.returncode != 2 or not found:

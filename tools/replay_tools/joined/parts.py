@@ -157,7 +157,7 @@ def replayed(source: files.Source, text: bytes, program: str) -> bytes:
     try:
         done = subprocess.run([program, *words], input=text, capture_output=True, check=False)
     except OSError as fault:
-        raise entry.Fault(f"{program} is missing or can't be started: {fault.strerror}", 127) from None
+        raise entry.Fault(programs.missing(program, fault), 127) from None
     if done.returncode == 0:
         return done.stdout
     said = done.stderr.decode("utf-8", "replace").split("\n")[0] or f"status {done.returncode}"

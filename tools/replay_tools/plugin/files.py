@@ -82,7 +82,7 @@ def replayed(path: str) -> IO[bytes]:
     try:
         done = subprocess.run([program, *words], stdout=report, stderr=subprocess.PIPE, check=False)
     except OSError as fault:
-        raise entry.Fault(f"{program} is missing or can't be started: {fault.strerror}", 127) from None
+        raise entry.Fault(programs.missing(program, fault), 127) from None
     if done.returncode != 0:
         said = done.stderr.decode("utf-8", "replace").split("\n")[0] or f"status {done.returncode}"
         if said == "write failed":
@@ -194,7 +194,7 @@ def run_beside(program: str, words: list[str], path: str | None, given: IO[bytes
         process = subprocess.Popen([program, *words], stdin=given, stdout=subprocess.PIPE if to_pipe else output,
                                    stderr=said)
     except OSError as fault:
-        raise entry.Fault(f"{program} is missing or can't be started: {fault.strerror}", 127) from None
+        raise entry.Fault(programs.missing(program, fault), 127) from None
     if process.stdout is not None:
         hand_on(process.stdout)
     status = process.wait()
@@ -275,4 +275,4 @@ def become(program: str, words: list[str]) -> NoReturn:
     try:
         os.execv(program, [program, *words])
     except OSError as fault:
-        raise entry.Fault(f"{program} is missing or can't be started: {fault.strerror}", 127) from None
+        raise entry.Fault(programs.missing(program, fault), 127) from None
