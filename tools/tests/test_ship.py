@@ -63,12 +63,37 @@ def test_each_trace():
     place.look_until(shipping, lambda: shipping.shipment is None and len(os.listdir(place.taken)) == 5)
     paths = [f"{place.into.folder}/{name}" for name in NAMES]
     expect("shipped: in their order", read(f"{place.taken}/list").splitlines(), paths)
-    expect("shipped: the last one is kept", (read(shipping.path), place.said), (f"{NAMES[-1]}\n", []))
+    expect("shipped: their names are kept", (read(shipping.path).splitlines(), place.said), ([NAMES[-1], *NAMES], []))
     os.close(place.folder.descriptor)
     place.into.put("n1.2026-01-01T03-00-00Z_2.trace.gz", b"")
     again = place.shipping("cp", "{}", place.taken)
     place.look_until(again, lambda: again.shipment is None and len(os.listdir(place.taken)) == 6)
     expect("shipped: none is taken twice", [trace.name for trace in again.left()], [])
+    place.clean()
+
+
+def test_a_clock_that_went_back():
+    """A trace that is newer and has an earlier name is taken too, by the same recorder and by the next one; what was not
+    taken is printed at the end. The file of an older version has the last name alone."""
+    place = Place()
+    shipping = place.shipping("cp", "{}", place.taken)
+    place.look_until(shipping, lambda: shipping.shipment is None and len(os.listdir(place.taken)) == 4)
+    back = [f"n1.2025-12-31T2{hour}-00-00Z.trace.gz" for hour in range(3)]
+    place.into.put(back[0], b"")
+    place.look_until(shipping, lambda: shipping.shipment is None and len(os.listdir(place.taken)) == 5)
+    place.into.put(back[1], b"")
+    shipping.end()
+    expect("clock back: what is left is printed", place.said,
+           [f"1 trace is not taken away yet, from {back[1]} on: the next start does that"])
+    os.close(place.folder.descriptor)
+    again = place.shipping("cp", "{}", place.taken)
+    place.look_until(again, lambda: again.shipment is None and len(os.listdir(place.taken)) == 6)
+    expect("clock back: the next start takes the rest alone", sorted(os.listdir(place.taken)), sorted([*NAMES, *back[:2]]))
+    os.close(place.folder.descriptor)
+    with open(again.path, "w", encoding="utf-8") as file:
+        file.write(f"{NAMES[1]}\n")
+    older = place.shipping("cp", "{}", place.taken)
+    expect("clock back: the file of an older version", [trace.name for trace in older.left()], NAMES[2:])
     place.clean()
 
 

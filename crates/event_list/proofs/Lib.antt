@@ -5,3 +5,4 @@ pub mod Adds
 pub mod Merged
 pub mod Ticks
 pub mod Cut
+pub mod Chosen

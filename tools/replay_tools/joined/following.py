@@ -161,6 +161,14 @@ def looked_at(folder: str) -> list[tuple[str, int]]:
     """The traces of a folder with their sizes."""
     try:
         with os.scandir(folder) as found:
-            return sorted((each.name, each.stat().st_size) for each in found if each.name.endswith(files.ENDINGS))
+            return sorted((each.name, size_of(each)) for each in found if each.name.endswith(files.ENDINGS))
     except OSError as fault:
         raise entry.Fault(f"{folder} can't be read: {fault.strerror}") from None
+
+
+def size_of(file: os.DirEntry[str]) -> int:
+    """The bytes of a file of the folder; -1 of a link that leads nowhere, and of a file that has gone meanwhile."""
+    try:
+        return file.stat().st_size
+    except OSError:
+        return -1

@@ -29,6 +29,8 @@ AGAIN_SECONDS, MOST_AGAIN_SECONDS = 10, 600
 # at the end of the recorder a command that runs has so long to end
 END_SECONDS = 5
 MOST_PARTS = 16
+# of the file with the names of what was taken; a folder of 48 hours has some 50 traces
+MOST_NAMES_BYTES = 1 << 20
 
 
 @dataclass(frozen=True)
@@ -71,7 +73,8 @@ class Shipping:
         self.say = say
         self.now = now
         self.path = os.path.join(folder.path, f"{folder.node}.{SHIPPED}")
-        self.last = self.read()
+        # the names of the traces that were taken away, of those that are still there
+        self.taken = self.read()
         self.shipment: Optional[Shipment] = None
         # the begin of what the command says
         self.said = b""
@@ -103,7 +106,7 @@ class Shipping:
 
     def left(self) -> list[Trace]:
         """The traces that were not taken away, in their order."""
-        return [trace for trace in self.folder.traces() if self.last is None or place_of(trace) > self.last]
+        return [trace for trace in self.folder.traces() if trace.name not in self.taken]
 
     # --- one command ---
 
@@ -134,7 +137,7 @@ class Shipping:
         self.shipment = None
         if status == 0:
             self.failures = 0
-            self.last = place_of(shipment.trace)
+            self.taken.add(shipment.trace.name)
             self.write(shipment.trace.name)
         else:
             said = shown_line(self.said.decode("utf-8", "replace"))
@@ -150,22 +153,30 @@ class Shipping:
 
     # --- what was taken ---
 
-    def read(self) -> Optional[tuple[int, int]]:
-        """The place of the trace that was taken last; None where none is known."""
+    def read(self) -> set[str]:
+        """The names of the traces that were taken away. A file with one name is of an older version: its trace and all
+        that come before it were taken. Names alone, and not the newest one, also hold after the clock went back."""
         try:
             with opened(self.path) as file:
-                name = file.read(1 << 12).decode("utf-8", "replace").strip()
+                names = file.read(MOST_NAMES_BYTES).decode("utf-8", "replace").split()
         except OSError:
-            return None
-        return self.folder.place_of(name)
+            return set()
+        if len(names) != 1:
+            return set(names)
+        last = self.folder.place_of(names[0])
+        return {trace.name for trace in self.folder.traces() if last is not None and place_of(trace) <= last}
 
     def write(self, name: str) -> None:
+        """Keeps the names of the taken traces that are still there, the newly taken one first and once more in its
+        place, so that one name alone is never written."""
         temporary = f"{self.path}.part"
+        there = [trace.name for trace in self.folder.traces() if trace.name in self.taken]
+        self.taken = {name, *there}
         try:
             with contextlib.suppress(FileNotFoundError):
                 os.unlink(temporary)
             with os.fdopen(created(temporary), "wb") as file:
-                file.write(f"{name}\n".encode())
+                file.write("".join(f"{each}\n" for each in [name, *there]).encode())
             os.rename(temporary, self.path)
         except OSError as error:
             self.say(f"{self.path} can't be written, so a start later takes traces once more: {why(error)}", SHIPPED)
