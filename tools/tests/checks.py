@@ -65,12 +65,15 @@ def copy_package(top):
     shutil.copytree(f"{TOOLS}/replay_tools", f"{top}/tools/replay_tools", ignore=shutil.ignore_patterns("__pycache__"))
 
 
-def wait_until(what, holds):
-    """Waits for what comes in time on a machine that is not at a standstill; else the test that wants it ends."""
+def wait_until(what, holds, process=None):
+    """Waits for what comes in time on a machine that is not at a standstill; else the test that needs it ends. It ends
+    at once if the process that it waits for has ended."""
     until = time.monotonic() + LONGEST
     while not holds():
         if time.monotonic() > until:
             raise TimeoutError(f"{what}: it did not come in {LONGEST} s")
+        if process is not None and process.poll() is not None and not holds():
+            raise TimeoutError(f"{what}: the process ended with status {process.returncode} before it came")
         time.sleep(0.01)
 
 

@@ -48,7 +48,11 @@ def run_tests(tests, jobs):
     with tempfile.TemporaryDirectory(ignore_cleanup_errors=True) as room:
         os.chmod(room, 0o711)
         run = Run(room, jobs)
-        run.of(longest_first(tests) if jobs > 1 else tests)
+        try:
+            run.of(longest_first(tests) if jobs > 1 else tests)
+        except Interrupted:
+            print(f"{len(run.seconds)} of {len(tests)} tests ran: {run.passed} passed, {run.failed} failed", flush=True)
+            raise
     if WITHOUT_PROGRAM:
         print(f"left out, since they ask the program: {run.left_out}")
     longest = sorted(run.seconds.items(), key=lambda each: -each[1])[:MOST_NAMED]

@@ -19,6 +19,8 @@ import cases
 import ending
 
 PR_SET_PDEATHSIG = 1
+# seconds: between two looks at how long tests take, and the most that one may take on a machine that does much else
+LOOK, LONGEST_TEST = 1.0, 1500
 # what a test tells the run of, a line each
 PASSED, FAILED, LEFT_OUT, DONE, EXITED = "passed", "failed", "left out", "done", "exited"
 
@@ -165,7 +167,7 @@ class Job:
     def __init__(self, test, keeper, pipe, room):
         self.test, self.keeper, self.pipe, self.room = test, keeper, pipe, room
         self.began, self.rest = time.monotonic(), b""
-        self.is_done, self.status = False, None
+        self.is_done, self.status, self.is_told = False, None, False
 
     def lines(self, data):
         """The whole lines of what came, as they were told."""
@@ -184,7 +186,8 @@ class Job:
 
 
 class Run:
-    """Tests that run so many at a time, and the counts of their checks. Each that fails is told as it does."""
+    """Tests that run so many at a time, and the counts of their checks. Each that fails is told as it does, and so is one
+    that takes longer than LONGEST_TEST, which ends it."""
 
     def __init__(self, room, most):
         self.room, self.most = room, most
@@ -202,8 +205,9 @@ class Run:
                 while left and len(self.jobs.get_map()) < self.most:
                     number += 1
                     self.start(left.popleft(), f"{self.room}/{number}")
-                for key, _ in self.jobs.select():
+                for key, _ in self.jobs.select(LOOK):
                     self.hear(key.data)
+                self.end_the_longest()
         finally:
             self.end()
             self.interrupts.as_before()
@@ -234,9 +238,17 @@ class Run:
                 self.fail(more[0])
         if not data:
             self.let_go(job)
-            if not job.is_done:
+            if not job.is_done and not job.is_told:
                 self.fail(f"{job.test.name}: {job.how_it_ended()}")
             self.seconds[job.test.whole_name] = time.monotonic() - job.began
+
+    def end_the_longest(self):
+        """Ends the tests that take too long, each with what it has started."""
+        for job in [key.data for key in self.jobs.get_map().values()]:
+            if time.monotonic() - job.began > LONGEST_TEST and not job.is_told:
+                job.is_told = True
+                self.fail(f"{job.test.name}: ended after {LONGEST_TEST} s, the most that a test may take")
+                os.kill(job.keeper, signal.SIGTERM)
 
     def let_go(self, job):
         self.jobs.unregister(job.pipe)
@@ -252,6 +264,7 @@ class Run:
         """Ends the tests that run, with what they have started."""
         jobs = [key.data for key in self.jobs.get_map().values()]
         for job in jobs:
+            print(f"not ended yet: {job.test.name}, after {time.monotonic() - job.began:.0f} s", flush=True)
             os.kill(job.keeper, signal.SIGTERM)
         for job in jobs:
             self.let_go(job)

@@ -11,6 +11,7 @@ import signal
 import subprocess
 import tempfile
 import threading
+import time
 
 import cases
 from checks import LONGEST, REPLAY, TOOLS, expect, expect_refused, run
@@ -44,7 +45,7 @@ class Followed:
     def __init__(self, *words):
         self.path, self.told = tempfile.mkdtemp(), queue.Queue()
         self.words = words
-        self.process = None
+        self.process, self.readers = None, []
 
     def write(self, name, *lines):
         with open(f"{self.path}/{name}", "a", encoding="utf-8") as file:
@@ -63,16 +64,22 @@ class Followed:
             # a shell has its jobs in the background ignore an interrupt
             preexec_fn=lambda: signal.signal(signal.SIGINT, signal.SIG_DFL))
         for stream in (self.process.stdout, self.process.stderr):
-            threading.Thread(target=self.take, args=(stream,), daemon=True).start()
+            self.readers.append(threading.Thread(target=self.take, args=(stream,), daemon=True))
+            self.readers[-1].start()
 
     def take(self, stream):
         for line in stream:
             self.told.put(line.rstrip("\n"))
 
     def next(self, seconds=LONGEST):
-        """The next line that is told; None where none comes in this time."""
-        with contextlib.suppress(queue.Empty):
-            return self.told.get(timeout=seconds)
+        """The next line that is told; None where none comes in this time, or once the story has ended."""
+        until = time.monotonic() + seconds
+        while time.monotonic() < until:
+            has_ended = self.process.poll() is not None and not any(reader.is_alive() for reader in self.readers)
+            with contextlib.suppress(queue.Empty):
+                return self.told.get(timeout=min(0.1, seconds))
+            if has_ended:
+                break
         return None
 
     def __enter__(self):

@@ -2,6 +2,7 @@
 each is one of unittest's too."""
 
 import os
+import re
 import shutil
 import signal
 import subprocess
@@ -64,7 +65,9 @@ CRASHES = """
 import os, signal, subprocess, sys, time, types
 _, tests, folder, *words = sys.argv
 sys.path.insert(0, tests)
-import run, checks
+import run, checks, side_by_side
+
+side_by_side.LONGEST_TEST = int(os.environ["MOST"] or side_by_side.LONGEST_TEST)
 
 def leave(name):
     with open(f"{folder}/{name}.new", "w") as file:
@@ -172,10 +175,10 @@ class Room:
         os.mkdir(f"{self.path}/left")
         os.mkdir(f"{self.path}/rooms")
 
-    def start(self, *words, hears=signal.SIG_DFL):
+    def start(self, *words, hears=signal.SIG_DFL, most=""):
         return subprocess.Popen([sys.executable, "-c", CRASHES, HERE, f"{self.path}/left", *words],
                                 stdout=subprocess.PIPE, stderr=subprocess.PIPE, text=True,
-                                env={**os.environ, "KUBELET_REPLAY": f"{self.path}/replay",
+                                env={**os.environ, "KUBELET_REPLAY": f"{self.path}/replay", "MOST": most,
                                      "TMPDIR": f"{self.path}/rooms"},
                                 preexec_fn=lambda: signal.signal(signal.SIGINT, hears))
 
@@ -233,13 +236,27 @@ def test_an_interrupt_ends_all():
         process.send_signal(number)
         told, said = process.communicate(timeout=LONGEST)
         killed = number == signal.SIGKILL
-        expect(f"a run ended by {number.name}", (process.returncode, told, said), (
-            -number if killed else 128 + number, "", "" if killed else f"tools/test: ended by {number.name}\n"))
+        told = re.sub(r"after \d+ s", "after N s", told)
+        ran = [f"not ended yet: test_that_{name}, after N s" for name in names]
+        ran.append("0 of 2 tests ran: 0 passed, 0 failed")
+        expect(f"a run ended by {number.name}", (process.returncode, told.splitlines(), said), (
+            -number if killed else 128 + number, [] if killed else ran,
+            "" if killed else f"tools/test: ended by {number.name}\n"))
         wait_until("the end of what the tests have started", lambda: not any(map(room.is_left, names)))
         if killed:
             shutil.rmtree(f"{room.path}/rooms")
             os.mkdir(f"{room.path}/rooms")
         room.clean()
+
+
+def test_a_test_that_takes_too_long():
+    """It is named, and ended with what it has started; the others count."""
+    room = Room()
+    status, told, _ = room.run("--jobs", "2", "test_that_goes_on_too", "hears_an_interrupt", most="1")
+    expect("a test that takes too long", (status, told[-2:]), (1, [
+        "FAILED test_that_goes_on_too: ended after 1 s, the most that a test may take", "1 passed, 1 failed"]))
+    wait_until("the end of what it has started", lambda: not room.is_left("goes_on_too"))
+    room.clean()
 
 
 def test_a_run_in_the_background():
