@@ -4,10 +4,11 @@ stand-in of kubectl."""
 import json
 import os
 import shutil
+import subprocess
 import tempfile
 
 import cases
-from checks import HERE, TOOLS, expect, expect_refused, run
+from checks import HERE, LONGEST, TOOLS, expect, expect_refused, run
 from joined_plays import Folder
 
 load_tests = cases.loaded(__name__)
@@ -63,6 +64,12 @@ class Cluster:
     def run(self, tool, *words):
         return run([f"{TOOLS}/{tool}", *words], CLUSTER=self.path, PATH=f"{COMMANDS}:{os.environ['PATH']}",
                    TMPDIR=f"{self.path}/kept")
+
+    def start(self, tool, *words):
+        return subprocess.Popen([f"{TOOLS}/{tool}", *words], stdin=subprocess.DEVNULL, stdout=subprocess.PIPE,
+                                stderr=subprocess.PIPE, text=True,
+                                env={**os.environ, "CLUSTER": self.path, "PATH": f"{COMMANDS}:{os.environ['PATH']}",
+                                     "TMPDIR": f"{self.path}/kept"})
 
     def fetch(self, *words):
         return self.run("fetch", *words, "--into", f"{self.path}/here")
@@ -126,6 +133,27 @@ def test_fetch():
             1, "fetch: n2: its recorder holds no trace yet\nfetch: n3: its recorder recorder-c is Pending\n", ["n1"]))
         expect("fetch, by the plugin", cluster.run("kubectl-replay", "fetch", "n1", "--into", f"{cluster.path}/here"),
                cluster.fetch("n1"))
+
+
+def test_two_fetches():
+    """Two fetches of one node into one folder: each copy has a name of its own until it is whole, and what a fetch that
+    was killed has left goes a day later."""
+    with Folder() as folder, Cluster(folder) as cluster:
+        cluster.put("slow", "0.05")
+        first = cluster.start("fetch", "n1", "--into", f"{cluster.path}/here")
+        second = cluster.start("fetch", "n1", "--into", f"{cluster.path}/here")
+        ends = [process.communicate(timeout=LONGEST) for process in (first, second)]
+        expect("two fetches", ([process.returncode for process in (first, second)], [said for _, said in ends]),
+               ([0, 0], ["", ""]))
+        expect("two fetches: each trace is whole", [name for name in cluster.here() if not name.endswith(".part")
+               and open(f"{cluster.path}/here/{name}", "rb").read() != open(f"{cluster.traces}/{name}", "rb").read()], [])
+        expect("two fetches leave no copy", [name for name in cluster.here() if name.endswith(".copy")], [])
+        names = [f"n1.2026-01-01T00-00-00Z.trace.gz.{digit * 16}.copy" for digit in "ab"]
+        for name in names:
+            cluster.put(f"here/{name}", "half")
+        os.utime(f"{cluster.path}/here/{names[0]}", (1, 1))
+        cluster.fetch("n1")
+        expect("a fetch takes away what was left", [name for name in cluster.here() if name.endswith(".copy")], names[1:])
 
 
 def test_fetch_refused():

@@ -155,6 +155,22 @@ def test_entry():
     shutil.rmtree(folder)
 
 
+def test_entry_writes_through_no_link():
+    """A link that somebody put in the place of the recorder's file is replaced, and what it leads to stays as it was."""
+    with tempfile.TemporaryDirectory() as folder:
+        with open(f"{folder}/kubelet-replay", "w", encoding="utf-8") as file:
+            file.write("#!/bin/sh\n")
+        os.chmod(f"{folder}/kubelet-replay", 0o755)
+        settings = entry_in(folder, KUBELET="none")
+        traces, other = settings["TRACES"], f"{folder}/other"
+        with open(other, "w", encoding="utf-8") as file:
+            file.write("somebody's")
+        os.symlink(other, f"{traces}/.answered")
+        status = run([f"{DEPLOY}/entry"], **settings)[0]
+        expect("the entry writes through no link", (status, read(other), os.path.islink(f"{traces}/.answered")),
+               (0, "somebody's", False))
+
+
 def test_entry_gives_no_token_away():
     """Beside a kubelet with a certificate of its own the recorder says what is to be set, and keeps the token; with
     that certificate, or told to take any, it records."""

@@ -16,6 +16,8 @@ import time
 import cases
 from checks import LONGEST, REPLAY, TOOLS, expect, expect_refused, run
 
+from replay_tools.joined import following
+
 load_tests = cases.loaded(__name__)
 
 BEGIN = 1767225600
@@ -165,6 +167,22 @@ def test_follow_of_the_node():
                told, True)
         left = [line for line in iter(lambda: followed.next(5), None) if "node" in line]
         expect("follow of a node: nothing is told twice", left, [])
+
+
+def test_follow_what_goes():
+    """A link that leads nowhere, and a trace that goes between two looks, end no story."""
+    with Followed() as followed:
+        followed.write(f"{FIRST}.part", NODE, pod("web-7d-x"), pod("calm"), tick(0, RUNS), tick(10, RUNS))
+        os.symlink("/nonexistent/trace", f"{followed.path}/{SECOND}.gz")
+        expect("follow: a link that leads nowhere", following.looked_at(followed.path),
+               [(f"{FIRST}.part", os.path.getsize(f"{followed.path}/{FIRST}.part")), (f"{SECOND}.gz", -1)])
+        followed.start()
+        followed.next()
+        os.remove(f"{followed.path}/{SECOND}.gz")
+        followed.write(f"{FIRST}.part", tick(20, DIED), tick(30, AGAIN))
+        told = [followed.next() for _ in range(2)]
+        expect("follow goes on", (followed.process.poll(), any("died with code 3" in str(line) for line in told)),
+               (None, True))
 
 
 def test_follow_refused():

@@ -2,7 +2,10 @@
 
 from __future__ import annotations
 
+import contextlib
 import os
+import re
+import secrets
 import time
 from concurrent.futures import ThreadPoolExecutor
 from dataclasses import dataclass, field
@@ -19,7 +22,11 @@ MOST_OF_TRACE = traces.LONGEST_TRACE + (1 << 20)
 MOST_OF_NODE = 1 << 30
 # behind so many that did not come no more of a node are asked for
 MOST_FAILED = 3
+# a copy that is not whole yet has a name of its own, so that no other fetch writes or renames it
 COPY = ".copy"
+OWN_COPY = re.compile(r"(.+)\.[0-9a-f]{16}\.copy")
+# one that is older was left by a fetch that was killed: no copy of a trace takes so long
+LEFT_SECONDS = 24 * 3600
 TICK = b'{"kind":"tick"'
 
 
@@ -70,11 +77,27 @@ def open_folder(path: str) -> int:
     if not os.access(path, os.W_OK | os.X_OK):
         os.close(folder)
         raise entry.Fault(f"{path} can't be written to")
-    said = safe_folder.fault(folder, lambda name: files.parts_of(name.removesuffix(COPY))[1] is not None)
+    said = safe_folder.fault(folder, lambda name: files.parts_of(without_copy(name))[1] is not None)
     if said is not None:
         os.close(folder)
         raise entry.Fault(f"{path} {said}")
+    drop_left(folder)
     return folder
+
+
+def without_copy(name: str) -> str:
+    """The name that a copy has once it is whole; another name is that already."""
+    found = OWN_COPY.fullmatch(name)
+    return found[1] if found else name.removesuffix(COPY)
+
+
+def drop_left(folder: int) -> None:
+    """Takes away what a fetch that was killed has left long ago."""
+    for name in os.listdir(folder):
+        if name.endswith(COPY) and files.parts_of(without_copy(name))[1] is not None and safe_folder.is_own(folder, name):
+            with contextlib.suppress(OSError):
+                if now() - os.stat(name, dir_fd=folder, follow_symlinks=False).st_mtime > LEFT_SECONDS:
+                    safe_folder.drop(folder, name)
 
 
 def of_node(cluster: asking.Cluster, recorder: asking.Recorder, folder: int, wanted: Wanted) -> Fetched:
@@ -154,9 +177,9 @@ def take(cluster: asking.Cluster, recorder: asking.Recorder, file: asking.File, 
     """Copies one trace, which has its name once it is whole."""
     if file.size > MOST_OF_TRACE:
         raise asking.NoAnswer(f"{file.name} has {amounts.amount_text(1000 * file.size, True)}, more than a trace may")
-    made = f"{file.name}{COPY}"
+    made = f"{file.name}.{secrets.token_hex(8)}{COPY}"
     try:
-        with os.fdopen(safe_folder.made_anew(folder, made, 0o644), "w+b") as copy:
+        with os.fdopen(safe_folder.made(folder, made, 0o644), "w+b") as copy:
             name = whole(cluster, recorder, file, copy, min(room, MOST_OF_TRACE))
             is_part, until = name.endswith(files.PART), None
             if is_part:

@@ -7,7 +7,7 @@ import sqlite3
 import urllib.parse
 from typing import Any, TYPE_CHECKING
 
-from replay_tools import entry, tables
+from replay_tools import entry, safe_folder, tables
 from replay_tools.fleet import work
 
 if TYPE_CHECKING:
@@ -30,6 +30,18 @@ def check_replaceable(path: str) -> None:
     folder = os.path.dirname(os.path.abspath(path))
     if not os.access(folder, os.W_OK | os.X_OK):
         raise entry.Fault(f"{path} can't be written: {folder} is no folder that can be written to")
+    check_safe(folder, os.path.basename(path))
+
+
+def check_safe(folder: str, name: str) -> None:
+    """Others may not change the database, nor what is kept next to it: Raises Fault where they may write the folder."""
+    descriptor = safe_folder.opened(folder)
+    try:
+        fault = safe_folder.fault(descriptor, lambda other: other == name)
+    finally:
+        os.close(descriptor)
+    if fault is not None:
+        raise entry.Fault(f"{folder} {fault}")
 
 
 def open_database(path: str) -> sqlite3.Connection:

@@ -3,6 +3,7 @@ that begins again takes them from there."""
 
 from __future__ import annotations
 
+import contextlib
 import fcntl
 import gzip
 import hashlib
@@ -12,7 +13,7 @@ import re
 from collections.abc import Iterator
 from typing import Any
 
-from replay_tools import entry
+from replay_tools import entry, safe_folder
 
 
 # of which form the rows are: those of another one are no answers
@@ -25,14 +26,28 @@ class Kept:
     def __init__(self, folder: str, program_sum: str) -> None:
         self.folder, self.program_sum = folder, program_sum
         try:
-            os.makedirs(folder, exist_ok=True)
+            with contextlib.suppress(FileExistsError):
+                os.mkdir(folder, 0o755)
+            self.check_own()
             # held for as long as this process lives, and not by what it starts
-            self.lock = open(os.path.join(folder, "lock"), "a")
+            self.lock = open(os.path.join(folder, "lock"), "a", opener=opened_here)
             fcntl.lockf(self.lock, fcntl.LOCK_EX | fcntl.LOCK_NB)
         except BlockingIOError:
             raise entry.Fault(f"another run writes {folder}; wait until it has ended") from None
         except OSError as fault:
             raise entry.Fault(f"{folder} can't be written: {fault.strerror}") from None
+
+    def check_own(self) -> None:
+        """Raises Fault where what is kept may be of somebody else, whose rows must not be believed."""
+        descriptor = os.open(self.folder, os.O_RDONLY | os.O_DIRECTORY | os.O_NOFOLLOW | os.O_CLOEXEC)
+        try:
+            fault = safe_folder.fault(descriptor, lambda _: True)
+            if fault is None and os.fstat(descriptor).st_uid != os.geteuid():
+                fault = "belongs to another user, whose answers are not taken"
+        finally:
+            os.close(descriptor)
+        if fault is not None:
+            raise entry.Fault(f"{self.folder} {fault}")
 
     def name(self, path: str) -> str:
         """The name of a trace's files: what people call it, and a key of its path, of the program and of the form."""
@@ -67,8 +82,13 @@ class Kept:
     def write(self, path: str, content: bytes) -> None:
         part = path + ".part"
         try:
-            with open(part, "wb") as file:
+            with open(part, "wb", opener=opened_here) as file:
                 file.write(content)
             os.replace(part, path)
         except OSError as fault:
             raise entry.Fault(f"{path} can't be written: {fault.strerror}") from None
+
+
+def opened_here(path: str, flags: int) -> int:
+    """Opens a file, and follows no link to one elsewhere."""
+    return os.open(path, flags | os.O_NOFOLLOW | os.O_CLOEXEC, 0o644)
