@@ -3,14 +3,12 @@ and were, and what the API server's events say of them. kubectl is asked, as one
 
 from __future__ import annotations
 
-import calendar
 import re
-import time
 from collections.abc import Iterable, Iterator
 from dataclasses import dataclass, field
 from typing import Any
 
-from replay_tools import entry, outside
+from replay_tools import dates, entry, outside
 from replay_tools.cluster.kubectl import NoAnswer
 from replay_tools.cluster.recorders import Cluster
 
@@ -183,10 +181,7 @@ def moment_of(event: dict[str, Any]) -> int | None:
     last = series.get("lastObservedTime") if isinstance(series, dict) else None
     stamps = (last, event.get("lastTimestamp"), event.get("eventTime"), event.get("firstTimestamp"))
     stamp = next((STAMP.fullmatch(text) for text in stamps if isinstance(text, str)), None)
-    try:
-        return outside.moment(calendar.timegm(time.strptime(stamp[1], "%Y-%m-%dT%H:%M:%S"))) if stamp else None
-    except ValueError:
-        return None
+    return outside.moment(dates.stamped(stamp[1])) if stamp else None
 
 
 # --- kubectl ---

@@ -2,13 +2,13 @@
 
 from __future__ import annotations
 
-import calendar
 import re
 import time
 from typing import Optional
 
+from replay_tools import dates
+
 ISO = re.compile(r"(\d{4})-(\d\d)-(\d\d)[T ](\d\d):(\d\d):(\d\d)([.,]\d+)? ?(Z|UTC|[+-]\d\d:?\d\d)?(?: UTC)?")
-ZONE = re.compile(r"(Z|UTC)|([+-])(\d\d):?(\d\d)")
 DAY = 86400
 # a moment may be so much later than the newest before it where the year did not change
 HALF_A_YEAR = 183 * DAY
@@ -16,21 +16,12 @@ HALF_A_YEAR = 183 * DAY
 
 def shift_of(zone: Optional[str]) -> Optional[int]:
     """The seconds by which a zone's clock is ahead; None where the text is no zone."""
-    found = ZONE.fullmatch(zone or "Z")
-    if found is None:
-        return None
-    if found[1]:
-        return 0
-    seconds = int(found[3]) * 3600 + int(found[4]) * 60
-    return seconds if found[2] == "+" else -seconds
+    return dates.shift_of(zone or "Z")
 
 
 def seconds_of(year: int, month: int, day: int, hour: int, minute: int, second: int) -> Optional[int]:
     """Seconds since 1970, where there is such a day and time."""
-    is_day = 1970 <= year < 10000 and 1 <= month <= 12 and 1 <= day <= 31
-    if not (is_day and hour < 24 and minute < 60 and second <= 60):
-        return None
-    return calendar.timegm((year, month, day, hour, minute, second))
+    return dates.seconds_of(year, month, day, hour, minute, second)
 
 
 def moment_of_iso(text: str) -> Optional[float]:

@@ -2,13 +2,12 @@
 
 from __future__ import annotations
 
-import calendar
 import re
 import time
 from argparse import Namespace
 from dataclasses import dataclass
 
-from replay_tools import entry
+from replay_tools import dates, entry
 
 # words of a tool that takes several traces
 TRACES = "--traces"
@@ -101,17 +100,13 @@ def moment_of(text: str, word: str, now: float) -> int:
         raise entry.Fault(f"{word} takes a time, as {form}, or seconds since 1970, not '{text}'")
     if parts["zone"] is None:
         raise entry.Fault(f"{word} {text} lacks its zone: {text}Z is UTC, {text}+01:00 an hour before it")
-    date = parts["date"] or time.strftime("%Y-%m-%d", time.gmtime(now + zone_of(parts["zone"])))
-    try:
-        said = time.strptime(f"{date} {parts['hour']}:{parts['minute']}:{parts['second'] or '00'}", "%Y-%m-%d %H:%M:%S")
-    except ValueError:
-        raise entry.Fault(f"{word} {text} is no time that there is") from None
-    at = calendar.timegm(said) - zone_of(parts["zone"])
+    shift = dates.shift_of(parts["zone"])
+    if shift is None:
+        raise entry.Fault(f"{word} {text}: there is no zone {parts['zone']}")
+    date = parts["date"] or time.strftime("%Y-%m-%d", time.gmtime(now + shift))
+    said = dates.seconds_of(*map(int, date.split("-")), int(parts["hour"]), int(parts["minute"]),
+                            int(parts["second"] or 0))
+    if said is None:
+        raise entry.Fault(f"{word} {text} is no time that there is")
+    at = said - shift
     return at if parts["date"] or at <= now else at - SECONDS["d"]
-
-
-def zone_of(text: str) -> int:
-    """The seconds by which a zone's clock is before that of UTC."""
-    if text == "Z":
-        return 0
-    return (1 if text[0] == "+" else -1) * (int(text[1:3]) * 3600 + int(text[4:]) * 60)

@@ -2,15 +2,13 @@
 
 from __future__ import annotations
 
-import calendar
 import glob
 import os
 import re
-import time
 from dataclasses import dataclass
 from typing import TYPE_CHECKING
 
-from replay_tools import entry, outside, report as reports
+from replay_tools import dates, entry, outside, report as reports
 
 if TYPE_CHECKING:
     from replay_tools.joined import asked
@@ -18,7 +16,6 @@ if TYPE_CHECKING:
 # as tools/record --into names them
 NAME = re.compile(r"(?P<node>.+)[.](?P<stamp>\d{4}-\d\d-\d\dT\d\d-\d\d-\d\dZ)(?:_(?P<number>[1-9]\d{0,8}))?"
                   r"[.]trace(?:[.]gz|[.]part)?", re.ASCII)
-STAMP = "%Y-%m-%dT%H-%M-%SZ"
 PART = ".trace.part"
 ENDINGS = (".trace", ".trace.gz", PART)
 MOST_NAMED = 5
@@ -62,10 +59,7 @@ def parts_of(name: str) -> tuple[str | None, int | None, int]:
 
 def begun_of(stamp: str) -> int | None:
     """The moment of a stamp; None where there is no such time."""
-    try:
-        return outside.moment(calendar.timegm(time.strptime(stamp, STAMP)))
-    except ValueError:
-        return None
+    return outside.moment(dates.stamped(stamp))
 
 
 def sources_of(asked: asked.Asked) -> list[Source]:

@@ -2,7 +2,6 @@
 
 from __future__ import annotations
 
-import calendar
 import contextlib
 import errno
 import fcntl
@@ -14,6 +13,8 @@ import time
 from collections.abc import Callable
 from dataclasses import dataclass
 from typing import Any, BinaryIO
+
+from replay_tools import dates
 
 from .part import AHEAD, PART, SHIPPED, Ahead, Part, created, opened
 
@@ -149,10 +150,8 @@ class Folder:
         parts = self.form.fullmatch(entry)
         if parts is None or parts["kind"] != kind:
             return None
-        try:
-            return calendar.timegm(time.strptime(parts["stamp"], STAMP)), int(parts["number"] or 1)
-        except ValueError:
-            return None
+        begun = dates.stamped(parts["stamp"])
+        return None if begun is None else (begun, int(parts["number"] or 1))
 
     def entries(self) -> list[str]:
         try:

@@ -2,11 +2,12 @@
 
 from __future__ import annotations
 
-import calendar
 import re
 from collections.abc import Callable
 from dataclasses import dataclass, replace
 from typing import Any, Optional, TYPE_CHECKING
+
+from replay_tools import dates
 
 from .answers import read_json, read_parts
 from .formats import whole_fault
@@ -83,11 +84,11 @@ def moment_of(text: str | None) -> float | None:
     parts = MOMENT.fullmatch(text or "")
     if parts is None:
         return None
-    seconds = calendar.timegm(tuple(map(int, parts.groups()[:6])))
-    if parts[9]:
-        shift = int(parts[10]) * 3600 + int(parts[11]) * 60
-        seconds += -shift if parts[9] == "+" else shift
-    return seconds + float(parts[7] or 0) if seconds > 0 else None
+    year, month, day, hour, minute, second = map(int, parts.groups()[:6])
+    seconds, shift = dates.seconds_of(year, month, day, hour, minute, second), dates.shift_of(parts[8])
+    if seconds is None or shift is None or seconds - shift <= 0:
+        return None
+    return seconds - shift + float(parts[7] or 0)
 
 
 def code_fault(code: int) -> str | None:
