@@ -8,8 +8,8 @@ from collections.abc import Callable
 from dataclasses import dataclass
 from typing import Any, TYPE_CHECKING
 
-from replay_tools import (amounts, clock, endings, entry, kubelet as kubelets, naming, overview, report as reports,
-                          summary, traces, why as why_ticks, why_text)
+from replay_tools import (amounts, clock, endings, entry, kubelet as kubelets, naming, overview, provenance,
+                          report as reports, summary, traces, why as why_ticks, why_text)
 from replay_tools.joined import asked, known
 
 if TYPE_CHECKING:
@@ -150,6 +150,10 @@ def why(given_to: Given, trace: traces.Trace, pods: list[reports.Pod], show: Cal
 
     def head(pod: reports.Pod) -> str:
         line = worst_line(given_to, pod, show, kubelet) + "\n" if with_worst else ""
+        if with_worst:
+            # a story has them in its own head
+            above = [*provenance.head_lines(trace, show), *provenance.manifest_lines(trace.pods[pod.number])]
+            line = "".join(f"{each}\n" for each in above) + line
         return f"why {pod.key} on {report.node}{reports.number_words(report, pod)}\n{line}\n"
 
     return "\n".join(head(pod) + why_of(trace, report, pod, show, kubelet, given_to.is_near) for pod in pods)

@@ -132,7 +132,8 @@ def alone_of(rules: list[reports.Eviction], found: Kubelet) -> list[Alone]:
 def then(facts: list[Fact], eviction: reports.Eviction) -> str:
     """Whom the kubelet evicted when the rules did."""
     near = [fact.decision for fact in facts if abs(fact.decision.at - eviction.at) <= NEAR]
-    return f"the kubelet evicted {near[0].pod} then" if near else "the kubelet evicted no pod then"
+    return f"the kubelet evicted {near[0].pod} then" if near else \
+        "the kubelet was not seen to evict a pod then"
 
 
 # --- why they differ ---
@@ -202,7 +203,8 @@ def ticks_near(trace: traces.Trace, report: reports.Report, at: int) -> list[tra
 def other_causes(trace: traces.Trace, report: reports.Report, decision: traces.Decision, limit: traces.Threshold,
                  usages: dict[int, dict[str, int]]) -> list[list[str | int]]:
     """The causes where a threshold was due."""
-    place = max(place for place, tick in enumerate(trace.ticks) if tick.at <= decision.at + NEAR)
+    # a trace may begin with an eviction of the trace before it
+    place = max((place for place, tick in enumerate(trace.ticks) if tick.at <= decision.at + NEAR), default=0)
     before = [eviction for eviction in endings.by_rules(report) if eviction.at <= trace.ticks[place].at]
     candidates = why.candidates_of(trace, report, place, limit.signal, decision.number, usages)
     ours = next((each for each in candidates if each.victim), None)
@@ -340,7 +342,7 @@ def verb(eviction: reports.Eviction) -> str:
 def alone_words(alone: Alone, show: Callable[[int], str]) -> str:
     """That the rules alone evict a pod."""
     times = f", the first of {alone.times} times" if alone.times > 1 else ""
-    return (f"the kubelet did not evict it; the rules, over the recorded samples, {verb(alone.eviction)} it at "
+    return (f"the kubelet was not seen to evict it; the rules, over the recorded samples, {verb(alone.eviction)} it at "
             f"{show(alone.eviction.at)}{times}" + causes_text(alone.causes, show))
 
 

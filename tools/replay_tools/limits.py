@@ -48,6 +48,9 @@ def limit_of(event: reports.Event, trace: traces.Trace) -> Limit | None:
     return None
 
 
+MISSED = "the samples, 10 s apart, missed the rise"
+
+
 @dataclass(frozen=True)
 class Used:
     """The last sample of an instance's memory before it died, in bytes, and how many seconds before."""
@@ -56,6 +59,9 @@ class Used:
     age: int
 
     def words(self) -> str:
+        if not self.memory:
+            # a container that ran used more: its cgroup was gone when it was sampled
+            return MISSED
         when = f" {self.age} s before" if self.age else ""
         return f"it used {amounts.amount_text(1000 * self.memory, True)}{when}"
 

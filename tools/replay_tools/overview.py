@@ -5,7 +5,7 @@ from __future__ import annotations
 from collections.abc import Callable
 from typing import TYPE_CHECKING
 
-from replay_tools import entry, report as reports, summary as summing, telling
+from replay_tools import entry, provenance, report as reports, summary as summing, telling
 
 if TYPE_CHECKING:
     from replay_tools import kubelet as kubelets, traces
@@ -27,6 +27,7 @@ def text(report: reports.Report, namespace: str | None, show: Callable[[int], st
     where, of_time = "" if namespace is None else f" in {namespace}", f" since {show(since)}" if is_part else ""
     title = f"{report.node}: {entry.counted(len(rows), 'pod')}{where}, the worst{of_time} first"
     of_node = telling.node_lines(trace, report, pods, show, since) if trace is not None else []
+    of_node = [*provenance.head_lines(trace, show), *of_node]
     return "\n".join([*of_node, *telling.table(title, heads, rows)[:-1]]) + "\n"
 
 

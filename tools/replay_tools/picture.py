@@ -5,10 +5,11 @@ from __future__ import annotations
 from html import escape
 from typing import TYPE_CHECKING
 
-from replay_tools import clock as clocks, entry, kubelet as kubelets, lanes as made, report as reports, telling
+from replay_tools import (clock as clocks, entry, kubelet as kubelets, lanes as made, reasons, report as reports,
+                          telling)
 
 if TYPE_CHECKING:
-    from replay_tools import reasons, traces
+    from replay_tools import traces
     from replay_tools.said import Said
 
 WIDTH, RIGHT, TOP = 1200, 70, 34
@@ -122,6 +123,16 @@ def gaps(picture: Picture, report: reports.Report, bottom: float) -> None:
                              f'height="{bottom - TOP:.1f}" fill="#eef1f4"><title>{title}</title></rect>')
 
 
+def kubelet_starts(picture: Picture, trace: traces.Trace | None, bottom: float) -> None:
+    """A dashed line where the kubelet was started anew."""
+    for at in trace.kubelet_starts() if trace else ():
+        if at >= picture.first:
+            x = picture.x(at)
+            picture.parts.append(f'<line x1="{x:.1f}" y1="{TOP}" x2="{x:.1f}" y2="{bottom:.1f}" class="restarted">'
+                                 f"<title>{telling.RESTARTED} at {picture.moment(at)}</title></line>")
+            picture.text(x + 3, TOP + 9, telling.RESTARTED, "small")
+
+
 def node_lanes(picture: Picture, report: reports.Report, kubelet: kubelets.Kubelet | None, y: float) -> float:
     """The node's conditions that were ever True, and its evictions; gives the y below them."""
     y = pressure_lanes(picture, report, y)
@@ -183,6 +194,8 @@ def container_lane(picture: Picture, lane: made.Lane, trace: traces.Trace | None
     for state in lane.states:
         words = f"{lane.name}: {state_words(state, trace)}, {picture.span_words(state)}"
         picture.bar(state.since, state.until, y, BAR, colour_of(state), words)
+    for state in lane.states:
+        death_text(picture, state, lane.waits, trace, y)
     for wait in lane.waits:
         wait_text(picture, wait, lane.states, y)
     for run in runs_of(picture, lane.orders):
@@ -223,6 +236,23 @@ def colour_of(state: made.State) -> str:
     if state.died is None:
         return state.value
     return "Ended with 0" if state.code == 0 else "Ended otherwise"
+
+
+def death_text(picture: Picture, state: made.State, waits: list[reasons.Wait], trace: traces.Trace | None,
+               y: float) -> None:
+    """The code of an instance that ended otherwise than with 0, and why, in its bar where there is room in front of why
+    the container waits."""
+    if state.died is None or state.code == 0 and not state.is_guessed:
+        return
+    reason = reasons.short_words(state.died, trace)
+    begin = picture.x(picture.first if state.since is None else state.since)
+    end = picture.x(state.until) if state.until is not None else WIDTH - RIGHT
+    end = min([end, *(picture.x(wait.since) for wait in waits if wait.since > (state.since or 0) and
+                      picture.x(wait.since) > begin)])
+    if 12 + 0.8 * width_of(reason) <= end - begin:
+        title = f"{state_words(state, trace)}, {picture.span_words(state)}"
+        picture.parts.append(f'<text x="{begin + 6:.1f}" y="{y + BAR - 3:.1f}" style="font-size:10px;fill:#ffffff">'
+                             f"{escape(reason)}<title>{escape(title)}</title></text>")
 
 
 def wait_text(picture: Picture, wait: reasons.Wait, states: list[made.State], y: float) -> None:
@@ -337,13 +367,15 @@ def legend(picture: Picture, y: float, is_beside: bool, has_said: bool) -> None:
 STYLE = """\
 text{font-family:DejaVu Sans,Verdana,sans-serif;font-size:12px;fill:#17212b}
 .small{font-size:11px;fill:#5a6775}.pod{font-size:13px;font-weight:bold}.title{font-size:15px;font-weight:bold}
-.grid{stroke:#d9dfe6;stroke-width:1}.end{stroke:#17212b;stroke-width:1.6}"""
+.grid{stroke:#d9dfe6;stroke-width:1}.end{stroke:#17212b;stroke-width:1.6}
+.restarted{stroke:#5a6775;stroke-width:1;stroke-dasharray:4 3}"""
 
 
 def draw(report: reports.Report, pods: list[reports.Pod], clock: clocks.Clock, kubelet: kubelets.Kubelet | None = None,
          trace: traces.Trace | None = None) -> str:
     """The picture of a report, as a text."""
     named = reports.moments(report) + [fact.decision.at for fact in (kubelet.facts if kubelet else ())]
+    named += [trace.ticks[-1].at] if trace and trace.ticks else []
     first, last = min(named), max(named)
     if any(reports.first_tick(pod) > 0 for pod in report.pods):
         # a pod without a tick has the moment 0 everywhere
@@ -357,6 +389,7 @@ def draw(report: reports.Report, pods: list[reports.Pod], clock: clocks.Clock, k
     for pod in pods:
         y = pod_lanes(body, report, pod, kubelet, trace, y)
     gaps(picture, report, y - 4)
+    kubelet_starts(picture, trace, y - 4)
     axis(picture, last, y - 4)
     picture.parts += body.parts
     span = f"{picture.moment(first)} to {picture.moment(last)}" + ("" if clock is not clocks.Clock.SECONDS else " s")

@@ -15,6 +15,7 @@ LOST = 137
 OUT_OF_MEMORY = "OOMKilled"
 # what a runtime says where it knows no more than the code
 PLAIN = "Error"
+HOOK_FAILED = "PostStartHookError"
 # a start that failed
 NEVER_RAN = ("StartError", "ContainerCannotRun", "CreateContainerError", "RunContainerError")
 # a tick line without one of them says no reason
@@ -37,6 +38,8 @@ class End:
     used: limits.Used | None = None
     log: list[str] = field(default_factory=list)
     """the last lines that it wrote"""
+    log_left_out: int = 0
+    """how many of its last lines the trace leaves out"""
 
 
 @dataclass
@@ -116,6 +119,7 @@ class Reasons:
         end.used = limits.used_in(said) or end.used
         lines = said.get("log")
         end.log = list(filter(None, map(outside.text_of, lines))) if isinstance(lines, list) else end.log
+        end.log_left_out = outside.whole(said.get("logLeftOut"), 1, outside.MOST_OF_CODE) or end.log_left_out
 
     def end_of(self, event: reports.Event) -> End | None:
         """How the instance of a death ended; None where the trace does not say it."""
@@ -192,6 +196,13 @@ def cause_words(event: reports.Event, code: int, trace: traces.Trace | None, is_
     return "it was no longer listed, its own code is not known"
 
 
+def short_words(event: reports.Event, trace: traces.Trace | None) -> str:
+    """The code of a death and the reason, as far as they are known, as a lane has them."""
+    end = trace.reasons.end_of(event) if trace is not None else None
+    reason = f" {end.reason}" if end is not None and end.reason and end.reason != PLAIN else ""
+    return f"{code_words(event.rest[1], end)}{reason}"
+
+
 def code_words(code: int | str, end: End | None) -> str:
     """A code that stands in a table, which is not told where it was guessed."""
     return "unknown" if end is not None and end.is_guessed else str(code)
@@ -208,8 +219,10 @@ def reason_words(event: reports.Event, end: End, reason: str, trace: traces.Trac
     if reason == OUT_OF_MEMORY:
         limit = limits.limit_of(event, trace)
         used = f", {end.used.words()}" if end.used is not None else ""
-        had = f"{limit.whose} memory limit is {limit.text}" if limit else "it has no memory limit"
-        return f"{OUT_OF_MEMORY}, {had}{used}"
+        had = f"{limit.whose} memory limit is {limit.text}" if limit else \
+            "its memory limit is unknown" if is_of_guessed(event, trace) else "it has no memory limit"
+        by_itself = "" if end.code in (LOST, None) else f", it exited with {end.code} by itself"
+        return f"{OUT_OF_MEMORY}, {had}{used}{by_itself}"
     if reason == PLAIN and end.code == LOST and not end.is_guessed:
         return f"{PLAIN}, as signal 9 leaves it"
     return f"{reason}: {end.message}" if end.message and is_whole else reason
@@ -222,18 +235,31 @@ def because_lines(event: reports.Event, trace: traces.Trace) -> list[str]:
     if end is None:
         return []
     wrote = ["it wrote last:", *(f"  {line}" for line in end.log)] if end.log else []
-    return [*meaning_lines(event, end, trace), *wrote]
+    return [*meaning_lines(event, end, trace), *wrote, *left_out_lines(end)]
+
+
+def left_out_lines(end: End) -> list[str]:
+    """How many of the last lines of an instance the trace leaves out, as they may hold a secret."""
+    count = end.log_left_out
+    verb = "is" if count == 1 else "are"
+    return [f"{count} of its last lines {verb} left out: nothing in them is known to be no secret"] if count else []
 
 
 def meaning_lines(event: reports.Event, end: End, trace: traces.Trace) -> list[str]:
     if end.reason == OUT_OF_MEMORY:
         limit = limits.limit_of(event, trace)
         because = f"it came to {limit.whose} memory limit, {limit.text} ({limit.field})" if limit else \
-            "memory ran out, and it has no limit of its own"
+            "memory ran out; its manifest is unknown, so whether it has a limit is too" if is_of_guessed(event, trace) \
+            else "memory ran out, and it has no limit of its own"
+        if end.code not in (LOST, None):
+            return [f"the kernel killed a process in it since {because}{left_words(event, trace)}; the container then "
+                    f"exited with {end.code} by itself"]
         return [f"OOM-killed because {because}{left_words(event, trace)}"]
     if end.reason == PLAIN and end.code == LOST and not end.is_guessed:
         return [f"the runtime says {PLAIN} and not {OUT_OF_MEMORY}: it was killed, as at the end of a grace period, or "
                 f"exited with {LOST} itself"]
+    if end.reason == HOOK_FAILED:
+        return [f"its postStart hook failed, so the kubelet killed it{f': {end.message}' if end.message else ''}"]
     if end.reason in NEVER_RAN:
         return [f"the runtime could not start it{f': {end.message}' if end.message else ''}"]
     return []
@@ -258,6 +284,11 @@ def is_guessed(event: reports.Event, trace: traces.Trace | None) -> bool:
     """Whether the trace says that the code of a death was guessed."""
     end = trace.reasons.end_of(event) if trace is not None and event.word == "died" else None
     return end is not None and end.is_guessed
+
+
+def is_of_guessed(event: reports.Event, trace: traces.Trace) -> bool:
+    """Whether an event is of a pod whose manifest is unknown."""
+    return event.number is not None and trace.pods[event.number].is_guessed
 
 
 def is_listed(event: reports.Event, trace: traces.Trace) -> bool:

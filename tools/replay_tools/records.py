@@ -23,7 +23,7 @@ def records_of(report: reports.Report, kubelet: kubelets.Kubelet | None = None, 
         span = trace.ticks[0].at, trace.ticks[-1].at
     last = span[1] if span else last_moment(report)
     yield node_record(report, span[0] if span else first_moment(report), last, known) | (
-        {} if kubelet is None else {"tells_kubelet": True})
+        {} if kubelet is None else {"tells_kubelet": True}) | of_trace(trace)
     for number, event in enumerate(report.events):
         yield event_record(report, number, event) | reason_fields(event, trace)
     for number, border in enumerate(report.borders):
@@ -31,7 +31,8 @@ def records_of(report: reports.Report, kubelet: kubelets.Kubelet | None = None, 
     ranked = summing.summaries(report, trace, kubelet, last, known)
     ranks = {summary.number: (rank, summary) for rank, summary in enumerate(ranked, 1)}
     for pod in report.pods:
-        yield pod_record(report, pod, *ranks[pod.number], known) | deletion_fields(pod, trace)
+        yield (pod_record(report, pod, *ranks[pod.number], known) | deletion_fields(pod, trace)
+               | manifest_fields(pod, trace))
         for container in pod.containers:
             yield container_record(report, pod, container, known, trace)
         for condition in pod.conditions:
@@ -45,6 +46,14 @@ def records_of(report: reports.Report, kubelet: kubelets.Kubelet | None = None, 
         yield decision_record(report, number, decision, fact)
     if trace is not None:
         yield from cause_records(report, trace, last or 0, known)
+
+
+def of_trace(trace: traces.Trace | None) -> dict[str, Any]:
+    """When the kubelet was started anew, and whether the trace was imported, where a trace says one of these."""
+    if trace is None:
+        return {}
+    starts = trace.kubelet_starts()
+    return ({"kubelet_started_at": starts} if starts else {}) | ({"imported": True} if trace.is_imported() else {})
 
 
 def first_moment(report: reports.Report) -> int | None:
@@ -124,6 +133,12 @@ def pod_record(report: reports.Report, pod: reports.Pod, rank: int, summary: sum
         "evicted_kind": evicted.kind if evicted else None, "worst": summary.found.worst.value,
         "worst_at": summary.found.at, "worst_words": summary.found.words or None, "rank": rank,
     }
+
+
+def manifest_fields(pod: reports.Pod, trace: traces.Trace | None) -> dict[str, Any]:
+    """Where its manifest is unknown, that it is, and with it the class."""
+    is_guessed = trace is not None and trace.pods[pod.number].is_guessed
+    return {"qos": None, "manifest_is_unknown": True} if is_guessed else {}
 
 
 def deletion_fields(pod: reports.Pod, trace: traces.Trace | None) -> dict[str, Any]:

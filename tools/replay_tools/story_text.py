@@ -5,10 +5,10 @@ from __future__ import annotations
 from collections.abc import Callable
 from typing import TYPE_CHECKING
 
-from replay_tools import asking, endings, kubelet as kubelets, reasons, report as reports, why_text
+from replay_tools import asking, endings, kubelet as kubelets, provenance, reasons, report as reports, why_text
 from replay_tools.joined import told as told_of_several
-from replay_tools.telling import (beside_words, containers_title, event_words, last_lines, node_lines, node_rows,
-                                  table)
+from replay_tools.telling import (DECIDED, OF_NODE, beside_words, containers_title, event_words, last_lines, node_lines,
+                                  node_rows, rank_of, rank_of_said, table)
 
 if TYPE_CHECKING:
     from replay_tools import traces
@@ -30,7 +30,7 @@ def restarts(report: reports.Report, pod: reports.Pod, show: Show, trace: traces
 
     def add(event: reports.Event, attempt: str, by: str) -> None:
         led = "; ".join(causes.get((event.container, attempt), ["not in the report"]))
-        led += beside_words(pod, event, show)
+        led += beside_words(pod, event, show, trace)
         rows.append((event.at, [show(event.at), event.container or "-", attempt, by, led]))
 
     for event in pod.events:
@@ -89,21 +89,22 @@ def events(report: reports.Report, pod: reports.Pod, show: Show, kubelet: kubele
            trace: traces.Trace | None, is_near: Callable[[int], bool]) -> list[str]:
     """The lines of a table of the events of the pod, those of moments that are near, of what was said of it, of what
     the kubelet did to it, of its deletion, and of what happened to the node."""
-    rows = [(at, ["-", "-", what]) for at, what, _ in (node_rows(trace, report, pod, show) if trace else ())]
+    rows = [(at, OF_NODE, ["-", "-", what]) for at, what, _ in
+            (node_rows(trace, report, pod, show) if trace else ())]
     for event in pod.events:
         attempt, what = event_words(event, kubelet is not None, trace)
-        cells = [event.container or "-", attempt or "-"]
-        rows.append((event.at, [*cells, what + beside_words(pod, event, show)]))
-        rows += [(event.at, [*cells, wrote]) for wrote in last_lines(event, trace)]
-    rows += [(said.at, [said.container or "-", "-", said.words()])
+        cells, rank = [event.container or "-", attempt or "-"], rank_of(event)
+        rows.append((event.at, rank, [*cells, what + beside_words(pod, event, show, trace)]))
+        rows += [(event.at, rank, [*cells, wrote]) for wrote in last_lines(event, trace)]
+    rows += [(said.at, rank_of_said(said), [said.container or "-", "-", said.words()])
              for said in (trace.said.of(pod.number) if trace else ())]
     fact = kubelet and kubelet.fact(pod.number)
     if fact:
-        rows.append((fact.decision.at, ["-", "-", kubelets.event_words(fact.decision)]))
+        rows.append((fact.decision.at, DECIDED, ["-", "-", kubelets.event_words(fact.decision)]))
     if trace and pod.number in trace.deletions:
         deletion = trace.deletions[pod.number]
-        rows.append((deletion.at, ["-", "-", why_text.DELETED.format(by=deletion.words())]))
-    kept = [[show(at), *row] for at, row in sorted(rows, key=lambda row: row[0]) if is_near(at)]
+        rows.append((deletion.at, DECIDED, ["-", "-", why_text.DELETED.format(by=deletion.words())]))
+    kept = [[show(at), *row] for at, _, row in sorted(rows, key=lambda row: row[:2]) if is_near(at)]
     return table(without("Events", len(rows) - len(kept)), ["moment", "container", "attempt", "event"], kept)
 
 
@@ -140,6 +141,7 @@ def gates(pod: reports.Pod, show: Show, trace: traces.Trace | None) -> list[str]
 def story(given: asking.Given, pod: reports.Pod, show: Show, kubelet: kubelets.Kubelet | None = None) -> str:
     """All that the report has of a pod: what it came to, and the tables below it; first what the kubelet did."""
     report, trace, rows = given.report, given.trace, restarts(given.report, pod, show, given.trace)
+    ours = trace.pods[pod.number] if trace else None
     containers = [[found.name, found.state, reasons.code_words(found.code, reasons.last_end(pod, found, trace)),
                    found.restarts, found.ready, found.started] for found in pod.containers]
     ended = reports.end_of(pod)
@@ -148,8 +150,9 @@ def story(given: asking.Given, pod: reports.Pod, show: Show, kubelet: kubelets.K
     names = kubelet is not None and kubelet.names
     is_by_rules = is_evicted and not names and endings.ended_by_kubelet(report, pod) is None
     by_rules = "by the rules " if is_by_rules else ""
-    lines = [f"{pod.key} on {report.node}{reports.number_words(report, pod)}: {by_rules}{pod.phase}{reason}, {pod.qos}",
-             *kubelets.lines_of(kubelet, pod.number, show),
+    lines = [f"{pod.key} on {report.node}{reports.number_words(report, pod)}: {by_rules}{pod.phase}{reason}, "
+             f"{provenance.class_words(ours, pod.qos)}", *provenance.head_lines(trace, show),
+             *provenance.manifest_lines(ours), *kubelets.lines_of(kubelet, pod.number, show),
              *(node_lines(trace, report, [pod], show, given.since) if trace else []),
              asking.worst_line(given, pod, show, kubelet),
              f"first tick {show(reports.first_tick(pod))}"

@@ -3,11 +3,12 @@ others. All tools have these from here, so that a pod stands at the same place i
 
 from __future__ import annotations
 
+from collections.abc import Sequence
 from dataclasses import dataclass
 from enum import Enum
 from typing import TYPE_CHECKING
 
-from replay_tools import endings, kubelet as kubelets, report as reports, telling
+from replay_tools import endings, kubelet as kubelets, reasons, report as reports, telling
 
 if TYPE_CHECKING:
     from replay_tools import decided, traces
@@ -16,6 +17,9 @@ if TYPE_CHECKING:
 NEVER = -1
 # for which a container waits as it starts
 STARTING = ("ContainerCreating", "PodInitializing")
+BACK_OFF = "CrashLoopBackOff"
+# what was said of a pod whose containers could not start
+HOLDS_UP = ("FailedMount", "FailedAttachVolume", "FailedCreatePodSandBox", "FailedScheduling", "NetworkNotReady")
 
 
 class Worst(Enum):
@@ -83,7 +87,7 @@ def summary_of(report: reports.Report, pod: reports.Pod, trace: traces.Trace | N
                kubelet: kubelets.Kubelet | None, last: int, since: int = NEVER) -> Summary:
     whole = sum(int(container.restarts) for container in pod.containers)
     restarts = whole if since == NEVER else sum(came_again(pod, one.name, since) for one in pod.containers)
-    unready = unready_seconds(pod, last, since) if has_ticks(report, pod, trace) else 0
+    unready = unready_seconds(pod, last, since, closed_spans(pod, trace)) if has_ticks(report, pod, trace) else 0
     return Summary(pod.number, worst_of(report, pod, trace, kubelet, since), restarts, unready, whole)
 
 
@@ -133,10 +137,27 @@ def of_events(pod: reports.Pod, events: list[reports.Event], trace: traces.Trace
     def of_word(worst: Worst, word: str) -> Found | None:
         return first_of(worst, [event for event in events if event.word == word], trace)
 
-    return (of_word(Worst.KILLED, "kill") or first_of(kind, crashed, trace) or first_of(Worst.FAILED, failed, trace)
-            or last_wait(pod, trace) or of_word(Worst.BACKED_OFF, "backoff") or of_word(Worst.RESTARTED, "restart")
-            or of_word(Worst.NOT_READY, "unready") or (never_ready(pod) if is_unready_now else None)
+    return (killed(pod, events, trace) or first_of(kind, crashed, trace) or first_of(Worst.FAILED, failed, trace)
+            or last_wait(pod, trace) or past_wait(pod, trace) or of_word(Worst.BACKED_OFF, "backoff")
+            or of_word(Worst.RESTARTED, "restart")
+            or of_word(Worst.NOT_READY, "unready") or (never_ready(pod, trace) if is_unready_now else None)
             or closed_gate(pod, trace))
+
+
+def killed(pod: reports.Pod, events: list[reports.Event], trace: traces.Trace | None) -> Found | None:
+    """The first kill that a probe ordered, with the exit that followed it."""
+    found = first_of(Worst.KILLED, [event for event in events if event.word == "kill"], trace)
+    if found is None:
+        return None
+    kill = next(event for event in events if event.word == "kill")
+    died = telling.death_of(pod, kill)
+    output, probe = telling.more_words(kill, trace), kill.rest[1]
+    if died is None:
+        return found
+    code = reasons.code_words(died.rest[1], trace.reasons.end_of(died) if trace else None)
+    what = (f"{kill.container} killed by its {probe} probe{output}, exited {code} "
+            f"{telling.grace_words(kill, died, trace)}")
+    return Found(Worst.KILLED, kill.at, what, found.times)
 
 
 def first_of(worst: Worst, events: list[reports.Event], trace: traces.Trace | None) -> Found | None:
@@ -154,8 +175,20 @@ def last_wait(pod: reports.Pod, trace: traces.Trace | None) -> Found | None:
                  if wait.until is None and wait.reason not in STARTING), None)
 
 
-def never_ready(pod: reports.Pod) -> Found:
-    return Found(Worst.NOT_READY, pod.condition("Ready").at, "not ready")
+def past_wait(pod: reports.Pod, trace: traces.Trace | None) -> Found | None:
+    """The longest wait that was over before the end, of those for something that was wrong."""
+    waits = [(name, wait, wait.until - wait.since) for name, wait in (trace.reasons.waits_of(pod) if trace else ())
+             if wait.until is not None and wait.reason not in (*STARTING, BACK_OFF)]
+    if not waits:
+        return None
+    name, wait, seconds = max(waits, key=lambda each: each[2])
+    return Found(Worst.WAITS, wait.since, f"{name} waited for {seconds} s: {wait.reason}", len(waits))
+
+
+def never_ready(pod: reports.Pod, trace: traces.Trace | None) -> Found:
+    said = [one for one in (trace.said.of(pod.number) if trace else ()) if one.reason in HOLDS_UP]
+    because = f", {said[-1].reason}: {said[-1].message}" if said and said[-1].message else ""
+    return Found(Worst.NOT_READY, pod.condition("Ready").at, f"not ready{because}")
 
 
 def closed_gate(pod: reports.Pod, trace: traces.Trace | None) -> Found | None:
@@ -179,7 +212,7 @@ def by_rules_alone(pod: reports.Pod, kubelet: kubelets.Kubelet | None, since: in
     if alone is None or alone.eviction.at <= since:
         return None
     does = f"the rules {kubelets.verb(alone.eviction)} it: {alone.eviction.signal} {alone.eviction.kind}"
-    return Found(Worst.BY_RULES_ALONE, alone.eviction.at, f"{does}, the kubelet did not evict it", alone.times)
+    return Found(Worst.BY_RULES_ALONE, alone.eviction.at, f"{does}, the kubelet was not seen to evict it", alone.times)
 
 
 def of_deletion(deletion: decided.Deletion | None, since: int) -> Found | None:
@@ -207,12 +240,31 @@ def has_ticks(report: reports.Report, pod: reports.Pod, trace: traces.Trace | No
     return ours.first < (len(trace.ticks) if ours.gone is None else ours.gone)
 
 
-def unready_seconds(pod: reports.Pod, last: int, since: int = NEVER) -> int:
-    """For how long the pod was not Ready behind a moment, from its first tick until its end, or until it was gone, or
-    else until the last moment."""
+def unready_seconds(pod: reports.Pod, last: int, since: int = NEVER, gates: Sequence[reports.Span] = ()) -> int:
+    """For how long the pod was not Ready after a moment, or one of its readiness gates was not true: from its first
+    tick until its end, or until it was gone, or else until the last moment."""
     end = reports.end_of_spans(pod)
     spans = [span for span in reports.ready_spans(pod) if span.value == "False"]
-    return seconds_of(spans, last if end is None else end, since)
+    return seconds_of(together([*spans, *gates]) if gates else spans, last if end is None else end, since)
+
+
+def closed_spans(pod: reports.Pod, trace: traces.Trace | None) -> list[reports.Span]:
+    """The spans in which a readiness gate of a pod was not true, which the report does not have."""
+    return [reports.Span("False", wait.since, wait.until) for _, wait in trace.reasons.gates_of(pod)] if trace else []
+
+
+def together(spans: list[reports.Span]) -> list[reports.Span]:
+    """Spans that overlap as one, by their begins."""
+    found: list[reports.Span] = []
+    for span in sorted(spans, key=lambda span: NEVER if span.since is None else span.since):
+        before = found[-1] if found else None
+        begin = NEVER if span.since is None else span.since
+        if before is not None and (before.until is None or before.until >= begin):
+            until = None if None in (before.until, span.until) else max(before.until or 0, span.until or 0)
+            found[-1] = reports.Span(before.value, before.since, until)
+        else:
+            found.append(span)
+    return found
 
 
 def seconds_of(spans: list[reports.Span], last: int, since: int) -> int:

@@ -3,6 +3,7 @@ the file, so that many reports can stand in one."""
 
 from __future__ import annotations
 
+import json
 import os
 import sqlite3
 import tempfile
@@ -13,14 +14,14 @@ TABLES = {
     "node": ("nodes", "node TEXT, pods INTEGER, ticks INTEGER, first_moment INTEGER, last_moment INTEGER, "
                       "updates INTEGER, pod_events INTEGER, orders INTEGER, restarts INTEGER, evictions INTEGER, "
                       "memory_pressure_seconds INTEGER, disk_pressure_seconds INTEGER, pid_pressure_seconds INTEGER, "
-                      "tells_kubelet INTEGER"),
+                      "tells_kubelet INTEGER, kubelet_started_at TEXT, imported INTEGER"),
     "pod": ("pods", "node TEXT, number INTEGER, pod TEXT, namespace TEXT, name TEXT, phase TEXT, reason TEXT, "
                     "qos TEXT, ready INTEGER, ready_since INTEGER, first_tick INTEGER, ended_at INTEGER, "
                     "ended_as TEXT, restarts INTEGER, restarts_since INTEGER, deaths INTEGER, kills INTEGER, "
                     "backoffs INTEGER, named INTEGER, became_unready INTEGER, unready_seconds INTEGER, "
                     "evicted_at INTEGER, evicted_signal TEXT, evicted_kind TEXT, worst TEXT, worst_at INTEGER, "
                     "worst_words TEXT, rank INTEGER, deleted_at INTEGER, deleted_by TEXT, "
-                    "deletion_grace_seconds INTEGER"),
+                    "deletion_grace_seconds INTEGER, manifest_is_unknown INTEGER"),
     "container": ("containers", "node TEXT, pod TEXT, pod_number INTEGER, name TEXT, state TEXT, code INTEGER, "
                                 "restarts INTEGER, ready INTEGER, started INTEGER, starts INTEGER, deaths INTEGER, "
                                 "kills INTEGER, backoffs INTEGER, came_again INTEGER"),
@@ -58,7 +59,9 @@ def add_records(connection: sqlite3.Connection, number: int, records: Iterable[d
     rows: dict[str, list[list[Any]]] = {}
     for record in records:
         kind = record["record"]
-        rows.setdefault(kind, []).append([number, *map(record.get, columns(kind))])
+        values = (record.get(column) for column in columns(kind))
+        rows.setdefault(kind, []).append([number, *(json.dumps(value) if isinstance(value, list) else value
+                                                    for value in values)])
     for kind, found in rows.items():
         marks = ", ".join("?" * (len(columns(kind)) + 1))
         connection.executemany(f"INSERT INTO {TABLES[kind][0]} VALUES ({marks})", found)

@@ -12,9 +12,12 @@ from replay_tools import amounts, entry, events, outside, reasons, traces
 
 if TYPE_CHECKING:
     from replay_tools import report as reports
+    from replay_tools.said import Said
 
 ZONE = r"(?:Z|[+-]\d\d:\d\d)"
 DATE = re.compile(rf"\d{{4}}-\d\d-\d\d (?=\d\d:\d\d:\d\d{ZONE})")
+# a kubelet says within so many seconds that it kills what a probe ordered to be killed
+NEAR_KILL = 5
 # a code that no tick says
 UNKNOWN = "unknown"
 # a cell that is a moment, or several of them
@@ -67,9 +70,12 @@ def event_words(event: reports.Event, is_beside: bool = False, trace: traces.Tra
 
 
 def last_lines(event: reports.Event, trace: traces.Trace | None) -> list[str]:
-    """What an instance that died wrote last, a line each, as far as the trace has it."""
+    """What an instance that died wrote last, a line each, as far as the trace has it, and how many lines it leaves
+    out."""
     end = trace.reasons.end_of(event) if trace is not None and event.word == "died" else None
-    return [f"it wrote last: {line}" for line in (end.log if end is not None else [])]
+    if end is None:
+        return []
+    return [*(f"it wrote last: {line}" for line in end.log), *reasons.left_out_lines(end)]
 
 
 def more_words(event: reports.Event, trace: traces.Trace | None) -> str:
@@ -81,8 +87,69 @@ def more_words(event: reports.Event, trace: traces.Trace | None) -> str:
     return f" ({output})" if output else trace.reasons.within_words(event)
 
 
-def beside_words(pod: reports.Pod, event: reports.Event, show: Callable[[int], str]) -> str:
-    """What is not known of an event of several traces: it happened in a gap, or it is counted anew in a trace."""
+# the order in which what has one moment is printed: causes before effects
+OF_NODE, OUTPUT, DECIDED, ORDERED, ENDING, OF_REPORT, SAID_LATER = range(7)
+OUTPUTS = ("Unhealthy", "FailedPostStartHook", "FailedPreStopHook", "FailedMount", "Failed", "Pulling", "Pulled",
+           "Created")
+ENDINGS = ("Killing", "Preempting", "Evicted", "DeadlineExceeded", "ExceededGracePeriod", "NodeShutdown")
+
+
+def rank_of(event: reports.Event) -> int:
+    return ORDERED if event.word == "kill" else OF_REPORT
+
+
+def rank_of_said(said: Said) -> int:
+    return OUTPUT if said.reason in OUTPUTS else ENDING if said.reason in ENDINGS else SAID_LATER
+
+
+def kill_of(pod: reports.Pod, died: reports.Event) -> reports.Event | None:
+    """The order by which an instance that died was killed; None of one that was not."""
+    return next((event for event in pod.events if event.word == "kill" and event.container == died.container
+                 and event.rest[0] == died.rest[0] and event.at <= died.at), None)
+
+
+def death_of(pod: reports.Pod, kill: reports.Event) -> reports.Event | None:
+    """The death that follows a kill order; None where it was not recorded."""
+    return next((event for event in pod.events if event.word == "died" and event.container == kill.container
+                 and event.rest[0] == kill.rest[0] and event.at >= kill.at), None)
+
+
+def grace_words(kill: reports.Event, died: reports.Event, trace: traces.Trace | None) -> str:
+    """How long an instance took to exit: its whole grace period, or so many seconds."""
+    seconds, grace = died.at - kill.at, grace_of(kill, trace)
+    if grace is not None and died.rest[1] == "137" and seconds >= grace > 0:
+        return f"after its grace period of {grace} s"
+    return f"{seconds} s later" if seconds else "at once"
+
+
+def grace_of(kill: reports.Event, trace: traces.Trace | None) -> int | None:
+    """The grace period of a kill: as the kubelet said it, else as the manifest has it."""
+    if trace is None or kill.number is None:
+        return None
+    said = (one.grace for one in trace.said.of(kill.number) if one.reason == "Killing" and one.grace is not None
+            and one.container == kill.container and kill.at <= one.at <= kill.at + NEAR_KILL)
+    pod = trace.pods[kill.number]
+    return next(said, None if pod.is_guessed else pod.grace)
+
+
+def killed_words(pod: reports.Pod, died: reports.Event, show: Callable[[int], str],
+                 trace: traces.Trace | None) -> str:
+    """Of a death that a probe's kill led to, that it did."""
+    kill = kill_of(pod, died) if died.word == "died" else None
+    if kill is None:
+        return ""
+    return (f"; killed by its {kill.rest[1]} probe{more_words(kill, trace)} at {show(kill.at)}, "
+            f"{grace_words(kill, died, trace)}")
+
+
+def beside_words(pod: reports.Pod, event: reports.Event, show: Callable[[int], str],
+                 trace: traces.Trace | None = None) -> str:
+    """What stands next to an event of a pod: the kill that led to a death, and of several traces what is not known of
+    it, since it happened in a gap or is counted anew in a trace."""
+    return killed_words(pod, event, show, trace) + border_words(pod, event, show)
+
+
+def border_words(pod: reports.Pod, event: reports.Event, show: Callable[[int], str]) -> str:
     if event.was_so:
         return " (so before this trace)"
     since = next((since for since, until in pod.gaps if until == event.at), None)
@@ -227,12 +294,28 @@ def not_ready_with(trace: traces.Trace, pods: list[reports.Pod]) -> list[NotRead
     return [one for one in times if any(map(one.holds, moments))]
 
 
+# a kubelet that was started anew asks its probes again; a pod that becomes unready so soon after it does so by that
+AFTER_START = 60
+RESTARTED = "the kubelet was restarted"
+
+
+def starts_with(trace: traces.Trace, pods: list[reports.Pod]) -> list[int]:
+    """The starts of the kubelet after which one of some pods became unready."""
+    starts = trace.kubelet_starts()
+    moments = [event.at for pod in pods for event in pod.events if event.word == "unready"] if starts else []
+    return [start for start in starts if any(start <= at <= start + AFTER_START for at in moments)]
+
+
 def node_rows(trace: traces.Trace, report: reports.Report, pod: reports.Pod,
               show: Callable[[int], str]) -> list[tuple[int, str, list[str]]]:
     """What happened to the node while a pod was there: a moment, what happened, and what of it was of the pod."""
     ours = trace.pods[pod.number]
     rows = [(one.at, one.words(), [f"of this pod {each.name} exited {each.words()}" for each in one.exits_of(ours)])
             for one in reboots(trace, report) if one.is_of(ours)]
+    first = trace.ticks[ours.first].at if ours.first < len(trace.ticks) else None
+    last = trace.ticks[ours.gone].at if ours.gone is not None and ours.gone < len(trace.ticks) else None
+    rows += [(at, RESTARTED, []) for at in trace.kubelet_starts()
+             if first is not None and first <= at and (last is None or at < last)]
     return rows + [(one.since, f"the node was NotReady until {one.end_words(show)}", [])
                    for one in not_ready_with(trace, [pod])]
 
@@ -243,6 +326,7 @@ def node_lines(trace: traces.Trace, report: reports.Report, pods: list[reports.P
     booted = [one for one in reboots(trace, report) if one.at > since]
     lines = [(one.at, one.words(f" at {show(one.at)}")) for one in booted
              if any(one.is_of(trace.pods[pod.number]) for pod in pods)]
+    lines += [(at, f"{RESTARTED} at {show(at)}") for at in starts_with(trace, pods) if at > since]
     lines += [(one.since, f"the node was NotReady from {show(one.since)} to {one.end_words(show)}")
               for one in not_ready_with(trace, pods) if one.until is None or one.until > since]
     return [words for _, words in sorted(lines)]

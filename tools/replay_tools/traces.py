@@ -13,7 +13,7 @@ from replay_tools.amounts import Wrong
 from replay_tools.decided import Decision, Deletion, decisions_of, take_words
 from replay_tools.fields import Bounds, bounds_of, dict_at, list_at, number_at, object_at, text_at, value_at
 from replay_tools.limits import memory_in
-from replay_tools.reasons import Reasons, guesses_code
+from replay_tools.reasons import Reasons, guesses_code, is_guessed_in
 from replay_tools.said import SaidOfPods
 
 if TYPE_CHECKING:
@@ -78,6 +78,8 @@ class Pod:
     """it is no candidate for eviction"""
     memory_limit: int | None = None
     """of all its containers together, in thousandths of a byte"""
+    is_guessed: bool = False
+    """its manifest was made up by who wrote the trace, and has neither a probe nor resources: these are unknown"""
 
     def is_present(self, place: int) -> bool:
         return self.first <= place and (self.gone is None or place < self.gone)
@@ -163,6 +165,14 @@ class Tick:
         return said if isinstance(said, dict) and said.get("status") in ("False", "Unknown") else None
 
 
+    @property
+    def kubelet_started_at(self) -> int | None:
+        """The second at which the kubelet was started, where it says so."""
+        may = self.may_have(b"kubeletStartedAt")
+        line = outside.json_of(self.lines.text[self.begin : self.end]) if may else None
+        return outside.whole(line.get("kubeletStartedAt"), 0, self.at) if isinstance(line, dict) else None
+
+
 @dataclass
 class Threshold:
     signal: str
@@ -195,6 +205,8 @@ class Trace:
     """by the number of the pod"""
     failed: dict[int, Decision] = field(default_factory=dict)
     """that the node has ended a pod, by its number"""
+    marked_wrongly: dict[int, int] = field(default_factory=dict)
+    """when a recorder marked a pod as being deleted that was not, by its number; these are no deletions"""
     gaps: list[tuple[int, int]] = field(default_factory=list)
     """of one that is joined of several, the spans in which nothing was recorded"""
 
@@ -257,6 +269,11 @@ class Trace:
         """Whether the trace says what the kubelet did: where it then says nothing, the kubelet did nothing."""
         return (self.settings.get("recordsKubelet") is True or bool(self.decisions or self.failed)
                 or self.records_evictions())
+
+    def kubelet_starts(self) -> list[int]:
+        """The moments at which the kubelet was started anew, as its ticks say it."""
+        found = (tick.kubelet_started_at for tick in self.ticks)
+        return sorted({at for at in found if at is not None})
 
     def follows(self) -> dict[str, Any] | None:
         return follows_of(self.settings)
@@ -342,7 +359,20 @@ def trace_of(text: bytes, path: str, watch: Callable[..., Any] | None = None) ->
                              "(tools/explain says what it lacks)") from None
     if trace is None:
         raise TraceFault(f"{path} is no trace: it has no line")
+    drop_wrong_deletions(trace)
     return trace
+
+
+def drop_wrong_deletions(trace: Trace) -> None:
+    """Takes away the deletions that a recorder marked wrongly, and keeps when it did."""
+    from replay_tools import provenance
+    try:
+        wrong = provenance.wrongly_deleted(trace) if len(trace.deletions) > 1 else set()
+    except Wrong:
+        # a tick that can't be read is told where it is looked at
+        return
+    for number in wrong:
+        trace.marked_wrongly[number] = trace.deletions.pop(number).at
 
 
 def trace_with(trace: Trace | None, present: dict[str, Pod], lines: Lines, begin: int, end: int) -> Trace:
@@ -360,6 +390,7 @@ def trace_with(trace: Trace | None, present: dict[str, Pod], lines: Lines, begin
             raise Wrong("pod")
         pod.uid = outside.text_of(found.get("uid"))
         pod.is_spared = trace.heeds_words() and found.get("spared") is True
+        pod.is_guessed = is_guessed_in(found, "manifest") and has_bare_manifest(pod)
         present[pod.key] = pod
         trace.pods.append(pod)
     elif kind == "gone":
@@ -417,6 +448,11 @@ def pod_of(number: int, manifest: dict[str, Any], first: int) -> Pod:
     return Pod(number, key, text_at(spec, "restartPolicy", "Always"), number_at(spec, "priority", 0),
                number_at(spec, "terminationGracePeriodSeconds", 30), containers, first,
                memory_limit=memory_in(spec.get("resources")))
+
+
+def has_bare_manifest(pod: Pod) -> bool:
+    """Whether no container has a probe, a request or a limit: one made of an owner's template has what the owner sets."""
+    return not pod.memory_limit and not any(one.probes or one.requests or one.memory_limit for one in pod.containers)
 
 
 def container_of(found: dict[str, Any], role: str) -> Container:

@@ -5,9 +5,10 @@ from __future__ import annotations
 from collections.abc import Callable
 from typing import Any, TYPE_CHECKING
 
-from replay_tools import entry, events, kubelet as kubelets, reasons, traces, why
+from replay_tools import entry, events, kubelet as kubelets, provenance, reasons, traces, why
 from replay_tools.amounts import amount_text
-from replay_tools.telling import beside_words, event_words, node_rows, table
+from replay_tools.telling import (DECIDED, OF_NODE, SAID_LATER, beside_words, event_words, node_rows, rank_of,
+                                  rank_of_said, table)
 
 if TYPE_CHECKING:
     from replay_tools import report as reports
@@ -27,16 +28,18 @@ def whole_text(trace: traces.Trace, report: reports.Report, pod: reports.Pod, sh
                kubelet: kubelets.Kubelet | None = None, is_near: Callable[..., Any] = always) -> str:
     """The lines for each event of a pod of the report, and for what the kubelet did to it, of moments that are near;
     show writes a moment."""
-    parts = [(around.event.at, [heading(around.event, show, kubelet, trace) + beside_words(pod, around.event, show),
-                                *beside(pod, around, show, kubelet), *told(trace, pod, around, show),
-                                *throttled_lines(around, show)])
+    parts = [(around.event.at, rank_of(around.event),
+              [heading(around.event, show, kubelet, trace) + beside_words(pod, around.event, show, trace),
+               *beside(pod, around, show, kubelet), *told(trace, pod, around, show), *throttled_lines(around, show)])
              for around in why.around_events(trace, report, pod)]
-    parts += kubelet_parts(trace, report, pod, show, kubelet) + wait_parts(trace, pod, show)
-    parts += [(said.at, [" ".join(filter(None, [f"{show(said.at)} ", said.container, said.words()]))])
+    parts += [(at, DECIDED, lines) for at, lines in kubelet_parts(trace, report, pod, show, kubelet)]
+    parts += [(at, SAID_LATER, lines) for at, lines in wait_parts(trace, pod, show)]
+    parts += [(said.at, rank_of_said(said), [" ".join(filter(None, [f"{show(said.at)} ", said.container, said.words()]))])
               for said in trace.said.of(pod.number)]
-    parts += [(at, [f"{show(at)}  {what}", *lines]) for at, what, lines in node_rows(trace, report, pod, show)]
+    parts += [(at, OF_NODE, [f"{show(at)}  {what}", *lines])
+              for at, what, lines in node_rows(trace, report, pod, show)]
     lines, kept = [], [part for part in parts if is_near(part[0])]
-    for _, (head, *rest) in sorted(kept, key=lambda part: part[0]):
+    for _, _, (head, *rest) in sorted(kept, key=lambda part: part[:2]):
         lines += [head, *(f"  {line}".rstrip() for line in rest), ""]
     if len(kept) < len(parts):
         count = len(parts) - len(kept)
@@ -103,6 +106,8 @@ def told(trace: traces.Trace, pod: reports.Pod, around: why.Around, show: Callab
     if around.died:
         return ["it died at this tick"]
     if not around.results:
+        if trace.pods[pod.number].is_guessed:
+            return [f"{provenance.UNKNOWN_MANIFEST}: whether it has probes is too"]
         return ["it has no startup and no readiness probe"]
     return [line for results in around.results for line in result_lines(results, show)]
 

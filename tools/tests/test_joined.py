@@ -292,7 +292,7 @@ def test_gap_of_a_recorder():
         status, told, said = folder.tell("story")
         expect("a recorder that did not run", (status, said, told.split("\n")[:2]), (0, "", [
             "5 traces, 2025-12-31 22:53:20Z to 2026-01-01 00:01:21Z",
-            "a gap from 2025-12-31 22:54:19Z to 2026-01-01 00:01:00Z: nothing was recorded, and nothing is told of it",
+            "1 gap in which nothing was recorded: 2025-12-31 22:54:19Z to 2026-01-01 00:01:00Z",
         ]))
         refused = folder.tell("story", "web", "--at", "2025-12-31T23:30Z")
         expect_refused("a moment in a gap", refused, 2, "nothing was recorded at 2025-12-31 23:30:00Z: the traces "
@@ -322,7 +322,7 @@ def test_recorder_that_starts_again():
         status, told, said = run([f"{TOOLS}/story", "--traces", again.folder, f"shop/{name}", "--without-why"])
         table = told.split("Events\n")[1].split("\n\n")[0].split("\n")[1:]
         expect(f"a recorder that starts again {shift} s later: {name}",
-               (status, said, f"a gap from 2026-01-01 00:00:30Z to 2026-01-01 00:00:{shift}Z" in told,
+               (status, said, f"1 gap in which nothing was recorded: 2026-01-01 00:00:30Z to 2026-01-01 00:00:{shift}Z" in told,
                 [line[44:].strip() for line in table]), (0, "", True, wanted))
         again.clean()
     first.clean()

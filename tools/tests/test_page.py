@@ -84,12 +84,13 @@ def test_page_tells_events_as_why_does():
 
 def told_in(data, pod):
     """The events of a pod as decode.js tells them."""
-    for _, place, word, *rest in pod["events"]:
+    for number, (_, place, word, *rest) in enumerate(pod["events"]):
         fields, sentence = data["told"][data["words"][word]]
         why = f": {data['causes'][rest[4]][0]}" if len(rest) > 4 else ""
         given = {**dict(zip(fields, rest)), "why": why}
         name = f"{pod['containers'][place]['name']} " if place >= 0 else ""
-        yield name + (sentence + (data["toldAttempt"] if "attempt" in given else "")).format(**given)
+        note = pod.get("notes", {}).get(str(number), "")
+        yield name + (sentence + (data["toldAttempt"] if "attempt" in given else "")).format(**given) + note
 
 
 def test_page_of_pods_of_one_name():

@@ -127,8 +127,9 @@ def test_pictures_of_reasons():
     expect("timeline: a bar with a reason", [title for title in titles if "OOMKilled, its memory limit" in title],
            ["app: attempt 0 terminated with code 137: OOMKilled, its memory limit is 32Mi, 1767225608 to 1767225609"])
     texts = [text.firstChild.data for text in picture.getElementsByTagName("text") if text.hasAttribute("style")]
-    expect("timeline: waits in the lanes", texts, ["CreateContainerConfigError", "ErrImagePull", "ImagePullBackOff",
-                                                   "CrashLoopBackOff"])
+    expect("timeline: exits and waits in the lanes", texts, [
+        "128 StartError", "CreateContainerConfigError", "ErrImagePull", "ImagePullBackOff", "137 OOMKilled", "1",
+        "CrashLoopBackOff"])
     page = played("page", f"{PLAYED}/trace")[1]
     data = json.loads(re.search(r'<script type="application/json" id="data">(.*?)</script>', page, re.S)[1])
     image = next(pod for pod in data["podList"] if pod["key"] == "shop/image")

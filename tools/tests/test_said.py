@@ -113,7 +113,7 @@ def test_moments_within_a_second():
         for tool in ("story", "why"):
             told = run([f"{TOOLS}/{tool}", "shop/web-0", "--trace", f"{folder}/trace"], read(f"{EXAMPLE}.report"))[1]
             marked = [" ".join(line.split()[:1]) for line in told.partition("\nwhy ")[0].splitlines()
-                      if line.endswith(("(within a second)", "(within a second) (attempt 0)",
-                                        "(within a second) (attempt 1)"))]
+                      if "(within a second)" in line and "killed by" not in line or "(within a second); killed" in line
+                      or "(within a second) (attempt 0); killed" in line]
             expect(f"{tool}: moments within a second", [place for place in marked if place in ("20", "21")][:2],
                    ["20", "21"])

@@ -22,10 +22,11 @@ TRACE, REPORT = f"{KEPT}/trace", f"{KEPT}/report"
 BEGIN = 1767225600
 HOG = "the kubelet evicted it: low on memory, app was using 300Mi, request 0"
 LATE = "ended by the kubelet: DeadlineExceeded (it ran for longer than its activeDeadlineSeconds)"
-NAMED = "the rules name it: memory.available hard, the kubelet did not evict it (first of 2)"
+NAMED = "the rules name it: memory.available hard, the kubelet was not seen to evict it (first of 2)"
 # each pod in the order of all tools: restarts, seconds without readiness, the moment and the words of the worst
 WANTED = (
-    ("shop/hog", 0, 0, 20, HOG), ("shop/late", 0, 0, 30, LATE), ("shop/probed", 1, 2, 30, "app kill order: liveness"),
+    ("shop/hog", 0, 0, 20, HOG), ("shop/late", 0, 0, 30, LATE),
+    ("shop/probed", 1, 2, 30, "app killed by its liveness probe, exited 143 1 s later"),
     ("shop/loop", 1, 48, 10, "app died with code 1: Error (first of 2)"),
     ("shop/guessed", 1, 6, 14, "app died, code unknown"), ("shop/once", 1, 4, 10, "app died with code 2: Error"),
     ("shop/never", 0, 64, 0, "not ready"), ("shop/named", 0, 0, 40, NAMED),
@@ -136,8 +137,8 @@ def test_words_are_told():
         ("hog", ["the kubelet evicted it at 1767225620: low on memory, app was using 300Mi, request 0",
                  "the rules name it too: memory.available hard, at 1767225620"]),
         ("late", [f"the kubelet ended it at 1767225630: {LATE.partition(': ')[2]}"]),
-        ("named", ["the kubelet did not evict it; the rules, over the recorded samples, name it at 1767225640, the "
-                   "first of 2 times; the kubelet evicted no pod then"]),
+        ("named", ["the kubelet was not seen to evict it; the rules, over the recorded samples, name it at 1767225640, "
+                   "the first of 2 times; the kubelet was not seen to evict a pod then"]),
         ("gone", []),
     ):
         lines = told_by("story", pod, "--trace", TRACE, "--without-why").splitlines()
@@ -273,7 +274,7 @@ def test_pods_that_the_rules_evict():
            [(0, "ended"), (1, None), (2, None)])
     lines = run([f"{TOOLS}/story", "--trace", f"{HERE}/whys/kubelet/trace"], read(f"{HERE}/whys/kubelet/report"))[1]
     expect("the rules alone, with one", lines.splitlines()[-1].split("  ")[-1],
-           "the rules evict it: memory.available hard, the kubelet did not evict it")
+           "the rules evict it: memory.available hard, the kubelet was not seen to evict it")
     record = next(record for record in records.records_of(report) if record["record"] == "pod")
     expect("a record has them", [record[name] for name in ("worst", "rank", "named")], ["ended", 1, 0])
 

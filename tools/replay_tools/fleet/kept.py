@@ -17,7 +17,7 @@ from replay_tools import entry, safe_folder
 
 
 # of which form the rows are: those of another one are no answers
-FORM = "5"
+FORM = "6"
 
 
 class Kept:

@@ -105,6 +105,9 @@ def of_node(trace: traces.Trace, report: reports.Report) -> Iterator[tuple[int, 
     own, and what it was."""
     for reboot in telling.reboots(trace, report):
         yield trace.ticks[reboot.before + 1].at, reboot.at, reboot.words()
+    for tick in trace.ticks:
+        if tick.kubelet_started_at is not None:
+            yield tick.at, tick.kubelet_started_at, telling.RESTARTED
     for time_of in telling.times_not_ready(trace):
         said = next(tick.at for tick in trace.ticks if tick.not_ready is not None and tick.at >= time_of.since)
         reason = f": {time_of.reason}" if time_of.reason else ""

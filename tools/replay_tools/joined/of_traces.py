@@ -89,6 +89,8 @@ def take_words(made: traces.Trace, trace: traces.Trace, of: dict[int, int]) -> N
         known = made.deletions.setdefault(of[number], replace(deletion))
         known.by = known.by or deletion.by
         known.grace = deletion.grace if known.grace is None else known.grace
+    for number, at in trace.marked_wrongly.items():
+        made.marked_wrongly.setdefault(of[number], at)
     for number, decision in trace.failed.items():
         made.failed.setdefault(of[number], replace(decision, number=of[number]))
 

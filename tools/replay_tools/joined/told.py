@@ -23,10 +23,11 @@ def head_lines(several: join.Joined, show: Callable[[int], str]) -> list[str]:
     lines = []
     if several.count > 1:
         lines = [f"{entry.counted(several.count, what)}, {show(several.first)} to {show(several.last)}"]
-    for border in report.borders:
-        if border.is_gap:
-            lines.append(f"a gap from {show(border.since)} to {show(border.at)}: nothing was recorded, and nothing is "
-                         "told of it")
+    gaps = [border for border in report.borders if border.is_gap]
+    if gaps:
+        spans = "; ".join(f"{show(border.since)} to {show(border.at)}" for border in gaps[:MOST_LISTED])
+        more = f" and {len(gaps) - MOST_LISTED} more" if len(gaps) > MOST_LISTED else ""
+        lines.append(f"{entry.counted(len(gaps), 'gap')} in which nothing was recorded: {spans}{more}")
     anew = [border for border in report.borders if not border.is_gap]
     if anew:
         more = f" and {len(anew) - MOST_LISTED} more" if len(anew) > MOST_LISTED else ""

@@ -5,8 +5,8 @@ from __future__ import annotations
 
 from typing import Any, overload
 
-from replay_tools import (amounts, events, kubelet as kubelets, lanes as made, reasons, records, report as reports,
-                          summary as summing, telling, traces, why, why_text)
+from replay_tools import (amounts, events, kubelet as kubelets, lanes as made, provenance, reasons, records,
+                          report as reports, summary as summing, telling, traces, why, why_text)
 from replay_tools.clock import Clock
 from replay_tools.page import used
 
@@ -68,11 +68,13 @@ def data_of(report: reports.Report, trace: traces.Trace | None, ticks: why.Ticks
         "gaps": [[span.of(since), span.of(at)] for since, at in report.gaps],
         "reclaims": [[span.of(event.at), *event.rest] for event in report.events if event.word == "reclaim"],
         "evictions": evictions_of(report, trace, ticks, span, left), "kubelet": kubelet_of(kubelet, span),
-        "podList": [pod_of(report, trace, span, pod, lanes, ticks, budget, words) | notes_of(pod, clock)
+        "podList": [pod_of(report, trace, span, pod, lanes, ticks, budget, words) | notes_of(pod, clock, trace)
                     | summary_of(*ranks[pod.number], span) | deletion_of(trace, pod, span)
                     | used_of(trace, pod, span, ticks, samples) | said_of(trace, span, pod, lanes, words, sayings)
                     for pod in report.pods for lanes in (made.lanes_of(pod, trace),)],
         "causes": words.causes, "waits": words.waits, "saids": words.said,
+        "facts": provenance.head_lines(trace, clock.text), "kubeletStarts": [
+            span.of(at) for at in (trace.kubelet_starts() if trace else ()) if at >= span.first],
     }
     refused = sorted({one["key"] for one in data["kubelet"]["refused"]} if data["kubelet"] else ())
     if refused:
@@ -298,10 +300,12 @@ def pod_of(report: reports.Report, trace: traces.Trace | None, span: Span, pod: 
     """What the page shows of a pod: that of the report, and with a trace its listings and results."""
     ended, seen = reports.end_of(pod), summing.has_ticks(report, pod, trace)
     found = {
-        "key": pod.key, "phase": pod.phase, "reason": records.none_of(pod.reason), "qos": pod.qos,
+        "key": pod.key, "phase": pod.phase, "reason": records.none_of(pod.reason),
+        "qos": provenance.class_words(trace.pods[pod.number] if trace else None, pod.qos),
         "first": span.of(reports.first_tick(pod)) if seen else None,
         "end": [span.of(ended[0]), ended[1]] if ended else None, "gone": span.of(pod.left),
-        "unready": summing.unready_seconds(pod, span.last) if seen else 0,
+        "unready": summing.unready_seconds(pod, span.last, gates=summing.closed_spans(pod, trace))
+        if seen else 0,
         "ready": [[span.of(ready.since), int(ready.value == "True")]
                   for ready in (lanes.ready if seen else [])],
         "conditions": [[one.kind, one.value, span.of(one.at) if seen else None, one.reason] for one in pod.conditions],
@@ -312,15 +316,17 @@ def pod_of(report: reports.Report, trace: traces.Trace | None, span: Span, pod: 
     if trace:
         ours = trace.pods[pod.number]
         of_pod = ticks.of(trace, ours)
+        if ours.is_guessed:
+            found["guessed"] = True
         found |= {"policy": ours.policy, "priority": ours.priority,
                   "listings": [listings_of(span, of_pod, container.name) for container in pod.containers],
                   "probes": probes_of(span, ours, of_pod, budget), "waits": waits_of(span, lanes, words)}
     return found
 
 
-def notes_of(pod: reports.Pod, clock: Clock) -> dict[str, Any]:
+def notes_of(pod: reports.Pod, clock: Clock, trace: traces.Trace | None) -> dict[str, Any]:
     """What is not known of events of several traces, by the places of the events; nothing where all is."""
-    told = {str(place): telling.beside_words(pod, event, clock.text)
+    told = {str(place): telling.beside_words(pod, event, clock.text, trace)
             for place, event in enumerate(pod.events)}
     told = {place: words for place, words in told.items() if words}
     return {"notes": told} if told else {}

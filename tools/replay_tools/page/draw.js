@@ -135,6 +135,24 @@ function drawGaps(area) {
   }
 }
 
+// Where the kubelet was started anew: its probes were asked again from there on.
+function drawKubeletStarts(area) {
+  const {pen} = area;
+  pen.save();
+  pen.strokeStyle = colours.quiet;
+  pen.lineWidth = 1;
+  pen.setLineDash([4, 3]);
+  for (const at of data.kubeletStarts) {
+    if (at < view.from || at > view.to) continue;
+    const x = Math.round(xOf(area, at)) + 0.5;
+    pen.beginPath();
+    pen.moveTo(x, 0);
+    pen.lineTo(x, area.height);
+    pen.stroke();
+  }
+  pen.restore();
+}
+
 function isInGap(at) {
   return data.gaps.some((gap) => gap[0] < at && at < gap[1]);
 }
@@ -231,6 +249,7 @@ function drawNodeLanes(canvas) {
   }
   drawName(area, rulesName(data.evictions.length), y);
   drawGaps(area);
+  drawKubeletStarts(area);
   drawReclaims(area, y);
   drawEvictions(area, data.evictions, () => y, ruleColour());
 }
@@ -318,6 +337,7 @@ function drawSignal(canvas, signal) {
   drawThresholds(area, signal, yOf);
   drawLine(area, columns, yOf);
   drawGaps(area);
+  drawKubeletStarts(area);
   const valueAt = (at) => signal.values[placeBefore(tickMoments.length, (place) => tickMoments[place], at)] || 0;
   drawEvictions(area, data.evictions.filter((one) => one.signal === signal.name), (one) => yOf(valueAt(one.at)),
     ruleColour());

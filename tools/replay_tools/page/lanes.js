@@ -163,6 +163,7 @@ function drawRow(row) {
     drawWaits(area, pod, place);
   });
   drawGaps(area);
+  drawKubeletStarts(area);
   pod.containers.forEach((_, place) => drawMarks(area, drawn.marks[place], laneTop(place)));
   for (const event of drawn.said) drawSaid(area, event);
   if (pod.end) drawEnd(area, pod);

@@ -343,6 +343,8 @@ function begin() {
   makeCharts();
   const left = [...data.left, 'of events that fall on one pixel all but the weightiest, until they are zoomed apart'];
   for (const words of left) byId('left').append(element('li', words));
+  for (const words of data.facts) byId('facts').append(element('li', words));
+  byId('facts').hidden = !data.facts.length;
   byId('filter').addEventListener('input', (event) => { shown.filter = event.target.value; refilter(); });
   byId('order').addEventListener('change', (event) => { shown.order = event.target.value; refilter(); });
   byId('whole').addEventListener('click', PRESSED[0]);

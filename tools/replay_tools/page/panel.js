@@ -231,6 +231,7 @@ function resultParts(pod, event) {
   const start = pod.list.filter((one) => one.number < event.number && one.place === event.place
     && one.word === 'started').pop();
   const probes = pod.probes.filter((probe) => probe[0] === event.place && kinds.includes(probe[1]));
+  if (!probes.length && pod.guessed) return [said('Its manifest is unknown: whether it has probes is too.')];
   if (!probes.length) return [said('It has no startup and no readiness probe.')];
   return probes.flatMap((probe) => probeParts(probe, start ? start.at : 0, event.at));
 }

@@ -1,0 +1,95 @@
+"""What a reader has to know of a trace before its stories: that it was imported and what the log lacked, that a
+recorder marked pods wrongly, and which manifests are unknown."""
+
+from __future__ import annotations
+
+from collections.abc import Callable
+from typing import Any, TYPE_CHECKING
+
+from replay_tools import outside
+
+if TYPE_CHECKING:
+    from replay_tools import traces
+
+UNKNOWN_MANIFEST = "its manifest is unknown"
+UNKNOWN_CLASS = "class unknown"
+# a container that runs so long after its pod was marked as being deleted is of a pod that was not deleted: longer than
+# the graces of nearly all pods
+STILL_RUNS = 120
+
+
+def class_words(pod: traces.Pod | None, qos: str) -> str:
+    """A pod's class as its report has it, which says nothing if its manifest is unknown."""
+    return UNKNOWN_CLASS if pod is not None and pod.is_guessed else qos
+
+
+def manifest_lines(pod: traces.Pod | None) -> list[str]:
+    if pod is None or not pod.is_guessed:
+        return []
+    return [f"{UNKNOWN_MANIFEST}: limits, probes, class and restart policy can't be told"]
+
+
+def head_lines(trace: traces.Trace | None, show: Callable[[int], str]) -> list[str]:
+    """Lines above all stories of a trace."""
+    if trace is None:
+        return []
+    return [*imported_lines(trace), *wrongly_deleted_lines(trace, show)]
+
+
+def imported_lines(trace: traces.Trace) -> list[str]:
+    """That a trace was imported, from what, and what that did not have."""
+    if not trace.is_imported():
+        return []
+    said = trace.settings.get("importedFrom")
+    sources, lacks = (texts_in(said, name) for name in ("sources", "lacks"))
+    if not sources:
+        return ["imported from a kubelet's journal: what the journal lacks is missing here, or guessed and marked so"]
+    return [f"imported from {', '.join(sources)}", *([f"the import lacks {', '.join(lacks)}"] if lacks else [])]
+
+
+def texts_in(said: Any, name: str) -> list[str]:
+    found = said.get(name) if isinstance(said, dict) else None
+    texts = map(outside.text_of, found) if isinstance(found, list) else ()
+    return [text for text in texts if text is not None]
+
+
+def wrongly_deleted(trace: traces.Trace) -> set[int]:
+    """The numbers of the pods that a recorder marked as being deleted though nobody had deleted them: a kubelet that
+    had just started answered with an empty list, so all pods were marked in one tick. It is seen if several pods, all
+    that were there, were marked in one tick, nothing says by whom, and a container of them runs long afterwards."""
+    marked: dict[int, list[int]] = {}
+    for number, deletion in trace.deletions.items():
+        if deletion.by is None and deletion.grace is None:
+            marked.setdefault(deletion.at, []).append(number)
+    found: set[int] = set()
+    for at, numbers in marked.items():
+        place = trace.places.get(at)
+        if place is None or len(numbers) < 2:
+            continue
+        there = {pod.number for pod in trace.pods if pod.is_present(place)}
+        before = {number for number, deletion in trace.deletions.items() if deletion.at < at}
+        ended = {number for number, decision in trace.failed.items() if decision.at <= at}
+        if there - before - ended <= set(numbers) and any(runs_after(trace, number, at) for number in numbers):
+            found.update(numbers)
+    return found
+
+
+def runs_after(trace: traces.Trace, number: int, at: int) -> bool:
+    """Whether a container of a pod runs long after a moment."""
+    pod = trace.pods[number]
+    for place in range(len(trace.ticks) - 1, -1, -1):
+        if trace.ticks[place].at <= at + STILL_RUNS:
+            return False
+        if pod.is_present(place):
+            listed = (trace.listing(pod, container.name, place) for container in pod.containers)
+            return any(one is not None and one.state == "CONTAINER_RUNNING" for one in listed)
+    return False
+
+
+def wrongly_deleted_lines(trace: traces.Trace, show: Callable[[int], str]) -> list[str]:
+    if not trace.marked_wrongly:
+        return []
+    moments = sorted({trace.marked_wrongly[number] for number in trace.marked_wrongly})
+    return [f"{len(trace.marked_wrongly)} pods are marked as being deleted at {', '.join(map(show, moments))} that "
+            "nobody deleted: an older recorder took the empty list of a kubelet that had just started for it. Restarts, "
+            "kills and back-offs of these pods after that moment are missing"]
