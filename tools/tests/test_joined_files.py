@@ -2,6 +2,7 @@
 together or at all, reports, and traces that gzip has packed."""
 
 import gzip
+import json
 import os
 import shutil
 import tempfile
@@ -51,7 +52,29 @@ def test_part_that_is_written():
                (folder.text(60), False))
         gone = run([f"{TOOLS}/story", "web", "--traces", f"{folder.path}/n1.2026-01-01T00-01-20Z.trace.part"])
         expect_refused("a part without a whole line by its name", gone, 2, "trace.part: it has no line")
-        expect_refused("traces that overlap", folder.tell("story", "web"), 2, "overlap: the one ends at")
+        status, _, said = folder.tell("story", "web")
+        expect("traces of one time in a folder", (status, said.split("\n")[0]), (
+            0, "story: n1.2026-01-01T00-01-20Z.trace.gz is left out: n1.2026-01-01T00-01-00Z.trace.gz is of the same time, "
+               "and has more"))
+
+
+def test_traces_of_a_slow_look():
+    """A recorder that was killed after a slow look leaves a trace that ends some seconds after the next one begins:
+    they are joined. By more than that they overlap, and the longer one is kept; two that were named are refused."""
+    with Folder() as folder:
+        text = folder.text(60)
+        last = json.loads(text.splitlines()[-1])
+        with gzip.open(folder.place(60), "wt") as file:
+            file.write(text + json.dumps({**last, "at": last["at"] + 1}) + "\n")
+        status, told, said = folder.tell("story", "web")
+        expect("a trace that ends after the next one begins", (status, said, "shop/web on n1" in told), (0, "", True))
+        with gzip.open(folder.place(60), "wt") as file:
+            file.write(text + json.dumps({**last, "at": last["at"] + 100}) + "\n")
+        status, told, said = folder.tell("story", "web")
+        expect("traces that overlap", (status, said.split(".trace.gz is left out")[0], "shop/web on n1" in told),
+               (0, "story: n1.2026-01-01T00-01-20Z", True))
+        named = run([f"{TOOLS}/story", "web", "--traces", folder.place(60), "--traces", folder.place(80)])
+        expect_refused("traces that overlap by their names", named, 2, "overlap: the one ends at")
 
 
 def test_traces_that_are_left_out():

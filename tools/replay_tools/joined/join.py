@@ -41,7 +41,7 @@ class Joined:
 
 def joined(asked: asking_for.Asked) -> Joined:
     """All that is asked for, joined. Raises Fault where it can't be, or has nothing of the time."""
-    found = parts.parts_of(asked)
+    found = joined_borders.without_overlaps(parts.parts_of(asked), asked.is_quiet)
     borders = joined_borders.borders_of(found)
     check_time(asked, found, borders)
     for border in borders:
