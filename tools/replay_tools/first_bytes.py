@@ -8,7 +8,7 @@ import re
 LOOKED_AT = 1 << 16
 
 EMPTY, BLANK, REPORT, TRACE = "empty", "blank", "a report", "a trace"
-MANIFEST, MANIFESTS, RECORDS, YAML = "a manifest", "manifests", "lines of tools/json", "YAML"
+MANIFEST, MANIFESTS, RECORDS, YAML = "a manifest", "manifests", "lines of kubelet-replay json", "YAML"
 REFUSAL = "what the program says of a trace that it refuses"
 
 PACKED = {
@@ -73,7 +73,7 @@ def instead_of_report(head: bytes, what: str = "standard input") -> str | None:
     if kind in (EMPTY, BLANK):
         return f"{what} is empty: it wants a whole report, which kubelet-replay run TRACE writes"
     if kind == REFUSAL:
-        return f"{what} is {kind}: tools/explain TRACE says what it means"
+        return f"{what} is {kind}: kubelet-replay explain TRACE says what it means"
     if kind == TRACE:
         return f"{what} is a trace, and it wants the report: run it first, as in: kubelet-replay run TRACE | .."
     if kind == PACKED[b"\x1f\x8b"][0]:

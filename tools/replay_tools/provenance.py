@@ -91,5 +91,5 @@ def wrongly_deleted_lines(trace: traces.Trace, show: Callable[[int], str]) -> li
         return []
     moments = sorted({trace.marked_wrongly[number] for number in trace.marked_wrongly})
     return [f"{len(trace.marked_wrongly)} pods are marked as being deleted at {', '.join(map(show, moments))} that "
-            "nobody deleted: an older recorder took the empty list of a kubelet that had just started for it. Restarts, "
-            "kills and back-offs of these pods after that moment are missing"]
+            "nobody deleted: an older recorder took the empty list of a kubelet that had just started for it. "
+            "Restarts, kills and back-offs of these pods after that moment are missing"]

@@ -356,7 +356,7 @@ def trace_of(text: bytes, path: str, watch: Callable[..., Any] | None = None) ->
                 watch(trace, present)
         except Wrong:
             raise TraceFault(f"{path}: line {number} is no line of a trace there "
-                             "(tools/explain says what it lacks)") from None
+                             "(kubelet-replay explain says what it lacks)") from None
     if trace is None:
         raise TraceFault(f"{path} is no trace: it has no line")
     drop_wrong_deletions(trace)
@@ -451,7 +451,8 @@ def pod_of(number: int, manifest: dict[str, Any], first: int) -> Pod:
 
 
 def has_bare_manifest(pod: Pod) -> bool:
-    """Whether no container has a probe, a request or a limit: one made of an owner's template has what the owner sets."""
+    """Whether no container has a probe, a request or a limit. A manifest made of an owner's template has what the owner
+    sets."""
     return not pod.memory_limit and not any(one.probes or one.requests or one.memory_limit for one in pod.containers)
 
 

@@ -34,7 +34,8 @@ def whole_text(trace: traces.Trace, report: reports.Report, pod: reports.Pod, sh
              for around in why.around_events(trace, report, pod)]
     parts += [(at, DECIDED, lines) for at, lines in kubelet_parts(trace, report, pod, show, kubelet)]
     parts += [(at, SAID_LATER, lines) for at, lines in wait_parts(trace, pod, show)]
-    parts += [(said.at, rank_of_said(said), [" ".join(filter(None, [f"{show(said.at)} ", said.container, said.words()]))])
+    parts += [(said.at, rank_of_said(said),
+               [" ".join(filter(None, [f"{show(said.at)} ", said.container, said.words()]))])
               for said in trace.said.of(pod.number)]
     parts += [(at, OF_NODE, [f"{show(at)}  {what}", *lines])
               for at, what, lines in node_rows(trace, report, pod, show)]

@@ -428,7 +428,7 @@ def test_fleet_parquet():
     with open(f"{folder}/set/pods.parquet", "w") as file:
         file.write("something else\n")
     expect_refused("fleet --parquet over another file", run([*begun, *words[1:]], **settings), 2,
-                   "set/pods.parquet is there and is no table of tools/fleet")
+                   "set/pods.parquet is there and is no table of kubelet-replay fleet")
     expect("the other file stays", read(f"{folder}/set/pods.parquet"), "something else\n")
     shutil.rmtree(folder)
 

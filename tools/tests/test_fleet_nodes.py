@@ -91,13 +91,13 @@ def test_fleet_metrics_of_others():
     with open(f"{folder}/other", "w", encoding="utf-8") as file:
         file.write("# TYPE node_load1 gauge\nnode_load1 1\n")
     os.mkfifo(f"{folder}/pipe")
-    for name, said in (("other", "has no metrics of tools/fleet"), ("pipe", "has no metrics"), ("db", "has no metrics"),
+    for name, said in (("other", "has no metrics of kubelet-replay fleet"), ("pipe", "has no metrics"), ("db", "has no metrics"),
                        ("traces", "has no metrics"), ("none/fleet.prom", "no folder that can be written to")):
         words = [FLEET, "worst", f"{folder}/db", "--metrics", f"{folder}/{name}"]
         expect_refused(f"fleet --metrics over {name}", run(words), 2, said)
     expect("the file of another stays", read(f"{folder}/other").startswith("# TYPE node_load1"), True)
     answer = run([FLEET, "run", f"{folder}/traces", "--out", f"{folder}/new.db", "--metrics", f"{folder}/other"])
-    expect_refused("fleet run --metrics over another file", answer, 2, "has no metrics of tools/fleet")
+    expect_refused("fleet run --metrics over another file", answer, 2, "has no metrics of kubelet-replay fleet")
     expect("nothing is replayed then", os.path.exists(f"{folder}/new.db.done"), False)
     shutil.rmtree(folder)
 

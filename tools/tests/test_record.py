@@ -357,7 +357,7 @@ def test_texts():
 
 def test_words_of_the_recorder():
     for words, said in (
-        (["--metrics", f"{HERE}/run.py"], "is there and has no metrics of tools/record"),
+        (["--metrics", f"{HERE}/run.py"], "is there and has no metrics of kubelet-replay record"),
         (["--metrics", "/nowhere/it.prom"], "'/nowhere' is no folder that can be written"),
         (["--events", "http://api"], "--events takes a URL as https://kubernetes.default.svc, or kubectl"),
         (["--logs", "1001"], "--logs takes a whole number from 1 to 1000"),

@@ -158,8 +158,8 @@ def test_no_reports():
         ("no condition of the node", report.replace("nodecondition PIDPressure", "nodecondition Other"), "condition"),
         ("a pod without a condition", report.replace("condition 0 Ready", "condition 0 Steady"), "shop/api-7f9c"),
         ("a trace", read(f"{RECORDINGS}/crash_loop/trace"), "is a trace, and it wants the report: run it first"),
-        ("a refusal", "line 1: 36 Config\n", "tools/explain TRACE says what it means"),
-        ("lines of json", '{"record":"node"}\n', "standard input is lines of tools/json"),
+        ("a refusal", "line 1: 36 Config\n", "kubelet-replay explain TRACE says what it means"),
+        ("lines of json", '{"record":"node"}\n', "standard input is lines of kubelet-replay json"),
     ):
         expect_refused(f"story of {name}", run([f"{TOOLS}/story", "shop/api-7f9c"], text), 2, words)
         expect_refused(f"timeline of {name}", run([f"{TOOLS}/timeline"], text), 2, words)

@@ -94,7 +94,8 @@ def without_copy(name: str) -> str:
 def drop_left(folder: int) -> None:
     """Takes away what a fetch that was killed has left long ago."""
     for name in os.listdir(folder):
-        if name.endswith(COPY) and files.parts_of(without_copy(name))[1] is not None and safe_folder.is_own(folder, name):
+        is_copy = name.endswith(COPY) and files.parts_of(without_copy(name))[1] is not None
+        if is_copy and safe_folder.is_own(folder, name):
             with contextlib.suppress(OSError):
                 if now() - os.stat(name, dir_fd=folder, follow_symlinks=False).st_mtime > LEFT_SECONDS:
                     safe_folder.drop(folder, name)

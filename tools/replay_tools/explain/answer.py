@@ -101,7 +101,7 @@ def something_else(path: str) -> Found | None:
 
 def advice_for(kind: str) -> str:
     if kind == first_bytes.REPORT:
-        return "give the trace that it was made of; a report is what tools/story, page and json read"
+        return "give the trace that it was made of; a report is what kubelet-replay story, page and json read"
     if kind in (first_bytes.EMPTY, first_bytes.BLANK):
         return "look at what wrote it: the recorder writes a node line first"
     if kind == first_bytes.MANIFEST:
@@ -133,7 +133,7 @@ def of_file(path: str, said: str) -> Answer:
         return Answer(said, True, [Found((), "there is no such file")], nearest_file(path))
     except IsADirectoryError:
         return Answer(said, True, [Found((), "it is a folder")],
-                      "name a trace in it; tools/fleet run replays all of a folder")
+                      "name a trace in it; kubelet-replay fleet run replays all of a folder")
     except PermissionError:
         return Answer(said, True, [Found((), "this user may not read it")], "sudo, or chmod it")
     except OSError as fault:

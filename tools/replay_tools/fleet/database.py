@@ -47,7 +47,7 @@ def check_safe(folder: str, name: str) -> None:
 def open_database(path: str) -> sqlite3.Connection:
     """A connection that reads."""
     if os.path.exists(path) and not (os.path.isfile(path) or os.path.isdir(path)):
-        raise entry.Fault(f"{path} is a device or a pipe, and no database of tools/fleet")
+        raise entry.Fault(f"{path} is a device or a pipe, and no database of kubelet-replay fleet")
     try:
         with open(path, "rb"):
             pass
@@ -61,7 +61,7 @@ def open_database(path: str) -> sqlite3.Connection:
         raise entry.Fault(f"{path} can't be read: {fault.strerror}") from None
     except sqlite3.Error:
         pass
-    raise entry.Fault(f"{path} is there and is no database of tools/fleet")
+    raise entry.Fault(f"{path} is there and is no database of kubelet-replay fleet")
 
 
 def write(path: str, paths: list[str], kept: kept.Kept, failed: dict[str, dict[str, Any]]) -> None:

@@ -63,7 +63,7 @@ def write(path: str, metrics: str) -> None:
     try:
         made = text(connection)
     except sqlite3.Error as fault:
-        raise entry.Fault(f"{path} is no whole database of tools/fleet: {fault}") from None
+        raise entry.Fault(f"{path} is no whole database of kubelet-replay fleet: {fault}") from None
     finally:
         connection.close()
     folder = os.path.dirname(os.path.abspath(metrics))
@@ -93,4 +93,4 @@ def check_replaceable(path: str) -> None:
         except OSError as fault:
             raise entry.Fault(f"{path} can't be read: {fault.strerror}") from None
     if not is_ours:
-        raise entry.Fault(f"{path} is there and has no metrics of tools/fleet")
+        raise entry.Fault(f"{path} is there and has no metrics of kubelet-replay fleet")

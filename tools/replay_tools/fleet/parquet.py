@@ -39,7 +39,7 @@ def check_replaceable(path: str) -> None:
     except (OSError, ValueError):
         found = None
     if not (found or {}).items() >= MARK.items():
-        raise entry.Fault(f"{path} is there and is no table of tools/fleet")
+        raise entry.Fault(f"{path} is there and is no table of kubelet-replay fleet")
 
 
 def write(path: str, folder: str) -> None:

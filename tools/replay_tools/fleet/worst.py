@@ -65,7 +65,7 @@ def text(path: str, by: str, top: int) -> str:
     try:
         return "\n".join(lines_of(connection, by, top)[:-1]) + "\n"
     except sqlite3.Error as fault:
-        raise entry.Fault(f"{path} is no whole database of tools/fleet: {fault}") from None
+        raise entry.Fault(f"{path} is no whole database of kubelet-replay fleet: {fault}") from None
     finally:
         connection.close()
 
@@ -94,7 +94,8 @@ def lines_of(connection: sqlite3.Connection, by: str, top: int) -> list[str]:
     if faults:
         lines += table("Traces without a report",
                        ["status", "fault", "traces", "line of the first", "the first"], faults)
-        lines += table("What the refusal of the first means (tools/explain shows the line)", ["fault", "meaning"],
+        lines += table("What the refusal of the first means (kubelet-replay explain shows the line)",
+                       ["fault", "meaning"],
                        list(meanings(connection)))
     return lines
 

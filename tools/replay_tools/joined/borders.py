@@ -7,8 +7,7 @@ from replay_tools import entry, outside, report as reports
 from replay_tools.joined import files, parts
 
 
-# a recorder that is killed after a slow look has written ticks of so many seconds after the second at which the next one
-# began
+# a recorder that is killed after a slow look may have written ticks of so many seconds after the next one began
 SLOW_LOOK = 60
 
 

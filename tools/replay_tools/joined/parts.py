@@ -229,7 +229,7 @@ def read_part(source: files.Source, text: bytes, made: bytes) -> Part:
     except traces.TraceFault as fault:
         raise Unusable(str(fault)) from None
     except amounts.Wrong:
-        raise Unusable("it has a tick line that is none (tools/explain says which)") from None
+        raise Unusable("it has a tick line that is none (kubelet-replay explain says which)") from None
     if not trace.ticks:
         raise Unusable("it has no tick")
     return Part(source, trace, report, trace.ticks[0].at, trace.ticks[-1].at)

@@ -18,7 +18,7 @@ MOST_RUNS = 400000
 MOST_SAID = 20000
 MOST_ROWS = 40
 WITHOUT_TRACE = ("the samples of signals, the results of probes and what the ticks list, since no trace was given: "
-                 "tools/page TRACE has them", "the moment of the last tick, which a report lacks")
+                 "kubelet-replay page TRACE has them", "the moment of the last tick, which a report lacks")
 
 
 class Span:
@@ -222,7 +222,8 @@ def evictions_of(report: reports.Report, trace: traces.Trace | None, ticks: why.
             one["around"] = around
         found.append(one)
     if cut:
-        left.append(f"the rows behind the first {MOST_ROWS} of the evictions' tables, {cut} in all; tools/why has them")
+        left.append(f"the rows behind the first {MOST_ROWS} of the evictions' tables, {cut} in all; kubelet-replay why "
+                    "has them")
     return found
 
 

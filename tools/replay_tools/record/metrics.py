@@ -214,4 +214,4 @@ def fault_of(path: str) -> str | None:
     if os.path.isfile(path) and not os.path.islink(path):
         with contextlib.suppress(OSError, ValueError), open(path, encoding="utf-8") as file:
             is_ours = file.read(len(FIRST)) in (FIRST, "")
-    return None if is_ours else f"'{path}' is there and has no metrics of tools/record"
+    return None if is_ours else f"'{path}' is there and has no metrics of kubelet-replay record"
