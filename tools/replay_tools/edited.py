@@ -28,9 +28,9 @@ WORDS_OF_EDITS = os.path.dirname(os.path.realpath(__file__))
 OTHER_FOLDER = "(TMPDIR names another folder)"
 
 
-def difference(edit: str) -> str:
+def difference(edit: str, seconds: float) -> str:
     """The lines in which the report of the trace of standard input and that with an edit differ, each with - or +;
-    what is said where there is none goes to standard error."""
+    what is said where there is none goes to standard error. The edit may take so many seconds."""
     program = os.environ.get("KUBELET_REPLAY") or programs.path()
     for command in ("jq", "diff", program):
         if shutil.which(command) is None:
@@ -42,7 +42,7 @@ def difference(edit: str) -> str:
     except OSError:
         raise entry.Fault(f"no folder can be made in {folder_of_copies()} (TMPDIR names another)", 1) from None
     with folder as path:
-        return Comparison(path, program).difference(edit)
+        return Comparison(path, program, seconds).difference(edit)
 
 
 def folder_of_copies() -> str:
@@ -52,8 +52,8 @@ def folder_of_copies() -> str:
 class Comparison:
     """Two traces and their reports, in a folder of their own."""
 
-    def __init__(self, folder: str, program: str) -> None:
-        self.folder, self.program = folder, program
+    def __init__(self, folder: str, program: str, seconds: float) -> None:
+        self.folder, self.program, self.seconds = folder, program, seconds
 
     def path(self, name: str) -> str:
         return os.path.join(self.folder, name)
@@ -110,11 +110,17 @@ class Comparison:
         return entry.Fault(f"the {named} can't be replayed (status {status}): {said}", 1)
 
     def apply(self, edit: str) -> None:
-        """Applies the edit to each line, and looks whether what it asks for is there."""
+        """Applies the edit to each line, and looks whether what it asks for is there. Raises Fault if that takes longer
+        than the limit of time."""
         with open(self.path("trace"), "rb") as given, open(self.path("edited"), "wb") as output, \
                 open(self.path("error"), "wb") as error:
-            done = subprocess.run(["jq", "-n", "-R", "-r", "-L", WORDS_OF_EDITS, EDIT.replace("EDIT", edit)],
-                                  stdin=given, stdout=output, stderr=error, check=False, preexec_fn=bound)
+            try:
+                done = subprocess.run(["jq", "-n", "-R", "-r", "-L", WORDS_OF_EDITS, EDIT.replace("EDIT", edit)],
+                                      stdin=given, stdout=output, stderr=error, check=False, preexec_fn=bound,
+                                      timeout=self.seconds)
+            except subprocess.TimeoutExpired:
+                raise entry.Fault(f"the edit took longer than {self.seconds:g} s: --timeout SECONDS sets another limit"
+                                  ) from None
         if done.returncode < 0:
             for name, what in (("edited", "the edit makes"), ("error", "the edit says")):
                 if os.path.getsize(self.path(name)) > LONGEST_TRACE:

@@ -209,6 +209,13 @@ def test_no_room():
     shutil.rmtree(folder)
 
 
+def test_run_of_what_cannot_be_read():
+    """The file and the reason are named; the program's own words have neither."""
+    for words in (["run"], ["check"], ["run", "-f"]):
+        answer = run([COMMAND, *words, "/nonexistent/x.trace"])
+        expect_refused(f"{' '.join(words)} of no file", answer, 1, "/nonexistent/x.trace: No such file or directory")
+
+
 def test_what_if_on_a_terminal():
     """It says what it waits for, and takes it."""
     for words in ([f"{TOOLS}/what-if"], [COMMAND, "what-if"]):

@@ -108,7 +108,8 @@ def test_files():
                          (f"{folder}/a.reprot", f"{folder}/a.report"), (folder, "it is a folder"),
                          ("/nonexistent/a", "there is no folder /nonexistent")):
         status, shown, said = run([f"{TOOLS}/explain", path])
-        expect(f"explain {path}", (status, said, wanted in shown or shown), (0, "", True))
+        expect(f"explain {path}", (status, said, wanted in shown or shown),
+               (0 if os.path.exists(path) else 2, "", True))
     shutil.rmtree(folder)
 
 

@@ -238,6 +238,12 @@ def test_input_without_an_end():
 
 def test_edits_without_an_end():
     trace = read(f"{TOP}/examples/liveness_kill.trace")
+    expect_refused("what-if of an edit that goes on without a word", run([f"{TOOLS}/what-if", "--timeout", "1",
+                                                                        "until(false; .)"], trace), 2,
+                   "the edit took longer than 1 s: --timeout SECONDS sets another limit")
+    for given in (["--timeout", "soon", "."], ["--timeout=0", "."], ["--timeout"]):
+        expect_refused(f"what-if {' '.join(given)}", run([f"{TOOLS}/what-if", *given], trace), 2,
+                       "--timeout takes whole seconds from 1 on")
     expect_refused("what-if of an edit without an end", run([f"{TOOLS}/what-if", "repeat(.)"], trace), 2,
                    "the edit makes more than 64 MiB, which is the most that a trace has")
     with Made() as made:

@@ -19,7 +19,7 @@ program's. Where it can't find the field it says what docs/formats.md has of the
 the first, but for those of the node line.
 
 Status 0: done, of a trace that is none too; 1: the program failed, as where it had no memory, or standard output takes
-no more; 2: a bad word; 127: a command is missing.
+no more; 2: a bad word, a file that is not there or can't be read; 127: a command is missing.
 """
 
 

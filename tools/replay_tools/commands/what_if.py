@@ -8,7 +8,7 @@ import sys
 from replay_tools import entry
 
 HELP = """\
-usage: tools/what-if EDIT < TRACE
+usage: tools/what-if [--timeout SECONDS] EDIT < TRACE
 
 Replays the trace, and the trace with EDIT applied to each of its lines, and writes the lines in which the reports
 differ: with - those of the trace as it is, with + those with the edit. EDIT is a jq program, for which there are
@@ -20,6 +20,8 @@ where KEY stands for each pod of that name in turn, if one came again,
 as in
   tools/what-if 'node(.evictionHard["memory.available"] = "500Mi")' < TRACE
   tools/what-if 'container("shop/web"; "app"; .livenessProbe.failureThreshold = 5)' < TRACE
+
+--timeout SECONDS ends an edit that takes longer, 10 by default.
 
 An edit of a pod or a container that the trace has not is refused, with the nearest names, and so is what has more than
 64 MiB, the most that a trace has: standard input, what it is unpacked, what the edit makes of it.
@@ -35,8 +37,13 @@ missing.
 """
 
 
+# an edit may go on for ever
+SECONDS = 10.0
+
+
 def parser() -> entry.Words:
     taken = entry.Words(HELP)
+    taken.valued("--timeout")
     taken.add_argument("edit")
     return taken
 
@@ -44,6 +51,7 @@ def parser() -> entry.Words:
 def main(words: list[str]) -> int:
     if words[:1] in (["-h"], ["--help"]):
         raise entry.Help(HELP)
+    words, seconds = without_timeout(words)
     # an edit may have anything in it, and is no word of options
     if words and words[0].startswith("-"):
         raise entry.Fault(f"{words[0]} is no word of it (--help says more)")
@@ -53,5 +61,18 @@ def main(words: list[str]) -> int:
     # what is kept goes with an end that is asked for, too
     for number in (signal.SIGTERM, signal.SIGHUP):
         signal.signal(number, lambda *_: sys.exit(130))
-    sys.stdout.write(edited.difference(words[0]))
+    sys.stdout.write(edited.difference(words[0], seconds))
     return 0
+
+
+def without_timeout(words: list[str]) -> tuple[list[str], float]:
+    """The words without --timeout in front of the edit, and the seconds that it gives."""
+    option, _, value = words[0].partition("=") if words else ("", "", "")
+    if option != "--timeout":
+        return words, SECONDS
+    rest = words[1:]
+    if "=" not in words[0]:
+        value, rest = (rest[0], rest[1:]) if rest else ("", [])
+    if not (value.isascii() and value.isdigit() and 0 < int(value) < 10 ** 6):
+        raise entry.Fault(f"--timeout takes whole seconds from 1 on, not '{value}'")
+    return rest, float(value)

@@ -8,23 +8,40 @@ import tempfile
 from collections.abc import Iterator
 from contextlib import contextmanager
 
-from replay_tools import outside, packed, program as programs
+from replay_tools import entry, outside, packed, program as programs
 from replay_tools.traces import LONGEST_TRACE
 
 from . import answer, told, verdict
 
 
+# of a file that is not there
+NO_FILE = 2
+
+
 def explained(path: str, name: str, is_extended: bool, is_line: bool) -> int:
     """Writes what is said of a trace, which has this name for the operator; the status."""
+    check_readable(path, name)
     if not os.environ.get("KUBELET_REPLAY"):
         # in a checkout this builds the program where that is due, and what it says is not held back
         programs.checked_path()
     try:
         with readable(path) as known:
-            return write(known, name, is_extended, is_line)
+            status = write(known, name, is_extended, is_line)
+        return status or (0 if os.path.exists(path) else NO_FILE)
     except packed.Damaged as fault:
         show(answer.of_damaged(str(fault)), name, is_line)
     return 0
+
+
+def check_readable(path: str, name: str) -> None:
+    """Raises Fault where a file can't be opened; of a folder, and of a file that is not there, the answer has more."""
+    if os.path.isdir(path) or not os.path.exists(path):
+        return
+    try:
+        with open(path, "rb"):
+            pass
+    except OSError as fault:
+        raise entry.Fault(f"{outside.visible(name)}: {fault.strerror}") from None
 
 
 @contextmanager

@@ -7,7 +7,7 @@ import sys
 from dataclasses import dataclass
 from typing import IO
 
-from replay_tools import entry, program as programs, tree
+from replay_tools import entry, outside, program as programs, tree
 from replay_tools.commands.run import FAIL_ON
 from replay_tools.plugin import files, help, several, words, workload
 from replay_tools.plugin.words import FOLLOW
@@ -93,6 +93,8 @@ def run_program(name: str, found: words.Words, caller: Caller) -> int:
     traces = ["/dev/stdin" if trace == "-" else trace for trace in traces]
     traces = [files.plain(traces[0])] if len(traces) == 1 else traces
     path = traces[0] if len(traces) == 1 else None
+    if path:
+        check_readable(path)
     if path and "--extended" not in rest:
         traces[0], copy, option = files.with_format(path)
         path = files.path_of(copy) if copy else path
@@ -101,6 +103,15 @@ def run_program(name: str, found: words.Words, caller: Caller) -> int:
             raise entry.Fault(f"{FAIL_ON} wants one trace, not {len(traces)} (--help says more)")
         return failing.run([name, *traces, *rest, *option], path, copy, caller.name, kinds)
     return files.run_beside(programs.path(), [name, *traces, *rest, *option], path, copy, caller.name)
+
+
+def check_readable(path: str) -> None:
+    """Raises Fault where the trace can't be opened: the program's own words name neither the file nor the reason."""
+    try:
+        with open(path, "rb"):
+            pass
+    except OSError as fault:
+        raise entry.Fault(f"{outside.visible(path)}: {fault.strerror}", 1) from None
 
 
 def without_fail_on(rest: list[str]) -> tuple[list[str], dict[str, None] | None]:
