@@ -24,7 +24,7 @@ def test_import_of_a_kubelet_that_is_started_anew():
     rest = text[at:].replace("    2211 ", "    9999 ")
     folder = tempfile.mkdtemp()
     status, _, said = imported("--into", folder, given=text[:at] + begin + rest)
-    expect("import of a kubelet that is started anew", (status, "was started anew" in said), (0, True))
+    expect("import of a kubelet that is started anew", (status, "the kubelet was restarted" in said), (0, True))
     traces = []
     for name in sorted(os.listdir(folder)):
         with gzip.open(f"{folder}/{name}", "rt", encoding="utf-8") as file:

@@ -12,7 +12,7 @@ from replay_tools.record.folder import Folder, Refused, made, may_be_made
 from replay_tools.record.formats import MOST_TICKS, shown
 from replay_tools.record.into import Traces
 
-from .placing import CLOCK_BACK, TICK_AT
+from .placing import CLOCK_BACK, STARTED_AT, TICK_AT
 from .thresholds import MEMBERS
 from .writing import Ended, NodeLine, Writer
 
@@ -20,7 +20,7 @@ from .writing import Ended, NodeLine, Writer
 KEPT_SECONDS, KEPT_BYTES = 1 << 36, 1 << 60
 # a tick behind a gap has this member
 GAP = '"gap":{'
-MOMENTS = ("at", "since", "until")
+MOMENTS = ("at", "since", "until", STARTED_AT)
 
 
 def thresholds_in(node: dict[str, Any]) -> dict[str, Any]:

@@ -4,6 +4,8 @@ run is the one that starts."""
 
 from __future__ import annotations
 
+import bisect
+from collections.abc import Iterator
 from dataclasses import dataclass, field
 from typing import Optional, TYPE_CHECKING
 
@@ -24,6 +26,14 @@ SOON_SECONDS = 3.0
 LONG_SECONDS = 10.0
 # a container of which no line says the name
 UNNAMED = "unnamed"
+# a start comes so soon behind the exit that no line has
+AFTER = 0.0001
+# the look that finds what could not be started comes at most so long behind the line that says so
+FAILED_SECONDS = 2.0
+# a start comes at most so long behind the line that an object has changed, if that had an ephemeral container added
+UPDATED_SECONDS = 60.0
+# a pod has at most so many containers in a trace, and so many names are kept of one without a manifest
+MOST_CHAINS, MOST_NAMES = 16, 64
 
 
 @dataclass
@@ -51,6 +61,14 @@ class Instance:
     # whether the kubelet's look found it, and its exit alone
     is_looked: bool = False
     is_unseen: bool = False
+    # whether no line has its exit, and whether it could not be started, so that it never ran
+    is_lost: bool = False
+    never_ran: bool = False
+
+    @property
+    def looked_at(self) -> float:
+        """When the kubelet's look found it: one that came and went between two looks as it exited."""
+        return (self.gone if self.is_unseen and not self.is_met else self.seen) or 0.0
 
     @property
     def begin(self) -> Optional[float]:
@@ -60,6 +78,15 @@ class Instance:
     @property
     def end(self) -> Optional[float]:
         return self.gone if self.finished is None else self.finished
+
+    @property
+    def is_killed(self) -> bool:
+        """Whether the kubelet ordered to stop it before it exited; it orders that of what has exited too, as of a pod
+        that has ended."""
+        if self.killing is None:
+            return False
+        latest = self.gone if self.gone is not None or self.finished is None else self.finished + 1
+        return latest is None or self.killing.at <= latest
 
     def know(self, known: facts.Known) -> None:
         """Takes what a line says of it; what was known stays."""
@@ -85,8 +112,18 @@ class Chain:
 
     def is_down(self, at: float) -> bool:
         """Whether none of them runs at a moment."""
-        before = [each for each in self.instances if each.seen is not None and each.seen <= at]
-        return bool(before) and before[-1].gone is not None and before[-1].gone <= at + LOOK_SECONDS
+        # they are in the order of their starts, and mostly the newest is asked for
+        for each in reversed(self.instances):
+            if each.seen is not None and each.seen <= at:
+                return each.gone is not None and each.gone <= at + LOOK_SECONDS
+        return False
+
+    def end_of_running(self, at: float) -> float:
+        """When the instance that runs at a moment ends; 0 where none runs, or its end is not known."""
+        for each in reversed(self.instances):
+            if each.begin is not None and each.begin <= at:
+                return each.end or 0.0
+        return 0.0
 
     def expected(self) -> float:
         """When its next start is due."""
@@ -100,10 +137,19 @@ class Hints:
     waits: list[tuple[float, str]] = field(default_factory=list)
     created: list[tuple[float, str]] = field(default_factory=list)
     probed: list[tuple[float, str]] = field(default_factory=list)
+    # those that say that a container could not be started, and that the pod's object has changed
+    failed: list[tuple[float, str]] = field(default_factory=list)
+    updated: list[float] = field(default_factory=list)
+
+    def has_wait(self, name: str, since: float) -> bool:
+        """Whether a line says from a moment on that a container waits."""
+        place = bisect.bisect_left(self.waits, (since, ""))
+        return any(each == name for _, each in self.waits[place:])
 
     def forget(self, before: float) -> None:
-        for kept in (self.waits, self.created, self.probed):
+        for kept in (self.waits, self.created, self.probed, self.failed):
             kept[:] = [each for each in kept if each[0] >= before]
+        self.updated = [at for at in self.updated if at >= before]
 
 
 class Instances:
@@ -125,7 +171,7 @@ class Instances:
     def note_name(self, name: str) -> None:
         """A name of a container that a line says, of a pod without a manifest."""
         self.is_news = True
-        if name not in self.names:
+        if name not in self.names and len(self.names) < MOST_NAMES:
             self.names.append(name)
 
     def forget(self, before: float) -> None:
@@ -138,16 +184,52 @@ class Instances:
         self.hints.forget(before)
 
     def lost(self) -> list[tuple[Instance, Instance]]:
-        """The instances of which no line says that they exited, each with the next one of its container: the kubelet's
-        looks found both."""
+        """The instances of which no line says that they exited, each with the next one of its container."""
         return [(each, after) for chain in self.chains for each, after in zip(chain.instances, chain.instances[1:])
-                if each.end is None and each.is_looked and after.is_looked]
+                if each.end is None]
 
-    def heard(self, instance: Instance, before: float) -> float:
-        """When a line said last that an instance ran, before a moment."""
-        probed = [at for at, name in self.hints.probed if name == instance.name and at < before]
-        killed = [] if instance.killing is None else [instance.killing.at]
-        return max([instance.seen or 0.0, *probed, *killed])
+    def lose(self, horizon: float) -> None:
+        """An instance of which no line says that it exited has exited all the same where its container is said to wait,
+        or starts again: with the first line that says so."""
+        for chain in self.chains:
+            if chain.newest.end is None or any(each.end is None for each in chain.instances):
+                waits = [at for at, name in self.hints.waits if name == chain.name]
+                for place, each in enumerate(chain.instances):
+                    after = chain.instances[place + 1] if place + 1 < len(chain.instances) else None
+                    self.lose_one(each, after, waits, horizon)
+
+    @staticmethod
+    def lose_one(each: Instance, after: Optional[Instance], waits: list[float], horizon: float) -> None:
+        begin = each.begin
+        if each.end is not None or begin is None:
+            return
+        until = float("inf") if after is None else after.begin or 0.0
+        place = bisect.bisect_right(waits, max(begin, each.seen or begin))
+        ends = [at for at in waits[place:place + 1] if at < until] or ([] if after is None else [until - AFTER])
+        if ends and ends[0] <= horizon:
+            each.gone, each.is_lost = max(ends[0], begin), True
+
+    def see_starts_that_failed(self) -> None:
+        """What came and went between two looks, while a line says that the container could not be started, never ran."""
+        for chain in self.chains:
+            for each in chain.instances:
+                if each.is_unseen and each.started is None and each.gone is not None and each.written is None:
+                    begin = bisect.bisect_left(self.hints.failed, (each.gone - FAILED_SECONDS, ""))
+                    near = self.hints.failed[begin:begin + MOST_CHAINS]
+                    each.never_ran = any(name == chain.name and at <= each.gone + LOOK_SECONDS for at, name in near)
+
+    def in_holes(self) -> Iterator[tuple[Instance, float, float]]:
+        """The instances that the kubelet's looks found, and whose exits no look found, though one found the next: each
+        with the last moment at which a line said that it ran, and that of the next start."""
+        lost = [(each, after) for each, after in self.lost() if each.is_looked and after.is_looked]
+        probed: dict[str, list[float]] = {}
+        for at, name in self.hints.probed if lost else ():
+            probed.setdefault(name, []).append(at)
+        for each, after in lost:
+            start, of_name = after.seen or 0.0, probed.get(str(each.name), [])
+            place = bisect.bisect_left(of_name, start)
+            killed = [] if each.killing is None else [each.killing.at]
+            yield each, max([each.seen or 0.0, *of_name[max(place - 1, 0):place], *killed]), start
 
     def complete(self, added_at: float) -> None:
         """Instances that no look found, and of which a status says when they started, ran all the same: from then on,
@@ -168,8 +250,10 @@ class Instances:
             known = [each for each in look if each.is_sandbox]
             if known:
                 running = known[-1]
-            elif running is None or (running.gone is not None and running.gone <= (look[0].seen or 0)):
+            elif running is None or (running.gone is not None and running.gone <= look[0].looked_at):
                 unknown = [each for each in look if each.name is None or each.is_found]
+                # what has exited already is a container, if the sandbox that it had was found by then
+                unknown = [each for each in unknown if not each.is_unseen] or unknown
                 if unknown and unknown[-1].written is None:
                     running = unknown[-1]
                     running.is_sandbox, running.name, running.is_found = True, None, False
@@ -191,8 +275,8 @@ class Instances:
         """The instances that started, by the looks that found them."""
         found: list[list[Instance]] = []
         seen = (each for each in self.by_id.values() if each.seen is not None)
-        for each in sorted(seen, key=lambda each: each.seen or 0):
-            if found and (each.seen or 0) - (found[-1][-1].seen or 0) <= LOOK_SECONDS:
+        for each in sorted(seen, key=lambda each: each.looked_at):
+            if found and each.looked_at - found[-1][-1].looked_at <= LOOK_SECONDS:
                 found[-1].append(each)
             else:
                 found.append([each])
@@ -219,14 +303,14 @@ class Instances:
         kept = [Chain([each for each in chain.instances if each.written is not None], chain.name)
                 for chain in self.chains]
         chains = [chain for chain in kept if chain.instances]
-        linking = Linking(chains, names, inits, sidecars, policy, self.hints)
+        linking = Linking(chains, names, inits, sidecars, policy, self.hints, pod is not None)
         unwritten = sorted((each for each in self.by_id.values() if each.written is None and not each.is_sandbox
                             and each.seen is not None), key=lambda each: each.seen or 0)
         linking.count_extra(unwritten)
         for each in unwritten:
             linking.take(each)
-        self.chains = linking.chains
         linking.name_all()
+        self.chains = linking.chains + linking.others
 
 
 def serial(instances: list[Instance]) -> int:
@@ -243,20 +327,27 @@ class Linking:
     """Puts instances into the chains of their containers, in the order of their starts."""
 
     def __init__(self, chains: list[Chain], names: list[str], inits: list[str], sidecars: set[str], policy: str,
-                 hints: Hints) -> None:
-        self.chains = chains
+                 hints: Hints, has_manifest: bool) -> None:
+        # the containers that no manifest has, as ephemeral ones, are not among those of which one is found by exclusion
+        self.has_manifest = has_manifest
+        self.others = [chain for chain in chains if has_manifest and chain.name is not None and chain.name not in names]
+        self.chains = [chain for chain in chains if chain not in self.others]
         self.names = names
         self.inits = inits
         # those of them that run on beside what comes behind them, and come again
         self.sidecars = sidecars
         self.policy = policy
         self.hints = hints
-        self.created = list(hints.created)
+        self.created = sorted(hints.created)
+        self.waits = sorted(hints.waits)
         # how many runs of init containers are runs again
         self.extra = 0
 
     def take(self, instance: Instance) -> None:
         name = instance.name if instance.name and not instance.is_found else self.created_name(instance)
+        if self.is_other(instance, name):
+            self.take_other(instance, name)
+            return
         if name is None:
             name = self.init_name(instance)
         chain = self.named(name) if name is not None else self.chain_by_exclusion(instance)
@@ -265,14 +356,41 @@ class Linking:
         else:
             chain.instances.append(instance)
 
+    def is_other(self, instance: Instance, name: Optional[str]) -> bool:
+        """Whether it is of a container that the manifest has not, as an ephemeral one: by its name; else where the
+        pod's object has changed shortly before, and all of its containers run."""
+        if not self.has_manifest:
+            return False
+        if name is not None:
+            return name not in self.names
+        at = instance.seen or 0
+        place = bisect.bisect_left(self.hints.updated, at - UPDATED_SECONDS)
+        is_changed = place < len(self.hints.updated) and self.hints.updated[place] <= at
+        apps = [chain for chain in self.chains if chain.name not in self.inits]
+        is_whole = len(apps) >= len([each for each in self.names if each not in self.inits])
+        return is_changed and is_whole and not any(chain.is_down(at) for chain in apps)
+
+    def take_other(self, instance: Instance, name: Optional[str]) -> None:
+        name = name or f"{UNNAMED}-{len(self.others) + 1}"
+        chain = next((each for each in self.others if each.name == name), None)
+        if chain is None and len(self.others) >= MOST_CHAINS:
+            chain = self.others[-1]
+        if chain is None:
+            self.others.append(Chain([instance], name))
+        else:
+            chain.instances.append(instance)
+        instance.name, instance.is_found = name, instance.is_found or instance.name is None
+
     def created_name(self, instance: Instance) -> Optional[str]:
         """The name in a line that a container is made, shortly before the look that found it."""
         at = instance.seen or 0
-        near = [each for each in self.created if at - CREATED_SECONDS <= each[0] <= at + LOOK_SECONDS]
+        begin = bisect.bisect_left(self.created, (at - CREATED_SECONDS, ""))
+        # one of several made before one look is taken away from them, so few are looked through
+        near = self.created[begin:bisect.bisect_left(self.created, (at + LOOK_SECONDS, "~"))]
         # where two are made before one look, only exclusion says which is which
         if len({name for _, name in near}) != 1:
             return None
-        self.created.remove(near[0])
+        del self.created[begin]
         return near[0][1]
 
     def named(self, name: str) -> Optional[Chain]:
@@ -302,13 +420,30 @@ class Linking:
         if last.name in self.sidecars:
             return next_name
         since = last.newest.gone if last.newest.gone is not None else last.newest.seen
-        waited = [name for at, name in self.hints.waits if (since or 0) <= at <= (instance.seen or 0)]
-        if last.newest.code not in (0, None) or (last.newest.code is None and last.name in waited):
+        if last.newest.code not in (0, None):
+            return last.name
+        if last.newest.code is None and (self.has_waited(str(last.name), since or 0, instance.seen or 0)
+                                         or self.waits_next(instance) == last.name):
             return last.name
         if last.newest.code is None and self.extra > 0 and place >= len(self.inits) // 2:
             self.extra -= 1
             return last.name
         return next_name
+
+    def has_waited(self, name: str, since: float, until: float) -> bool:
+        """Whether a line says that a container waits between two moments."""
+        place = bisect.bisect_left(self.waits, (since, ""))
+        while place < len(self.waits) and self.waits[place][0] <= until:
+            if self.waits[place][1] == name:
+                return True
+            place += 1
+        return False
+
+    def waits_next(self, instance: Instance) -> Optional[str]:
+        """The container of which the next line from a start on says that it waits: an init container that does so has
+        not passed by then, so that nothing behind it has run."""
+        place = bisect.bisect_left(self.waits, (instance.seen or 0, ""))
+        return self.waits[place][1] if place < len(self.waits) else None
 
     def count_extra(self, instances: list[Instance]) -> None:
         """How often an init container ran again without a code that says it, by how many came one behind the other up
@@ -339,8 +474,9 @@ class Linking:
             return None
         if down:
             return min(down, key=lambda chain: abs(chain.expected() - at))
-        if rest > 0 or not self.names or not apps:
+        if len(self.chains) < MOST_CHAINS and (rest > 0 or not self.names or not apps):
             return None
+        apps = apps or self.chains
         # the look that found its exit is not in the journal
         return min(apps, key=lambda chain: chain.newest.seen or 0)
 

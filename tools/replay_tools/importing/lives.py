@@ -13,7 +13,7 @@ from replay_tools.record.reasons import reason_of
 from replay_tools.record.runtime import EXITED, LOST_CODE, RUNNING, Change, Listing
 
 from . import marks
-from .accounts import ORDER, Account, Item
+from .accounts import LOOK_SECONDS, ORDER, Account, Item
 from .outputs import why_killed
 from .placing import PROBED
 from .probing import FAILURE, SUCCESS, Probing
@@ -25,6 +25,13 @@ if TYPE_CHECKING:
     from .placing import Placing
 
 STARTUP, LIVENESS, READINESS = PROBES
+# the reason of the condition Ready, and at most so many failures are made of it
+NOT_READY, MOST_MADE = "ContainersNotReady", 30
+# what is counted: containers that were not ready as the kubelet was started again
+MADE_UNREADY = "containers unready at a start"
+UNKNOWN_PHASES = "pods of an unknown phase"
+# a container that has failed is said to wait, or starts again, within so many seconds
+LEFT_SECONDS = 15.0
 # of a moment in whole seconds as a status has it
 WHOLE = 0.999
 # a start that comes so soon behind an exit is of the same second
@@ -49,6 +56,8 @@ class Life(Account):
         self.placed: list[Item] = []
         self.waits: dict[str, Reason] = {}
         self.attempts: dict[str, int] = {}
+        # the codes of the newest exits, None where one is not known
+        self.codes: dict[str, Optional[int]] = {}
         self.started: dict[str, float] = {}
         # the second of its line, and that from which on its containers change
         self.arrived: Optional[int] = None
@@ -76,17 +85,19 @@ class Life(Account):
         self.decide(pod, horizon, is_end, placing)
         self.leave(pod, horizon, placing)
 
-    def resolve(self, placing: Placing) -> None:
-        """Finds the containers of its instances, and ends what ended in a hole of the journal: an instance behind which
-        the next one started, and the pod itself where another one has its name, without a line that says so."""
+    def resolve(self, horizon: float, placing: Placing) -> None:
+        """Finds the containers of its instances, and ends what no line ends: an instance whose container waits or starts
+        again, in a hole of the journal if there is one; and the pod itself where another one has its name."""
         if self.is_over or self.is_refused:
             return
         is_ending = self.decision is not None or any(at is not None for at in (
             self.deleted_at, self.removed_at, self.cleaned_at, self.replaced_at))
         self.instances.resolve(self.pod, self.added_at, self.is_listed, is_ending)
-        for instance, after in self.instances.lost():
-            start = after.seen or 0.0
-            instance.gone = placing.hole_between(self.instances.heard(instance, start), start)
+        for instance, heard_at, start in self.instances.in_holes():
+            instance.gone = placing.hole_between(heard_at, start)
+            instance.is_lost = instance.gone is not None
+        self.instances.lose(horizon)
+        self.instances.see_starts_that_failed()
         is_told = self.decision is not None or any(at is not None for at in (
             self.deleted_at, self.removed_at, self.cleaned_at))
         if self.replaced_at is not None and not is_told:
@@ -126,11 +137,20 @@ class Life(Account):
 
     def items(self, horizon: float) -> list[Item]:
         """What happened up to a moment and is not placed yet, in order."""
+        self.hold_waits()
         found = [item for item in self.pending if item.at <= horizon]
         self.pending = [item for item in self.pending if item.at > horizon]
         for chain in self.instances.chains:
             found += self.items_of(chain, horizon)
         return sorted(found)
+
+    def hold_waits(self) -> None:
+        """A line may say that a container waits before the look that finds its exit: it waits from that exit on."""
+        chains = {chain.name: chain for chain in self.instances.chains}
+        for item in self.pending:
+            chain = chains.get(next(iter(item.value))) if item.what == "wait" and item.value else None
+            if chain is not None:
+                item.at = max(item.at, chain.end_of_running(item.at))
 
     def items_of(self, chain: Chain, horizon: float) -> Iterator[Item]:
         """The starts and exits of a container: each exit before the next start."""
@@ -140,7 +160,7 @@ class Life(Account):
             if begin is None or begin > horizon:
                 return
             latest = max(latest + AFTER, begin)
-            if instance.written is None:
+            if instance.written is None and not instance.never_ran:
                 yield Item(latest, ORDER["start"], 0, "start", (chain, instance))
             if end is None or end > horizon:
                 continue
@@ -157,6 +177,8 @@ class Life(Account):
             self.place_kill(item.at, item.value[0], item.value[1], placing)
         elif item.what == "result":
             self.place_result(pod, item.at, item.value, placing)
+        elif item.what == "unready":
+            self.place_unready(pod, item.at, item.value, placing)
         else:
             chain, instance = item.value
             self.place_silent(pod, chain.name, item.at, placing)
@@ -166,7 +188,9 @@ class Life(Account):
                 self.place_exit(pod, chain, instance, placing)
 
     def place_kill(self, at: float, instance: Instance, grace: int, placing: Placing) -> None:
-        """The kubelet ends an instance, which stands at its own second."""
+        """The kubelet ends an instance, which stands at its own second; what has exited already it does not."""
+        if not instance.is_killed:
+            return
         said = None if instance.killing is None else why_killed(instance.killing.why)
         is_deleted = self.deleted_at is not None and self.deleted_at <= at
         placing.say(self.key, at, without_nones({
@@ -180,10 +204,7 @@ class Life(Account):
             placing.count("containers that no manifest has", f"{self.key} {name}")
             instance.written = 0
             return
-        attempt = max(self.attempts.get(name, -1) + 1, instance.attempt or 0)
-        self.attempts[name] = instance.written = attempt
-        placing.mark(self, name, attempt, [marks.MOMENT] if instance.started is None or instance.is_met else [],
-                     [marks.CONTAINER] if instance.is_found else [])
+        attempt = self.begin_attempt(name, instance, placing)
         moment = max(instance.begin or 0, self.arrived or 0)
         placing.timeline.place_container(pod, name, [Change(moment, Listing(attempt, RUNNING))], [], self.changes_from)
         instance.started_in = placing.timeline.listed_in(pod, name) or 0
@@ -192,6 +213,14 @@ class Life(Account):
         first = (STARTUP,) if (name, STARTUP) in self.probings else PROBES
         self.end_probes(name)
         self.begin_probes(name, first, instance.seen or moment)
+
+    def begin_attempt(self, name: str, instance: Instance, placing: Placing) -> int:
+        """Gives an instance its number, and notes what of it was guessed."""
+        attempt = max(self.attempts.get(name, -1) + 1, instance.attempt or 0)
+        self.attempts[name] = instance.written = attempt
+        placing.mark(self, name, attempt, [marks.MOMENT] if instance.started is None or instance.is_met else [],
+                     [marks.CONTAINER] if instance.is_found else [])
+        return attempt
 
     def begin_probes(self, name: str, probes: tuple[str, ...], seen: float) -> None:
         """Probes of an instance that runs come from a moment on, also where a journal does not have its start."""
@@ -202,25 +231,41 @@ class Life(Account):
     def place_exit(self, pod: recorded.Pod, chain: Chain, instance: Instance, placing: Placing) -> None:
         name = str(chain.name)
         instance.has_ended = True
+        if instance.never_ran and name in pod.containers():
+            self.begin_attempt(name, instance, placing)
         if name not in pod.containers() or instance.written is None:
             return
-        code, is_guessed = self.code_of(pod, chain, instance)
+        code, is_guessed = self.code_of(pod, chain, instance, placing)
         placing.mark(self, name, instance.written, [marks.CODE] if is_guessed else [],
-                     [marks.MOMENT] if instance.finished is None else [])
+                     [marks.MOMENT] if instance.finished is None else [], [marks.LOST] if instance.is_lost else [])
         placing.count("exits without their code" if is_guessed else "exits with their code")
         reason = None if instance.reason is None else reason_of({"reason": instance.reason})
         listing = Listing(instance.written, EXITED, code, reason)
-        make = Change if instance.killing is not None or not is_guessed else ByItself
+        # what starts again in the same second has its exit in the tick of that start
+        is_by_itself = is_guessed and not instance.is_killed and not instance.is_lost
+        make = ByItself if is_by_itself else Change
         placing.timeline.place_container(pod, name, [make(instance.end or 0, listing)], [], self.changes_from)
         instance.ended_in = placing.timeline.listed_in(pod, name) or 0
         self.end_probes(name)
+        self.codes[name] = None if is_guessed else code
+        self.mark_phase(pod, instance.ended_in, placing)
+
+    def mark_phase(self, pod: recorded.Pod, second: int, placing: Placing) -> None:
+        """Of a pod that is not started again, and of which no container has a known code that makes it failed, the
+        phase is not known where a code is not."""
+        policy = pod.manifest["spec"].get("restartPolicy") or "Always"
+        apps = [each["name"] for each in pod.manifest["spec"]["containers"]]
+        if policy == "Never" and not any(code for code in self.codes.values()) and self.decision is None \
+                and all(name in self.codes for name in apps) and any(self.codes[name] is None for name in apps):
+            placing.put_beside(self.key, second, marks.PHASE, None)
+            placing.count(UNKNOWN_PHASES, self.key)
 
     def end_probes(self, name: str) -> None:
         for (container, _), probing in self.probings.items():
             if container == name:
                 probing.end()
 
-    def code_of(self, pod: recorded.Pod, chain: Chain, instance: Instance) -> tuple[int, bool]:
+    def code_of(self, pod: recorded.Pod, chain: Chain, instance: Instance, placing: Placing) -> tuple[int, bool]:
         """The code of an exit, and whether it is guessed: then it is 0 where what came behind it says so, else that of
         an instance that is lost, which the rules take as a failure."""
         if instance.code is not None:
@@ -231,9 +276,18 @@ class Life(Account):
         is_init = place < len(pod.manifest["spec"].get("initContainers") or [])
         is_passed = is_init and any(names.index(str(other.name)) > place for other in self.instances.chains
                                     if other.name in names and (other.newest.seen or 0) >= (instance.gone or 0))
-        is_left_so = policy == "OnFailure" and self.deleted_at is None and self.decision is None and not is_init
-        is_success = not has_next and (is_passed or is_left_so) and instance.killing is None
+        is_left_so = policy == "OnFailure" and not is_init and self.is_left(chain, instance, placing)
+        is_success = not has_next and (is_passed or is_left_so) and not instance.is_killed
         return (0 if is_success else LOST_CODE), True
+
+    def is_left(self, chain: Chain, instance: Instance, placing: Placing) -> bool:
+        """Whether an exit of a container that is started again where it failed was left as it is, so that it did not:
+        no line says by then that it waits."""
+        end = instance.end or 0.0
+        is_going = any(at is not None and at <= end + LOOK_SECONDS for at in (
+            self.deleted_at, None if self.decision is None else self.decision.moment))
+        return not is_going and placing.now - end >= LEFT_SECONDS and not self.instances.hints.has_wait(
+            str(chain.name), end - LOOK_SECONDS)
 
     # --- probes ---
 
@@ -246,6 +300,21 @@ class Life(Account):
         self.place_silent(pod, container, at, placing)
         if probing.take(found, at):
             self.place_results(pod, container, iter([Result(at, probe, found)]), placing)
+
+    def place_unready(self, pod: recorded.Pod, at: float, names: tuple[str, ...], placing: Placing) -> None:
+        """A kubelet that was started takes a readiness probe to have failed until it succeeds, so its containers are
+        not ready, as its status says: as many failures as the probe takes."""
+        for name in names:
+            probing = self.probings.get((name, READINESS))
+            count = pod.failures_wanted(name, READINESS) if probing is not None else 0
+            if probing is None or probing.due is None or probing.successes < probing.wanted or count > MOST_MADE:
+                continue
+            made = [Result(at - back, READINESS, FAILURE) for back in reversed(range(count))]
+            self.place_results(pod, name, iter(made), placing)
+            probing.successes, probing.failures = 0, []
+            placing.count(MADE_UNREADY, self.key)
+        placing.say(self.key, at, {"reason": NOT_READY, "message": f"containers with unready status: "
+                                   f"[{' '.join(names)}]"})
 
     def place_silent(self, pod: recorded.Pod, name: Optional[str], until: float, placing: Placing) -> None:
         """The successes that have no line, of one container or of all, up to a moment: those whose line would stand

@@ -32,10 +32,12 @@ LATE_SECONDS = 60
 # what is counted: holes that the journal of the kubelet alone shows, those of a journal that another one fills, pods of
 # which no line behind a gap speaks, and how often the clock went back
 HOLES, FILLED, DOUBTED, TURNS = "holes", "filled holes", "pods in doubt", "turns"
-# and pods that have probes
-PROBED = "pods with probes"
+# pods that have probes, and new processes of the kubelet
+PROBED, RESTARTS = "pods with probes", "processes of the kubelet"
 # a member of a pod's entry: what the kubelet said
-SAID, FAILED = "said", "failed"
+SAID, FAILED, GUESSED = "said", "failed", "guessed"
+# of a tick: when the kubelet was started again
+STARTED_AT = "kubeletStartedAt"
 # of a gap: by how many seconds the clock went back there
 CLOCK_BACK = "clockBack"
 # of a pod in a tick, and of all pods
@@ -59,6 +61,9 @@ class Placing:
         self.beside: list[tuple[int, int, str, str, Any]] = []
         self.said = 0
         self.gaps: list[tuple[int, dict[str, int]]] = []
+        # the seconds in which the kubelet was started again, and the newest moment of the journal
+        self.started: list[int] = []
+        self.now = 0.0
         # the ends of gaps of which it is not settled which pods are there behind them
         self.behind: list[float] = []
         self.silences = Silences()
@@ -108,7 +113,7 @@ class Placing:
         """What the kubelet did to a pod; the second of its tick."""
         arrived = Recorded(pod, life.changes_from if life.arrived is None else life.arrived, life.changes_from)
         second = self.timeline.place_decision(replace(pod, decision=decision), decision.moment or 0.0, arrived)
-        self.put_beside(life.key, life.failed_in(second, decision), FAILED, decision.reason)
+        self.put_beside(life.key, life.failed_in(second, decision), FAILED, decision.word)
         self.count(f"pods {decision.kind}")
         return second
 
@@ -187,7 +192,8 @@ class Placing:
         """A line with the members that are not the timeline's."""
         if line.startswith(POD_LINE):
             return self.pod_with_members(json.loads(line))
-        return self.tick_with_gap(line) if self.gaps else line
+        line = self.tick_with_gap(line) if self.gaps else line
+        return self.tick_with_start(line) if self.started else line
 
     def pod_with_members(self, fields: dict[str, Any]) -> str:
         """A pod's line. No journal has what it uses, by which the rules would name it, so it is spared."""
@@ -207,6 +213,16 @@ class Placing:
         told = {**gaps[-1], "since": gaps[0]["since"], **({CLOCK_BACK: back} if back else {})}
         self.gaps = [each for each in self.gaps if each[0] > at]
         return f"{line[:-1]},{shown({'gap': told})[1:]}"
+
+    def tick_with_start(self, line: str) -> str:
+        """A tick's line with the moment at which the kubelet was started again, the last one up to then."""
+        found = TICK_AT.match(line)
+        at = -1 if found is None else int(found[1])
+        seconds = [second for second in self.started if second <= at]
+        if not seconds:
+            return line
+        self.started = [second for second in self.started if second > at]
+        return f"{line[:-1]},{shown({STARTED_AT: seconds[-1]})[1:]}"
 
     def rows_due(self, at: int) -> Rows:
         """What was said of each pod up to a second, which is taken; a later tick has what is more than a line takes."""
@@ -234,4 +250,5 @@ class Placing:
             taken["containers"] = [marks.doubted(listing) for listing in taken["containers"]]
         said = [value for _, member, value in due[key] if member == SAID]
         failed = {FAILED: value for _, member, value in due[key] if member == FAILED}
-        return taken | failed | ({SAID: said[:MOST_SAID]} if said else {})
+        guessed = {GUESSED: [marks.PHASE]} if any(member == marks.PHASE for _, member, _ in due[key]) else {}
+        return taken | failed | guessed | ({SAID: said[:MOST_SAID]} if said else {})
