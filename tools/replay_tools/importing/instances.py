@@ -36,7 +36,7 @@ UPDATED_SECONDS = 60.0
 MOST_CHAINS, MOST_NAMES = 16, 64
 
 
-@dataclass
+@dataclass(eq=False)
 class Instance:
     """One instance of a container, or a sandbox: when the kubelet's look found it started and exited, what is known
     exactly, and how it ended. `name` is that of its container, once it is known or found."""
@@ -100,7 +100,7 @@ class Instance:
         self.is_sandbox = self.is_sandbox or known.is_sandbox
 
 
-@dataclass
+@dataclass(eq=False)
 class Chain:
     """The instances of one container, one behind the other, whose name may not be known yet."""
     instances: list[Instance]
