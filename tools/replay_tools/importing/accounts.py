@@ -98,9 +98,9 @@ class Account:
         if not fact.is_ready and fact.unready:
             self.add(max(fact.since or fact.at, started_at), "unready", fact.unready)
 
-    def entry_of_wait(self, fact: facts.Waits) -> dict[str, Reason]:
+    def entry_of_wait(self, fact: facts.Waits, name: str) -> dict[str, Reason]:
         found = reason_of(without_nones({"reason": fact.reason, "message": fact.message}))
-        return {} if found is None else {fact.container: found}
+        return {} if found is None else {name: found}
 
     def forget(self, before: float) -> None:
         self.instances.forget(before)

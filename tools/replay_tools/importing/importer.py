@@ -15,7 +15,7 @@ from . import facts
 from .endings import Endings
 from .evictions import Evictions
 from .manifests import Manifests
-from .placing import FILLED, LATE_SECONDS, RESTARTS, TURNS, Placing
+from .placing import FILLED, LATE_SECONDS, RESTARTS, TURNS, WITH_MANIFEST, Placing
 from .pods import Pods
 from .silences import OF_KUBELET
 from .summary import stamp
@@ -244,6 +244,6 @@ def refuse_strangers(importer: Importer) -> None:
     """Refuses manifests of which none is of a pod of the journal."""
     has_manifests = bool(importer.manifests.by_key or importer.manifests.owners)
     met = importer.placing.counts["met"]
-    if has_manifests and met and not importer.placing.counts["pods with a manifest"]:
+    if has_manifests and met and not importer.placing.counts[WITH_MANIFEST]:
         raise entry.Fault(f"none of the {entry.counted(met, 'pod')} of the journal is among the manifests: they are of "
                           "another cluster, or of another time", 1)

@@ -14,8 +14,9 @@ from replay_tools.record.runtime import EXITED, LOST_CODE, RUNNING, Change, List
 
 from . import marks
 from .accounts import LOOK_SECONDS, ORDER, Account, Item
+from .instances import UNNAMED
 from .outputs import why_killed
-from .placing import PROBED
+from .placing import NAMED_LATE, PROBED, UNKNOWN_PHASES
 from .probing import FAILURE, SUCCESS, Probing
 
 if TYPE_CHECKING:
@@ -29,7 +30,6 @@ STARTUP, LIVENESS, READINESS = PROBES
 NOT_READY, MOST_MADE = "ContainersNotReady", 30
 # what is counted: containers that were not ready as the kubelet was started again
 MADE_UNREADY = "containers unready at a start"
-UNKNOWN_PHASES = "pods of an unknown phase"
 # a container that has failed is said to wait, or starts again, within so many seconds
 LEFT_SECONDS = 15.0
 # of a moment in whole seconds as a status has it
@@ -65,6 +65,9 @@ class Life(Account):
         self.is_deleting = False
         self.is_over = False
         self.is_refused = False
+        # whether its manifest was made of lines, and the names of containers that lines have only behind its own
+        self.is_made = False
+        self.named_late: dict[str, str] = {}
 
     # --- what is placed ---
 
@@ -131,9 +134,24 @@ class Life(Account):
         if not names:
             return None
         namespace, _, name = self.key.partition("/")
-        self.is_template = True
+        self.is_template = self.is_made = True
         return recorded.pod_of({"metadata": {"namespace": namespace, "name": name},
                                 "spec": {"containers": [{"name": each} for each in names]}})
+
+    def placed_name(self, name: str, at: float, placing: Placing) -> str:
+        """The name that a container has in the pod's line. One that lines name only behind that line, of a pod without a
+        manifest, is the first there that had no name."""
+        if not self.is_made or self.pod is None or name in self.pod.containers():
+            return name
+        if name not in self.named_late:
+            free = [each for each in self.pod.containers()
+                    if each.startswith(UNNAMED) and each not in self.named_late.values()]
+            if not free:
+                return name
+            self.named_late[name] = free[0]
+            placing.count(NAMED_LATE, f"{self.key} {name}")
+            placing.say(self.key, at, {"container": free[0], "reason": "Named", "message": name})
+        return self.named_late[name]
 
     def items(self, horizon: float) -> list[Item]:
         """What happened up to a moment and is not placed yet, in order."""

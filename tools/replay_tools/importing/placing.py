@@ -34,6 +34,11 @@ LATE_SECONDS = 60
 HOLES, FILLED, DOUBTED, TURNS = "holes", "filled holes", "pods in doubt", "turns"
 # pods that have probes, and new processes of the kubelet
 PROBED, RESTARTS = "pods with probes", "processes of the kubelet"
+# those of which lines have a manifest, those of a made one, and those of which no line says whether they failed
+WITH_MANIFEST, WITHOUT_MANIFEST = "met with a manifest", "pods without a manifest"
+UNKNOWN_PHASES = "pods of an unknown phase"
+# containers that lines name only behind the line of their pod
+NAMED_LATE = "containers named late"
 # a member of a pod's entry: what the kubelet said
 SAID, FAILED, GUESSED = "said", "failed", "guessed"
 # of a tick: when the kubelet was started again
@@ -103,6 +108,8 @@ class Placing:
     def arrive(self, life: Life, pod: Pod) -> int:
         """The second of a pod's line, behind that in which the one before it under its name went."""
         self.count("pods")
+        if life.is_made:
+            self.count(WITHOUT_MANIFEST, life.key)
         self.templates[life.key] = life.is_template
         return self.timeline.place_arrival(pod, max(life.added_at, self.gone_at.get(life.key, -1) + 1.0))
 

@@ -4,6 +4,7 @@ from __future__ import annotations
 
 import re
 from collections.abc import Callable
+from dataclasses import replace
 from typing import Any, Optional
 
 from replay_tools.record.formats import without_nones
@@ -12,7 +13,7 @@ from . import facts
 from .lives import Life
 from .manifests import Manifests
 from .outputs import output_kept
-from .placing import Placing
+from .placing import WITH_MANIFEST, Placing
 
 # what a new process of the kubelet finds in its first looks ran before it
 FIRST_LOOKS = 6
@@ -36,6 +37,8 @@ class Pods:
         self.by_uid: dict[str, Life] = {}
         self.by_key: dict[str, Life] = {}
         self.of_id: dict[str, Life] = {}
+        # the uids of pods that have gone, of which a late line makes no other pod
+        self.left: dict[str, None] = {}
         # what lines say of ids that no pod is known of yet
         self.loose: dict[str, list[facts.Known]] = {}
         for known in manifests.known:
@@ -66,7 +69,7 @@ class Pods:
             if found is not None and self.is_another(found, pod, is_new):
                 found.replaced_at = at if found.replaced_at is None else found.replaced_at
                 found = None
-        if found is None and pod.key is not None:
+        if found is None and pod.key is not None and (is_new or pod.uid not in self.left):
             found = self.meet(pod, at)
         elif found is not None and found.uid is None and pod.uid is not None:
             found.uid = pod.uid
@@ -124,7 +127,8 @@ class Pods:
         if life.pod is not None and life.pod.fault is not None:
             self.say(f"{life.key} is left out: {life.pod.fault}")
             life.is_refused = True
-        self.placing.count("pods without a manifest" if life.pod is None else "pods with a manifest", life.key)
+        if life.pod is not None:
+            self.placing.count(WITH_MANIFEST)
         self.lives.append(life)
         self.by_key[life.key] = life
         if pod.uid is not None:
@@ -172,6 +176,7 @@ class Pods:
             self.lives = [life for life in self.lives if id(life) not in over]
             self.of_id = {identity: life for identity, life in self.of_id.items() if id(life) not in over}
         for life in over.values():
+            self.left.update(dict.fromkeys(uid for uid in (life.uid, *life.copies) if uid is not None))
             if self.by_key.get(life.key) is life:
                 del self.by_key[life.key]
             for uid in {life.uid, *life.copies}:
@@ -180,8 +185,9 @@ class Pods:
         for life in self.lives:
             life.forget(horizon - self.hold)
         self.placing.silences.forget(horizon - self.hold)
-        while len(self.loose) > MOST_LOOSE:
-            del self.loose[next(iter(self.loose))]
+        for kept in (self.loose, self.left):
+            while len(kept) > MOST_LOOSE:
+                del kept[next(iter(kept))]
 
     def on_added(self, fact: facts.Added) -> None:
         if self.is_copy(fact.pod, fact.source):
@@ -218,7 +224,8 @@ class Pods:
     # --- instances ---
 
     def on_turned(self, fact: facts.Turned) -> None:
-        life = self.heard(self.of_id.get(fact.id)) or self.life_of(fact.pod, fact.at)
+        life = self.heard(self.of_id.get(fact.id)) or self.life_of(fact.pod, fact.at, fact.pod.uid in self.left
+                                                                   and fact.what == facts.STARTED)
         if life is None:
             return
         if not fact.is_exact:
@@ -245,15 +252,17 @@ class Pods:
         self.tell(life, fact)
 
     def tell(self, life: Life, known: facts.Known) -> None:
-        life.instances.of(known.id).know(known)
-        if known.container is not None:
-            life.instances.note_name(known.container)
+        name = None if known.container is None else life.placed_name(known.container, self.now, self.placing)
+        life.instances.of(known.id).know(known if name == known.container else replace(known, container=name))
+        if name is not None:
+            life.instances.note_name(name)
 
     def on_created(self, fact: facts.Created) -> None:
         life = self.known_life(fact.pod) if fact.is_of_cluster else self.life_of(fact.pod, fact.at)
         if life is not None:
-            life.instances.hints.created.append((fact.at, fact.container))
-            life.instances.note_name(fact.container)
+            name = life.placed_name(fact.container, fact.at, self.placing)
+            life.instances.hints.created.append((fact.at, name))
+            life.instances.note_name(name)
 
     def on_killing(self, fact: facts.Killing) -> None:
         life = self.heard(self.of_id.get(fact.id))
@@ -276,11 +285,12 @@ class Pods:
     def on_waits(self, fact: facts.Waits) -> None:
         life = self.life_of(fact.pod, fact.at)
         if life is not None:
-            life.instances.hints.waits.append((fact.at, fact.container))
+            name = life.placed_name(fact.container, fact.at, self.placing)
+            life.instances.hints.waits.append((fact.at, name))
             if fact.reason in STARTS_FAILED:
-                life.instances.hints.failed.append((fact.at, fact.container))
-            life.instances.note_name(fact.container)
-            life.add(fact.at, "wait", life.entry_of_wait(fact))
+                life.instances.hints.failed.append((fact.at, name))
+            life.instances.note_name(name)
+            life.add(fact.at, "wait", life.entry_of_wait(fact, name))
 
     # --- probes ---
 
@@ -289,9 +299,10 @@ class Pods:
         if life is None:
             return
         self.placing.has_successes = self.placing.has_successes or fact.result == "success"
-        life.instances.hints.probed.append((fact.at, fact.container))
-        life.instances.note_name(fact.container)
-        life.add(fact.at, "result", (fact.container, fact.probe, fact.result))
+        name = life.placed_name(fact.container, fact.at, self.placing)
+        life.instances.hints.probed.append((fact.at, name))
+        life.instances.note_name(name)
+        life.add(fact.at, "result", (name, fact.probe, fact.result))
         place = life.key, fact.container, fact.probe
         said = fact.result, output_kept(fact.output) if fact.output else None
         if fact.result == "failure" and self.probed.get(place) != said:
