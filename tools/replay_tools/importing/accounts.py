@@ -45,6 +45,8 @@ class Account:
         self.key = key
         self.uid = uid
         self.added_at = at
+        # when it took the place of another one of its name
+        self.follows_at = 0.0
         self.pod: Optional[Pod] = None
         self.is_template = False
         # whether a line says that it comes, and whether it did not run before that

@@ -209,6 +209,23 @@ class Instances:
         if ends and ends[0] <= horizon:
             each.gone, each.is_lost = max(ends[0], begin), True
 
+    def untangle(self) -> None:
+        """An instance whose start no look found ran behind those that started and exited before its exit."""
+        for chain in self.chains:
+            guessed = [each for each in chain.instances if each.is_unseen and each.written is None
+                       and each.started is None and each.gone is not None]
+            if not guessed:
+                continue
+            starts = [each.seen or 0.0 for each in chain.instances]
+            others = list(chain.instances)
+            for each in guessed:
+                begin, end = bisect.bisect_left(starts, each.seen or 0.0), bisect.bisect_left(starts, each.gone or 0.0)
+                ends = [other.gone for other in others[max(begin, end - MOST_CHAINS):end] if other is not each
+                        and other.gone is not None and other.gone < (each.gone or 0.0)]
+                if ends:
+                    each.seen, each.is_met = max(ends) + AFTER, False
+            chain.instances.sort(key=lambda each: (each.written is None, each.seen or 0))
+
     def see_starts_that_failed(self) -> None:
         """What came and went between two looks, while a line says that the container could not be started, never ran."""
         for chain in self.chains:

@@ -99,6 +99,7 @@ class Life(Account):
         for instance, heard_at, start in self.instances.in_holes():
             instance.gone = placing.hole_between(heard_at, start)
             instance.is_lost = instance.gone is not None
+        self.instances.untangle()
         self.instances.lose(horizon)
         self.instances.see_starts_that_failed()
         is_told = self.decision is not None or any(at is not None for at in (
@@ -112,6 +113,8 @@ class Life(Account):
         found = self.pod if self.pod is not None else self.made_pod()
         has_ended = self.deleted_at is not None and not self.is_listed and not self.instances.by_id
         if found is None or has_ended:
+            return None
+        if placing.is_there(self.key):
             return None
         if not placing.has_room(self):
             self.is_refused = True
@@ -173,10 +176,13 @@ class Life(Account):
     def items_of(self, chain: Chain, horizon: float) -> Iterator[Item]:
         """The starts and exits of a container: each exit before the next start."""
         latest = 0.0
-        for instance in chain.instances:
+        for instance, after in zip(chain.instances, [*chain.instances[1:], None]):
             begin, end = instance.begin, instance.end
             if begin is None or begin > horizon:
                 return
+            if end is not None and after is not None and end > (after.begin or end):
+                # its exit was found late, or another one is taken for it
+                end, instance.is_lost = max((after.begin or end) - AFTER, begin), True
             latest = max(latest + AFTER, begin)
             if instance.written is None and not instance.never_ran:
                 yield Item(latest, ORDER["start"], 0, "start", (chain, instance))

@@ -73,6 +73,8 @@ class Placing:
         self.behind: list[float] = []
         self.silences = Silences()
         self.templates: dict[str, bool] = {}
+        # the keys of the pods that are there
+        self.there: set[str] = set()
         self.gone_at: dict[str, int] = {}
         self.counts: Counter[str] = Counter()
         self.named: dict[str, set[str]] = defaultdict(set)
@@ -105,9 +107,14 @@ class Placing:
         return len(self.timeline.present) + sum(len(tick.arrivals) - len(tick.departures)
                                                 for tick in self.timeline.ticks.values())
 
+    def is_there(self, key: str) -> bool:
+        """Whether a pod of a name is there, so that no other one can come."""
+        return key in self.there
+
     def arrive(self, life: Life, pod: Pod) -> int:
         """The second of a pod's line, behind that in which the one before it under its name went."""
         self.count("pods")
+        self.there.add(life.key)
         if life.is_made:
             self.count(WITHOUT_MANIFEST, life.key)
         self.templates[life.key] = life.is_template
@@ -115,6 +122,7 @@ class Placing:
 
     def depart(self, pod: Pod, moment: float) -> None:
         self.gone_at[pod.key] = self.timeline.place_departure(pod, moment)
+        self.there.discard(pod.key)
 
     def decide(self, life: Life, pod: Pod, decision: Decision) -> int:
         """What the kubelet did to a pod; the second of its tick."""

@@ -64,13 +64,15 @@ class Pods:
         """The pod of a reference, which is met by it where it is new; None of a uid without a name."""
         found = self.by_uid.get(pod.uid) if pod.uid is not None else None
         found = self.of_copy(pod) if found is None else found
+        before: Optional[Life] = None
         if found is None and pod.key is not None:
             found = self.by_key.get(pod.key)
             if found is not None and self.is_another(found, pod, is_new):
                 found.replaced_at = at if found.replaced_at is None else found.replaced_at
-                found = None
+                before, found = found, None
         if found is None and pod.key is not None and (is_new or pod.uid not in self.left):
             found = self.meet(pod, at)
+            found.follows_at = 0.0 if before is None else at
         elif found is not None and found.uid is None and pod.uid is not None:
             found.uid = pod.uid
             self.by_uid[pod.uid] = found
@@ -161,7 +163,8 @@ class Pods:
         """A pod of which a line speaks that a kubelet writes where it writes too which pods come: without such a line
         it was there before the journal begins, or goes on behind a gap."""
         if life is not None and not life.is_listed and life.arrived is None:
-            life.added_at = min(life.added_at, max([self.begun or 0.0, *self.placing.behind]))
+            since = max([self.begun or 0.0, life.follows_at, *self.placing.behind])
+            life.added_at = min(life.added_at, since)
         return life
 
     def is_begin_of_process(self, at: float) -> bool:
