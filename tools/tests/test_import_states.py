@@ -3,6 +3,7 @@ kubelet ended or did not admit."""
 
 import json
 import os
+import time
 
 import cases
 from checks import expect
@@ -38,7 +39,7 @@ def test_import_of_a_container_that_never_runs():
 
 def test_import_of_a_wait_of_what_was_taken_to_run():
     """A container of which a line says that it waits does not run, whatever was guessed of its instances."""
-    journal = Journal(True).loop(0, "ADD").look(1, "Started", "5").look(1.001, "Started", "a")
+    journal = Journal(True).loop(0, "ADD").look(1, "Started", "a").look(1.001, "Started", "5")
     journal.wait(60, "app").wait(75, "app", message="back-off 20s restarting failed container")
     journal.say(120, 'SyncLoop (housekeeping)').loop(130, "UPDATE")
     status, records, _ = imported(journal.text(), [pod()])
@@ -61,7 +62,7 @@ def test_import_of_exits_that_no_line_has():
                     'returns successfully"')
     sandbox = (f'time="{stamp(0.5)}" level=info msg="RunPodSandbox for &PodSandboxMetadata{{Name:web,Uid:{UID},'
                f'Namespace:shop,Attempt:0,}} returns sandbox id \\"{identity("5")}\\""')
-    journal = Journal(True).say(0.1, "Started kubelet").wait(150, "app")
+    journal = Journal(True).wait(150, "app")
     status, records, said = imported(journal.text(), [pod()], ["\n".join([sandbox, *made]) + "\n"])
     expect("import of exits that no line has", (status, is_accepted(records)), (0, True))
     expect("import of exits that no line has: what is listed", states_of(records), [
@@ -74,13 +75,12 @@ def test_import_of_exits_that_no_line_has():
 
 
 def stamp(at):
-    import time
     return time.strftime("%Y-%m-%dT%H:%M:%S", time.gmtime(BEGIN + at)) + f".{int(at % 1 * 1e9):09d}Z"
 
 
 def ran_once(policy):
     """A pod of one container that exits, whose pod the kubelet then cleans up, and which nothing starts again."""
-    journal = Journal(True).loop(0, "ADD").look(1, "Started", "5").look(1.001, "Started", "a")
+    journal = Journal(True).loop(0, "ADD").look(1, "Started", "a").look(1.001, "Started", "5")
     journal.look(20, "Died", "a").kill(20.5, "a").look(21, "Died", "5").say(70, "SyncLoop (housekeeping)")
     return imported(journal.loop(80, "UPDATE").text(), [pod(restartPolicy=policy)])
 
@@ -97,14 +97,13 @@ def test_import_of_an_unknown_phase():
     status, records, _ = ran_once("OnFailure")
     expect("import of a pod that was left as it is", (status, states_of(records)[-1]), (
         0, (20, "app", 0, "EXITED", 0, ("moment", "exitCode"))))
-    status, records, _ = imported(Journal(True).loop(0, "ADD").look(1, "Started", "5").look(
-        1.001, "Started", "a").look(20, "Died", "a").wait(21, "app").loop(80, "UPDATE").text(), [
-            pod(restartPolicy="OnFailure")])
+    journal = Journal(True).loop(0, "ADD").look(1, "Started", "a").look(1.001, "Started", "5").look(20, "Died", "a")
+    status, records, _ = imported(journal.wait(21, "app").loop(80, "UPDATE").text(), [pod(restartPolicy="OnFailure")])
     expect("import of a pod that waits", (status, states_of(records)[-1][4]), (0, 137))
 
 
 def running(is_printed=True, **spec):
-    return Journal(is_printed).loop(0, "ADD").look(1, "Started", "5").look(1.001, "Started", "a"), [pod(**spec)]
+    return Journal(is_printed).loop(0, "ADD").look(1, "Started", "a").look(1.001, "Started", "5"), [pod(**spec)]
 
 
 def test_import_of_pods_that_the_node_ended():
@@ -150,8 +149,8 @@ def test_import_of_pods_that_were_not_admitted():
             ("a reason", False, f'"Pod admission denied" podUID="{UID}" pod="shop/web" reason="NodeShutdown" '
              'message="Pod was rejected as the node is shutting down."', "NodeShutdown")):
         journal = Journal(is_printed).loop(5, "ADD").say(5.1, text)
-        other = Journal(is_printed, "other", UID.replace("1", "7")).loop(0, "ADD").look(1, "Started", "6")
-        other.look(1.001, "Started", "b").loop(60, "UPDATE")
+        other = Journal(is_printed, "other", UID.replace("1", "7")).loop(0, "ADD").look(1, "Started", "b")
+        other.look(1.001, "Started", "6").loop(60, "UPDATE")
         status, records, _ = imported(journal.text(other), [pod(), pod("other", UID.replace("1", "7"))])
         expect(f"import of a pod that was not admitted, {name}", (status, is_accepted(records), decisions_of(
             records, "refused"), lines_of_pod(records)), (0, True, [(5, "shop/web", reason)], []))
@@ -167,7 +166,7 @@ def test_import_of_pods_that_were_not_admitted():
 def test_import_of_an_init_container_that_fails():
     """A kubelet 1.20 has no code at -v=2, and its lines of back-offs name the init container: it starts again until
     then, and the app never."""
-    journal = Journal(True).loop(0, "ADD").look(1, "Started", "5").look(1.001, "Started", "a").look(3, "Died", "a")
+    journal = Journal(True).loop(0, "ADD").look(1, "Started", "a").look(1.001, "Started", "5").look(3, "Died", "a")
     journal.look(4, "Started", "b").look(6, "Died", "b").wait(6.1, "schema").look(18, "Started", "c")
     journal.look(20, "Died", "c").wait(20.1, "schema").wait(35, "schema")
     status, records, _ = imported(journal.text(), [pod(initContainers=[{"name": "schema"}])])
@@ -183,7 +182,7 @@ def test_import_of_static_pods():
     file, copy, other = "3854c948ae834a538b9ddb24df04229a", "aacd84b4-71ab-4055-9b6c-3a599457e9ac", "9215e6d0-7a9a-4bf7"
     for name, is_printed, journal_begins in (("1.20", True, 0), ("keys", False, 0), ("from the middle on", True, 1)):
         journal = Journal(is_printed, uid=file).loop(0, "ADD", "file").loop(0.4, "ADD", uid=copy)
-        journal.look(1, "Started", "5").look(1.001, "Started", "a").loop(100, "DELETE", uid=copy)
+        journal.look(1, "Started", "a").look(1.001, "Started", "5").loop(100, "DELETE", uid=copy)
         journal.loop(100.1, "REMOVE", uid=copy).loop(101, "ADD", uid=other).loop(200, "REMOVE", "file")
         journal.loop(201, "DELETE", uid=other).look(203, "Died", "a").look(203.1, "Died", "5")
         text = journal.text()
@@ -206,7 +205,7 @@ def test_import_of_an_ephemeral_container():
     in_list["status"] = {"phase": "Running", "ephemeralContainerStatuses": [debugger]}
     for name, pods, patch in (("by a status of the list", [in_list], None), ("by the change of its object", [pod()], None),
                               ("by a patch", [pod()], {"ephemeralContainerStatuses": [debugger]})):
-        journal = Journal().loop(0, "ADD").look(1, "Started", "5").look(1.001, "Started", "a")
+        journal = Journal().loop(0, "ADD").look(1, "Started", "a").look(1.001, "Started", "5")
         journal.loop(99, "UPDATE").look(101, "Started", "d")
         if patch:
             journal.patch(102, patch)
@@ -260,7 +259,7 @@ def test_import_of_pods_that_are_forgotten():
 def test_import_of_names_that_come_late():
     """Of a pod without a manifest: a name that lines have only behind the pod's own is that of the container which had
     none by then."""
-    journal = Journal(True).loop(0, "ADD").look(1, "Started", "5").look(1.001, "Started", "a")
+    journal = Journal(True).loop(0, "ADD").look(1, "Started", "a").look(1.001, "Started", "5")
     for at in range(60, 1500, 60):
         journal.loop(at, "UPDATE")
     journal.look(1500, "Died", "a").wait(1501, "app").loop(1600, "UPDATE")
