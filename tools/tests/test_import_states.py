@@ -159,8 +159,9 @@ def test_import_of_pods_that_were_not_admitted():
     journal.say(59, "Started kubelet").loop(60, "ADD").say(60.5, f"Predicate failed on Pod: web_shop({UID}), for "
                                                            f"reason: {said}").look(62, "Died", "a")
     status, records, _ = imported(journal.loop(120, "UPDATE").text(), pods)
+    failed = [(second, entry["failed"]) for second, entry in entries_of(records) if "failed" in entry]
     expect("import of a pod that is not admitted again", (status, is_accepted(records), decisions_of(
-        records, "ended")), (0, True, [(60, "shop/web", "OutOfcpu")]))
+        records, "refused"), failed), (0, True, [(60, "shop/web", "OutOfcpu")], [(60, "OutOfcpu")]))
 
 
 def test_import_of_an_init_container_that_fails():

@@ -24,7 +24,7 @@ BETWEEN_LOOKS = 0.9
 STOPPED_SECONDS = 2.0
 # by how much a look of the kubelet's may be late
 LOOK_SECONDS = 1.0
-ORDER = {"start": 0, "result": 1, "unready": 1, "kill": 2, "exit": 3, "wait": 4}
+ORDER = {"start": 0, "result": 1, "kill": 2, "exit": 3, "wait": 4}
 
 
 @dataclass(order=True)
@@ -54,6 +54,8 @@ class Account:
         # whether it is of a file on the node, and the uids of its copies in the API server
         self.is_static = False
         self.copies: set[str] = set()
+        # what the condition Ready was last
+        self.is_ready: Optional[bool] = None
         self.instances = Instances()
         # what waits to be placed
         self.pending: list[Item] = []
@@ -95,10 +97,12 @@ class Account:
                 instance.seen, instance.is_met = (self.added_at, True) if is_met else (fact.at - BETWEEN_LOOKS, False)
             instance.gone = fact.at
 
-    def ready_turned(self, fact: facts.Readied, started_at: float) -> None:
-        """The status that a kubelet sends as it was started: which containers are not ready."""
-        if not fact.is_ready and fact.unready:
-            self.add(max(fact.since or fact.at, started_at), "unready", fact.unready)
+    def ready_turned(self, fact: facts.Readied) -> Optional[dict[str, Any]]:
+        """A status has the condition Ready: how it turned, where it had another value before."""
+        if fact.is_ready == self.is_ready:
+            return None
+        self.is_ready = fact.is_ready
+        return {"status": "True" if fact.is_ready else "False", "at": int(fact.at if fact.since is None else fact.since)}
 
     def entry_of_wait(self, fact: facts.Waits, name: str) -> dict[str, Reason]:
         found = reason_of(without_nones({"reason": fact.reason, "message": fact.message}))
@@ -167,12 +171,12 @@ class Account:
         self.told_at, self.is_moment_told = at, bool(moments)
         self.decision = Decision(EVICTED, min([at, *moments]), EVICTION, message)
 
-    def end(self, at: float, reason: str, message: str, is_late: bool) -> None:
-        """The kubelet has ended it for a reason of its own. A line that may come late is behind the first order to stop
-        what ran, or behind the first exit that this led to."""
+    def end(self, at: float, reason: str, message: str, is_late: bool, kind: str = ENDED) -> None:
+        """The kubelet has ended it for a reason of its own, or has not admitted it again as it was restarted. A line
+        that may come late is behind the first order to stop what ran, or behind the first exit that this led to."""
         ordered = self.stopped_since(at) if is_late else at
         self.told_at, self.is_moment_told = at, ordered is not None
-        self.decision = Decision(ENDED, at if ordered is None else min(at, ordered), reason, message)
+        self.decision = Decision(kind, at if ordered is None else min(at, ordered), reason, message)
 
     def has_run(self) -> bool:
         """Whether a container or a sandbox of it was seen."""
@@ -209,7 +213,7 @@ class Account:
         moment = decision.moment or 0.0
         if self.is_moment_told:
             return moment
-        is_ended = decision.kind == ENDED
+        is_ended = decision.kind != EVICTED
         waits = {name: at for at, name in self.instances.hints.waits}
         ends = [chain.newest.end for chain in self.instances.chains if chain.newest.end is not None
                 and not (is_ended and waits.get(str(chain.name), 0.0) >= chain.newest.end)]

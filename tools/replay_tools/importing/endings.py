@@ -7,7 +7,6 @@ import re
 from collections.abc import Callable, Iterator
 from typing import Any, Optional, TYPE_CHECKING
 
-from replay_tools import outside
 from replay_tools.record.decisions import ENDED, EVICTION, PRESSURE, REFUSED, WORD, Decision
 from replay_tools.record.messages import message_kept
 from replay_tools.record.runtime import moment_of
@@ -133,14 +132,7 @@ def of_conditions(at: float, pod: facts.Reference, status: Any) -> Iterator[fact
     for each in listed if isinstance(listed, list) else ():
         if isinstance(each, dict) and each.get("type") == "Ready" and each.get("status") in ("True", "False"):
             since = each.get("lastTransitionTime")
-            yield facts.Readied(at, pod, each["status"] == "True", moment_of(since) if isinstance(since, str) else None,
-                                unready_in(str(each.get("message") or "")))
-
-
-def unready_in(message: str) -> tuple[str, ...]:
-    """The containers that the condition Ready names."""
-    found = re.search(r"containers with unready status: \[([-a-z0-9 ]{1,1100})\]", message)
-    return () if found is None else tuple(name for name in found[1].split() if outside.is_label(name))
+            yield facts.Readied(at, pod, each["status"] == "True", moment_of(since) if isinstance(since, str) else None)
 
 
 # --- what becomes of it ---
@@ -162,7 +154,7 @@ class Endings:
         if fact.is_refused and not life.has_run():
             self.refuse(life, fact.at, fact.reason, message)
         else:
-            life.end(fact.at, fact.reason, message, fact.is_late)
+            life.end(fact.at, fact.reason, message, fact.is_late, REFUSED if fact.is_refused else ENDED)
 
     def refuse(self, life: Life, at: float, reason: str, message: str) -> None:
         """A pod that was not admitted never ran, and has no line."""
@@ -200,7 +192,3 @@ class Endings:
         ordered = life.first_stop()
         at = stopped_at if ordered is None else ordered
         return 0 <= at - (life.added_at + deadline) <= DEADLINE_SECONDS
-
-
-def decision_of(at: float, reason: str, message: str) -> Decision:
-    return Decision(ENDED, at, reason, message)

@@ -230,11 +230,10 @@ class Ended(Fact):
 
 @dataclass
 class Readied(Fact):
-    """A status has the condition Ready with another value: since when, and the containers that are not ready."""
+    """A status has the condition Ready: its value, and since when it has that."""
     pod: Reference
     is_ready: bool
     since: Optional[float] = None
-    unready: tuple[str, ...] = ()
 
 
 @dataclass

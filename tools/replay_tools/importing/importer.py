@@ -15,7 +15,7 @@ from . import facts
 from .endings import Endings
 from .evictions import Evictions
 from .manifests import Manifests
-from .placing import FILLED, LATE_SECONDS, RESTARTS, TURNS, WITH_MANIFEST, Placing
+from .placing import FILLED, LATE_SECONDS, READY_TURNS, RESTARTS, TURNS, WITH_MANIFEST, Placing
 from .pods import Pods
 from .silences import OF_KUBELET
 from .summary import stamp
@@ -29,8 +29,6 @@ SETTLE_SECONDS, FORGET_SECONDS = 60, 300
 AGAIN_SECONDS = 60
 # the observations of one round of the eviction manager follow each other within so many seconds
 ROUND_SECONDS = 1.0
-# a kubelet that was started sends the statuses of all pods within so many seconds
-READIED_SECONDS = 60.0
 # the same line stands in two journals within so many seconds
 FILLED_SECONDS = 1.0
 # the reasons of Events that are told; of failures of probes, kills and evictions there are lines
@@ -210,12 +208,12 @@ class Importer(Pods):
             self.endings.take(life, fact)
 
     def on_readied(self, fact: facts.Readied) -> None:
-        """A status has another condition Ready. A kubelet that was started takes each readiness probe to have failed
-        until it succeeds: no line of a probe says so."""
+        """A status has the condition Ready. It turns where the probes show nothing too: a kubelet that was started takes
+        a pod with a readiness probe for unready until that has passed."""
         life = self.known_life(fact.pod)
-        if life is None or self.started_at is None or fact.at - self.started_at > READIED_SECONDS:
-            return
-        life.ready_turned(fact, self.started_at)
+        turn = None if life is None else life.ready_turned(fact)
+        if life is not None and turn is not None:
+            self.placing.put_beside(life.key, min(turn["at"], int(fact.at)), READY_TURNS, turn)
 
     def on_happened(self, fact: facts.Happened) -> None:
         """An Event says more of what a line says."""

@@ -26,10 +26,6 @@ if TYPE_CHECKING:
     from .placing import Placing
 
 STARTUP, LIVENESS, READINESS = PROBES
-# the reason of the condition Ready, and at most so many failures are made of it
-NOT_READY, MOST_MADE = "ContainersNotReady", 30
-# what is counted: containers that were not ready as the kubelet was started again
-MADE_UNREADY = "containers unready at a start"
 # a container that has failed is said to wait, or starts again, within so many seconds
 LEFT_SECONDS = 15.0
 # of a moment in whole seconds as a status has it
@@ -201,8 +197,6 @@ class Life(Account):
             self.place_kill(item.at, item.value[0], item.value[1], placing)
         elif item.what == "result":
             self.place_result(pod, item.at, item.value, placing)
-        elif item.what == "unready":
-            self.place_unready(pod, item.at, item.value, placing)
         else:
             chain, instance = item.value
             self.place_silent(pod, chain.name, item.at, placing)
@@ -324,21 +318,6 @@ class Life(Account):
         self.place_silent(pod, container, at, placing)
         if probing.take(found, at):
             self.place_results(pod, container, iter([Result(at, probe, found)]), placing)
-
-    def place_unready(self, pod: recorded.Pod, at: float, names: tuple[str, ...], placing: Placing) -> None:
-        """A kubelet that was started takes a readiness probe to have failed until it succeeds, so its containers are
-        not ready, as its status says: as many failures as the probe takes."""
-        for name in names:
-            probing = self.probings.get((name, READINESS))
-            count = pod.failures_wanted(name, READINESS) if probing is not None else 0
-            if probing is None or probing.due is None or probing.successes < probing.wanted or count > MOST_MADE:
-                continue
-            made = [Result(at - back, READINESS, FAILURE) for back in reversed(range(count))]
-            self.place_results(pod, name, iter(made), placing)
-            probing.successes, probing.failures = 0, []
-            placing.count(MADE_UNREADY, self.key)
-        placing.say(self.key, at, {"reason": NOT_READY, "message": f"containers with unready status: "
-                                   f"[{' '.join(names)}]"})
 
     def place_silent(self, pod: recorded.Pod, name: Optional[str], until: float, placing: Placing) -> None:
         """The successes that have no line, of one container or of all, up to a moment: those whose line would stand

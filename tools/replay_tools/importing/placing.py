@@ -40,7 +40,7 @@ UNKNOWN_PHASES = "pods of an unknown phase"
 # containers that lines name only behind the line of their pod
 NAMED_LATE = "containers named late"
 # a member of a pod's entry: what the kubelet said
-SAID, FAILED, GUESSED = "said", "failed", "guessed"
+SAID, FAILED, GUESSED, READY_TURNS = "said", "failed", "guessed", "readyTurns"
 # of a tick: when the kubelet was started again
 STARTED_AT = "kubeletStartedAt"
 # of a gap: by how many seconds the clock went back there
@@ -266,4 +266,6 @@ class Placing:
         said = [value for _, member, value in due[key] if member == SAID]
         failed = {FAILED: value for _, member, value in due[key] if member == FAILED}
         guessed = {GUESSED: [marks.PHASE]} if any(member == marks.PHASE for _, member, _ in due[key]) else {}
-        return taken | failed | guessed | ({SAID: said[:MOST_SAID]} if said else {})
+        turns = [value for _, member, value in due[key] if member == READY_TURNS][-MOST_SAID:]
+        return taken | failed | guessed | ({READY_TURNS: turns} if turns else {}) | (
+            {SAID: said[:MOST_SAID]} if said else {})

@@ -232,5 +232,21 @@ FORMS: dict[str, Callable[[Message], Iterator[facts.Fact]]] = {
     "Container": of_container, "container:": of_made, "Error": of_error, "Pod": of_pod, "Status": of_pod,
     "Ignoring": of_pod, "Patch": of_patch, "eviction": of_eviction, "Failed": of_refusal, "Created": of_sandbox,
     "FLAG:": of_flag, "Creating": of_configuration, "Attempting": of_node, "Successfully": of_node,
-    "Started": of_started, "killContainer": of_named, "failed": of_named, "Got": of_kernel,
-    **endings.PRINTED}
+    "Started": of_started, "killContainer": of_named, "failed": of_named, "Got": of_kernel}
+
+
+def add_forms(others: dict[str, Callable[[Message], Iterator[facts.Fact]]]) -> None:
+    """Adds forms of messages; where one of that first word is there already, a message may be of both."""
+    for word, form in others.items():
+        FORMS[word] = form if word not in FORMS else both(FORMS[word], form)
+
+
+def both(one: Callable[[Message], Iterator[facts.Fact]], other: Callable[[Message], Iterator[facts.Fact]]) -> Callable[
+        [Message], Iterator[facts.Fact]]:
+    def of_both(message: Message) -> Iterator[facts.Fact]:
+        yield from one(message)
+        yield from other(message)
+    return of_both
+
+
+add_forms(endings.PRINTED)
