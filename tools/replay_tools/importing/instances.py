@@ -34,6 +34,8 @@ FAILED_SECONDS = 2.0
 UPDATED_SECONDS = 60.0
 # a pod has at most so many containers in a trace, and so many names are kept of one without a manifest
 MOST_CHAINS, MOST_NAMES = 16, 64
+# so many of the lines behind a moment are looked through for one that says that a container waits
+MOST_NEXT = 100
 
 
 @dataclass(eq=False)
@@ -112,18 +114,21 @@ class Chain:
 
     def is_down(self, at: float) -> bool:
         """Whether none of them runs at a moment."""
-        # they are in the order of their starts, and mostly the newest is asked for
-        for each in reversed(self.instances):
-            if each.seen is not None and each.seen <= at:
-                return each.gone is not None and each.gone <= at + LOOK_SECONDS
-        return False
+        each = self.running_at(at)
+        return each is not None and each.gone is not None and each.gone <= at + LOOK_SECONDS
+
+    def running_at(self, at: float) -> Optional[Instance]:
+        """The last instance that started by a moment: they are in the order of their starts."""
+        low, high = 0, len(self.instances)
+        while low < high:
+            middle = (low + high) // 2
+            low, high = (middle + 1, high) if (self.instances[middle].seen or 0.0) <= at else (low, middle)
+        return self.instances[low - 1] if low > 0 else None
 
     def end_of_running(self, at: float) -> float:
         """When the instance that runs at a moment ends; 0 where none runs, or its end is not known."""
-        for each in reversed(self.instances):
-            if each.begin is not None and each.begin <= at:
-                return each.end or 0.0
-        return 0.0
+        each = self.running_at(at)
+        return 0.0 if each is None or each.end is None else each.end
 
     def expected(self) -> float:
         """When its next start is due."""
@@ -144,7 +149,7 @@ class Hints:
     def has_wait(self, name: str, since: float) -> bool:
         """Whether a line says from a moment on that a container waits."""
         place = bisect.bisect_left(self.waits, (since, ""))
-        return any(each == name for _, each in self.waits[place:])
+        return any(each == name for _, each in self.waits[place:place + MOST_NEXT])
 
     def forget(self, before: float) -> None:
         for kept in (self.waits, self.created, self.probed, self.failed):
@@ -450,11 +455,7 @@ class Linking:
     def has_waited(self, name: str, since: float, until: float) -> bool:
         """Whether a line says that a container waits between two moments."""
         place = bisect.bisect_left(self.waits, (since, ""))
-        while place < len(self.waits) and self.waits[place][0] <= until:
-            if self.waits[place][1] == name:
-                return True
-            place += 1
-        return False
+        return any(each == name and at <= until for at, each in self.waits[place:place + MOST_NEXT])
 
     def waits_next(self, instance: Instance) -> Optional[str]:
         """The container of which the next line from a start on says that it waits: an init container that does so has

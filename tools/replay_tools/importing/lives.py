@@ -2,7 +2,8 @@
 
 from __future__ import annotations
 
-from collections.abc import Iterator
+import bisect
+from collections.abc import Iterable, Iterator
 from dataclasses import replace
 from typing import Optional, TYPE_CHECKING
 
@@ -42,12 +43,26 @@ class ByItself(Change):
         return True
 
 
+def merged(spans: Iterable[tuple[float, float]]) -> list[tuple[float, float]]:
+    """Times without overlaps, in order."""
+    found: list[tuple[float, float]] = []
+    for since, until in sorted(spans):
+        if found and since <= found[-1][1]:
+            found[-1] = found[-1][0], max(found[-1][1], until)
+        else:
+            found.append((since, until))
+    return found
+
+
 class Life(Account):
     """One pod, from its first line to its last, as a trace has it."""
 
     def __init__(self, number: int, key: str, uid: Optional[str], at: float) -> None:
         super().__init__(number, key, uid, at)
         self.probings: dict[tuple[str, str], Probing] = {}
+        # of what is placed now and waits to be: the first result of each probe, and the times without a success
+        self.first_results: dict[tuple[str, str], float] = {}
+        self.without: dict[tuple[str, str], list[tuple[float, float]]] = {}
         # what is placed now
         self.placed: list[Item] = []
         self.waits: dict[str, Reason] = {}
@@ -78,6 +93,7 @@ class Life(Account):
         leaves_at = self.leaves_at()
         until = horizon if leaves_at is None else min(horizon, leaves_at)
         self.placed = self.items(until)
+        self.foresee(pod, placing)
         for item in self.placed:
             self.place(pod, item, placing)
         self.place_silent(pod, None, until, placing)
@@ -325,28 +341,36 @@ class Life(Account):
         for (container, probe), probing in self.probings.items():
             if name in (None, container) and placing.is_silent(probe):
                 self.set_phase(container, probe, probing)
-                found = probing.silent(until - probing.period / 2,
-                                       [*placing.timeline.gaps, *self.failing(pod, container, probe, probing)])
+                found = probing.silent(until - probing.period / 2, self.without.get((container, probe), []))
                 self.place_results(pod, container, found, placing)
 
-    def failing(self, pod: recorded.Pod, name: str, probe: str, probing: Probing) -> Iterator[tuple[float, float]]:
-        """From the first of the failures for which the kubelet ends an instance, as its line says, up to that line: on
-        a busy node results come late, and none between was a success."""
+    def foresee(self, pod: recorded.Pod, placing: Placing) -> None:
+        """What is placed now and waits to be placed has of each probe: its first result, and the times in which none
+        was a success: gaps, and from the first of the failures for which the kubelet ends an instance, as its line says,
+        up to that line, since on a busy node results come late."""
+        found: dict[tuple[str, str], list[float]] = {}
+        self.first_results = {}
+        for item in (*self.placed, *self.pending):
+            if item.what == "result":
+                place = item.value[:2]
+                self.first_results.setdefault(place, item.at)
+                if item.value[2] == FAILURE:
+                    found.setdefault(place, []).append(item.at)
+        self.without = {(name, probe): merged([*placing.timeline.gaps, *self.failing(pod, name, probe, sorted(
+            {*found.get((name, probe), ()), *probing.failures}))]) for (name, probe), probing in self.probings.items()}
+
+    def failing(self, pod: recorded.Pod, name: str, probe: str, failures: list[float]) -> Iterator[tuple[float, float]]:
+        """From the first of the failures that each kill by a probe took up to that kill."""
         wanted = pod.failures_wanted(name, probe)
-        for chain in [each for each in self.instances.chains if each.name == name]:
+        for chain in [each for each in self.instances.chains if each.name == name and failures]:
             for killing in [each.killing for each in chain.instances if each.killing is not None]:
-                if why_killed(killing.why) == probe:
-                    known = {item.at for item in (*self.placed, *self.pending)
-                             if item.what == "result" and item.value == (name, probe, FAILURE)}
-                    failures = sorted(at for at in known.union(probing.failures) if at <= killing.at)[-wanted:]
-                    yield from [(failures[0], killing.at)] if failures else []
+                place = bisect.bisect_right(failures, killing.at)
+                if place > 0 and why_killed(killing.why) == probe:
+                    yield failures[max(place - wanted, 0)], killing.at
 
     def set_phase(self, container: str, probe: str, probing: Probing) -> None:
         """A probe comes at a period of its own, which the next line that it has shows too."""
-        if probing.phase is not None:
-            return
-        later = next((item.at for item in (*self.placed, *self.pending)
-                      if item.what == "result" and item.value[:2] == (container, probe)), None)
+        later = self.first_results.get((container, probe)) if probing.phase is None else None
         if later is not None:
             probing.phase = later
             if probing.due is not None:
