@@ -1,6 +1,6 @@
-"""Journals of a node that were never written: a kubelet of an era, at a verbosity, beside a runtime, over pods that come,
+"""Makes journals of a node by chance: of a kubelet of some version at some verbosity and of a runtime. Pods come,
 crash, are killed, evicted, refused and deleted, and come again under their names. A seed settles each. The messages have
-the forms that tools/import reads; those from 1.21 on, of CRI-O and of cri-dockerd are from knowledge."""
+the forms that tools/import reads; those from 1.21 on and of CRI-O are from knowledge."""
 import json
 import random
 import time

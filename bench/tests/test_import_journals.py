@@ -30,8 +30,9 @@ class Journals(Case):
         of_kubelet = "".join(files.get("kubelet", "") for files in texts)
         of_runtime = "".join(files.get("runtime", "") for files in texts)
         for words in ("SyncLoop (ADD", "SyncLoop ADD", "PodLifecycleEvent", "event for pod", "CrashLoopBackOff",
-                      "RunContainerError", "Patch status", "evicted successfully", "Shutdown manager", "Predicate failed",
-                      "Pod admission denied", "preemption: pod", "Probe failed", "Readiness probe", "DeadlineExceeded"):
+                      "RunContainerError", "Patch status", "evicted successfully", "Shutdown manager",
+                      "Predicate failed", "Pod admission denied", "preemption: pod", "Probe failed",
+                      "Readiness probe", "DeadlineExceeded"):
             self.assertIn(words, of_kubelet)
         for words in ("RunPodSandbox", "shim disconnected", "received exit event", "Stopped container"):
             self.assertIn(words, of_runtime)
@@ -57,8 +58,8 @@ class Whole(Case):
     def test_a_program_that_takes_them(self):
         (status, said, fault), kept = self.answered("#!/bin/sh\nexit 0\n", "--jobs", "2", "--into-every", "3", "6", "3")
         self.assertEqual((status, fault, kept), (0, "", []))
-        self.assertRegex(said, r"(?s)^written: \d+  -v=.*nothing to import: \d+.*\n6 journals of seed 3 in \d+ seconds; "
-                               r"0 failed\n$")
+        self.assertRegex(said, r"(?s)^written: \d+  -v=.*nothing to import: \d+.*\n6 journals of seed 3 in \d+ "
+                               r"seconds; 0 failed\n$")
 
     def test_a_program_that_does_not(self):
         (status, said, fault), kept = self.answered("#!/bin/sh\necho 'line 3: 41 Doubled' >&2\nexit 2\n", "4", "3")
@@ -78,8 +79,8 @@ class Faults(Case):
     def test_an_import_that_fails(self):
         bench = loaded("import_journals")
         with tempfile.TemporaryDirectory() as room:
-            for text, fault in (("echo traceback >&2; exit 1", ""), ("echo a >&2; echo b >&2; exit 1", "status 1: a\nb"),
-                                ("exit 3", "status 3: ")):
+            for text, fault in (("echo traceback >&2; exit 1", ""), ("exit 3", "status 3: "),
+                                ("echo a >&2; echo b >&2; exit 1", "status 1: a\nb")):
                 write(f"#!/bin/sh\n{text}\n", room, "import")
                 os.chmod(f"{room}/import", 0o755)
                 bench.IMPORT = f"{room}/import"

@@ -30,8 +30,8 @@ def restarted(is_printed, moment=60.5):
     journal.say(moment, "Started kubelet" if is_printed else '"Started kubelet"').loop(moment + 0.5, "ADD")
     journal.look(moment + 1, "Started", "a").look(moment + 1.001, "Started", "5")
     journal.patch(moment + 6, {"conditions": [{
-        "type": "Ready", "status": "False", "lastTransitionTime": "2026-11-28T00:01:05Z", "reason": "ContainersNotReady",
-        "message": "containers with unready status: [app]"}]})
+        "type": "Ready", "status": "False", "lastTransitionTime": "2026-11-28T00:01:05Z",
+        "reason": "ContainersNotReady", "message": "containers with unready status: [app]"}]})
     # the same once more is no turn
     journal.patch(moment + 7, {"conditions": [{"type": "Ready", "status": "False",
                                                "lastTransitionTime": "2026-11-28T00:01:05Z"}]})

@@ -7,8 +7,8 @@ import time
 
 import cases
 from checks import expect
-from imported_lines import (BEGIN, UID, Journal, decisions_of, entries_of, identity, imported, is_accepted, lines_of_pod,
-                            pod, states_of)
+from imported_lines import (BEGIN, UID, Journal, decisions_of, entries_of, identity, imported, is_accepted,
+                            lines_of_pod, pod, states_of)
 
 load_tests = cases.loaded(__name__)
 
@@ -51,7 +51,7 @@ def test_import_of_a_wait_of_what_was_taken_to_run():
 
 
 def test_import_of_exits_that_no_line_has():
-    """At -v=0 beside the journal of a runtime that does not write them: the code and the moment are unknown. The exit is
+    """At -v=0, with the journal of a runtime that does not write them, their code and moment are unknown. An exit is
     where a line says that the container waits, or in the tick of the next start."""
     made = []
     for at, attempt in ((1, 0), (40, 1), (200, 2)):
@@ -143,8 +143,8 @@ def test_import_of_pods_that_were_not_admitted():
     said = "Node didn't have enough resource: cpu, requested: 100000, used: 3400, capacity: 4000"
     for name, is_printed, text, reason in (
             ("1.20", True, f"Predicate failed on Pod: web_shop({UID}), for reason: {said}", "OutOfcpu"),
-            ("a predicate", True, f"Predicate failed on Pod: web_shop({UID}), for reason: Predicate NodeAffinity failed",
-             "NodeAffinity"),
+            ("a predicate", True, f"Predicate failed on Pod: web_shop({UID}), for reason: Predicate NodeAffinity "
+             "failed", "NodeAffinity"),
             ("1.21", False, f'"Predicate failed on Pod" pod="shop/web" err="{said}"', "OutOfcpu"),
             ("a reason", False, f'"Pod admission denied" podUID="{UID}" pod="shop/web" reason="NodeShutdown" '
              'message="Pod was rejected as the node is shutting down."', "NodeShutdown")):
@@ -204,7 +204,8 @@ def test_import_of_an_ephemeral_container():
                 "state": {"running": {"startedAt": "2026-11-28T00:01:40Z"}}}
     in_list = pod()
     in_list["status"] = {"phase": "Running", "ephemeralContainerStatuses": [debugger]}
-    for name, pods, patch in (("by a status of the list", [in_list], None), ("by the change of its object", [pod()], None),
+    for name, pods, patch in (("by a status of the list", [in_list], None),
+                              ("by the change of its object", [pod()], None),
                               ("by a patch", [pod()], {"ephemeralContainerStatuses": [debugger]})):
         journal = Journal().loop(0, "ADD").look(1, "Started", "a").look(1.001, "Started", "5")
         journal.loop(99, "UPDATE").look(101, "Started", "d")

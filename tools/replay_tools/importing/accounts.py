@@ -102,7 +102,8 @@ class Account:
         if fact.is_ready == self.is_ready:
             return None
         self.is_ready = fact.is_ready
-        return {"status": "True" if fact.is_ready else "False", "at": int(fact.at if fact.since is None else fact.since)}
+        since = fact.at if fact.since is None else fact.since
+        return {"status": "True" if fact.is_ready else "False", "at": int(since)}
 
     def entry_of_wait(self, fact: facts.Waits, name: str) -> dict[str, Reason]:
         found = reason_of(without_nones({"reason": fact.reason, "message": fact.message}))

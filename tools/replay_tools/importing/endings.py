@@ -1,5 +1,5 @@
-"""Pods that the kubelet ended for a reason of its own, or did not admit: deadlines, preemption, shutdown of the node, and
-admission. The forms from 1.21 on are written from knowledge of the kubelet's sources."""
+"""Pods that the kubelet ended for a reason of its own, or did not admit: deadlines, preemption, shutdown of the node,
+and admission. The forms from 1.21 on are written from knowledge of the kubelet's sources."""
 
 from __future__ import annotations
 
@@ -29,8 +29,9 @@ ENDS = {DEADLINE, PREEMPTED, SHUTDOWN, TERMINATED, "NodeShutdown"}
 # the reasons with which a kubelet does not admit a pod
 REFUSES = re.compile(r"OutOf[a-z][-a-z0-9./]{0,50}|NodeAffinity|NodeShutdown|TaintToleration|NodeName|NodePorts"
                      r"|UnexpectedAdmissionError|UnexpectedPredicateFailureType|InvalidNodeInfo|TopologyAffinityError"
-                     r"|SMTAlignmentError|Sysctl[A-Za-z]{0,40}|AppArmor|PodOSNotSupported|PodOSSelectorNodeLabelDoesNotMatch"
-                     r"|InitContainerRestartPolicyForbidden|PodLevelResourcesNotAdmittedReason")
+                     r"|SMTAlignmentError|Sysctl[A-Za-z]{0,40}|AppArmor|PodOSNotSupported"
+                     r"|PodOSSelectorNodeLabelDoesNotMatch|InitContainerRestartPolicyForbidden"
+                     r"|PodLevelResourcesNotAdmittedReason")
 RESOURCE = re.compile(r"Node didn't have enough (?:resource|capacity): ([-a-z0-9./]{1,50})")
 PREDICATE = re.compile(r"(?:Predicate|Failure:?) ([A-Za-z]{1,62})\b")
 UNEXPECTED = "UnexpectedAdmissionError"

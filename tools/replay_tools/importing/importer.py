@@ -208,8 +208,8 @@ class Importer(Pods):
             self.endings.take(life, fact)
 
     def on_readied(self, fact: facts.Readied) -> None:
-        """A status has the condition Ready. It turns where the probes show nothing too: a kubelet that was started takes
-        a pod with a readiness probe for unready until that has passed."""
+        """A status has the condition Ready. It turns where no probe failed too: a kubelet that was started takes a pod
+        with a readiness probe for unready until that has passed."""
         life = self.known_life(fact.pod)
         turn = None if life is None else life.ready_turned(fact)
         if life is not None and turn is not None:

@@ -15,7 +15,7 @@ from replay_tools.record.runtime import EXITED, LOST_CODE, RUNNING, Change, List
 
 from . import marks
 from .accounts import LOOK_SECONDS, ORDER, Account, Item
-from .instances import UNNAMED
+from .chains import UNNAMED
 from .outputs import why_killed
 from .placing import NAMED_LATE, PROBED, UNKNOWN_PHASES
 from .probing import FAILURE, SUCCESS, Probing
@@ -23,7 +23,7 @@ from .probing import FAILURE, SUCCESS, Probing
 if TYPE_CHECKING:
     from replay_tools.record.reasons import Reason
 
-    from .instances import Chain, Instance
+    from .chains import Chain, Instance
     from .placing import Placing
 
 STARTUP, LIVENESS, READINESS = PROBES
@@ -101,8 +101,8 @@ class Life(Account):
         self.leave(pod, horizon, placing)
 
     def resolve(self, horizon: float, placing: Placing) -> None:
-        """Finds the containers of its instances, and ends what no line ends: an instance whose container waits or starts
-        again, in a hole of the journal if there is one; and the pod itself where another one has its name."""
+        """Finds the containers of its instances, and ends what no line ends: an instance whose container waits or
+        starts again, in a hole of the journal if there is one; and the pod where another one has its name."""
         if self.is_over or self.is_refused:
             return
         is_ending = self.decision is not None or any(at is not None for at in (
@@ -154,8 +154,8 @@ class Life(Account):
                                 "spec": {"containers": [{"name": each} for each in names]}})
 
     def placed_name(self, name: str, at: float, placing: Placing) -> str:
-        """The name that a container has in the pod's line. One that lines name only behind that line, of a pod without a
-        manifest, is the first there that had no name."""
+        """The name that a container has in the pod's line. One that lines name only later, of a pod without a manifest,
+        is the first there that had no name."""
         if not self.is_made or self.pod is None or name in self.pod.containers():
             return name
         if name not in self.named_late:
@@ -346,8 +346,8 @@ class Life(Account):
 
     def foresee(self, pod: recorded.Pod, placing: Placing) -> None:
         """What is placed now and waits to be placed has of each probe: its first result, and the times in which none
-        was a success: gaps, and from the first of the failures for which the kubelet ends an instance, as its line says,
-        up to that line, since on a busy node results come late."""
+        was a success: gaps, and from the first of the failures for which the kubelet ends an instance up to the line
+        that says so, since on a busy node results come late."""
         found: dict[tuple[str, str], list[float]] = {}
         self.first_results = {}
         for item in (*self.placed, *self.pending):

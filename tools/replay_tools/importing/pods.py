@@ -188,9 +188,10 @@ class Pods:
         for life in self.lives:
             life.forget(horizon - self.hold)
         self.placing.silences.forget(horizon - self.hold)
-        for kept in (self.loose, self.left):
-            while len(kept) > MOST_LOOSE:
-                del kept[next(iter(kept))]
+        while len(self.loose) > MOST_LOOSE:
+            del self.loose[next(iter(self.loose))]
+        while len(self.left) > MOST_LOOSE:
+            del self.left[next(iter(self.left))]
 
     def on_added(self, fact: facts.Added) -> None:
         if self.is_copy(fact.pod, fact.source):

@@ -62,8 +62,8 @@ class Runtime:
         if moment is None:
             return
         text = line.text.decode("utf-8", "replace").replace('\\"', '"')
-        for reader in (self.sandbox, self.made, self.started, self.exited, self.stopped, self.out_of_memory, self.ordered,
-                       self.crio):
+        for reader in (self.sandbox, self.made, self.started, self.exited, self.stopped, self.out_of_memory,
+                       self.ordered, self.crio):
             found = list(reader(moment, text))
             if found:
                 yield from found
