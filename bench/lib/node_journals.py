@@ -1,6 +1,6 @@
 """Makes journals of a node by chance: of a kubelet of some version at some verbosity and of a runtime. Pods come,
-crash, are killed, evicted, refused and deleted, and come again under their names. A seed settles each. The messages have
-the forms that tools/import reads; those from 1.21 on and of CRI-O are from knowledge."""
+crash, are killed, evicted, refused and deleted, and come again under their names. A seed settles each. The messages
+have the forms that tools/import reads; those from 1.21 on and of CRI-O are from knowledge."""
 import json
 import random
 import time
