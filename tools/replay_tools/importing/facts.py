@@ -58,13 +58,21 @@ class Added(Fact):
 
 
 @dataclass
+class Updated(Fact):
+    """The object of a pod has changed, as where an ephemeral container is added."""
+    pod: Reference
+
+
+@dataclass
 class Deleted(Fact):
     pod: Reference
+    source: str = ""
 
 
 @dataclass
 class Removed(Fact):
     pod: Reference
+    source: str = ""
 
 
 @dataclass
@@ -207,6 +215,25 @@ class Refused(Fact):
     """The kubelet did not admit a pod, since the node was under pressure."""
     pod: Reference
     conditions: str
+
+
+@dataclass
+class Ended(Fact):
+    """The kubelet ended a pod for a reason of its own, or did not admit it: no eviction under pressure of the node.
+    What was ended may have exited before the line that says so."""
+    pod: Reference
+    reason: str
+    message: str = ""
+    is_refused: bool = False
+    is_late: bool = False
+
+
+@dataclass
+class Readied(Fact):
+    """A status has the condition Ready: its value, and since when it has that."""
+    pod: Reference
+    is_ready: bool
+    since: Optional[float] = None
 
 
 @dataclass

@@ -12,7 +12,7 @@ from replay_tools.record.folder import Folder, Refused, made, may_be_made
 from replay_tools.record.formats import MOST_TICKS, shown
 from replay_tools.record.into import Traces
 
-from .placing import CLOCK_BACK, TICK_AT
+from .placing import CLOCK_BACK, STARTED_AT, TICK_AT
 from .thresholds import MEMBERS
 from .writing import Ended, NodeLine, Writer
 
@@ -20,7 +20,7 @@ from .writing import Ended, NodeLine, Writer
 KEPT_SECONDS, KEPT_BYTES = 1 << 36, 1 << 60
 # a tick behind a gap has this member
 GAP = '"gap":{'
-MOMENTS = ("at", "since", "until")
+MOMENTS = ("at", "since", "until", STARTED_AT)
 
 
 def thresholds_in(node: dict[str, Any]) -> dict[str, Any]:
@@ -52,6 +52,8 @@ class Folded(Writer):
         self.node: Optional[NodeLine] = None
         # what the node line says of thresholds
         self.thresholds: dict[str, Any] = {}
+        # when the kubelet was restarted, where the trace that begins with that has no tick of the journal yet
+        self.started: Optional[int] = None
 
     def begin(self, node: NodeLine) -> None:
         self.node = node
@@ -93,9 +95,16 @@ class Folded(Writer):
         elif self.back:
             lines = self.by_the_clock(lines)
         if lines:
-            self.traces.write_due(iter([(lines, has_tick)]))
+            self.traces.write_due(iter([(list(map(self.with_start, lines)), has_tick)]))
         if self.traces.is_lost:
             raise Ended(1, f"--into: '{self.path}' takes no more")
+
+    def with_start(self, line: str) -> str:
+        """The first tick of the journal in a trace that begins as the kubelet was restarted has that moment."""
+        if self.started is None or TICK_AT.match(line) is None:
+            return line
+        started, self.started = self.started, None
+        return f"{line[:-1]},{shown({STARTED_AT: started})[1:]}"
 
     def by_the_clock(self, lines: list[str]) -> list[str]:
         """Lines with the moments that the clock said."""
@@ -112,6 +121,7 @@ class Folded(Writer):
         before, self.back = self.back, self.back + gap.get(CLOCK_BACK, 0)
         records = [set_back(record, self.back) for record in records]
         records[place]["gap"]["since"] = gap["since"] - before
+        self.started = records[place].get(STARTED_AT)
         if self.traces.standing.at is None:
             return [shown(record) for record in records]
         self.traces.end()

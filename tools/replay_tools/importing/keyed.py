@@ -12,7 +12,7 @@ from typing import Any
 from replay_tools import outside
 from replay_tools.record.decisions import EVICTION
 
-from . import configured, facts
+from . import configured, endings, facts
 from .messages import Message
 from .printed import TYPES, UNRECLAIMED, amount, below, patched, waits_in
 from .references import container_at, id_of, reference_of, references_of
@@ -45,12 +45,18 @@ def of_added(message: Message) -> Iterator[facts.Fact]:
         yield facts.Added(message.at, pod, str(message.keys.get("source") or ""))
 
 
+def of_updated(message: Message) -> Iterator[facts.Fact]:
+    yield from (facts.Updated(message.at, pod) for pod in references_of(message.keys.get("pods")))
+
+
 def of_deleted(message: Message) -> Iterator[facts.Fact]:
-    yield from (facts.Deleted(message.at, pod) for pod in references_of(message.keys.get("pods")))
+    source = str(message.keys.get("source") or "")
+    yield from (facts.Deleted(message.at, pod, source) for pod in references_of(message.keys.get("pods")))
 
 
 def of_removed(message: Message) -> Iterator[facts.Fact]:
-    yield from (facts.Removed(message.at, pod) for pod in references_of(message.keys.get("pods")))
+    source = str(message.keys.get("source") or "")
+    yield from (facts.Removed(message.at, pod, source) for pod in references_of(message.keys.get("pods")))
 
 
 def of_event(message: Message) -> Iterator[facts.Fact]:
@@ -120,7 +126,9 @@ def of_error(message: Message) -> Iterator[facts.Fact]:
 def of_patch(message: Message) -> Iterator[facts.Fact]:
     pod, patch = pod_of(message), message.keys.get("patch")
     if pod.key or pod.uid:
-        yield from of_status(message.at, pod, patched(bytes_of(message.keys.get("patchBytes")) or patch))
+        status = patched(bytes_of(message.keys.get("patchBytes")) or patch)
+        yield from of_status(message.at, pod, status)
+        yield from endings.of_conditions(message.at, pod, status)
 
 
 def bytes_of(value: Any) -> str | None:
@@ -259,7 +267,8 @@ def of_status_line(message: Message) -> Iterator[facts.Fact]:
 
 # by the words of a message, or how it begins
 FORMS: dict[str, Callable[[Message], Iterator[facts.Fact]]] = {
-    "SyncLoop ADD": of_added, "SyncLoop DELETE": of_deleted, "SyncLoop REMOVE": of_removed,
+    "SyncLoop ADD": of_added, "SyncLoop UPDATE": of_updated, "SyncLoop DELETE": of_deleted,
+    "SyncLoop REMOVE": of_removed,
     "SyncLoop (PLEG): event for pod": of_event,
     "SyncLoop (PLEG): pod does not exist, ignore irrelevant event": of_event,
     "SyncLoop (probe)": of_turnover, "Generic (PLEG): container finished": of_finished,
@@ -284,6 +293,6 @@ FORMS: dict[str, Callable[[Message], Iterator[facts.Fact]]] = {
     "Pod is terminated, but some containers have not been cleaned up": of_left,
     "Pod attempted illegal phase transition": of_status_line, "Status for pod updated successfully": of_status_line,
     "Ignoring same status for pod": of_status_line, "Attempting to register node": of_node,
-    "Successfully registered node": of_node, "Started kubelet": of_started}
+    "Successfully registered node": of_node, "Started kubelet": of_started, **endings.KEYED}
 # the first words of these, by which a line is wanted
 FIRST_WORDS = {words.split(" ")[0] for words in FORMS} | {"Pod", "FLAG:"}

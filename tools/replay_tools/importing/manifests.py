@@ -43,6 +43,9 @@ class Manifests:
     owners: list[tuple[str, re.Pattern[str], dict[str, Any]]] = field(default_factory=list)
     known: list[facts.Known] = field(default_factory=list)
     ended: dict[str, tuple[str, str]] = field(default_factory=dict)
+    # for how many seconds a pod may be active, and of mirrors of static pods the hash of the file by their uids
+    deadlines: dict[str, int] = field(default_factory=dict)
+    mirrors: dict[str, str] = field(default_factory=dict)
     nodes: set[str] = field(default_factory=set)
     node_of: dict[str, str] = field(default_factory=dict)
     taken: int = 0
@@ -122,6 +125,12 @@ class Manifests:
             return
         given = metadata.get("annotations")
         annotations: dict[str, Any] = given if isinstance(given, dict) else {}
+        deadline = outside.whole(spec.get("activeDeadlineSeconds"), 1)
+        if deadline is not None:
+            self.deadlines[str(metadata.get("uid"))] = deadline
+        mirrored = annotations.get(HASH) or annotations.get(MIRROR)
+        if MIRROR in annotations and isinstance(mirrored, str):
+            self.mirrors[str(metadata.get("uid"))] = mirrored
         uids = {pod.uid, str(annotations.get(HASH) or annotations.get(MIRROR) or pod.uid)}
         self.taken += 1
         self.by_uid.update(dict.fromkeys(uids - {"None"}, pod))

@@ -9,12 +9,12 @@ from collections.abc import Callable, Iterator
 from replay_tools import amounts, outside
 from replay_tools.traces import SIGNALS
 
-from . import configured, facts
+from . import configured, endings, facts
 from .messages import Message
 from .references import id_of, placed, placed_in
 from .statuses import of_printed, of_status
 
-LOOP = re.compile(r'SyncLoop \((ADD|DELETE|REMOVE), "(\w+)"\): (.*)', re.S)
+LOOP = re.compile(r'SyncLoop \((ADD|UPDATE|DELETE|REMOVE), "(\w+)"\): (.*)', re.S)
 PLEG = re.compile(r'SyncLoop \(PLEG\): (?:"(?P<pod>[^"]*)", event|ignore irrelevant event): '
                   r'&pleg\.PodLifecycleEvent\{ID:"(?P<uid>[^"]*)", Type:"(?P<type>\w+)", Data:"(?P<id>\w*)"\}')
 PROBE = re.compile(r'(Readiness|Liveness|Startup) probe for "([^"]*\)):([^"]*)" '
@@ -41,17 +41,21 @@ NODE = re.compile(r'FLAG: --hostname-override="([^"]+)"'
 NAMED = re.compile(r'(?:killContainer|failed to remove pod init container) "([^"]*)".{0,300}?'
                    r'(?:\{"\w+" |container )"([0-9a-f]{12,64})"')
 DECODER = json.JSONDecoder()
+# what a patch has that says something of instances, or of the pod
+SIGNS = "containerID", "Ready", '"reason'
 # what is a sentence in JSON too
 FLAG = "FLAG: "
 TYPES = {"ContainerStarted": facts.STARTED, "ContainerDied": facts.DIED}
 WHERE = {"ADD": facts.Added, "DELETE": facts.Deleted, "REMOVE": facts.Removed}
+UPDATE = "UPDATE"
 
 
 def of_loop(message: Message) -> Iterator[facts.Fact]:
     found = LOOP.match(message.text)
     if found is not None:
         for pod in placed(found[3]):
-            yield facts.Added(message.at, pod, found[2]) if found[1] == "ADD" else WHERE[found[1]](message.at, pod)
+            is_update = found[1] == UPDATE
+            yield facts.Updated(message.at, pod) if is_update else WHERE[found[1]](message.at, pod, found[2])
         return
     found = PLEG.match(message.text)
     if found is not None and found["type"] in TYPES and id_of(found["id"]) is not None:
@@ -113,12 +117,13 @@ def of_pod(message: Message) -> Iterator[facts.Fact]:
 
 
 def of_patch(message: Message) -> Iterator[facts.Fact]:
-    found = PATCH.match(message.text) if "containerID" in message.text else None
+    found = PATCH.match(message.text) if any(sign in message.text for sign in SIGNS) else None
     pod = None if found is None else placed_in(found[1])
     if found is None or pod is None:
         return
     status = patched(value_at(message.text, found.end()))
     yield from of_status(message.at, pod, status)
+    yield from endings.of_conditions(message.at, pod, status)
 
 
 def value_at(text: str, place: int) -> object:
@@ -182,6 +187,8 @@ def of_refusal(message: Message) -> Iterator[facts.Fact]:
     pod = None if found is None else placed_in(found[1])
     if found is not None and pod is not None:
         yield facts.Refused(message.at, pod, found[2])
+    else:
+        yield from endings.of_admission(message)
 
 
 def of_sandbox(message: Message) -> Iterator[facts.Fact]:
@@ -226,3 +233,20 @@ FORMS: dict[str, Callable[[Message], Iterator[facts.Fact]]] = {
     "Ignoring": of_pod, "Patch": of_patch, "eviction": of_eviction, "Failed": of_refusal, "Created": of_sandbox,
     "FLAG:": of_flag, "Creating": of_configuration, "Attempting": of_node, "Successfully": of_node,
     "Started": of_started, "killContainer": of_named, "failed": of_named, "Got": of_kernel}
+
+
+def add_forms(others: dict[str, Callable[[Message], Iterator[facts.Fact]]]) -> None:
+    """Adds forms of messages; where one of that first word is there already, a message may be of both."""
+    for word, form in others.items():
+        FORMS[word] = form if word not in FORMS else both(FORMS[word], form)
+
+
+def both(one: Callable[[Message], Iterator[facts.Fact]], other: Callable[[Message], Iterator[facts.Fact]]) -> Callable[
+        [Message], Iterator[facts.Fact]]:
+    def of_both(message: Message) -> Iterator[facts.Fact]:
+        yield from one(message)
+        yield from other(message)
+    return of_both
+
+
+add_forms(endings.PRINTED)

@@ -75,8 +75,9 @@ class Reader:
         # the newest moment since the clock went back, that of the item before, and how often it went back
         self.newest = self.before = 0.0
         self.turns = 0
-        # whether moments are klog's own
+        # whether moments are klog's own, and whether its messages are sentences, as those of a kubelet up to 1.20
         self.uses_klog = False
+        self.has_sentences = False
 
     def all_facts(self) -> Iterator[facts.Fact]:
         """Its facts by the moments that it has. A line whose moment is a little before that of the one before it is put
@@ -121,6 +122,8 @@ class Reader:
             reader = keyed.FORMS.get(message.text)
         else:
             reader = printed.FORMS.get(message.text[:LONGEST_WORD].partition(" ")[0])
+            self.has_sentences = self.has_sentences or (reader is not None and not message.is_structured
+                                                        and reader is not printed.of_flag)
         if reader is not None:
             yield from reader(message)
 

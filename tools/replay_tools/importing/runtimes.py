@@ -21,6 +21,7 @@ MADE = re.compile(rf'CreateContainer within sandbox "{ID}" for (?:name:"([^"]*)"
                   rf'&ContainerMetadata\{{Name:([^,]*),Attempt:(\d+),\}}) returns container id "{ID}')
 STARTS = re.compile(rf'StartContainer for "{ID}" returns successfully')
 STOPS = re.compile(rf'StopContainer for "{ID}" returns successfully')
+ORDERED = re.compile(rf'StopContainer for "{ID}" with timeout (\d{{1,9}}) \(s\)')
 EXIT = re.compile(r"(?:TaskExit event|received exit event)")
 EXIT_ID = re.compile(rf'(?:ContainerID:|container_id:"){ID}')
 OTHER_ID = re.compile(r'(?:[{,]ID:|[ {]id:")([\w-]{1,128})')
@@ -61,7 +62,8 @@ class Runtime:
         if moment is None:
             return
         text = line.text.decode("utf-8", "replace").replace('\\"', '"')
-        for reader in (self.sandbox, self.made, self.started, self.exited, self.stopped, self.out_of_memory, self.crio):
+        for reader in (self.sandbox, self.made, self.started, self.exited, self.stopped, self.out_of_memory,
+                       self.ordered, self.crio):
             found = list(reader(moment, text))
             if found:
                 yield from found
@@ -115,6 +117,12 @@ class Runtime:
         found = OOM.search(text)
         if found is not None:
             yield facts.Known(at, found[1], self.pods.get(found[1], facts.Reference()), reason="OOMKilled")
+
+    def ordered(self, at: float, text: str) -> Iterator[facts.Fact]:
+        """A container is to be stopped, as the kubelet orders it, which it says itself from -v=2 on."""
+        found = ORDERED.search(text)
+        if found is not None:
+            yield facts.Killing(at, found[1], self.pods.get(found[1], facts.Reference()), grace=int(found[2]))
 
     def crio(self, at: float, text: str) -> Iterator[facts.Fact]:
         found = CRIO_SANDBOX.search(text)

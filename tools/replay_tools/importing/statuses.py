@@ -14,7 +14,7 @@ from .facts import Known, Reference
 from .moments import moment_of_go
 from .references import id_of
 
-ROLES = ("initContainerStatuses", "containerStatuses")
+ROLES = ("initContainerStatuses", "containerStatuses", "ephemeralContainerStatuses")
 # a status as Go prints it; the name of the container stands before
 PRINTED_NAME = re.compile(r"Name:([a-z0-9][-a-z0-9]{0,62})[ ,](?:State|ID|PodSandboxID)\b")
 PRINTED_END = re.compile(
