@@ -22,7 +22,7 @@ NEVER_RAN = ("StartError", "ContainerCannotRun", "CreateContainerError", "RunCon
 SIGNS = (b'"reason"', b'"waiting"', b'"ended"', b'"guessed"', b'"readinessGates"', b"\\u")
 # in the array of members that were guessed, as where a log says of an exit no code, and of a start or an exit no moment
 # but that of the kubelet's next look
-CODE, MOMENT = "exitCode", "moment"
+CODE, MOMENT, PHASE = "exitCode", "moment", "phase"
 WITHIN = " (within a second)"
 
 
@@ -68,6 +68,8 @@ class Reasons:
         self.gates: dict[tuple[int, str], list[Wait]] = {}
         """as waits, by the pod's number and the condition of a readiness gate that is not true"""
         self.closed: dict[tuple[int, str], Wait] = {}
+        self.unknown_phases: set[int] = set()
+        """the numbers of pods that have ended, and of which no code says whether they succeeded"""
         self.looked: set[tuple[str, int, str, int]] = set()
         """the starts and deaths that are known by a look: the event's word, the pod's number, container and attempt"""
 
@@ -79,6 +81,8 @@ class Reasons:
         closed: dict[tuple[int, str], tuple[str, str | None]] = {}
         for key, found in entries.items():
             number = present[key].number
+            if is_guessed_in(found, PHASE):
+                self.unknown_phases.add(number)
             for listed in dicts_at(found, "containers"):
                 has_words = any(word in listed for word in ("reason", "guessed"))
                 if is_guessed_in(listed, MOMENT):

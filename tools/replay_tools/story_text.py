@@ -150,7 +150,8 @@ def story(given: asking.Given, pod: reports.Pod, show: Show, kubelet: kubelets.K
     names = kubelet is not None and kubelet.names
     is_by_rules = is_evicted and not names and endings.ended_by_kubelet(report, pod) is None
     by_rules = "by the rules " if is_by_rules else ""
-    lines = [f"{pod.key} on {report.node}{reports.number_words(report, pod)}: {by_rules}{pod.phase}{reason}, "
+    lines = [f"{pod.key} on {report.node}{reports.number_words(report, pod)}: {by_rules}"
+             f"{provenance.phase_words(trace, pod)}{reason}, "
              f"{provenance.class_words(ours, pod.qos)}", *provenance.head_lines(trace, show),
              *provenance.manifest_lines(ours), *kubelets.lines_of(kubelet, pod.number, show),
              *(node_lines(trace, report, [pod], show, given.since) if trace else []),

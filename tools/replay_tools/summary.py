@@ -132,7 +132,8 @@ def of_events(pod: reports.Pod, events: list[reports.Event], trace: traces.Trace
     """The worst of what was recorded of its containers; None where nothing of it is bad."""
     crashed = [event for event in events if event.word == "died" and event.rest[1] != "0"]
     kind = Worst.CRASHED_AND_NOT_READY if is_unready_now else Worst.CRASHED
-    failed = [event for event in events if event.word == "phase" and event.rest[0] == "Failed"]
+    is_unknown = trace is not None and pod.number in trace.reasons.unknown_phases
+    failed = [event for event in events if event.word == "phase" and event.rest[0] == "Failed" and not is_unknown]
 
     def of_word(worst: Worst, word: str) -> Found | None:
         return first_of(worst, [event for event in events if event.word == word], trace)

@@ -115,6 +115,20 @@ def test_unknown_manifests():
            [("class unknown", True), ("BestEffort", None)])
 
 
+def test_an_unknown_phase():
+    """A pod of policy Never has exited with an unknown code: no tool says that it failed."""
+    never = pod("once")
+    never["pod"]["spec"]["restartPolicy"] = "Never"
+    told = Told(NODE, never, tick(0, entry("once", runs())),
+                tick(9, entry("once", exited(137, guessed=["exitCode"]), guessed=["phase"])))
+    story = told.by("story", "shop/once")
+    expect("the phase in the head", story.splitlines()[0].split(",")[0], "shop/once on n1: Succeeded or Failed")
+    expect("no event says that it failed", (re.findall(r"phase .*", story)[-1], "phase Failed" in story),
+           ("phase Succeeded or Failed: no code is known that tells which", False))
+    expect("the list", "Succeeded or Failed" in told.by("story"), True)
+    expect("json", [(record["phase"], record.get("phase_is_unknown")) for record in told.records("pod")], [(None, True)])
+
+
 def test_an_owners_template():
     """A manifest that has limits or probes was made of an owner's template, and is told as it is."""
     told = Told(NODE, pod("web", {"resources": {"limits": {"memory": "32Mi"}}}, guessed=["manifest"]),
