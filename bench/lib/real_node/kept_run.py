@@ -187,7 +187,7 @@ class Kubelet:
         return max(bisect.bisect(self.starts, moment) - 1, 0)
 
     def metrics(self, moment):
-        return f"go_threads 20\nprocess_start_time_seconds {self.starts[self.run_of(moment)]:e}\n"
+        return f"go_threads 20\nprocess_start_time_seconds {self.starts[self.run_of(moment)]:.11e}\n"
 
     def probes(self, moment):
         return "".join(f'prober_probe_total{{container="{name}",pod_uid="{uid}",probe_type="{probe}",'

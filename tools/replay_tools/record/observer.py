@@ -8,6 +8,7 @@ from dataclasses import replace
 from typing import Any, TYPE_CHECKING
 
 from .events import Asking, failing, has_changed, ready_in, said_in
+from .kubelet_start import KubeletStart, ListOfPods, uids_running
 from .logs import kept_of, lines_of
 from .near import Nearness
 from .pods import pods_of
@@ -22,6 +23,7 @@ from .throttled import Throttling, are_limited
 if TYPE_CHECKING:
     from .events import Ready, Said
     from .pods import Pod
+    from .probes import Counters
     from .reasons import Reason
     from .runtime import End, Instance
     from .sources import Sources
@@ -66,6 +68,10 @@ class Observer:
                  now: Callable[[], float] | None = None, log_lines: int = 0, asks_throttled: bool = False) -> None:
         self.sources = sources
         self.throttling = Throttling(sources, say) if asks_throttled else None
+        self.start = KubeletStart(sources, say)
+        self.list = ListOfPods()
+        # whether the newest list lacks pods of the one before, so that another one is asked for at once
+        self.lacks_pods = False
         self.log_lines = log_lines
         self.say = say
         self.now = now
@@ -96,7 +102,9 @@ class Observer:
 
     def first_look(self, moment: float) -> tuple[Seen, Summary]:
         """A look that needs all sources, and its summary; Failed where one of them gives no answer."""
-        counters = counters_of(self.sources.probes())
+        probes = self.sources.probes()
+        counters = counters_of(probes)
+        self.start.begin(probes, moment)
         listed = instances_of(self.sources.listed())
         pods = self.take_pods(moment)
         summary = self.take_summary(moment)
@@ -122,7 +130,9 @@ class Observer:
         if self.throttling is not None and are_limited(self.listed_pods.values(), self.instances or {}):
             self.throttling.begin(moment)
         # the probes come first: a result that is counted was found on an instance that the list then shows
-        seen.counters = self.attempt(PROBES, moment, lambda: counters_of(self.sources.probes()))
+        was_silent = not self.silent.keys().isdisjoint(KUBELETS)
+        seen.counters = self.attempt(PROBES, moment, lambda: self.take_probes(moment))
+        self.see_start(was_silent, seen.counters, moment)
         if not self.wants_list(seen.counters, moment):
             listed, seen.instances = None, self.instances
         else:
@@ -141,9 +151,40 @@ class Observer:
         seen.ready = self.ready(moment)
         seen.throttled = {} if self.throttling is None else self.throttling.taken()
         seen.took = 0 if self.now is None else max(self.now() - moment, 0)
+        seen.kubelet_started = self.start.taken()
+        self.start.end_look(seen.counters is not None, moment)
         if self.answered is not None:
             self.answered(RUNTIME not in self.silent and not self.silent.keys() >= KUBELETS)
         return seen
+
+    # --- the kubelet is started anew ---
+
+    def take_probes(self, moment: float) -> Counters:
+        """The counts of probes, with which newer kubelets say when they were started."""
+        text = self.sources.probes()
+        self.start.see_probes(text, moment)
+        return counters_of(text)
+
+    def see_start(self, was_silent: bool, counters: Counters | None, moment: float) -> None:
+        """Looks for signs of a start in what the kubelet answers, and asks it where there is one."""
+        if counters is None:
+            return
+        self.start.see_counts(self.counters, counters)
+        if was_silent:
+            self.start.suspect()
+            self.list.begin_anew(moment)
+        self.start.check(moment)
+
+    def whole_list(self, listed: list[Pod], moment: float) -> list[Pod]:
+        """The pods of a list of the kubelet's. One that lacks pods too soon after a start lacks none of them."""
+        lost = self.list.lost(listed)
+        if lost:
+            self.start.suspect()
+            self.start.check(moment)
+        is_unknown = not self.start.is_known() and self.list.since is None
+        if self.start.news is not None or (lost and is_unknown and self.list.vanished(lost, listed)):
+            self.list.begin_anew(moment)
+        return self.list.take(listed, uids_running(self.instances, RUNNING), moment)
 
     def events(self, moment: float) -> dict[str, list[Said]]:
         """The Events of pods in which something has happened some moments ago, by their uids."""
@@ -164,13 +205,19 @@ class Observer:
         return self.attempt(NODE, moment, lambda: ready_in(self.sources.node_object()))
 
     def glance(self, moment: float) -> Seen:
-        """What the summary alone shows at a moment between two looks."""
-        seen = Seen(moment, summary=self.attempt(SUMMARY, moment, lambda: self.take_summary(moment)))
+        """What the kubelet shows at a moment between two looks: the summary, and after a start its pods."""
+        seen = Seen(moment)
+        if self.start.is_watched(moment):
+            seen.pods = self.attempt(PODS, moment, lambda: self.take_pods(moment))
+        if self.near.is_near(moment):
+            seen.summary = self.attempt(SUMMARY, moment, lambda: self.take_summary(moment))
         seen.is_summary_silent, seen.low = SUMMARY in self.silent, self.near.low
         return seen
 
     def wants_pods(self, moment: float) -> bool:
         """Whether the pods are asked for, though the runtime shows nothing new."""
+        if self.lacks_pods or self.start.is_watched(moment):
+            return True
         often = PRESSED_PODS_SECONDS[self.sources.kubelet is not None]
         return self.is_due(PODS, moment, often if self.near.is_pressed(moment) else None)
 
@@ -203,6 +250,10 @@ class Observer:
             self.said_at[source] = moment
             self.say(f"{int(moment)}: {failed}{silence}; {MEANWHILE[source]}", (source, moment))
 
+    def wants_glance(self, moment: float) -> bool:
+        """Whether something is asked each second between two looks."""
+        return self.near.is_near(moment) or self.start.is_watched(moment)
+
     def is_due(self, source: str, moment: float, seconds: int | None = None) -> bool:
         """Whether so many whole seconds have passed since a source was asked, also where it gave no answer."""
         asked = self.asked_at.get(source)
@@ -229,6 +280,9 @@ class Observer:
     def take_pods(self, moment: float) -> list[Pod]:
         self.asked_at[PODS] = moment
         pods = pods_of(self.sources.pods(), self.sources.pods_name())
+        if self.sources.kubelet is not None:
+            pods = self.whole_list(pods, moment)
+        self.lacks_pods = not self.lacks_pods and not self.listed_pods.keys() <= {pod.uid for pod in pods}
         if self.pods_answers:
             self.asking.want((pod.uid for pod in pods if has_changed(self.listed_pods.get(pod.uid), pod)), moment)
         # a pod that is no longer listed stays known, since its containers may have yet to exit

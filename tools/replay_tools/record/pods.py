@@ -15,7 +15,7 @@ from .formats import (at_place, first_fault, is_whole, label_fault, name_fault, 
 from .reasons import reason_of, waits_in
 from .runtime import End, code_fault, moment_of
 from .sources import Failed, reads
-from .statuses import Beside, beside_in, deletion_in, picked, resources_of
+from .statuses import Beside, ReadyTurn, beside_in, deletion_in, picked, ready_turn_in, resources_of
 
 if TYPE_CHECKING:
     from .answers import Answer
@@ -39,7 +39,8 @@ class Pod:
     its containers wait, by their names; `probed` has of each container that runs its restarts, whether it has started,
     and whether it is ready. `ended` is the decision by which the node has ended it, of whatever kind, and
     `is_spared` whether a kubelet evicts it for no lack of the node's. `ruled` names its containers whose own rules of
-    restarts are left out, and `deletion` has by whom it is deleted, and its grace."""
+    restarts are left out, and `deletion` has by whom it is deleted, and its grace. `is_static` is whether the kubelet
+    has it of a file, and `ready` its condition Ready with the moment at which that turned."""
     key: str
     uid: str
     manifest: dict
@@ -56,6 +57,8 @@ class Pod:
     ruled: tuple = ()
     beside: Beside = field(default_factory=Beside, compare=False)
     deletion: dict = field(default_factory=dict, compare=False)
+    is_static: bool = False
+    ready: Optional[ReadyTurn] = field(default=None, compare=False)
 
     def known_uid(self) -> str | None:
         """Its uid as a trace has it; None where its source says none, or one that no cluster gives."""
@@ -123,7 +126,7 @@ def pod_of(item: Any) -> Pod:
                fault, volumes, None if ended is None or ended.kind == ENDED else ended,
                metadata.get("deletionTimestamp") is not None, deleted_at(metadata), ends_in(status), waits_in(item),
                probed_in(status), ended, is_spared(metadata, item.get("spec") or {}), tuple(ruled),
-               beside_in(item, RESOURCES), deletion_in(item))
+               beside_in(item, RESOURCES), deletion_in(item), is_static(metadata), ready_turn_in(status))
 
 
 def is_spared(metadata: dict[str, Any], spec: dict[str, Any]) -> bool:
@@ -133,6 +136,11 @@ def is_spared(metadata: dict[str, Any], spec: dict[str, Any]) -> bool:
     source = annotations.get("kubernetes.io/config.source")
     return (source not in (None, FROM_API) or "kubernetes.io/config.mirror" in annotations
             or (is_whole(priority) and priority >= LEAST_CRITICAL))
+
+
+def is_static(metadata: dict[str, Any]) -> bool:
+    """Whether the kubelet has a pod of a file or a URL, and not of the API server."""
+    return (metadata.get("annotations") or {}).get("kubernetes.io/config.source") not in (None, FROM_API)
 
 
 def deleted_at(metadata: dict[str, Any]) -> float | None:

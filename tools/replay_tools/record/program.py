@@ -107,9 +107,9 @@ class Recording:
 
     def wait_for_next(self, moment: float) -> None:
         """Waits for the look behind one at a moment. Where the kubelet may evict a pod the summary is asked each second
-        until then, since each of its samples counts."""
+        until then, since each of its samples counts; and after its start the pods are, whose turns are short then."""
         until = moment + self.words.look
-        while self.observer.near.is_near(moment) and not self.output.is_stopped \
+        while self.observer.wants_glance(moment) and not self.output.is_stopped \
                 and moment <= self.clock.now() < until - GLANCE_SECONDS:
             self.clock.wait(GLANCE_SECONDS)
             seen = self.observer.glance(self.clock.now())
