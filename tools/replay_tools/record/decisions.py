@@ -26,6 +26,11 @@ EVICTION = "Evicted"
 # what a kubelet says of a pod that it did not admit while the node was under pressure
 PRESSURE = re.compile(r"The node had condition: \[")
 LONGEST_OF_EVICTION = 4096
+# what a kubelet says as it does not admit a pod, so that it never ran, or runs no more after the kubelet's start
+ADMISSION = ("UnexpectedAdmissionError", "NodeAffinity", "NodePorts", "NodeUnschedulable", "NodeName", "NodeTaint",
+             "TaintToleration", "PodOSNotSupported", "PodOSSelectorNodeLabelDoesNotMatch", "TopologyAffinityError",
+             "PodFeatureUnsupported", "AppArmor", "SysctlForbidden", "Forbidden", "InvalidNodeInfo")
+NOT_ADMITTED = re.compile(r"Pod was rejected|Predicate [A-Za-z]+ failed|not admitting any new pods|rejected as the node")
 # what a tick may say that the node has ended a pod for, and what it says of any other reason
 WORD = re.compile(r"[A-Za-z][-A-Za-z0-9_./]{0,62}")
 OTHER = "Other"
@@ -34,11 +39,17 @@ OTHER = "Other"
 @dataclass(frozen=True)
 class Decision:
     """What was done, and why; its moment in seconds since 1970, where the status says one, as from Kubernetes 1.26 on.
-    A pod that was refused never ran."""
+    A pod that was refused never ran, or not since the kubelet was started. `is_guessed` is that no reason is known."""
     kind: str
     moment: Optional[float]
     reason: str
     message: str
+    is_guessed: bool = False
+
+    @property
+    def is_by_pressure(self) -> bool:
+        """Whether the node was short of something."""
+        return self.reason == EVICTION
 
     @property
     def word(self) -> str:
@@ -58,23 +69,46 @@ class Told:
         """A pod that is left out has no line in the trace, and may have one in another."""
         uid = self.pod.known_uid() if self.is_left_out else None
         return without_nones({"pod": self.pod.key, "uid": uid, "at": self.at, "reason": self.decision.reason,
-                              "message": self.decision.message or None, "leftOut": self.is_left_out or None})
+                              "message": self.decision.message or None, "leftOut": self.is_left_out or None,
+                              "guessed": ["reason"] if self.decision.is_guessed else None})
 
     def is_eviction(self, second: int) -> bool:
         """Whether it is that the kubelet evicted the pod at this second."""
         return self.decision.kind == EVICTED and self.at == second
 
 
-def end_of(status: dict[str, Any]) -> Decision | None:
-    """What a pod's status says that the kubelet did to it, or None. A pod that failed by itself has no reason."""
+def end_of(status: dict[str, Any], is_restarted: bool = False, seen_at: float | None = None) -> Decision | None:
+    """What a pod's status says that the kubelet did to it, or None. A pod that failed by itself has no reason; one that
+    is always restarted does not fail by itself. `seen_at` is when the kubelet took the pod last, if that is known."""
     reason, message = status.get("reason"), str(status.get("message") or "")
-    if status.get("phase") != "Failed" or not isinstance(reason, str) or not reason.strip():
+    if status.get("phase") != "Failed":
         return None
+    if not isinstance(reason, str) or not reason.strip():
+        return Decision(ENDED, moment_in(status), OTHER, "", True) if is_restarted else None
     if reason != EVICTION:
         shown = outside.visible(reason)[:LONGEST_MESSAGE]
-        return Decision(ENDED, moment_in(status), shown, message_kept(reason, message) or "")
+        kept = message_kept(reason, message) or ""
+        if is_refusal(reason, message):
+            return Decision(REFUSED, refused_at(status, seen_at), shown, kept)
+        return Decision(ENDED, moment_in(status), shown, kept)
     kind = REFUSED if PRESSURE.search(message) else EVICTED
-    return Decision(kind, moment_in(status), reason, message_kept(reason, message, LONGEST_OF_EVICTION) or "")
+    moment = moment_in(status)
+    if kind == REFUSED and moment is None:
+        moment = refused_at(status, seen_at)
+    return Decision(kind, moment, reason, message_kept(reason, message, LONGEST_OF_EVICTION) or "")
+
+
+def is_refusal(reason: str, message: str) -> bool:
+    """Whether a status says that the kubelet did not admit a pod."""
+    return reason.startswith("OutOf") or reason in ADMISSION or NOT_ADMITTED.search(message) is not None
+
+
+def refused_at(status: dict[str, Any], seen_at: float | None) -> float | None:
+    """When a pod was not admitted: as the kubelet took it, which its annotation says, and so does its status where no
+    container of it has run."""
+    if seen_at is not None or status.get("containerStatuses"):
+        return seen_at
+    return moment_of(status.get("startTime"))
 
 
 def moment_in(status: dict[str, Any]) -> float | None:

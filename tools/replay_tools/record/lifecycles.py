@@ -24,9 +24,11 @@ if TYPE_CHECKING:
 GOING_SECONDS = 30
 # so many lists in a row lack a pod that is deleted, while the kubelet was up
 ABSENCES = 2
+# for these a container waits that has not run yet
+INITIAL = ("ContainerCreating", "PodInitializing")
 ANEW = "was made anew under its name, and is left out from here on"
 LEFT_OUT = {EVICTED: "the kubelet had evicted it before it was seen",
-            REFUSED: "the kubelet refused it under pressure, so it never ran"}
+            REFUSED: "the kubelet refused it, so it never ran"}
 
 
 class Lifecycles:
@@ -161,7 +163,7 @@ class Lifecycles:
         recorded.waits = waits
         for name, wait in waits.items():
             container = recorded.containers.get(name)
-            if container is not None and container.newest is not None:
+            if container is not None and container.newest is not None and wait.word not in INITIAL:
                 recorded.waited[name] = container.newest.attempt if wait.behind is None else wait.behind
         self.timeline.place_waits(recorded.pod, seen.moment, waits)
 

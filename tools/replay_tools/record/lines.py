@@ -60,12 +60,15 @@ def line_of_text(text: str) -> str:
 
 
 def pod_line(pod: Pod, says_spared: bool = True) -> str:
-    return line_of(pod_fields(pod.known_uid(), pod.manifest, says_spared and pod.is_spared))
+    return line_of(pod_fields(pod.known_uid(), pod.manifest, says_spared and pod.is_spared, pod.is_guessed))
 
 
-def pod_fields(uid: str | None, manifest: dict[str, Any], is_spared: bool = False) -> dict[str, Any]:
-    """The line of a pod, with its uid, which the formats don't read, where it is known, and whether it is spared."""
-    return without_nones({"kind": "pod", "uid": uid, "pod": manifest, "spared": is_spared or None})
+def pod_fields(uid: str | None, manifest: dict[str, Any], is_spared: bool = False,
+               is_guessed: bool = False) -> dict[str, Any]:
+    """The line of a pod, with its uid, which the formats don't read, where it is known, whether it is spared, and
+    whether its manifest is made up."""
+    return without_nones({"kind": "pod", "uid": uid, "pod": manifest, "spared": is_spared or None,
+                          "guessed": ["manifest"] if is_guessed else None})
 
 
 def gone_line(pod: Pod) -> str:

@@ -3,7 +3,7 @@
 from __future__ import annotations
 
 import functools
-from collections.abc import Callable
+from collections.abc import Callable, Iterable
 from dataclasses import replace
 from typing import Any, TYPE_CHECKING
 
@@ -38,6 +38,8 @@ NODE_SECONDS = 10
 PRESSED_PODS_SECONDS = {True: 1, False: 5}
 # where nothing has happened for some seconds the runtime is asked again after more than one, as its moments are exact
 STILL_SECONDS = 30
+# why a container failed is shown for some seconds, as that its hook did
+FAILED_SECONDS = 3
 LIST_SECONDS = 1.5
 # how long, and in how many more answers, the end of an instance that the runtime has removed is looked for in its pod's
 # status, which may come later
@@ -72,6 +74,8 @@ class Observer:
         self.list = ListOfPods()
         # whether the newest list lacks pods of the one before, so that another one is asked for at once
         self.lacks_pods = False
+        # when a container was seen to fail last
+        self.failed_at = float("-inf")
         self.log_lines = log_lines
         self.say = say
         self.now = now
@@ -110,7 +114,7 @@ class Observer:
         summary = self.take_summary(moment)
         self.listed_at = self.moved_at = moment
         self.may_have_changed_pods(listed, moment)
-        self.decided = {pod.uid for pod in pods if pod.decision is not None}
+        self.decided = short_of(pods)
         self.pass_over(listed)
         return Seen(moment, self.resolved(listed, moment), counters, pods, summary, ready=self.ready(moment)), summary
 
@@ -204,19 +208,19 @@ class Observer:
         self.asked_at[NODE] = moment
         return self.attempt(NODE, moment, lambda: ready_in(self.sources.node_object()))
 
-    def glance(self, moment: float) -> Seen:
-        """What the kubelet shows at a moment between two looks: the summary, and after a start its pods."""
-        seen = Seen(moment)
-        if self.start.is_watched(moment):
-            seen.pods = self.attempt(PODS, moment, lambda: self.take_pods(moment))
-        if self.near.is_near(moment):
-            seen.summary = self.attempt(SUMMARY, moment, lambda: self.take_summary(moment))
-        seen.is_summary_silent, seen.low = SUMMARY in self.silent, self.near.low
-        return seen
+    def looks_soon(self, moment: float) -> bool:
+        """Whether the next look comes soon: where the kubelet may evict a pod, each of its samples counts, and what it
+        did may be shown for a second; after its start pods are unready for seconds; and why a container failed is shown
+        until it waits for its next start."""
+        return self.near.is_near(moment) or self.start.is_watched(moment) or self.has_failed(moment)
+
+    def has_failed(self, moment: float) -> bool:
+        """Whether a container has just exited with a failure."""
+        return 0 <= moment - self.failed_at < FAILED_SECONDS
 
     def wants_pods(self, moment: float) -> bool:
         """Whether the pods are asked for, though the runtime shows nothing new."""
-        if self.lacks_pods or self.start.is_watched(moment):
+        if self.lacks_pods or self.start.is_watched(moment) or self.has_failed(moment):
             return True
         often = PRESSED_PODS_SECONDS[self.sources.kubelet is not None]
         return self.is_due(PODS, moment, often if self.near.is_pressed(moment) else None)
@@ -250,10 +254,6 @@ class Observer:
             self.said_at[source] = moment
             self.say(f"{int(moment)}: {failed}{silence}; {MEANWHILE[source]}", (source, moment))
 
-    def wants_glance(self, moment: float) -> bool:
-        """Whether something is asked each second between two looks."""
-        return self.near.is_near(moment) or self.start.is_watched(moment)
-
     def is_due(self, source: str, moment: float, seconds: int | None = None) -> bool:
         """Whether so many whole seconds have passed since a source was asked, also where it gave no answer."""
         asked = self.asked_at.get(source)
@@ -263,7 +263,7 @@ class Observer:
     def wants_summary(self, pods: list[Pod] | None, moment: float) -> bool:
         """Whether the summary is asked for: at each look while the kubelet may evict a pod, at once where it is seen
         that it has, and else from time to time, as one that gives no answer."""
-        decided = {pod.uid for pod in pods or () if pod.decision is not None}
+        decided = short_of(pods or ())
         has_decided = not decided <= self.decided
         self.decided |= decided
         if has_decided:
@@ -318,6 +318,9 @@ class Observer:
         for _ in range(MOST_LISTS):
             asked = [(each, self.inspect(each)) for each in listed if self.wants_inspection(each)]
             failures = [failed for _, failed in asked if failed]
+            if self.instances is not None and any(self.details[each.id].exit_code for each, failed in asked
+                                                  if failed is None):
+                self.failed_at = moment
             if not failures:
                 break
             if self.instances is not None:
@@ -407,3 +410,8 @@ class Observer:
         if instance.state == EXITED and detail.exit_code is not None:
             return replace(detail, state=EXITED, reason=self.reason(detail))
         return replace(instance, started=detail.started)
+
+
+def short_of(pods: Iterable[Pod]) -> set[str]:
+    """The pods that the kubelet evicted or refused since the node was short of something."""
+    return {pod.uid for pod in pods if pod.decision is not None and pod.decision.is_by_pressure}

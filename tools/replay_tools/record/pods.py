@@ -40,7 +40,7 @@ class Pod:
     and whether it is ready. `ended` is the decision by which the node has ended it, of whatever kind, and
     `is_spared` whether a kubelet evicts it for no lack of the node's. `ruled` names its containers whose own rules of
     restarts are left out, and `deletion` has by whom it is deleted, and its grace. `is_static` is whether the kubelet
-    has it of a file, and `ready` its condition Ready with the moment at which that turned."""
+    has it of a file, `is_guessed` that its manifest is made up, and `ready` its condition Ready with the moment at which that turned."""
     key: str
     uid: str
     manifest: dict
@@ -58,6 +58,7 @@ class Pod:
     beside: Beside = field(default_factory=Beside, compare=False)
     deletion: dict = field(default_factory=dict, compare=False)
     is_static: bool = False
+    is_guessed: bool = False
     ready: Optional[ReadyTurn] = field(default=None, compare=False)
 
     def known_uid(self) -> str | None:
@@ -121,12 +122,13 @@ def pod_of(item: Any) -> Pod:
         fault = manifest_fault(manifest)
     except (KeyError, TypeError, AttributeError):
         manifest, volumes, ruled, fault = {}, frozenset(), [], "no manifest"
-    ended = end_of(status)
+    ended = end_of(status, is_restarted(item), seen_at(metadata))
     return Pod(f"{metadata.get('namespace') or 'default'}/{metadata.get('name')}", str(uid_of(metadata)), manifest,
                fault, volumes, None if ended is None or ended.kind == ENDED else ended,
                metadata.get("deletionTimestamp") is not None, deleted_at(metadata), ends_in(status), waits_in(item),
                probed_in(status), ended, is_spared(metadata, item.get("spec") or {}), tuple(ruled),
-               beside_in(item, RESOURCES), deletion_in(item), is_static(metadata), ready_turn_in(status))
+               beside_in(item, RESOURCES), deletion_in(item), is_static(metadata), item.get("guessed") == ["manifest"],
+               ready_turn_in(status))
 
 
 def is_spared(metadata: dict[str, Any], spec: dict[str, Any]) -> bool:
@@ -136,6 +138,18 @@ def is_spared(metadata: dict[str, Any], spec: dict[str, Any]) -> bool:
     source = annotations.get("kubernetes.io/config.source")
     return (source not in (None, FROM_API) or "kubernetes.io/config.mirror" in annotations
             or (is_whole(priority) and priority >= LEAST_CRITICAL))
+
+
+def is_restarted(item: Any) -> bool:
+    """Whether a pod's policy starts its containers whatever their codes, and it is not being deleted: it does not fail
+    by itself."""
+    policy = (item.get("spec") or {}).get("restartPolicy")
+    return policy in (None, "Always") and (item.get("metadata") or {}).get("deletionTimestamp") is None
+
+
+def seen_at(metadata: dict[str, Any]) -> float | None:
+    """When the kubelet took a pod, which it does anew once it is started."""
+    return moment_of((metadata.get("annotations") or {}).get("kubernetes.io/config.seen"))
 
 
 def is_static(metadata: dict[str, Any]) -> bool:
