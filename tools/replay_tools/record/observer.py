@@ -134,7 +134,7 @@ class Observer:
         if self.throttling is not None and are_limited(self.listed_pods.values(), self.instances or {}):
             self.throttling.begin(moment)
         # the probes come first: a result that is counted was found on an instance that the list then shows
-        was_silent = not self.silent.keys().isdisjoint(KUBELETS)
+        was_silent = PROBES in self.silent
         seen.counters = self.attempt(PROBES, moment, lambda: self.take_probes(moment))
         self.see_start(was_silent, seen.counters, moment)
         if not self.wants_list(seen.counters, moment):
