@@ -1,11 +1,15 @@
 """The tests of a kubelet that is started anew: which of its lists are no answer, what is told of its start, which pods
 are deleted that it lists no more, and how the condition Ready of a pod's status has turned."""
 
+import gzip
 import json
+import os
 
 import cases
-from checks import expect
+from checks import HERE, expect, run
 from into_plays import Into
+
+import beside
 
 from replay_tools.record.kubelet_start import started_in
 from replay_tools.record.statuses import ReadyTurn, turns_between
@@ -16,6 +20,10 @@ BEGIN = 1767225600
 KEYS = ("shop/busy", "shop/done", "shop/loop", "shop/file")
 FILE = {"kubernetes.io/config.source": "file"}
 POLLS = (1, 5)
+# 95 s of a real kubelet that was started twice
+REAL = f"{HERE}/recordings/real_restart"
+REAL_STARTS = [1796076734, 1796076784]
+NEAR = 2
 
 
 def ticks_of(trace):
@@ -165,3 +173,51 @@ def test_moments_of_starts():
                          ("process_start_time_seconds 9e+99\n", None),
                          ("xprocess_start_time_seconds 5\n", None)):
         expect(f"when a kubelet was started: {text!r}", started_in(text), wanted)
+
+
+# --- a real kubelet ---
+
+
+def played_real(look, phase):
+    """The recording of a real kubelet's answers, looked at each so many seconds from a moment on."""
+    words = ["--node", "node-b", "--kubelet", "https://10.99.0.1:10250", "--extended", "--look", str(look), "--for", "90"]
+    return run([f"{HERE}/commands/played_record", *words], RECORDING=REAL, PHASE=str(phase), RUN="/nonexistent",
+               PATH=f"{HERE}/commands:{os.environ['PATH']}")
+
+
+def facts_of(trace):
+    """Starts and exits by the listings, and the turns of Ready: {(pod, what): [moments]}."""
+    found, listed = {}, {}
+    for tick in ticks_of(trace):
+        for entry in tick["pods"]:
+            for each in entry["containers"]:
+                ended, place = each.get("ended"), (entry["pod"], each["name"])
+                if ended and listed.get(place) != (ended["attempt"], "CONTAINER_EXITED"):
+                    found.setdefault((entry["pod"], f"died {ended['attempt']} {ended['exitCode']}"), []).append(tick["at"])
+                now = each["attempt"], each["state"]
+                if place in listed and listed[place] != now:
+                    what = f"started {now[0]}" if now[1] == "CONTAINER_RUNNING" else f"died {now[0]} {each['exitCode']}"
+                    found.setdefault((entry["pod"], what), []).append(tick["at"])
+                listed[place] = now
+            for turn in entry.get("readyTurns", []):
+                what = "ready" if turn["status"] == "True" else "unready"
+                found.setdefault((entry["pod"], what), []).append(turn["at"])
+    return found
+
+
+def test_real_start():
+    """Of a real kubelet that was started twice no pod is deleted or gone, each start of it is told, and each start,
+    exit, and change of Ready that it showed is in the trace within 2 s, at both polls."""
+    with gzip.open(f"{REAL}/shown.gz", "rt", encoding="utf-8") as file:
+        shown = [fact for fact in beside.facts_from(file.read()) if fact.what.split()[0] != "kill"]
+    for look, phase in ((1, 0), (1, 0.5), (5, 0), (5, 2), (5, 4.5)):
+        status, trace, _ = played_real(look, phase)
+        place = f"a real kubelet starts, --look {look} from {phase} on"
+        expect(place, (status, words_of(trace, "deleting"), gone_of(trace)), (0, [], []))
+        expect(f"{place}: its starts", [at + BEGIN for at, _ in started_of(trace)], REAL_STARTS)
+        found, ticks = facts_of(trace), ticks_of(trace)
+        wanted = [fact for fact in shown if ticks[0]["at"] + NEAR < fact.moment < ticks[-1]["at"] - 10]
+        expect(f"{place}: what it showed", [fact for fact in wanted if not any(
+            abs(at - fact.moment) <= NEAR for at in found.get((fact.pod, fact.what), []))], [])
+        unready = [fact for fact in wanted if fact.what == "unready"]
+        expect(f"{place}: what happened", (len(wanted) > 50, len(unready) > 25), (True, True))

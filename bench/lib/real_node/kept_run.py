@@ -2,7 +2,8 @@
 second, the summary of each second, the runtime's events, and the results of probes and the starts of the kubelet by its
 log. tools/record can so be tried on a run that is over, at any --look.
 
-    kept_run.py FOLDER WORD..        the trace of `tools/record WORD..`
+    kept_run.py FOLDER WORD..                           the trace of `tools/record WORD..`
+    kept_run.py FOLDER --answers FROM UNTIL OUT.jsonl.gz    all answers of twice a second, as a recording of tools/tests
 """
 
 import bisect
@@ -19,6 +20,7 @@ HERE = os.path.dirname(os.path.realpath(__file__))
 sys.dont_write_bytecode = True
 sys.path.insert(0, os.path.join(HERE, "..", "..", "..", "tools"))
 from replay_tools.record import program, sources  # noqa: E402
+import trimmed  # noqa: E402
 
 PROBE = re.compile(r"[IW](\d\d)(\d\d) (\d\d):(\d\d):(\d\d\.\d+).*prober\.go:\d+\] (Readiness|Liveness|Startup) probe for "
                    r'"[^"(]*\(([-0-9a-f]+)\):([-a-z0-9]+)" (succeeded|failed|errored)')
@@ -267,8 +269,31 @@ class Clock:
         self.moment += duration
 
 
+ASKED = ("metrics/probes", "pods", "stats/summary", "configz", "metrics")
+STEP = 0.5
+
+
+def looks_of(run, since, until):
+    """Each moment with all that is answered then, by its kind."""
+    moment = since
+    while moment <= until:
+        answers = {}
+        for words in [["crictl", "ps"], *(["curl", f"/{path}"] for path in ASKED),
+                      *(["crictl", "inspect", each["id"]] for each in run.runtime.listed(moment))]:
+            kind = trimmed.kind_of(words)
+            try:
+                answers[kind] = trimmed.TRIMS.get(kind, json.loads)(run.answer(words, moment))
+            except sources.Failed as failed:
+                answers[kind] = {"failed": str(failed)}
+        yield moment, answers
+        moment = round(moment + STEP, 3)
+
+
 def main(folder, words):
     run = KeptRun(folder)
+    if words[:1] == ["--answers"]:
+        trimmed.pack(looks_of(run, float(words[1]), float(words[2])), words[3])
+        return 0
     clock = Clock(run.begin + 0.3)
     # the recorder looks whether the commands are there, and asks none of them here
     os.environ["PATH"] += os.pathsep + os.path.join(HERE, "..", "..", "..", "tools", "tests", "commands")

@@ -5,16 +5,17 @@ from __future__ import annotations
 
 import re
 from collections.abc import Callable
-from dataclasses import dataclass
+from dataclasses import dataclass, replace
 from typing import Any, Optional, TYPE_CHECKING
 
 from replay_tools import outside
 
 from .formats import without_nones
-from .messages import LONGEST_MESSAGE, message_kept
+from .messages import LONGEST_MESSAGE, STOPS, message_kept
 from .runtime import moment_of
 
 if TYPE_CHECKING:
+    from .events import Said
     from .pods import Pod
     from .samples import Sampling
     from .seen import Course, Recorded, Seen
@@ -153,6 +154,26 @@ class Decisions:
             self.timeline.place_decision(pod, moment, None)
         elif self.told_until is not None and decision.moment is not None and self.told_until < int(decision.moment):
             self.timeline.place_past_decision(pod, decision, int(decision.moment), seen.moment)
+
+    def take_event(self, recorded: Recorded, said: Said, seen: Seen) -> None:
+        """What an Event says that the kubelet did to a pod, where no list has shown it: it evicted it, or ended it for
+        a reason that its status has not."""
+        if said.reason == EVICTION and not self.has(recorded.pod):
+            end = end_of({"phase": "Failed", "reason": EVICTION, "message": said.message})
+            if end is not None:
+                end = replace(end, moment=said.at)
+                self.take(replace(recorded.pod, decision=end), recorded, seen)
+                self.know_reason(recorded, end, seen)
+        elif said.reason in STOPS:
+            self.know_reason(recorded, Decision(ENDED, said.at, said.reason, said.message or ""), seen)
+
+    @staticmethod
+    def know_reason(recorded: Recorded, end: Decision, seen: Seen) -> None:
+        """The reason for which the node has ended a pod, where none is written yet."""
+        is_open = recorded.ended is None or (recorded.ended.is_guessed and not recorded.is_end_placed)
+        if is_open and (end.kind != ENDED or recorded.ended is not None):
+            recorded.ended_at = seen.moment if recorded.ended is None else recorded.ended_at
+            recorded.ended = end
 
     def moment_of(self, pod: Pod, decision: Decision, seen: Seen) -> float:
         """When the kubelet decided: as the pod's status says, else when that or an exit that it led to was seen."""

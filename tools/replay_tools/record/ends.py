@@ -52,6 +52,6 @@ def settled_before(followed: Iterable[Recorded], with_status: set[str], listed_a
     absent = [recorded.absent_since for recorded in followed
               if recorded.absent_since is not None and not recorded.is_deleting]
     exits = [exit_at for recorded in followed
-             if recorded.pod.uid in with_status and not recorded.is_deleting and recorded.ended is None
+             if recorded.pod.uid in with_status and not recorded.is_deleting and not recorded.is_end_placed
              for exit_at in open_exits(recorded).values() if moment - exit_at <= PATIENCE]
     return max(int(min([listed_at, *absent, *exits])), int(moment) - PATIENCE)

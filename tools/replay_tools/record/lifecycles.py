@@ -26,6 +26,8 @@ GOING_SECONDS = 30
 ABSENCES = 2
 # for these a container waits that has not run yet
 INITIAL = ("ContainerCreating", "PodInitializing")
+# these last for longer than from one tick to the next, or are told by other things; others may be over by then
+LASTING = (*INITIAL, "CrashLoopBackOff", "ImagePullBackOff")
 ANEW = "was made anew under its name, and is left out from here on"
 LEFT_OUT = {EVICTED: "the kubelet had evicted it before it was seen",
             REFUSED: "the kubelet refused it, so it never ran"}
@@ -160,12 +162,13 @@ class Lifecycles:
         """Why a pod's containers wait, where that is another than before."""
         if waits == recorded.waits:
             return
-        recorded.waits = waits
+        before, recorded.waits = recorded.waits, waits
         for name, wait in waits.items():
             container = recorded.containers.get(name)
             if container is not None and container.newest is not None and wait.word not in INITIAL:
                 recorded.waited[name] = container.newest.attempt if wait.behind is None else wait.behind
-        self.timeline.place_waits(recorded.pod, seen.moment, waits)
+        short = any(wait.word not in LASTING and wait != before.get(name) for name, wait in waits.items())
+        self.timeline.place_waits(recorded.pod, seen.moment, waits, short)
 
     @staticmethod
     def see_end(recorded: Recorded, pod: Pod, seen: Seen) -> None:
@@ -181,6 +184,7 @@ class Lifecycles:
 
     def see_ready(self, recorded: Recorded, pod: Pod, seen: Seen) -> None:
         """How the condition Ready of its status has turned. The first list that shows it has how it is."""
+        recorded.probed = pod.probed
         if not self.says_gone or pod.ready is None or seen.pods is None:
             return
         if pod.ready != recorded.ready:

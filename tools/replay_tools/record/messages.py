@@ -37,6 +37,9 @@ BACK_OFF = compiled(rf"^[Bb]ack-off {SECONDS} restarting failed container"
                     rf"(?:={NAME}(?: pod={NAME}_{NAME}\([-0-9a-f]{{1,64}}\))?)?$")
 CONFIGURATION = compiled(rf"^(?:secret|configmap) \"{NAME}\" not found$",
                          rf"^couldn't find key {KEY} in (?:Secret|ConfigMap) {NAME}/{NAME}$")
+# what a volume lacks stands behind its name
+MOUNTS = compiled(rf"(?<= : )(?:secret|configmap) \"{NAME}\" not found$", r"timed out waiting for the condition$",
+                  r"references non-existent (?:secret|config) key(?=: )")
 ENDED = compiled(
     rf"The node was low on resource: {KEY}\.",
     rf"Threshold quantity: {AMOUNT}, available: {AMOUNT}\.",
@@ -79,7 +82,7 @@ KNOWN = {**dict.fromkeys(STARTS, FIXED), **dict.fromkeys(PULLS, FIXED), "CrashLo
          "CreateContainerConfigError": (*FIXED, *CONFIGURATION), "Evicted": ENDED,
          **dict.fromkeys(("PostStartHookError", "FailedPostStartHook", "FailedPreStopHook"), (*HOOKS, *FIXED)),
          **dict.fromkeys(STOPS, STOPPED), "Unhealthy": (*PROBED, *FIXED), "ProbeWarning": (*PROBED, *FIXED),
-         "Killing": KILLS, "BackOff": BACK_OFFS, "SandboxChanged": SANDBOX, "FailedMount": CONFIGURATION,
+         "Killing": KILLS, "BackOff": BACK_OFFS, "SandboxChanged": SANDBOX, "FailedMount": (*CONFIGURATION, *MOUNTS),
          **dict.fromkeys(("NodeNotReady", "TaintManagerEviction", "Preempting"), NODE_SAYS)}
 
 

@@ -60,6 +60,7 @@ class Recording:
         self.observer = Observer(sources, words.every, say, clock.now, words.log_lines,
                                  words.throttled and words.format.says_gone)
         self.recorder = Recorder(words.format, words.every, say)
+        self.recorder.course.asks_events = sources.api is not None
         self.metrics = None if words.metrics is None else Metrics(words.metrics, say)
         # the moment of the first look, once that is taken
         self.begun: float = 0

@@ -99,6 +99,7 @@ class Recorder:
             for each in said:
                 if each.at >= int(begun) and recorded.said.get(each.identity) != each.count:
                     recorded.said[each.identity] = each.count
+                    self.decisions.take_event(recorded, each, seen)
                     self.timeline.place_said(recorded.pod, max(each.at, recorded.arrived), each)
 
     def check_clock(self, moment: float) -> None:

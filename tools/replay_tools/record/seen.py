@@ -57,7 +57,8 @@ class Recorded:
     samples of its containers, `throttled` for how long the newest instances were throttled, by the ids of these, and
     `said` how often each Event was by then. `absent_since` is when the first of the last lists was taken that lack it,
     `absences` how many these are, and `went_absent` that it was taken for deleted by them alone; `ready` is its
-    condition Ready as it was placed last."""
+    condition Ready as it was placed last, and `seen_at` when a list had it last; `probed` has what its status says of
+    its probes, and `shown` of which instances that was taken for results."""
     pod: Pod
     arrived: int
     changes_from: int
@@ -85,12 +86,15 @@ class Recorded:
     went_absent: bool = False
     ready: Optional[ReadyTurn] = None
     seen_at: float = 0
+    probed: dict[str, tuple] = field(default_factory=dict)
+    shown: dict[str, tuple] = field(default_factory=dict)
 
 
 @dataclass
 class Course:
     """How far a recording has come: the moment from which on what is seen is recorded, the one up to which what
-    happened has its place, and whether the first look is taken."""
+    happened has its place, and whether the first look is taken; and whether Events are asked for."""
     begun: float = 0
     planned_at: float = 0
     is_first: bool = True
+    asks_events: bool = False

@@ -148,9 +148,9 @@ class Ticks:
         """The kubelet has judged its thresholds by a sample of this moment, whose tick says so."""
         self.tick(self.second_of(moment), True).is_judged = True
 
-    def place_waits(self, pod: Pod, moment: float, waits: dict[str, Reason]) -> None:
-        """Why the containers of a pod wait from a moment on; that wants no tick."""
-        self.tick(self.second_of(moment), False).waits[pod.uid] = waits
+    def place_waits(self, pod: Pod, moment: float, waits: dict[str, Reason], is_short: bool = False) -> None:
+        """Why the containers of a pod wait from a moment on; that wants no tick, but where it may be over soon."""
+        self.tick(self.second_of(moment), is_short and self.format.says_gone).waits[pod.uid] = waits
 
     def place_beside(self, pod: Pod, moment: float, beside: Beside) -> None:
         """What a pod's object says beside from a moment on; that wants no tick."""
