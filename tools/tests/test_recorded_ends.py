@@ -133,8 +133,8 @@ def test_reason_with_its_message():
 def test_wait_for_a_second():
     """What a status shows for a second behind an exit is told, also where the recorder looks each 5 s."""
     for look in ("1", "5"):
-        script = play(waits=[{"container": "app", "from": 22, "until": 23.4, "count": 0, "reason": HOOK},
-                             {"container": "app", "from": 23.4, "count": 0, "reason": "CrashLoopBackOff"}])
+        script = play(waits=[{"container": "app", "from": 20.5, "until": 21.4, "count": 0, "reason": HOOK},
+                             {"container": "app", "from": 21.4, "count": 0, "reason": "CrashLoopBackOff"}])
         script["containers"][0]["exited"] = 19.9
         _, trace, _ = recorded(script, *URL, "--look", look)
         words = [each["reason"] for _, _, waiting in words_of(trace, "waiting") for each in waiting]

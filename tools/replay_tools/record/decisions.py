@@ -145,6 +145,8 @@ class Decisions:
             return
         self.uids.add(pod.uid)
         moment = self.moment_of(pod, decision, seen)
+        if decision.kind == EVICTED and not self.course.is_first:
+            self.sampling.confirm_round(moment)
         if recorded is not None:
             self.say(f"{pod.key} was {decision.kind} by the kubelet, seen at {int(seen.moment)}")
             second = self.timeline.place_decision(pod, moment, recorded)
@@ -176,10 +178,14 @@ class Decisions:
             recorded.ended = end
 
     def moment_of(self, pod: Pod, decision: Decision, seen: Seen) -> float:
-        """When the kubelet decided: as the pod's status says, else when that or an exit that it led to was seen."""
+        """When the kubelet decided: as the pod's status says, else with the sample by which it did, or when that or an
+        exit that it led to was seen."""
         if decision.moment is not None:
             return min(seen.end, decision.moment)
-        return min([seen.moment, *(each.finished for each in (seen.instances or {}).get(pod.uid, [])
+        sampled = self.sampling.sampled_for(seen) if decision.kind == EVICTED else None
+        last = self.timeline.evicted_last
+        sampled = None if sampled is None or (last is not None and int(sampled) < last) else sampled
+        return min([seen.moment, *([] if sampled is None else [max(sampled, self.course.begun)]), *(each.finished for each in (seen.instances or {}).get(pod.uid, [])
                                    if each.finished is not None and each.finished > self.course.planned_at)])
 
     def see_behind(self, gone_at: dict[str, int]) -> None:

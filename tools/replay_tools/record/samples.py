@@ -18,6 +18,8 @@ if TYPE_CHECKING:
 SIGNAL_AGE = 60
 # the kubelet takes a sample about as often where nothing is near a threshold
 SAMPLE_SECONDS = 10
+# what the kubelet decided by a sample is shown at most so much later
+DECIDED_SECONDS = 8
 
 
 class Sampling:
@@ -128,6 +130,22 @@ class Sampling:
                 wants = signal in seen.low or sample.moment is not None or signal not in self.samples
                 self.timeline.place_signal(self.sampled_moment(sample, seen), signal, sample.value, is_wanted and wants)
         self.samples = samples
+
+    def confirm_round(self, moment: float) -> None:
+        """The kubelet evicted a pod by a moment, which it does in a round: a sample that waits to be known is that
+        one."""
+        confirmed = self.rounds.confirm(moment)
+        if confirmed is not None and self.timeline.tells_rounds:
+            self.timeline.place_round(max(self.course.begun, confirmed))
+
+    def sampled_for(self, seen: Seen) -> float | None:
+        """When the kubelet took the sample by which it evicted a pod that a look shows as evicted: the newest of its
+        memory. None where that is not known, or long ago."""
+        samples = self.samples if seen.summary is None else seen.summary.signals
+        sample = samples.get(rounds.MEMORY)
+        if sample is None or sample.moment is None or not 0 <= seen.end - sample.moment <= DECIDED_SECONDS:
+            return None
+        return sample.moment
 
     def take_rounds(self, summary: Summary, seen: Seen) -> None:
         """The kubelet judges its thresholds in rounds, and the tick of each round's sample is judged."""
