@@ -19,6 +19,7 @@ if TYPE_CHECKING:
     from .sources import Sources
 
 PATH = "metrics"
+REMAINS = "that the kubelet was started anew is known by the counts of its probes alone"
 METRIC = "process_start_time_seconds"
 LINE = re.compile(rf"^{METRIC} (?P<value>[0-9]{{1,10}}(?:\.[0-9]+)?(?:e\+?[0-9]{{1,2}})?)[ \t\r]*$", re.MULTILINE)
 # the longest answer that is read, and how much of its end may be the begin of the line
@@ -124,8 +125,7 @@ class KubeletStart:
                 self.see(asked(self.sources), moment)
                 self.tries = 0
             except Failed as failed:
-                self.say(f"{failed}; that the kubelet was started anew is known by the counts of its probes alone",
-                         "kubelet start")
+                self.say(f"{failed}; {REMAINS}", "kubelet start")
                 self.guess(moment)
 
     def see(self, started: float, moment: float) -> None:
