@@ -131,6 +131,8 @@ class Decisions:
         self.uids: set[str] = set()
         # the second up to which a recording before this one says what the kubelet did
         self.told_until: float | None = None
+        # the look that showed the last decision
+        self.looked_at: float | None = None
         # the pods that had gone by the time at which the kubelet evicted them
         self.behind: list[Recorded] = []
 
@@ -182,11 +184,24 @@ class Decisions:
         exit that it led to was seen."""
         if decision.moment is not None:
             return min(seen.end, decision.moment)
+        exits = [each.finished for each in (seen.instances or {}).get(pod.uid, [])
+                 if each.finished is not None and each.finished > self.course.planned_at]
+        sampled = self.sample_of(decision, seen)
+        if sampled is None:
+            # its sample is not shown yet, which is newer than that of the eviction before, and than an exit by itself
+            is_awaited = decision.kind == EVICTED and self.timeline.tells_rounds
+            return seen.moment if is_awaited and self.timeline.evicted_last is not None else min([seen.moment, *exits])
+        # an exit before the sample was no work of the kubelet's
+        return sampled if exits and min(exits) < sampled else min([seen.moment, sampled, *exits])
+
+    def sample_of(self, decision: Decision, seen: Seen) -> float | None:
+        """When the sample was taken by which the kubelet evicted a pod, which is none by which it evicted one before:
+        of several in one look it is the same."""
         sampled = self.sampling.sampled_for(seen) if decision.kind == EVICTED else None
-        last = self.timeline.evicted_last
-        sampled = None if sampled is None or (last is not None and int(sampled) < last) else sampled
-        return min([seen.moment, *([] if sampled is None else [max(sampled, self.course.begun)]), *(each.finished for each in (seen.instances or {}).get(pod.uid, [])
-                                   if each.finished is not None and each.finished > self.course.planned_at)])
+        last, was_at, self.looked_at = self.timeline.evicted_last, self.looked_at, seen.moment
+        if sampled is None or last is None or int(sampled) > last or (int(sampled) == last and was_at == seen.moment):
+            return None if sampled is None else max(sampled, self.course.begun)
+        return None
 
     def see_behind(self, gone_at: dict[str, int]) -> None:
         """Of a pod that was deleted and had ended the kubelet's sample has none, and until it knows of that end the
