@@ -3,6 +3,7 @@ second, the summary of each second, the runtime's events, and the results of pro
 log. tools/record can so be tried on a run that is over, at any --look.
 
     kept_run.py FOLDER WORD..                           the trace of `tools/record WORD..`
+    kept_run.py FOLDER --count TRACE REPORT                 what a report has of what the kubelet did
     kept_run.py FOLDER --answers FROM UNTIL OUT.jsonl.gz    all answers of twice a second, as a recording of tools/tests
 """
 
@@ -20,10 +21,11 @@ HERE = os.path.dirname(os.path.realpath(__file__))
 sys.dont_write_bytecode = True
 sys.path.insert(0, os.path.join(HERE, "..", "..", "..", "tools"))
 from replay_tools.record import program, sources  # noqa: E402
+import counted  # noqa: E402
 import trimmed  # noqa: E402
 
-PROBE = re.compile(r"[IW](\d\d)(\d\d) (\d\d):(\d\d):(\d\d\.\d+).*prober\.go:\d+\] (Readiness|Liveness|Startup) probe for "
-                   r'"[^"(]*\(([-0-9a-f]+)\):([-a-z0-9]+)" (succeeded|failed|errored)')
+PROBE = re.compile(r"[IW](\d\d)(\d\d) (\d\d):(\d\d):(\d\d\.\d+).*prober\.go:\d+\] (Readiness|Liveness|Startup) probe "
+                   r'for '"[^"(]*\(([-0-9a-f]+)\):([-a-z0-9]+)" (succeeded|failed|errored)')
 STARTED = re.compile(r"I(\d\d)(\d\d) (\d\d):(\d\d):(\d\d\.\d+) .*flags\.go:59\] FLAG: --add-dir-header")
 LISTENS = re.compile(r"I(\d\d)(\d\d) (\d\d):(\d\d):(\d\d\.\d+) .*\] Starting to listen on ")
 EVENT = re.compile(r"(\S+ \d\d:\d\d:\d\d\.\d+) \+0000 UTC \S+ (\S+) (\{.*\})")
@@ -43,6 +45,10 @@ def lines_of(folder, name):
 def seconds(text):
     whole, _, part = text.partition(".")
     return calendar.timegm(time.strptime(whole, "%Y-%m-%d %H:%M:%S")) + float(f"0.{part or 0}")
+
+
+def run_moment(text):
+    return seconds(text.rstrip("Z").replace("T", " "))
 
 
 def moment_text(moment):
@@ -103,6 +109,9 @@ class Runtime:
                         attempt=count.get(place, 0))
             count[place] = each["attempt"] + 1
         each.update({key: ended[key] for key in ("reason", "message") if ended.get(key)})
+        if "exitCode" in ended and "exited" not in each:
+            # it never ran, so the runtime had no event of its end
+            each.update(code=ended["exitCode"], exited=each.get("create", run_moment(ended["finishedAt"])))
 
     def listed(self, moment):
         return [each for each in self.found.values() if "uid" in each and not each.get("sandbox")
@@ -289,7 +298,21 @@ def looks_of(run, since, until):
         moment = round(moment + STEP, 3)
 
 
+def count(folder, trace, report):
+    """Prints what a recording of the run has of what the kubelet did."""
+    texts = ["\n".join(lines_of(folder, name)) for name in ("shown.jsonl", "kubelet.log")]
+    exits = "\n".join(lines_of(folder, "ctr-events") or lines_of(folder, "ctr-events.log"))
+    with open(report, encoding="utf-8") as file:
+        rows, codes = counted.counts_of(counted.real_facts(*texts, exits), trace, file.read())
+    differences = [f"  {row.name}: {each}" for row in rows for each in row.differences]
+    for line in [*counted.table_of(rows), *codes, *differences]:
+        print(line)
+    return 0
+
+
 def main(folder, words):
+    if words[:1] == ["--count"]:
+        return count(folder, *words[1:])
     run = KeptRun(folder)
     if words[:1] == ["--answers"]:
         trimmed.pack(looks_of(run, float(words[1]), float(words[2])), words[3])

@@ -42,7 +42,8 @@ def pods_of(answer):
 def status_of(pod):
     """A pod's status, with how its containers ended, why they wait, and whether its readiness gates are true."""
     status = pod.get("status", {})
-    types = {"DisruptionTarget", "Ready", *(each.get("conditionType") for each in pod["spec"].get("readinessGates") or [])}
+    gates = pod["spec"].get("readinessGates") or []
+    types = {"DisruptionTarget", "Ready", *(each.get("conditionType") for each in gates)}
     conditions = [picked(each, CONDITION_FIELDS) for each in status.get("conditions") or []
                   if each.get("type") in types]
     return {**picked(status, STATUS_FIELDS), **({"conditions": conditions} if conditions else {}),
@@ -85,7 +86,8 @@ def start_of(text):
     return "".join(f"{line}\n" for line in text.split("\n") if line.startswith("process_start_time_seconds "))
 
 
-TRIMS = {"metrics": start_of, "ps": lambda text: list_of(json.loads(text)), "pods": lambda text: pods_of(json.loads(text)),
+TRIMS = {"metrics": start_of, "ps": lambda text: list_of(json.loads(text)),
+         "pods": lambda text: pods_of(json.loads(text)),
          "summary": lambda text: sample_of(json.loads(text)), "probes": counts_of,
          "configz": lambda text: configuration_of(json.loads(text))}
 
