@@ -25,7 +25,7 @@ import counted  # noqa: E402
 import trimmed  # noqa: E402
 
 PROBE = re.compile(r"[IW](\d\d)(\d\d) (\d\d):(\d\d):(\d\d\.\d+).*prober\.go:\d+\] (Readiness|Liveness|Startup) probe "
-                   r'for '"[^"(]*\(([-0-9a-f]+)\):([-a-z0-9]+)" (succeeded|failed|errored)')
+                   r'for "[^"(]*\(([-0-9a-f]+)\):([-a-z0-9]+)" (succeeded|failed|errored)')
 STARTED = re.compile(r"I(\d\d)(\d\d) (\d\d):(\d\d):(\d\d\.\d+) .*flags\.go:59\] FLAG: --add-dir-header")
 LISTENS = re.compile(r"I(\d\d)(\d\d) (\d\d):(\d\d):(\d\d\.\d+) .*\] Starting to listen on ")
 EVENT = re.compile(r"(\S+ \d\d:\d\d:\d\d\.\d+) \+0000 UTC \S+ (\S+) (\{.*\})")

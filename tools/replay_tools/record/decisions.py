@@ -189,7 +189,7 @@ class Decisions:
         sampled = self.sample_of(decision, seen)
         if sampled is None:
             # its sample is not shown yet, which is newer than that of the eviction before, and than an exit by itself
-            is_awaited = decision.kind == EVICTED and self.timeline.tells_rounds
+            is_awaited = decision.kind == EVICTED and self.sampling.timeline.tells_rounds
             return seen.moment if is_awaited and self.timeline.evicted_last is not None else min([seen.moment, *exits])
         # an exit before the sample was no work of the kubelet's
         return sampled if exits and min(exits) < sampled else min([seen.moment, sampled, *exits])
