@@ -213,3 +213,31 @@ def test_runtime_alone():
     _, trace, _ = recorded(play(), *URL)
     expect("a kubelet: its pod lines", [json.loads(line).get("guessed") for line in trace.splitlines()
                                         if '"kind":"pod"' in line], [None])
+
+
+# --- an init container that is removed at once ---
+
+
+def test_code_that_is_shown_briefly():
+    """The code of an instance that the runtime removed at once is its status's, which has it for seconds: it is looked
+    for each second, also where the recorder looks each 5 s."""
+    def status(attempt, since):
+        ended = {"containerID": f"containerd://a{attempt}", "exitCode": 6 + attempt, "reason": "Error",
+                 "startedAt": AT(12), "finishedAt": AT(16)}
+        return {"from": since, "status": {"initContainerStatuses": [{
+            "name": "setup", "restartCount": attempt + 1, "state": {"waiting": {"reason": "PodInitializing"}},
+            "lastState": {"terminated": ended}}]}}
+
+    first = {"from": 0, "status": {"initContainerStatuses": [{"name": "setup", "restartCount": 0, "state": {}}]}}
+    script = play(says=[first, status(0, 21), status(1, 24)])
+    script["pods"]["shop/web"]["spec"] = {"initContainers": [{"name": "setup"}], "containers": [{"name": "app"}]}
+    script["containers"] = [
+        {**container("shop/web", "a0"), "name": "setup", "created": 12, "started": 12, "exited": 16.4, "code": 6,
+         "removed": 16.8},
+        {**container("shop/web", "a1", attempt=1), "name": "setup", "created": 17, "started": 17, "exited": 22.5,
+         "code": 7, "removed": 39}]
+    for look in ("1", "5"):
+        _, trace, said = recorded(script, *URL, "--look", look)
+        codes = {each["attempt"]: each["exitCode"] for tick in ticks_of(trace) for entry in tick["pods"]
+                 for listing in entry["containers"] for each in (listing, listing.get("ended", {})) if "exitCode" in each}
+        expect(f"a code that is shown briefly, --look {look}", (codes, "137" in said), ({0: 6, 1: 7}, False))

@@ -301,6 +301,8 @@ class Lifecycles:
         for recorded in self.followed():
             recorded.arrived = recorded.changes_from = int(moment)
             recorded.going_since = None if recorded.going_since is None else moment
+            recorded.absent_since = None if recorded.absent_since is None else moment
+            recorded.seen_at = moment
 
 
 def went_at(recorded: Recorded, pod: Pod | None) -> float | None:

@@ -210,9 +210,11 @@ class Observer:
 
     def looks_soon(self, moment: float) -> bool:
         """Whether the next look comes soon: where the kubelet may evict a pod, each of its samples counts, and what it
-        did may be shown for a second; after its start pods are unready for seconds; and why a container failed is shown
-        until it waits for its next start."""
-        return self.near.is_near(moment) or self.start.is_watched(moment) or self.has_failed(moment)
+        did may be shown for a second; after its start pods are unready for seconds; why a container failed is shown
+        until it waits for its next start; and how an instance ended that the runtime has removed until the next one has
+        ended."""
+        return (self.near.is_near(moment) or self.start.is_watched(moment) or self.has_failed(moment)
+                or bool(self.missed_at))
 
     def has_failed(self, moment: float) -> bool:
         """Whether a container has just exited with a failure."""
@@ -243,6 +245,8 @@ class Observer:
             return None
         since = self.silent.pop(source, None) if is_whole else None
         if since is not None:
+            if source in KUBELETS:
+                self.start.suspect()
             self.say(f"{int(moment)}: {source} answers again, after {round(moment - since)} s",
                      (source, moment, "again"))
         return answer
