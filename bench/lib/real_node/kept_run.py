@@ -2,7 +2,7 @@
 second, the summary of each second, the runtime's events, and the results of probes and the starts of the kubelet by its
 log. tools/record can so be tried on a run that is over, at any --look.
 
-    kept_run.py FOLDER WORD..                           the trace of `tools/record WORD..`
+    kept_run.py FOLDER WORD..                           the trace of `tools/record WORD..`, begun PHASE seconds later
     kept_run.py FOLDER --count TRACE REPORT                 what a report has of what the kubelet did
     kept_run.py FOLDER --answers FROM UNTIL OUT.jsonl.gz    all answers of twice a second, as a recording of tools/tests
 """
@@ -317,7 +317,7 @@ def main(folder, words):
     if words[:1] == ["--answers"]:
         trimmed.pack(looks_of(run, float(words[1]), float(words[2])), words[3])
         return 0
-    clock = Clock(run.begin + 0.3)
+    clock = Clock(run.begin + float(os.environ.get("PHASE", 0.3)))
     # the recorder looks whether the commands are there, and asks none of them here
     os.environ["PATH"] += os.pathsep + os.path.join(HERE, "..", "..", "..", "tools", "tests", "commands")
 

@@ -43,7 +43,7 @@ FAILED_SECONDS = 3
 LIST_SECONDS = 1.5
 # how long, and in how many more answers, the end of an instance that the runtime has removed is looked for in its pod's
 # status, which may come later
-STATUS_SECONDS = 3
+STATUS_SECONDS = 10
 STATUS_ANSWERS = 2
 # a list is asked for anew so often where a container has gone between it and `crictl inspect`
 MOST_LISTS = 3
