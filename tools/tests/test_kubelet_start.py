@@ -1,4 +1,4 @@
-"""The tests of a kubelet that is started anew: which of its lists are no answer, what is told of its start, which pods
+"""The tests of a kubelet that restarts: which of its lists are no answer, what is told of its start, which pods
 are deleted that it lists no more, and how the condition Ready of a pod's status has turned."""
 
 import gzip
@@ -87,7 +87,7 @@ def test_start():
             place = f"a kubelet starts, --look {look}, from {shift} on"
             expect(place, (status, words_of(trace, "deleting"), gone_of(trace)), (0, [], []))
             expect(f"{place}: it is told", started_of(trace), [(20, 20)])
-            expect(f"{place}: it is said", said.count("the kubelet was started anew"), 1)
+            expect(f"{place}: it is said", said.count("the kubelet restarted"), 1)
             expect(f"{place}: the next start of a pod", (trace.count('"attempt":1,"state":"CONTAINER_RUNNING"') > 0,
                                                         "Traceback" in said), (True, False))
 
@@ -180,8 +180,8 @@ def test_moments_of_starts():
 
 def played_real(look, phase):
     """The recording of a real kubelet's answers, looked at each so many seconds from a moment on."""
-    words = ["--node", "node-b", "--kubelet", "https://10.99.0.1:10250", "--extended", "--look", str(look), "--for", "90"]
-    return run([f"{HERE}/commands/played_record", *words], RECORDING=REAL, PHASE=str(phase), RUN="/nonexistent",
+    words = ["--node", "node-b", "--kubelet", "https://10.99.0.1:10250", "--extended", "--for", "90"]
+    return run([f"{HERE}/commands/played_record", *words, "--look", str(look)], RECORDING=REAL, PHASE=str(phase), RUN="/nonexistent",
                PATH=f"{HERE}/commands:{os.environ['PATH']}")
 
 
@@ -193,7 +193,8 @@ def facts_of(trace):
             for each in entry["containers"]:
                 ended, place = each.get("ended"), (entry["pod"], each["name"])
                 if ended and listed.get(place) != (ended["attempt"], "CONTAINER_EXITED"):
-                    found.setdefault((entry["pod"], f"died {ended['attempt']} {ended['exitCode']}"), []).append(tick["at"])
+                    what = f"died {ended['attempt']} {ended['exitCode']}"
+                    found.setdefault((entry["pod"], what), []).append(tick["at"])
                 now = each["attempt"], each["state"]
                 if place in listed and listed[place] != now:
                     what = f"started {now[0]}" if now[1] == "CONTAINER_RUNNING" else f"died {now[0]} {each['exitCode']}"

@@ -139,7 +139,8 @@ def checks_of(sources: Sources, node: str, trace_format: Format,
             (sources.pods_name(), lambda: counted(len(pods_of(sources.pods(), sources.pods_name())), "pod"), pods),
             ("/metrics/probes", lambda: f"{counted(len(counters_of(sources.probes())), 'probe')} with results",
              wish(sources, "metrics")),
-            *node_checks(sources, node, trace_format), *start_checks(sources), *throttled_checks(sources, asks_throttled),
+            *node_checks(sources, node, trace_format), *start_checks(sources),
+            *throttled_checks(sources, asks_throttled),
             *api_checks(sources)]
 
 

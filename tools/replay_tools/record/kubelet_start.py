@@ -19,7 +19,7 @@ if TYPE_CHECKING:
     from .sources import Sources
 
 PATH = "metrics"
-REMAINS = "that the kubelet was started anew is known by the counts of its probes alone"
+REMAINS = "a restart of the kubelet is known by the counts of its probes alone"
 METRIC = "process_start_time_seconds"
 LINE = re.compile(rf"^{METRIC} (?P<value>[0-9]{{1,10}}(?:\.[0-9]+)?(?:e\+?[0-9]{{1,2}})?)[ \t\r]*$", re.MULTILINE)
 # the longest answer that is read, and how much of its end may be the begin of the line
@@ -80,8 +80,8 @@ def have_fallen(before: Counters | None, now: Counters | None) -> bool:
 
 
 class KubeletStart:
-    """Finds out that the kubelet was started anew. It is asked where there is a sign of that: it was silent, counts of
-    probes fell or are gone, or pods are gone from its list."""
+    """Finds out that the kubelet restarted. It asks the kubelet after a sign of that: it was silent, counts of probes
+    fell or are gone, or pods are gone from its list."""
 
     def __init__(self, sources: Sources, say: Callable[..., None]) -> None:
         self.sources = sources
@@ -146,7 +146,7 @@ class KubeletStart:
 
     def begin_anew(self, started: float, moment: float) -> None:
         self.news, self.since = started, moment
-        self.say(f"{int(moment)}: the kubelet was started anew at {int(started)}", ("start", int(started)))
+        self.say(f"{int(moment)}: the kubelet restarted at {int(started)}", ("start", int(started)))
 
     def end_look(self, has_answered: bool, moment: float) -> None:
         if has_answered:
@@ -177,7 +177,7 @@ class ListOfPods:
         self.shown_at: dict[str, float] = {}
 
     def begin_anew(self, moment: float) -> None:
-        """The kubelet was started, and learns its pods anew."""
+        """The kubelet restarted, and learns its pods again."""
         self.since, self.shown_at = moment, {}
 
     def lost(self, listed: Iterable[Pod]) -> list[Pod]:

@@ -37,10 +37,11 @@ class Pod:
     the kubelet did to it, `is_deleted` that it was told to go, and `deleted_at` when, if that is known; `ends` has the
     instances that its status says have ended, by their ids, and is None where its status has no container; `waits` why
     its containers wait, by their names; `probed` has of each container that runs its restarts, whether it has started,
-    and whether it is ready. `ended` is the decision by which the node has ended it, of whatever kind, and
-    `is_spared` whether a kubelet evicts it for no lack of the node's. `ruled` names its containers whose own rules of
-    restarts are left out, and `deletion` has by whom it is deleted, and its grace. `is_static` is whether the kubelet
-    has it of a file, `is_guessed` that its manifest is made up, and `ready` its condition Ready with the moment at which that turned."""
+    and whether it is ready. `ended` is the decision by which the node has ended it, of whatever kind, and `is_spared`
+    whether a kubelet evicts it for no lack of the node's. `ruled` names its containers whose own rules of restarts are
+    left out, and `deletion` has by whom it is deleted, and its grace. `is_static` is whether the kubelet has it of a
+    file, `is_guessed` that its manifest is made up, and `ready` its condition Ready with the moment at which that
+    turned."""
     key: str
     uid: str
     manifest: dict

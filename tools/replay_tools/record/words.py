@@ -34,13 +34,14 @@ of a line. NAME is the node's name in the cluster (uname -n). --check asks each 
 is there where another one is missing, says what works and what is missing, and ends.
 --crictl has the words that start crictl, as 'chroot /host crictl'. With --logs N the last N lines of each container
 that exits with another code than 0 are asked for (crictl logs), and what of them is known to have no secret is told.
-With --events https://kubernetes.default.svc the Events of a pod are asked for at the API server, after an exit, a probe
-that fails and a wait, with the token of --curl; that needs the right to list events. Without a token use --events
-kubectl: it takes 2.2 s of a processor in a minute, where the URL takes 0.1. With --metrics FILE has what was recorded so far as OpenMetrics text: restarts, deaths, kills,
-readiness, pressure. With --throttled yes the kubelet's /metrics/cadvisor is asked for how long processors were
-throttled, with no leaves it out. It is asked by default where the kubelet is asked at its port, since an answer, of
-some MB where many pods run, goes through the API server otherwise, and in no case where no container that runs has a
-limit of its processor. It is read beside the looks, which do not wait for it, line by line, up to 64 MiB.
+With --events https://kubernetes.default.svc the Events of a pod are asked for at the API server, after an exit, a
+probe that fails and a wait, with the token of --curl; that needs the right to list events. Without a token use
+--events kubectl: it takes 2.2 s of a processor in a minute, where the URL takes 0.1. With --metrics FILE has what was
+recorded so far as OpenMetrics text: restarts, deaths, kills, readiness, pressure. With --throttled yes the kubelet's
+/metrics/cadvisor is asked for how long processors were throttled, with no leaves it out. It is asked by default where
+the kubelet is asked at its port, since an answer, of some MB where many pods run, goes through the API server
+otherwise, and in no case where no container that runs has a limit of its processor. It is read beside the looks, which
+do not wait for it, line by line, up to 64 MiB.
 
 --into FOLDER writes traces of the extended format one behind the other, as NODE.2026-11-27T05-00-00Z.trace.gz, until it
 is interrupted (docs/recorder.md). Each begins where the one before it ends: after --each (1h, by UTC), or earlier at
