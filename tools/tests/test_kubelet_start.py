@@ -51,8 +51,8 @@ def container(pod, identity, **more):
 
 
 def play(**more):
-    """Four pods: one runs, one has ended, one waits for its next start, and one is of a file; the kubelet is started
-    anew at 20.5, answers from 24 on, and lists its pods from 25 on, those of a file before all others."""
+    """Four pods: one runs, one has ended, one waits for its next start, and one is of a file; the kubelet restarts at
+    20.5, answers from 24 on, and lists its pods from 25 on, those of a file before all others."""
     spec = {"containers": [{"name": "app", "readinessProbe": {"periodSeconds": 5}}]}
     silent = [{"kind": kind, "from": 20, "until": 24, "text": "gave no answer: Connection refused"}
               for kind in ("pods", "probes", "summary", "metrics")]
@@ -72,7 +72,8 @@ def play(**more):
 def recorded(script, look, *words):
     """The status of a recording of a play, its trace and what it says."""
     into = Into(script)
-    answer = into.record("--for", "60", "--extended", "--kubelet", "http://127.0.0.1:10250", "--look", str(look), *words)
+    answer = into.record("--for", "60", "--extended", "--kubelet", "http://127.0.0.1:10250", "--look", str(look),
+                         *words)
     into.clean()
     return answer
 
@@ -181,8 +182,8 @@ def test_moments_of_starts():
 def played_real(look, phase):
     """The recording of a real kubelet's answers, looked at each so many seconds from a moment on."""
     words = ["--node", "node-b", "--kubelet", "https://10.99.0.1:10250", "--extended", "--for", "90"]
-    return run([f"{HERE}/commands/played_record", *words, "--look", str(look)], RECORDING=REAL, PHASE=str(phase), RUN="/nonexistent",
-               PATH=f"{HERE}/commands:{os.environ['PATH']}")
+    return run([f"{HERE}/commands/played_record", *words, "--look", str(look)], RECORDING=REAL, PHASE=str(phase),
+               RUN="/nonexistent", PATH=f"{HERE}/commands:{os.environ['PATH']}")
 
 
 def facts_of(trace):

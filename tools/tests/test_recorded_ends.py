@@ -1,5 +1,5 @@
-"""The tests of how a recording tells pods that failed without a reason, that were not admitted, and that wait or end for
-a reason that a kubelet writes with its message; of samples of 0; and of readiness that the kubelet does not count."""
+"""The tests of how a recording tells pods that failed without a reason, that were not admitted, and that wait or end
+for a reason that a kubelet writes with its message; of samples of 0; and of readiness that the kubelet does not count."""
 
 import json
 
@@ -162,7 +162,8 @@ def test_samples_of_nothing():
     for memory, wanted in (({"workingSetBytes": 4096, "usageBytes": 8192}, [4096]), ({"workingSetBytes": 0}, []),
                            ({"workingSetBytes": 0, "usageBytes": 0}, []), ({"usageBytes": 0}, []),
                            ({"usageBytes": 4096}, [None])):
-        expect(f"samples of nothing: {memory}", [each.working_set for each in used_in(stats(**memory)).values()], wanted)
+        found = used_in(stats(**memory)).values()
+        expect(f"samples of nothing: {memory}", [each.working_set for each in found], wanted)
 
 
 # --- readiness that is not counted ---
@@ -238,6 +239,7 @@ def test_code_that_is_shown_briefly():
          "code": 7, "removed": 39}]
     for look in ("1", "5"):
         _, trace, said = recorded(script, *URL, "--look", look)
-        codes = {each["attempt"]: each["exitCode"] for tick in ticks_of(trace) for entry in tick["pods"]
-                 for listing in entry["containers"] for each in (listing, listing.get("ended", {})) if "exitCode" in each}
+        listed = [each for tick in ticks_of(trace) for entry in tick["pods"] for each in entry["containers"]]
+        codes = {each["attempt"]: each["exitCode"] for listing in listed
+                 for each in (listing, listing.get("ended", {})) if "exitCode" in each}
         expect(f"a code that is shown briefly, --look {look}", (codes, "137" in said), ({0: 6, 1: 7}, False))

@@ -82,7 +82,8 @@ def test_last_eviction_of_a_series():
                                    "started": -2, "exited": exited, "code": 137})
     for look in ("1", "5"):
         place = Into(play)
-        status, trace, _ = place.record("--extended", "--for", "70", "--kubelet", "http://127.0.0.1:10250", "--look", look)
+        status, trace, _ = place.record("--extended", "--for", "70", "--kubelet", "http://127.0.0.1:10250",
+                                        "--look", look)
         place.clean()
         expect(f"the last eviction of a series, --look {look}", (status, judged_in(trace)[0]), (0, [0, 20, 25, 45]))
         told = [each["at"] - BEGIN for line in trace.splitlines() if '"evicted":[' in line

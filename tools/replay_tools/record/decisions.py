@@ -31,7 +31,8 @@ LONGEST_OF_EVICTION = 4096
 ADMISSION = ("UnexpectedAdmissionError", "NodeAffinity", "NodePorts", "NodeUnschedulable", "NodeName", "NodeTaint",
              "TaintToleration", "PodOSNotSupported", "PodOSSelectorNodeLabelDoesNotMatch", "TopologyAffinityError",
              "PodFeatureUnsupported", "AppArmor", "SysctlForbidden", "Forbidden", "InvalidNodeInfo")
-NOT_ADMITTED = re.compile(r"Pod was rejected|Predicate [A-Za-z]+ failed|not admitting any new pods|rejected as the node")
+NOT_ADMITTED = re.compile("Pod was rejected|Predicate [A-Za-z]+ failed|not admitting any new pods"
+                          "|rejected as the node")
 # what a tick may say that the node has ended a pod for, and what it says of any other reason
 WORD = re.compile(r"[A-Za-z][-A-Za-z0-9_./]{0,62}")
 OTHER = "Other"
