@@ -172,9 +172,13 @@ class Lifecycles:
 
     @staticmethod
     def see_end(recorded: Recorded, pod: Pod, seen: Seen) -> None:
-        """The node has ended a pod, which finds its place among what happened to it."""
-        if pod.ended is not None and recorded.ended is None:
+        """The node has ended a pod, which finds its place among what happened to it. Why may be shown later."""
+        if pod.ended is None:
+            return
+        if recorded.ended is None:
             recorded.ended, recorded.ended_at = pod.ended, seen.moment
+        elif recorded.ended.is_guessed and not recorded.is_end_placed:
+            recorded.ended = pod.ended
 
     def see_beside(self, recorded: Recorded, pod: Pod, seen: Seen) -> None:
         """What the object says beside what the formats read, where that is another than before."""
