@@ -52,12 +52,15 @@ def paragraphs_in(page):
 
 
 def plain(paragraph):
-    """A paragraph without marks: a code span is one word, of a link its text remains."""
+    """A paragraph as style takes all of it: a code span is one word, of a link its text remains. Style ends a sentence
+    at a colon, and passes over one that does not begin with a capital."""
     text = re.sub(r"`[^`]+`", "Code", paragraph)
     text = re.sub(r"!?\[([^\]]*)\](?:\([^)]*\)|\[[^\]]*\])?", r"\1", text)
-    text = re.sub(r"<(https?:[^>]*)>", "link", text).replace("**", "").replace("*", "").strip()
-    text = re.sub(r"[:;,]$", ".", text)
-    return text if re.search(r"[.!?][\")]*$", text) else text + "."
+    text = re.sub(r"<(https?:[^>]*)>", "link", text)
+    text = re.sub(r'[*()"]| \.\.(?= |$)', "", text).strip()
+    text = re.sub(r":(?= [^A-Z]| Code)", ",", re.sub(r"[:;,]$", ".", text))
+    text = re.sub(r"(^|[.!?:] )(\w)", lambda start: start[1] + ("N" * start[2].isdigit()) + start[2].upper(), text)
+    return text if text[-1:] in ".!?" else text + "."
 
 
 def number_in(pattern, text):

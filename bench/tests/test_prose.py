@@ -42,6 +42,12 @@ class Prose(Case):
             "The recorder writes one trace per hour. Read Code in the guide.", "First item.",
             "Second item, which goes on.", "A quote."])
 
+    def test_style_takes_the_whole_of_a_sentence(self):
+        for text, plain in (("a trace: what was seen (all of it) ..", "A trace, what was seen all of it."),
+                            ("It ends. 20 pods start. (So `run` reads it.)", "It ends. N20 pods start. So Code reads it."),
+                            ("Run it: The rest follows:", "Run it: The rest follows.")):
+            self.assertEqual(prose_counts.plain(text), plain)
+
     def test_house_words(self):
         found = [found[0] for found in prose_counts.HOUSE.finditer(
             "It stands behind those of the pod. Understand the connection refused, then it is refused.")]
