@@ -7,12 +7,12 @@ from typing import NamedTuple
 # The words to replace, as far as their form alone shows them: "a word" of a command line, "before" of a place and the
 # noun "differ" have uses that are right.
 HOUSE = re.compile(r"""(?ix)\b(
-    behind | beside | stands? | stood | says? | said | tells? | told | those\ of | that\ of | anew | by\ hand
+    behind | beside | stands?(?!-in) | stood | says? | said | tells? | told | those\ of | that\ of | anew | by\ hand
     | (is|are|was|were)\ had | a\ look | looks\ at | third\ look | borders? | shelf | plays? | played | heed(s|ed)?
     | spare[sd]? | judged\ ticks? | wants? | wanted | (?<!connection\ )refuse[sd]? | refusals? | hand(s|ed)
     | la(y|id)\ by | given\ up | takes\ no\ memory )\b""")
 CODE_LINE = re.compile(r" {4,}|\t")
-ITEM = re.compile(r"\s*(?:[-*]|\d+\.) ")
+ITEM = re.compile(r"^\s*(?:[-*]|\d+\.) ")
 # headings, tables, the targets of links, comments
 NO_PROSE = re.compile(r"#|\s*\||\[[^\]]*\]:|<!--|---+$")
 
