@@ -13,6 +13,8 @@ HOUSE = re.compile(r"""(?ix)\b(
     | la(y|id)\ by | given\ up | takes\ no\ memory )\b""")
 CODE_LINE = re.compile(r" {4,}|\t")
 ITEM = re.compile(r"^\s*(?:[-*]|\d+\.) ")
+# names of definitions after a sentence, which lead to them
+DEFINITIONS = re.compile(r" ?\((?:\[[\w.]+\](?!\()(?:, )?)+\)")
 # headings, tables, the targets of links, comments
 NO_PROSE = re.compile(r"#|\s*\||\[[^\]]*\]:|<!--|---+$")
 
@@ -54,7 +56,7 @@ def paragraphs_in(page):
 def plain(paragraph):
     """A paragraph as style takes all of it: a code span is one word, of a link its text remains. Style ends a sentence
     at a colon, and passes over one that does not begin with a capital."""
-    text = re.sub(r"`[^`]+`", "Code", paragraph)
+    text = DEFINITIONS.sub("", re.sub(r"`[^`]+`", "Code", paragraph))
     text = re.sub(r"!?\[([^\]]*)\](?:\([^)]*\)|\[[^\]]*\])?", r"\1", text)
     text = re.sub(r"<(https?:[^>]*)>", "link", text)
     text = re.sub(r'[*()"]| \.\.(?= |$)', "", text).strip()
