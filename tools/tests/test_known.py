@@ -92,6 +92,46 @@ def test_a_kubelet_that_is_restarted():
            (1, True))
 
 
+def test_turns_of_ready():
+    """What the kubelet's status shows of Ready counts, with its own moments; what no probe explains has its cause."""
+    def turn(at, status):
+        return {"readyTurns": [{"status": status, "at": BEGIN + at}]}
+    dip = [{"status": "False", "at": BEGIN + 21}, {"status": "True", "at": BEGIN + 28}]
+    told = Told(NODE, pod("web"), tick(0, entry("web", runs(), **turn(0, "True"))),
+                tick(30, entry("web", runs(), readyTurns=dip), kubeletStartedAt=BEGIN + 20),
+                tick(60, entry("web", runs(), **turn(50, "False"), readinessGates={"lb": False})),
+                tick(80, entry("web", runs(), readinessGates={"lb": True}, **turn(70, "True"))),
+                tick(90, entry("web", runs())))
+    story = told.by("story", "shop/web")
+    expect("turns in the events", [line.partition(" - - ")[2] for line in lines_with(story, "kubelet's status")], [
+        "not ready in the kubelet's status: the kubelet was restarted", "ready again in the kubelet's status",
+        "not ready in the kubelet's status: its readiness gate lb is not true", "ready again in the kubelet's status"])
+    expect("turns count", "not ready for 27 s" in story, True)
+    expect("turns in json", [record["unready_seconds"] for record in told.records("pod")], [27])
+    expect("turns on the page", told.data()["podList"][0]["ready"], [[0, 1], [21, 0], [28, 1], [50, 0], [70, 1]])
+
+
+def test_a_pod_that_was_refused_again():
+    """One that had run, and was refused when a kubelet that had restarted admitted its pods, is not told as evicted."""
+    refused = {"kubelet": {"refused": [{"pod": "shop/web", "at": BEGIN + 9, "reason": "Evicted", "message":
+                                        "The node had condition: [MemoryPressure]. "}]}}
+    told = Told(NODE, pod("web"), tick(0, entry("web", runs())),
+                tick(9, entry("web", exited(137), failed="Evicted"), **refused))
+    story = told.by("story", "shop/web")
+    expect("refused again", lines_with(story, "the kubelet refused it at"),
+           ["the kubelet refused it at 2026-01-01 00:00:09Z: the node had MemoryPressure"])
+    expect("it is no eviction", "the kubelet evicted it" in story, False)
+
+
+def test_an_end_without_a_reason():
+    ended = {"kubelet": {"ended": [{"pod": "shop/web", "at": BEGIN + 9, "reason": "Other", "message": "",
+                                    "guessed": ["reason"]}]}}
+    told = Told(NODE, pod("web"), tick(0, entry("web", runs())),
+                tick(9, entry("web", exited(137), failed="Other"), **ended))
+    expect("an end without a reason", lines_with(told.by("story", "shop/web"), "the kubelet ended it"),
+           ["the kubelet ended it at 2026-01-01 00:00:09Z: for a reason that was not seen"])
+
+
 def test_unknown_manifests():
     """Of a pod whose manifest was made up no tool says that it has no limit, no probe, or which class."""
     died = exited(137, reason="OOMKilled")
@@ -126,7 +166,8 @@ def test_an_unknown_phase():
     expect("no event says that it failed", (re.findall(r"phase .*", story)[-1], "phase Failed" in story),
            ("phase Succeeded or Failed: no code is known that tells which", False))
     expect("the list", "Succeeded or Failed" in told.by("story"), True)
-    expect("json", [(record["phase"], record.get("phase_is_unknown")) for record in told.records("pod")], [(None, True)])
+    expect("json", [(record["phase"], record.get("phase_is_unknown")) for record in told.records("pod")],
+           [(None, True)])
 
 
 def test_an_owners_template():
