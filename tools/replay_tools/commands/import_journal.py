@@ -24,6 +24,8 @@ StatefulSet, DaemonSet, ReplicaSet, Job, CronJob: their templates, by the pods' 
 events, a watch. A pod without one has the containers that lines name, and no probes.
 --events FILE is kubectl get events -o json; --audit FILE an audit log, which has manifests and statuses.
 --node NAME is the node, where no line names it, and of which lines are read, where a journal has several.
+--unit NAME is a unit of systemd that runs the kubelet under another name: k3s, k3s-agent, rke2-server, kubelite.
+Without it lines are the kubelet's only if their unit is; give it more than once for several.
 --year N and --zone +02:00 are those of klog's own moments, which have neither: else the year of the file, and UTC.
 --each 1h is how long a trace of --into is.
 NODE asks the cluster by kubectl, and needs nothing on the node: for its kubelet's log since --since (1h), by the API of
@@ -47,6 +49,7 @@ or of manifests of another cluster, and nothing is written; the cluster gives no
 
 def parser() -> entry.Words:
     taken = entry.Words(HELP)
+    taken.add_argument("--unit", action="append", default=[])
     for name in ("--journal", "--pods", "--events", "--audit"):
         taken.files(name, action="append", default=[])
     taken.add_argument("named", nargs="*")

@@ -19,6 +19,7 @@ from replay_tools import entry, outside, packed
 
 from .holes import HOLE, Numbers
 from .moments import Klog, moment_of_iso
+from .units import unit_of
 
 PIECE = 1 << 20
 # a line that is longer is cut, which is counted
@@ -159,9 +160,8 @@ def line_of(member: Callable[[str], Any], counts: Counts) -> Iterator[Line]:
     if not isinstance(said, bytes) or moment is None or not outside.moment(moment // 10 ** 6):
         counts.foreign += 1
         return
-    unit = str(member("SYSLOG_IDENTIFIER") or member("_SYSTEMD_UNIT") or member("_COMM") or "")
     process = outside.number_of(str(member("_PID") or member("SYSLOG_PID") or "0")) or 0
-    yield Line(moment / 1e6, said, unit, process, str(member("_HOSTNAME") or ""))
+    yield Line(moment / 1e6, said, unit_of(member), process, str(member("_HOSTNAME") or ""))
 
 
 def of_export(file: BinaryIO, counts: Counts) -> Iterator[Line]:

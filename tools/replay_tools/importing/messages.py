@@ -13,6 +13,7 @@ from replay_tools import outside
 from .journals import SKIPPED, Hole, Line
 from .moments import Klog, moment_of_iso
 from .runtimes import KEYS, OF_RUNTIME
+from .units import Units, is_runtime
 
 HEADER = re.compile(rb"[IWEF](\d{4} \d\d:\d\d:\d\d)(\.\d{1,9}) +(\d{1,10}) [^\]\s]{1,200}:\d+\] ")
 # key="value" or key=value behind a quoted message; a value may have blanks in brackets, and one of several lines has a
@@ -99,12 +100,26 @@ def text_message(text: bytes, line: Line, klog: Klog) -> Message | None:
     return Message(moment, int(stamp[2]), said, NO_KEYS, line.node, False, line.moment is None, stamp)
 
 
-def messages_of(lines: Iterator[Line], klog: Klog) -> Iterator[Message | Line]:
+def of_other_unit(line: Line, units: Units) -> Line:
+    """A line of another unit than the kubelet's, which says nothing of the kubelet whatever its words are."""
+    if line.text.startswith(b"{"):
+        made = json_message(line.text, line) if is_runtime(line.unit) else None
+        return made if isinstance(made, Line) else line
+    if HEADER.match(line.text):
+        units.pass_over(line.unit)
+    return line
+
+
+def messages_of(lines: Iterator[Line], klog: Klog, units: Units | None = None) -> Iterator[Message | Line]:
     """The messages of a journal that are wanted, and the lines that are no kubelet's, as they are."""
     held: Message | None = None
-    continued = 0
+    units, continued = units or Units(), 0
     for line in lines:
         text = line.text
+        if line.unit and not units.is_kubelet(line.unit):
+            if not isinstance(line, Hole):
+                yield of_other_unit(line, units)
+                continue
         if line is SKIPPED or isinstance(line, Hole):
             if held is not None:
                 yield finished(held)

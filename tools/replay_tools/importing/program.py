@@ -19,10 +19,11 @@ from .journals import STANDARD_INPUT, Counts, Journal
 from .moments import Klog
 from .placing import Placing
 from .progress import Progress
+from .units import Units
 from .writing import Ended, NodeLine, Plain, Writer
 
 
-MOST_NOTES = 100
+MOST_NOTES, MOST_UNITS = 100, 5
 SINCE = "1h"
 # most of what is made lives on for ten minutes of the journal, so cycles are looked for more seldom
 MADE_BETWEEN_LOOKS = 100_000
@@ -67,7 +68,9 @@ def imported(words: Namespace) -> int:
     placing = Placing(most_pods_at_once=words.into is not None)
     notes = Notes()
     importer = Importer(known, placing, notes)
-    found, readers = reading.read_all(journals, lambda journal: Klog(words.year, shift, journal.written), words.node)
+    units = Units(tuple(words.unit))
+    found, readers = reading.read_all(journals, lambda journal: Klog(words.year, shift, journal.written), words.node,
+                                      units)
     stream = events.beside(found, events.read_all(words.events)) if words.events else found
     progress = Progress(journals)
     try:
@@ -76,7 +79,7 @@ def imported(words: Namespace) -> int:
                 refuse_strangers(importer)
                 writer.begin(node_line_of(importer, name_of(words, importer, known)))
             writer.write(lines, has_tick)
-        refuse_nothing(importer, journals)
+        refuse_nothing(importer, journals, units)
         progress.end()
         writer.end()
     except Ended as ended:
@@ -152,13 +155,22 @@ def name_of(words: Namespace, importer: Importer, known: manifests.Manifests) ->
     return str(name)
 
 
+def named(units: Units) -> str:
+    """The first of the units that have lines of klog's form, and are not the kubelet's."""
+    names = [f"'{name}'" for name in units.others]
+    return ", ".join(names[:MOST_UNITS]) + (", .." if len(names) > MOST_UNITS else "")
+
+
 def node_line_of(importer: Importer, name: str) -> NodeLine:
     """The node line, asked for as it is to be written."""
     return lambda second: summary.node_line(importer, name, second)
 
 
-def refuse_nothing(importer: Importer, journals: list[Journal]) -> None:
+def refuse_nothing(importer: Importer, journals: list[Journal], units: Units) -> None:
     """Refuses journals of which nothing was understood."""
+    if units.others and (importer.begun is None or not importer.placing.counts["met"]):
+        raise Nothing(f"no line is of the kubelet's unit; lines of its form are of {named(units)}: if one of these runs "
+                      "the kubelet, as k3s does, pass --unit with its name", 1)
     if importer.begun is None:
         faults = [fault for journal in journals for fault in journal.counts.faults]
         names = ", ".join(journal.name for journal in journals)

@@ -16,6 +16,8 @@ WANTED |= {b'"' + word.encode() + b'"' for word in keyed.FIRST_WORDS}
 # flags are many, and a few of them are read
 FLAG = b"FLAG:"
 READ_FLAGS = b"FLAG: --hostname-override=", b"FLAG: --eviction-", b"FLAG: --config="
+# what is a sentence in JSON too
+SENTENCES = *READ_FLAGS, printed.OPERATION.encode()
 # where a header ends, at the earliest and at the latest, and how long a first word may be
 SHORTEST, LONGEST_HEADER, LONGEST_WORD = 24, 260, 64
 LETTERS = b"IWEF"
@@ -65,7 +67,7 @@ def is_record_skipped(text: bytes) -> bool:
     """The same of a line of JSON, by all of its message."""
     place = text.find(SAYS, 0, LONGEST_HEADER) + len(SAYS)
     return (place >= len(SAYS) and text[place:text.find(b'"', place)] not in MESSAGES
-            and not text.startswith(READ_FLAGS, place))
+            and not text.startswith(SENTENCES, place))
 
 
 def is_unwanted(text: bytes, place: int) -> bool:
