@@ -9,7 +9,7 @@ import cases
 from checks import expect
 from test_import_reading import HEADER, WORDS
 
-from replay_tools.importing import journals, messages, moments, skipping
+from replay_tools.importing import files, journals, messages, moments, skipping
 
 load_tests = cases.loaded(__name__)
 

@@ -17,8 +17,9 @@ with --into, traces one behind the other as tools/record --into writes them, whi
 
 --journal FILE is a journal of the kubelet, of containerd or of CRI-O; several in any order, which may overlap, or
 standard input ("-").
-It may be what journalctl prints with -o json, export, short-iso or short-iso-precise, or without a word, klog's own
-lines, text or JSON, or what kubectl logs or a runtime has of a kubelet in a container; gzip may have packed it.
+It may be what journalctl prints with each of its -o, klog's own lines, text or JSON, what oc adm node-logs, kubectl logs
+or a runtime has of a kubelet, or what a store of logs exports, as JSON or CSV; gzip may have packed it. Its lines may be
+the newest first.
 --pods FILE has manifests, as JSON or YAML: kubectl get pods -o json, a list, single pods, what owns them (Deployment,
 StatefulSet, DaemonSet, ReplicaSet, Job, CronJob: their templates, by the pods' names), static pods' files, audit
 events, a watch. A pod without one has the containers that lines name, and no probes.
@@ -27,6 +28,7 @@ events, a watch. A pod without one has the containers that lines name, and no pr
 --unit NAME is a unit of systemd that runs the kubelet under another name: k3s, k3s-agent, rke2-server, kubelite.
 Without it lines are the kubelet's only if their unit is; give it more than once for several.
 --year N and --zone +02:00 are those of klog's own moments, which have neither: else the year of the file, and UTC.
+--most 4Gi is how much of each journal is read.
 --each 1h is how long a trace of --into is.
 NODE asks the cluster by kubectl, and needs nothing on the node: for its kubelet's log since --since (1h), by the API of
 Kubernetes 1.30 and newer where NodeLogQuery is on, for its pods and for their events. Where the cluster does not give
@@ -56,6 +58,7 @@ def parser() -> entry.Words:
     taken.files("--into")
     taken.valued("--node", "--zone", "--since", "--context")
     taken.add_argument("--each", type=duration, default=3600)
+    taken.add_argument("--most", type=size, default=4 << 30)
     taken.add_argument("--year", type=year)
     return taken
 
@@ -72,6 +75,14 @@ def duration(text: str) -> int:
     if text[-1:] not in units or not 60 <= number * units[text[-1]] <= 86400:
         raise argparse.ArgumentTypeError(f"takes a time from 1m to 1d, as 1h, not '{text}'")
     return number * units[text[-1]]
+
+
+def size(text: str) -> int:
+    units = {"Mi": 1 << 20, "Gi": 1 << 30, "Ti": 1 << 40}
+    number = int(text[:-2]) if text[:-2].isascii() and text[:-2].isdigit() and len(text) < 7 else 0
+    if text[-2:] not in units or number == 0:
+        raise argparse.ArgumentTypeError(f"takes a number of bytes, as 512Mi or 4Gi, not '{text}'")
+    return number * units[text[-2:]]
 
 
 def year(text: str) -> int:

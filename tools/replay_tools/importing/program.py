@@ -15,7 +15,8 @@ from replay_tools.record.lines import TooLong
 
 from . import cluster, events, manifests, moments, reading, summary
 from .importer import Importer, refuse_strangers
-from .journals import STANDARD_INPUT, Counts, Journal
+from .files import STANDARD_INPUT, Journal
+from .journals import Counts
 from .moments import Klog
 from .placing import Placing
 from .progress import Progress
@@ -143,7 +144,7 @@ def journals_of(words: Namespace) -> list[Journal]:
         raise entry.Fault("it wants a journal: --journal FILE, or one on standard input (--help says more)")
     if len(set(paths)) < len(paths):
         raise entry.Fault("--journal has a file twice (--help says more)")
-    return [Journal(path, Counts()) for path in paths]
+    return [Journal(path, Counts(), words.most, words.node) for path in paths]
 
 
 def name_of(words: Namespace, importer: Importer, known: manifests.Manifests) -> str:

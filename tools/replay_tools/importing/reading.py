@@ -9,7 +9,8 @@ from replay_tools import entry
 
 from . import facts, keyed, printed
 from .holes import FORWARD
-from .journals import Counts, Hole, Journal, Line
+from .files import Journal
+from .journals import Counts, Hole, Line
 from .messages import Message, messages_of
 from .moments import Klog
 from .ooms import OutOfMemories

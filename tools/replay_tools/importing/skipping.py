@@ -28,10 +28,11 @@ BEGINS = sorted({re.escape(word[:BEGIN]) for word in WANTED})
 BEFORE_BRACKET = rb"[\x00-\t\x0b-\\^-\xff]"
 # how klog's header stands behind what journald and a runtime have of a line
 OF_JOURNALD, OF_RUNTIME = rb"\]: " + HEADER, rb" F " + HEADER
-HEADERS = {"short-iso": re.compile(OF_JOURNALD), "syslog": re.compile(OF_JOURNALD), "container": re.compile(OF_RUNTIME)}
+JOURNALDS = "short-iso", "syslog", "short-full", "short-unix"
+HEADERS = {**dict.fromkeys(JOURNALDS, re.compile(OF_JOURNALD)), "container": re.compile(OF_RUNTIME)}
 # a line up to its words, in each form that is text; there is no header before that one
 UP_TO_WORDS = {PLAIN: rb"[%b]%b{%d,%d}\] " % (LETTERS, BEFORE_BRACKET, SHORTEST - 1, LONGEST_HEADER - 3),
-               "short-iso": BEFORE_BRACKET + b"*" + OF_JOURNALD, "syslog": BEFORE_BRACKET + b"*" + OF_JOURNALD,
+               **dict.fromkeys(JOURNALDS, BEFORE_BRACKET + b"*" + OF_JOURNALD),
                "container": rb"[^ \n]+ [^ \n]+" + OF_RUNTIME}
 # the end of a line behind which one comes that these and the first bytes of its words do not tell to be skipped
 KEPT = {form: re.compile(rb"\n(?!%b(?!%b))" % (begin, b"|".join(BEGINS))) for form, begin in UP_TO_WORDS.items()}
