@@ -97,7 +97,7 @@ def read_by_line(text):
 
 def read_as_journal(text, form="short-iso"):
     counts, made = journals.Counts(), []
-    journal = journals.Journal.__new__(journals.Journal)
+    journal = files.Journal.__new__(files.Journal)
     journal.file, journal.counts, journal.form = io.BytesIO(text), counts, form
     for line in journal.lines(moments.Klog(2026, 0, 0.0), skipping.SKIPPING):
         fields = line.moment, line.text, line.unit, line.process, line.node

@@ -156,7 +156,7 @@ def line_of(member: Callable[[str], Any], counts: Counts) -> Iterator[Line]:
     said, stamp = member("MESSAGE"), member("__REALTIME_TIMESTAMP") or member("_SOURCE_REALTIME_TIMESTAMP")
     if isinstance(said, list):
         said = bytes(each for each in said if isinstance(each, int) and 0 <= each < 256)
-    said = said.encode("utf-8", "surrogateescape") if isinstance(said, str) else said
+    said = said.encode("utf-8", "replace") if isinstance(said, str) else said
     moment = outside.number_of(str(stamp)) if stamp is not None else None
     if not isinstance(said, bytes) or moment is None or not outside.moment(moment // 10 ** 6):
         counts.foreign += 1

@@ -183,7 +183,8 @@ def of_round(message: Message) -> Iterator[facts.Fact]:
 
 
 def of_reclaim(message: Message) -> Iterator[facts.Fact]:
-    yield facts.Reclaims(message.at, str(message.keys.get("resourceName") or ""))
+    resource = message.keys.get("resourceName")
+    yield facts.Reclaims(message.at, resource if isinstance(resource, str) and outside.is_label(resource) else "")
 
 
 def of_ranked(message: Message) -> Iterator[facts.Fact]:

@@ -17,7 +17,7 @@ from .statuses import of_printed, of_status
 LOOP = re.compile(r'SyncLoop \((ADD|DELETE|REMOVE), "(\w+)"\): (.*)', re.S)
 PLEG = re.compile(r'SyncLoop \(PLEG\): (?:"(?P<pod>[^"]*)", event|ignore irrelevant event): '
                   r'&pleg\.PodLifecycleEvent\{ID:"(?P<uid>[^"]*)", Type:"(?P<type>\w+)", Data:"(?P<id>\w*)"\}')
-PROBE = re.compile(r'(Readiness|Liveness|Startup) probe for "([^"]*\)):([^"]*)" '
+PROBE = re.compile(r'(Readiness|Liveness|Startup) probe for "([^"]{1,400}\)):([^"]{1,64})" '
                    r"(?:(succeeded)|failed \((\w+)\): ?(.*))", re.S)
 KILLING = re.compile(r'Killing container "\w+://(\w+)" with a (\d{1,9}) second grace period')
 RESTARTED = re.compile(r'Container "([^"]*)" \(\{"\w+" "(\w+)"\}\) of pod (\S+): (.*)', re.S)
@@ -131,7 +131,7 @@ def of_volumes(message: Message) -> Iterator[facts.Fact]:
 
 def of_operation(message: Message) -> Iterator[facts.Fact]:
     """A volume can't be mounted: the message as the Event has it, of a pod that is known by its uid."""
-    found = MOUNT.search(message.text.replace('\\"', '"')) if "pod " in message.text else None
+    found = MOUNT.search(message.text.replace('\\"', '"')) if " failed for volume " in message.text else None
     if found is not None:
         yield facts.Happened(message.at, facts.Reference(None, found[2]), MOUNT_EVENT,
                              f"{found[1]} : {found[3]}".rstrip('"\n'), is_line=True)

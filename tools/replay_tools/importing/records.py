@@ -212,6 +212,8 @@ def delimiter_of(head: bytes) -> Optional[str]:
 TOKEN = re.compile(rb'"[^"\\]*(?:\\.[^"\\]*)*("|\\?\Z)|[{}\[\]]', re.S)
 # a record that is longer is left out
 LONGEST_RECORD = 4 << 20
+# documents that nest deeper have no lines
+DEEPEST_DOCUMENT = 64
 LINE_SIGN = re.compile(rb'"[IWEF]\d{4} |time=|\{\\"ts\\":|"MESSAGE"|\\u001b')
 # what a query of CloudWatch has of each member
 MEMBER = {"field", "value"}
@@ -252,6 +254,9 @@ class Documents:
                     self.at = found.start()
                     break
             elif mark in (b"{", b"["):
+                if len(self.open) >= DEEPEST_DOCUMENT:
+                    self.counts.cut += 1
+                    self.open.clear()
                 self.open.append(Open(found.start(), mark == b"["))
             elif self.open:
                 yield from self.closed(self.open.pop(), data, found.end())

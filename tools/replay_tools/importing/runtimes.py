@@ -32,7 +32,7 @@ OTHER_ID = re.compile(r'(?:[{,]ID:|[ {]id:")([\w-]{1,128})')
 CODE = re.compile(r"(?:ExitStatus:|exit_status:)(\d{1,10})")
 EXITED = re.compile(r"ExitedAt:(\d{4}-\d\d-\d\d \d\d:\d\d:\d\d(?:\.\d+)?) \+0000 UTC"
                     r"|seconds:(\d{1,12})(?: nanos:(\d{1,9}))?")
-OOM = re.compile(rf'TaskOOM event.*?(?:ContainerID:|container_id:"){ID}')
+OOM = re.compile(rf'TaskOOM event.{{0,200}}?(?:ContainerID:|container_id:"){ID}')
 STAMP = re.compile(rb'time="([^"]{10,40})"')
 # CRI-O
 CRIO_MADE = re.compile(rf"(?:Created|Started) container\"? (?:PID=\d+ )?(?:{ID}: |containerID={ID} description=)"
@@ -44,7 +44,8 @@ MONITORED = re.compile(r"conmon ([0-9a-f]{12,64}) <n?\w+>: (?:container \d{1,10}
 MONITORED_DIGITS = 20
 # the kernel's line of a process that it killed, whose cgroup has the container's id
 KERNEL = "kernel"
-KILLED = re.compile(r"oom-kill:constraint=\w{1,40},.{0,4096}?task_memcg=[^,\s]{0,1024}?([0-9a-f]{64})")
+KILLS, CGROUP = b"oom-kill:constraint=", b"task_memcg="
+KILLED = re.compile(rb"[^,\s]{0,1024}?([0-9a-f]{64})")
 # what a line of interest has
 SIGNS = (b"sandbox", b"ontainer", b"TaskExit", b"exit event", b"TaskOOM", b"shim disconnected")
 OF_RUNTIME = RUNTIMES[0]
@@ -161,9 +162,11 @@ class Runtime:
     @staticmethod
     def killed(at: float, line: bytes) -> Iterator[facts.Fact]:
         """The kernel killed a process of a container for memory: the container's own one, or another."""
-        found = KILLED.search(line.decode("utf-8", "replace")) if b"oom-kill:" in line else None
+        begin = line.find(KILLS)
+        place = -1 if begin < 0 else line.find(CGROUP, begin)
+        found = None if place < 0 else KILLED.match(line, place + len(CGROUP))
         if found is not None:
-            yield facts.OutOfMemory(at, found[1])
+            yield facts.OutOfMemory(at, found[1].decode())
 
     def out_of_memory(self, at: float, text: str) -> Iterator[facts.Fact]:
         found = OOM.search(text)
