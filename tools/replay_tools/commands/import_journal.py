@@ -9,7 +9,7 @@ from replay_tools import entry
 HELP = """\
 usage: tools/import [--journal FILE ..] [--pods FILE ..] [--node NAME] > TRACE
        tools/import [--journal FILE ..] [--pods FILE ..] [--node NAME] --into FOLDER [--each 1h]
-       tools/import NODE [--since 3h] [--context NAME], and the other words
+       tools/import NODE [--since 3h] [--context NAME] [--timeout 60], and the other words
        journalctl -u kubelet --since -3h -o json | tools/import --pods pods.json > TRACE
 
 Makes a trace of the extended format (docs/import.md) out of the journal of a node's kubelet, where no recorder ran; or,
@@ -30,9 +30,11 @@ Without it lines are the kubelet's only if their unit is; give it more than once
 --year N and --zone +02:00 are those of klog's own moments, which have neither: else the year of the file, and UTC.
 --most 4Gi is how much of each journal is read.
 --each 1h is how long a trace of --into is.
-NODE asks the cluster by kubectl, and needs nothing on the node: for its kubelet's log since --since (1h), by the API of
-Kubernetes 1.30 and newer where NodeLogQuery is on, for its pods and for their events. Where the cluster does not give
-the log it says what to run on the node. It wants the rights to get nodes/proxy and to list pods and events.
+NODE asks the cluster by kubectl, and needs nothing on the node: for the logs of its kubelet and its runtime since --since
+(1h), by the API of Kubernetes 1.30 and newer where NodeLogQuery is on, or else for the file messages or syslog; for its
+pods, for what owns pods and for Events. It goes on without all but the kubelet's log; where the cluster does not give that
+it says what to run on the node. An answer has to go on within --timeout (60 seconds). It needs the rights to get
+nodes/proxy and to list pods, owners and events.
 
 What the journal does not have is not made up. An exit without its code has "guessed":["exitCode"], a start or an exit
 that is known by the second of the kubelet's look "moment", an instance that no line names, but exclusion, "container",
@@ -58,6 +60,7 @@ def parser() -> entry.Words:
     taken.files("--into")
     taken.valued("--node", "--zone", "--since", "--context")
     taken.add_argument("--each", type=duration, default=3600)
+    taken.add_argument("--timeout", type=seconds)
     taken.add_argument("--most", type=size, default=4 << 30)
     taken.add_argument("--year", type=year)
     return taken
@@ -75,6 +78,13 @@ def duration(text: str) -> int:
     if text[-1:] not in units or not 60 <= number * units[text[-1]] <= 86400:
         raise argparse.ArgumentTypeError(f"takes a time from 1m to 1d, as 1h, not '{text}'")
     return number * units[text[-1]]
+
+
+def seconds(text: str) -> float:
+    number = text.removesuffix("s")
+    if not (number.isascii() and number.isdigit() and len(number) < 5 and int(number) > 0):
+        raise argparse.ArgumentTypeError(f"takes a number of seconds, as 60, not '{text}'")
+    return float(number)
 
 
 def size(text: str) -> int:

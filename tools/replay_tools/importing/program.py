@@ -3,6 +3,7 @@
 from __future__ import annotations
 
 import gc
+import signal
 import sys
 import tempfile
 import time
@@ -26,6 +27,8 @@ from .writing import Ended, NodeLine, Plain, Writer
 
 MOST_NOTES, MOST_UNITS = 100, 5
 SINCE = "1h"
+# so long an answer of the cluster is waited for, unless another time is given
+SECONDS = 60.0
 # most of what is made lives on for ten minutes of the journal, so cycles are looked for more seldom
 MADE_BETWEEN_LOOKS = 100_000
 
@@ -35,6 +38,9 @@ def run(words: Namespace) -> int:
     if not words.named:
         if words.since is not None or words.context is not None:
             raise entry.Fault("--since and --context go with NODE (--help says more)")
+        if words.timeout is not None:
+            raise entry.Fault("--timeout goes with NODE (--help says more)")
+        words.optional, words.given = [], True
         return imported(words)
     if len(words.named) > 1 or words.journal or words.node is not None:
         raise entry.Fault("it takes one NODE, or --journal and --node in its place (--help says more)")
@@ -42,10 +48,14 @@ def run(words: Namespace) -> int:
     if name_fault(node) is not None:
         raise entry.Fault(f"NODE is a node's name, not '{node}'")
     since = asked.since_of(words.since or SINCE, time.time())
+    # what is kept goes with an end that is asked for, too
+    for number in (signal.SIGTERM, signal.SIGHUP):
+        signal.signal(number, lambda number, _: sys.exit(128 + number))
     with tempfile.TemporaryDirectory(prefix="import-") as folder:
-        found = cluster.fetch(folder, node, since, words.context)
-        words.node, words.journal, words.pods = node, [found.journal], [found.pods, *words.pods]
-        words.events = [found.events, *words.events] if found.events else words.events
+        found = cluster.Cluster(folder, node, since, words.context, words.timeout or SECONDS).fetch()
+        words.node, words.journal, words.given = node, found.journals, bool(words.pods)
+        words.optional, words.pods = found.pods, [*found.pods, *words.pods]
+        words.events = [*found.events, *words.events]
         try:
             return imported(words)
         except Nothing:
@@ -77,7 +87,8 @@ def imported(words: Namespace) -> int:
     try:
         for lines, has_tick in importer.take_all(progress.over(stream)):
             if not writer.is_begun:
-                refuse_strangers(importer)
+                if words.given:
+                    refuse_strangers(importer)
                 writer.begin(node_line_of(importer, name_of(words, importer, known)))
             writer.write(lines, has_tick)
         refuse_nothing(importer, journals, units)
@@ -133,7 +144,7 @@ def manifests_of(words: Namespace) -> manifests.Manifests:
             before = known.taken
             for value in manifests.read(path, word):
                 known.take(value)
-            if known.taken == before and word == "--pods":
+            if known.taken == before and word == "--pods" and path not in words.optional:
                 raise entry.Fault(f"--pods: '{path}' has no manifest of a pod, or of what owns one")
     return known
 
