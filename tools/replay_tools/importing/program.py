@@ -14,7 +14,7 @@ from replay_tools.joined import asked
 from replay_tools.record.formats import name_fault
 from replay_tools.record.lines import TooLong
 
-from . import cluster, events, manifests, moments, reading, summary
+from . import cluster, events, evidence, manifests, moments, reading, summary
 from .importer import Importer, refuse_strangers
 from .files import STANDARD_INPUT, Journal
 from .journals import Counts
@@ -75,6 +75,7 @@ def imported(words: Namespace) -> int:
         raise entry.Fault(f"--node takes a node's name, not '{words.node}'")
     known = manifests_of(words)
     journals = journals_of(words)
+    sources = [] if journals else evidence.of_what(words.events, words.audit)
     writer = writer_of(words)
     placing = Placing(most_pods_at_once=words.into is not None)
     notes = Notes()
@@ -82,16 +83,22 @@ def imported(words: Namespace) -> int:
     units = Units(tuple(words.unit))
     found, readers = reading.read_all(journals, lambda journal: Klog(words.year, shift, journal.written), words.node,
                                       units)
-    stream = events.beside(found, events.read_all(words.events)) if words.events else found
+    if sources:
+        stream = evidence.read_all(words.events, words.audit, known, words.node)
+    else:
+        stream = events.beside(found, events.read_all(words.events)) if words.events else found
     progress = Progress(journals)
     try:
         for lines, has_tick in importer.take_all(progress.over(stream)):
             if not writer.is_begun:
                 if words.given:
                     refuse_strangers(importer)
-                writer.begin(node_line_of(importer, name_of(words, importer, known)))
+                writer.begin(node_line_of(importer, name_of(words, importer, known), sources))
             writer.write(lines, has_tick)
-        refuse_nothing(importer, journals, units)
+        if sources:
+            refuse_no_evidence(importer, sources)
+        else:
+            refuse_nothing(importer, journals, units)
         progress.end()
         writer.end()
     except Ended as ended:
@@ -105,7 +112,8 @@ def imported(words: Namespace) -> int:
         raise entry.Fault(str(fault), 1) from None
     for line in notes.said:
         entry.say(line)
-    for line in summary.lines_of(importer, readers, reading.all_counts(journals), words):
+    said = evidence.lacks(sources) if sources else summary.lines_of(importer, readers, reading.all_counts(journals), words)
+    for line in said:
         entry.say(line)
     return 0
 
@@ -151,11 +159,19 @@ def manifests_of(words: Namespace) -> manifests.Manifests:
 
 def journals_of(words: Namespace) -> list[Journal]:
     paths = words.journal or [STANDARD_INPUT]
+    if not words.journal and (words.events or words.audit) and has_no_input():
+        return []
     if STANDARD_INPUT in paths and entry.standard_input().isatty():
         raise entry.Fault("it wants a journal: --journal FILE, or one on standard input (--help says more)")
     if len(set(paths)) < len(paths):
         raise entry.Fault("--journal has a file twice (--help says more)")
     return [Journal(path, Counts(), words.most, words.node) for path in paths]
+
+
+def has_no_input() -> bool:
+    """Whether standard input is a terminal or empty: then no journal is given."""
+    given = entry.standard_input()
+    return given.isatty() or not given.peek(1)  # type: ignore[attr-defined]
 
 
 def name_of(words: Namespace, importer: Importer, known: manifests.Manifests) -> str:
@@ -173,9 +189,16 @@ def named(units: Units) -> str:
     return ", ".join(names[:MOST_UNITS]) + (", .." if len(names) > MOST_UNITS else "")
 
 
-def node_line_of(importer: Importer, name: str) -> NodeLine:
-    """The node line, asked for as it is to be written."""
-    return lambda second: summary.node_line(importer, name, second)
+def node_line_of(importer: Importer, name: str, sources: list[str]) -> NodeLine:
+    """The node line, asked for as it is to be written; with what the trace is made of, where that is no journal."""
+    more = {evidence.MEMBER: sources} if sources else {}
+    return lambda second: summary.node_line(importer, name, second) | more
+
+
+def refuse_no_evidence(importer: Importer, sources: list[str]) -> None:
+    """Refuses Events and audit logs that have nothing of a pod."""
+    if not importer.placing.counts["met"]:
+        raise entry.Fault(f"nothing in {' and '.join(f'--{each}' for each in sources)} is of a pod of the node", 1)
 
 
 def refuse_nothing(importer: Importer, journals: list[Journal], units: Units) -> None:
