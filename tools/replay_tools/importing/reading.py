@@ -25,6 +25,8 @@ SUPPRESSED = "Suppressed "
 # a clock that goes back by less stands still until its time comes again, and so often at most it goes back
 BACK_SECONDS = 60
 MOST_TURNS = 100
+# a clock that goes forward by so much went wrong, or the node was off: nothing is known of a time so long
+FORWARD_SECONDS = 86400
 # how often a process may say something again behind another one
 MOST_RETURNS = 4
 
@@ -101,6 +103,9 @@ class Reader:
                 since, self.newest, self.now = self.newest, moment, moment
                 yield facts.TurnedBack(moment, 0, since)
             elif moment is not None:
+                if 0 < self.newest < moment - FORWARD_SECONDS:
+                    self.journal.counts.forwards += 1
+                    yield facts.Missing(moment)
                 self.before, self.newest = self.newest, max(self.newest, moment)
             if self.is_alone or moment is None or not self.is_repeated(item, moment):
                 yield from read(item)
