@@ -1,5 +1,5 @@
-"""The tests of what an import asks a cluster of a node, and of what becomes of it where the cluster answers less, late or
-nothing. A script stands in for kubectl."""
+"""The tests of what an import asks a cluster of a node, and of what becomes of it where the cluster answers less, late
+or nothing. A script stands in for kubectl."""
 
 import json
 import os
@@ -99,7 +99,7 @@ def test_import_of_a_node_and_its_runtime():
             expect(f"import of a node's {name}", (status, trace), (0, read(f"{FOLDER}/keyed.trace")))
             expect(f"import of a node's {name}: what is said", f"taken is its file {name}" in said, True)
     answers = Answers(pods=whole["pods"])
-    expect_refused("import of a node without a log", answers.imported(), 1, "the cluster gives no log of worker-3: Error",
+    expect_refused("import of a node without a log", answers.imported(), 1, "the cluster gives no log of worker-3",
                    "on the node: journalctl")
 
 
@@ -111,11 +111,12 @@ def test_import_of_a_node_that_is_slow():
     status, trace, said = answers.imported("--timeout", "4")
     expect("import of a node whose Events don't come", (status, trace), (0, read(f"{FOLDER}/keyed.trace")))
     expect("import of a node whose Events don't come: what is said", (
-        "waiting for the Events of pods, up to 4 s" in said, "without the Events of pods: kubectl has not answered" in said,
+        "waiting for the Events of pods, up to 4 s" in said, "without the Events of pods: kubectl has not" in said,
         time.monotonic() - begun < 40), (True, True, True))
     for word in ("0", "x", "1h"):
         expect_refused(f"import --timeout {word}", answers.imported("--timeout", word), 2, "--timeout takes a number")
-    expect_refused("import --timeout without a node", run([IMPORT, "--timeout", "5"], "x"), 2, "--timeout goes with NODE")
+    expect_refused("import --timeout without a node", run([IMPORT, "--timeout", "5"], "x"), 2,
+                   "--timeout goes with NODE")
     shutil.rmtree(answers.folder)
 
 

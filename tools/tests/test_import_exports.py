@@ -1,5 +1,5 @@
-"""The tests of the same lines as stores of logs export them, as journalctl prints them in its other forms, with names before
-them, with colours, and in other orders. The forms are written from knowledge of what exports them."""
+"""The tests of the same lines as stores of logs export them, as journalctl prints them in its other forms, with names
+before them, with colours, and in other orders. The forms are written from knowledge of what exports them."""
 
 import csv
 import gzip
@@ -10,7 +10,7 @@ import time
 
 import cases
 from checks import expect, expect_refused, read
-from test_import import FOLDER, YEAR, as_json, imported, journald, lines_of, short_iso, stamp
+from test_import import FOLDER, as_json, imported, journald, lines_of, short_iso, stamp
 
 load_tests = cases.loaded(__name__)
 
@@ -69,9 +69,10 @@ def loki(text):
 
 def insights(text):
     """What a query of CloudWatch answers."""
-    return json.dumps({"results": [[{"field": "@timestamp", "value": f"{stamp(second).replace('T', ' ')}.{fraction[:3]}"},
-                                    {"field": "@message", "value": line}, {"field": "@ptr", "value": "x"}]
-                                   for line, second, fraction, *_ in lines_of(text)]}, indent=1)
+    rows = [{"@timestamp": f"{stamp(second).replace('T', ' ')}.{fraction[:3]}", "@message": line, "@ptr": "x"}
+            for line, second, fraction, *_ in lines_of(text)]
+    return json.dumps({"results": [[{"field": name, "value": value} for name, value in row.items()] for row in rows]},
+                      indent=1)
 
 
 def table(text, names=("TimeGenerated [UTC]", "Computer", "Message"), form="%m/%d/%Y, %I:%M:%S.000 %p", delimiter=","):
@@ -101,10 +102,6 @@ STORES = {
         "labels": {"unit": "kubelet"}, "line": line, "timestamp": f"{moment}Z"}),
     "a message of JSON": each_of(lambda line, moment, *_: {
         "message": json.dumps({"MESSAGE": line, "_SYSTEMD_UNIT": "kubelet.service"}), "timestamp": f"{moment}Z"})}
-
-
-def without_fractions(trace):
-    return trace
 
 
 def test_import_of_stores():

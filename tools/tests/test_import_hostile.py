@@ -1,5 +1,5 @@
-"""The tests of what a journal and a file of manifests may hold to do harm: lines, numbers and nests that are long, aliases
-that multiply, characters that are none, and what does not end."""
+"""The tests of what a journal and a file of manifests may hold to do harm: lines, numbers and nests that are long,
+aliases that multiply, characters that are none, and what does not end."""
 
 import gzip
 import json
@@ -38,13 +38,14 @@ def test_import_of_long_lines():
     for body in (" a={", " a=[", ' a="', " a=&{", " a=<\n\t", ' a=\\"', " a={ b", "= "):
         text = '"Probe failed"' + repeated(body)
         expect(f"keys that repeat {body!r} take their time", seconds_of(lambda: messages.split(text)) < SECONDS, True)
-    for head, body in (('Readiness probe for "', "):"), ("Status for pod ", "ContainerStateTerminated{ExitCode:1,Signal:1,"
-                                                         "Reason:,"), ("Creating Container Manager object",
-                                                                       "HardEvictionThresholds:[")):
+    ended = "ContainerStateTerminated{ExitCode:1,Signal:1,Reason:,"
+    for head, body in (('Readiness probe for "', "):"), ("Status for pod ", ended),
+                       ("Creating Container Manager object", "HardEvictionThresholds:[")):
         message = messages.Message(1.0, 1, head + repeated(body))
         reader = printed.FORMS[head.partition(" ")[0]]
         expect(f"a sentence that repeats {body!r} takes its time", seconds_of(lambda: reader(message)) < SECONDS, True)
-    for unit, body in (("containerd", "TaskOOM event"), ("kernel", "oom-kill:constraint=A,"), ("kernel", "task_memcg=")):
+    for unit, body in (("containerd", "TaskOOM event"), ("kernel", "oom-kill:constraint=A,"),
+                       ("kernel", "task_memcg=")):
         line = journals.Line(1.0, repeated(body).encode(), unit)
         expect(f"a runtime's line that repeats {body!r} takes its time",
                seconds_of(lambda: runtimes.Runtime().facts_of(line)) < SECONDS, True)
@@ -87,7 +88,8 @@ def test_import_of_hostile_manifests():
     with open(f"{folder}/deep", "w", encoding="utf-8") as file:
         json.dump(deep, file)
     status, _, said = imported("--journal", f"{FOLDER}/keyed.log", pods=f"{folder}/deep")
-    expect("import of a probe that nests", (status, "Traceback" in said, "shop/web is left out" in said), (0, False, True))
+    expect("import of a probe that nests", (status, "Traceback" in said, "shop/web is left out" in said), (
+        0, False, True))
 
 
 def test_import_of_characters_that_are_none():
@@ -135,6 +137,7 @@ def test_import_of_what_does_not_end():
 
 def test_import_takes_sizes():
     for word in ("2", "2G", "0Mi", "99999Mi9"):
-        expect_refused(f"import --most {word}", imported("--most", word, given="x"), 2, "--most takes a number of bytes")
+        answer = imported("--most", word, given="x")
+        expect_refused(f"import --most {word}", answer, 2, "--most takes a number of bytes")
 
 

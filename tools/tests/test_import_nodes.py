@@ -13,8 +13,8 @@ from test_import_evictions import BEGUN
 load_tests = cases.loaded(__name__)
 
 UID = UIDS["web"]
-HOOK = 'Exec lifecycle hook ([sh -c exit 1]) for Container \\"app\\" in Pod \\"web_shop({0})\\" failed - error: command ' \
-       "'sh -c exit 1' exited with 1: , message: \\\"\\\"".format(UID)
+HOOK = 'Exec lifecycle hook ([sh -c exit 1]) for Container \\"app\\" in Pod \\"web_shop({0})\\" failed - error: ' \
+       "command 'sh -c exit 1' exited with 1: , message: \\\"\\\"".format(UID)
 
 
 def said_in(trace, pod="shop/web"):
@@ -28,8 +28,8 @@ def test_import_of_a_hook_that_fails():
     verbosity."""
     text = read(f"{FOLDER}/keyed.log")
     at_once = "PostStartHookError: command 'sh -c exit 1' exited with 1: : "
-    forms = {"1.20": f'Error syncing pod {UID} ("web_shop({UID})"), skipping: failed to "StartContainer" for "app" with '
-                     f'{at_once}"{HOOK}"',
+    forms = {"1.20": f'Error syncing pod {UID} ("web_shop({UID})"), skipping: failed to "StartContainer" for "app" '
+                     f'with {at_once}"{HOOK}"',
              "keys": '"Error syncing pod, skipping" err=' + json.dumps(
                  'failed to "StartContainer" for "app" with PostStartHookError: "PostStartHook failed"')
                      + f' pod="shop/web" podUID="{UID}"'}
@@ -41,12 +41,12 @@ def test_import_of_a_hook_that_fails():
 
 
 def test_import_of_volumes():
-    """A volume that can't be mounted is said by lines of -v=0 as the Event says it: of a pod's uid, and once the kubelet
-    has waited for two minutes of its name; and once where the Event is there too."""
+    """A volume that can't be mounted is said by lines of -v=0 as the Event says it: of a pod's uid, and once the
+    kubelet has waited for two minutes of its name; and once where the Event is there too."""
     text = read(f"{FOLDER}/keyed.log")
     of_volume = f'\\"kubernetes.io/secret/{UID}-t\\"'
-    operation = f'Operation for "{{volumeName:kubernetes.io/secret/{UID}-t podName:{UID} nodeName:}}" failed. No retries ' \
-                'permitted until 2026-03-01 10:00:12 +0000 UTC m=+2.5 (durationBeforeRetry 500ms). Error: ' \
+    operation = f'Operation for "{{volumeName:kubernetes.io/secret/{UID}-t podName:{UID} nodeName:}}" failed. No ' \
+                'retries permitted until 2026-03-01 10:00:12 +0000 UTC m=+2.5 (durationBeforeRetry 500ms). Error: ' \
                 f'QUOTEMountVolume.SetUp failed for volume \\"t\\" (UniqueName: {of_volume}) pod \\"web\\" (UID: ' \
                 f'\\"{UID}\\") : secret \\"tls\\" not foundQUOTE'
     plain = operation.replace('\\"', '"').replace("QUOTE", "")
@@ -99,8 +99,8 @@ def test_import_of_a_node_that_is_not_ready():
                 0, [(43, ("False", word, 43)), (58, None)]))
         starting = form.format("PLEG is not healthy: pleg has yet to be successful")
         expect(f"import of a start, {form[:12]}", not_ready_in(imported(given=added(text, (1.0, starting)))[1]), [])
-    condition = "{Type:Ready Status:False LastHeartbeatTime:2026-03-01 10:00:30 +0000 UTC LastTransitionTime:2026-03-01 " \
-                "10:00:30 +0000 UTC Reason:KubeletNotReady Message:container runtime network not ready}"
+    condition = "{Type:Ready Status:False LastHeartbeatTime:2026-03-01 10:00:30 +0000 UTC LastTransitionTime:" \
+                "2026-03-01 10:00:30 +0000 UTC Reason:KubeletNotReady Message:container runtime network not ready}"
     recorded = {"1.20": ("Node became not ready: " + condition, "Recording NodeReady event message for node worker-3"),
                 "keys": (f'"Node became not ready" node="worker-3" condition={condition}',
                          '"Recording event message for node" node="worker-3" event="NodeReady"')}

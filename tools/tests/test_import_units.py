@@ -1,5 +1,5 @@
-"""The tests of whose lines an import reads in a journal of a whole node: the kubelet's, a runtime's and the kernel's, by
-their units; and of what a runtime says of exits. The forms of runtimes and of the kernel are written from knowledge,
+"""The tests of whose lines an import reads in a journal of a whole node: the kubelet's, a runtime's and the kernel's,
+by their units; and of what a runtime says of exits. The forms of runtimes and of the kernel are written from knowledge,
 but for that of containerd 1.6, which is as it was."""
 
 import json

@@ -53,7 +53,7 @@ def started(words: list[str]) -> subprocess.Popen:
 
 def handed_on(process: subprocess.Popen, most: int, until: float, take: Callable[[bytes], object],
               more: float = 0.0) -> bytes:
-    """Hands on what a process writes, until a moment of the clock, which each piece puts off by some seconds more; gives
+    """Hands on what a process writes, until a moment of the clock, which each piece puts off by some seconds; gives
     what it said last on standard error."""
     size, said = 0, b""
     with selectors.DefaultSelector() as selector:

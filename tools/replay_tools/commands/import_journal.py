@@ -17,9 +17,9 @@ with --into, traces one behind the other as tools/record --into writes them, whi
 
 --journal FILE is a journal of the kubelet, of containerd or of CRI-O; several in any order, which may overlap, or
 standard input ("-").
-It may be what journalctl prints with each of its -o, klog's own lines, text or JSON, what oc adm node-logs, kubectl logs
-or a runtime has of a kubelet, or what a store of logs exports, as JSON or CSV; gzip may have packed it. Its lines may be
-the newest first.
+It may be what journalctl prints with each of its -o, klog's own lines, text or JSON, what oc adm node-logs, kubectl
+logs or a runtime has of a kubelet, or what a store of logs exports, as JSON or CSV; gzip may have packed it. Its lines
+may be the newest first.
 --pods FILE has manifests, as JSON or YAML: kubectl get pods -o json, a list, single pods, what owns them (Deployment,
 StatefulSet, DaemonSet, ReplicaSet, Job, CronJob: their templates, by the pods' names), static pods' files, audit
 events, a watch. A pod without one has the containers that lines name, and no probes.
@@ -30,11 +30,11 @@ Without it lines are the kubelet's only if their unit is; give it more than once
 --year N and --zone +02:00 are those of klog's own moments, which have neither: else the year of the file, and UTC.
 --most 4Gi is how much of each journal is read.
 --each 1h is how long a trace of --into is.
-NODE asks the cluster by kubectl, and needs nothing on the node: for the logs of its kubelet and its runtime since --since
-(1h), by the API of Kubernetes 1.30 and newer where NodeLogQuery is on, or else for the file messages or syslog; for its
-pods, for what owns pods and for Events. It goes on without all but the kubelet's log; where the cluster does not give that
-it says what to run on the node. An answer has to go on within --timeout (60 seconds). It needs the rights to get
-nodes/proxy and to list pods, owners and events.
+NODE asks the cluster by kubectl, and needs nothing on the node: for the logs of its kubelet and its runtime since
+--since (1h), by the API of Kubernetes 1.30 and newer where NodeLogQuery is on, or else for the file messages or syslog;
+for its pods, for what owns pods and for Events. It goes on without all but the kubelet's log; if the cluster does not
+give that, it prints what to run on the node. An answer has to go on within --timeout (60 seconds). It needs the rights
+to get nodes/proxy and to list pods, owners and events.
 
 What the journal does not have is not made up. An exit without its code has "guessed":["exitCode"], a start or an exit
 that is known by the second of the kubelet's look "moment", an instance that no line names, but exclusion, "container",

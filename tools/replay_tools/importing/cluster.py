@@ -88,7 +88,7 @@ class Cluster:
             except kubectl.NoAnswer:
                 continue
             if found is not None:
-                entry.say(f"{self.node} answers no query of its log: taken is its file {name}, which is read as a whole")
+                entry.say(f"{self.node} answers no query of its log: taken is its file {name}, as a whole")
                 return [found]
         raise NoLog(why, 1, instead(self.node, self.since))
 

@@ -1,5 +1,5 @@
-"""Facts of a node of which no journal is left: of the Events of its pods, which say what the kubelet did, and of the audit
-log of the API server, which has each status that the kubelet sent. Neither has all: what it lacks is said."""
+"""Facts of a node of which no journal is left. The Events of its pods have what the kubelet did. The audit log of the
+API server has each status that the kubelet sent. Neither has all; what it lacks is printed."""
 
 from __future__ import annotations
 
@@ -19,11 +19,12 @@ EVENTS, AUDIT = "events", "audit"
 # what a trace is made of, beside "imported", where that is no journal
 MEMBER = "importedFrom"
 LACKS = {
-    EVENTS: "of Events alone: starts are known, of several alike the first and the last one; exits without their codes, "
-            "and their moments to within the next start; no successes of probes, no signals, and nothing that is older "
-            "than the cluster keeps Events (1 h, if it does not say otherwise)",
-    AUDIT: "of an audit log alone: starts and exits with their codes, as far as a status has them; no results of probes, no "
-           "kills, no waits, no signals, and of what began and ended between two statuses the last instance alone"}
+    EVENTS: "of Events alone: starts are known, of several alike the first and the last one; exits without their "
+            "codes, and their moments to within the next start; no successes of probes, no signals, and nothing that is "
+            "older than the cluster keeps Events (1 h, if it does not say otherwise)",
+    AUDIT: "of an audit log alone: starts and exits with their codes, as far as a status has them; no results of "
+           "probes, no kills, no waits, no signals, and of what began and ended between two statuses the last "
+           "instance alone"}
 PROBED = re.compile(r"(Readiness|Liveness|Startup) probe failed: ?(.*)", re.S)
 ASSIGNED = re.compile(r"Successfully assigned \S+ to (\S+)")
 USER = "system:node:"
@@ -37,7 +38,8 @@ def read_all(of_events: list[str], of_audit: list[str], known: manifests.Manifes
     told = Events(known, node)
     found = [fact for path in of_events for value in manifests.read(path, "--events") for fact in told.of_value(value)]
     found += told.exits()
-    found += [fact for path in of_audit for value in manifests.read(path, "--audit") for fact in of_audited(value, node)]
+    found += [fact for path in of_audit for value in manifests.read(path, "--audit")
+              for fact in of_audited(value, node)]
     return iter(sorted(found, key=lambda fact: fact.at))
 
 

@@ -119,8 +119,9 @@ def form_of_records(lines: list[bytes]) -> Optional[str]:
     if any(found):
         return "records"
     # the lines of a runtime or of a kubelet may be JSON themselves
-    own = b'"msg"' in b"".join(lines[:FIRST_LINES]) and any(line.rstrip().endswith(b"}") for line in lines[:FIRST_LINES])
-    return None if own and not found else "document"
+    first_lines = lines[:FIRST_LINES]
+    is_own = any(b'"msg"' in line for line in first_lines) and any(line.rstrip().endswith(b"}") for line in first_lines)
+    return None if is_own and not found else "document"
 
 
 class Journal:

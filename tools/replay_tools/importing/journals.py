@@ -1,5 +1,5 @@
-"""Lines of journals in the forms that journalctl, a runtime and the kubelet itself write: each with its moment, and what it
-says."""
+"""Lines of journals in the forms that journalctl, a runtime and the kubelet itself write: each with its moment, and its
+message."""
 
 from __future__ import annotations
 
@@ -32,7 +32,7 @@ CONTAINER = re.compile(ISO.pattern + rb" (?:stdout|stderr) ([FP])(?:\S*) ")
 STAMPED = re.compile(ISO.pattern + rb" ")
 SYSLOG = re.compile(rb"([A-Z][a-z]{2}) +(\d{1,2}) (\d\d):(\d\d):(\d\d)(?:\.(\d{1,9}))? (\S+) ([^\s:\[]+)"
                     rb"(?:\[(\d{1,10})\])?: ")
-# -o short-full and with-unit, which have the zone by its letters; -o short-unix; and those that count from the node's start
+# -o short-full and with-unit, which have the zone by its letters; -o short-unix; those that count from the node's start
 SHORT_FULL = re.compile(rb"(?:[A-Z][a-z]{2} )?(\d{4})-(\d\d)-(\d\d) (\d\d:\d\d:\d\d)(?:\.(\d{1,9}))? (\S{1,8}) (\S+) "
                         rb"([^\s:\[]+)(?:\[(\d{1,10})\])?: ")
 SHORT_UNIX = re.compile(rb"(\d{9,12}\.\d{1,9}) (\S+) ([^\s:\[]+)(?:\[(\d{1,10})\])?: ")

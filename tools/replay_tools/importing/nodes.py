@@ -1,5 +1,5 @@
-"""What lines say of the node itself, in sentences and with keys: whether it is Ready, and that the kernel killed a process
-for memory."""
+"""What lines say of the node itself, in sentences and with keys: whether it is Ready, and that the kernel killed a
+process for memory."""
 
 from __future__ import annotations
 
@@ -77,4 +77,5 @@ def of_kill(message: Message) -> Iterator[facts.Fact]:
     at, identity = KILL_AT.search(text), KILLED_ID.findall(text)
     moment = None if at is None else moment_of_go(at[0])
     is_near = moment is not None and abs(message.at - moment) <= 10
-    yield facts.OutOfMemory(moment if moment is not None and is_near else message.at, identity[-1] if identity else None)
+    killed_at = moment if moment is not None and is_near else message.at
+    yield facts.OutOfMemory(killed_at, identity[-1] if identity else None)

@@ -112,8 +112,8 @@ def imported(words: Namespace) -> int:
         raise entry.Fault(str(fault), 1) from None
     for line in notes.said:
         entry.say(line)
-    said = evidence.lacks(sources) if sources else summary.lines_of(importer, readers, reading.all_counts(journals), words)
-    for line in said:
+    counts = reading.all_counts(journals)
+    for line in evidence.lacks(sources) if sources else summary.lines_of(importer, readers, counts, words):
         entry.say(line)
     return 0
 
@@ -204,8 +204,8 @@ def refuse_no_evidence(importer: Importer, sources: list[str]) -> None:
 def refuse_nothing(importer: Importer, journals: list[Journal], units: Units) -> None:
     """Refuses journals of which nothing was understood."""
     if units.others and (importer.begun is None or not importer.placing.counts["met"]):
-        raise Nothing(f"no line is of the kubelet's unit; lines of its form are of {named(units)}: if one of these runs "
-                      "the kubelet, as k3s does, pass --unit with its name", 1)
+        raise Nothing(f"no line is of the kubelet's unit; lines of its form are of {named(units)}: if one of these "
+                      "runs the kubelet, as k3s does, pass --unit with its name", 1)
     if importer.begun is None:
         faults = [fault for journal in journals for fault in journal.counts.faults]
         names = ", ".join(journal.name for journal in journals)

@@ -1,5 +1,6 @@
-"""Lines in records of JSON and in rows of CSV, as a cloud's store of logs, Loki, Elasticsearch, docker and fluent-bit export
-them. Any text of a record that begins as klog's or a runtime's line does is a line. Its moment is that of the record."""
+"""Lines in records of JSON and in rows of CSV, as a cloud's store of logs, Loki, Elasticsearch, docker and fluent-bit
+export them. Any text of a record that begins as a line of klog's or of a runtime is a line. The record has its moment.
+"""
 
 from __future__ import annotations
 

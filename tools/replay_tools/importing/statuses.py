@@ -76,8 +76,9 @@ def of_printed(at: float, pod: Reference, text: str) -> Iterator[Known]:
     for found in PRINTED_END.finditer(text):
         before = bisect.bisect_left(starts, found.start())
         code = outside.number_of(found["code"], -outside.MOST_OF_CODE - 1, outside.MOST_OF_CODE)
-        yield Known(at, found["id"], pod, names[before - 1][1] if before else None, None, moment_of_go(found["started"]),
-                    moment_of_go(found["finished"]), code, reason_of(found["reason"]))
+        name = names[before - 1][1] if before else None
+        yield Known(at, found["id"], pod, name, None, moment_of_go(found["started"]), moment_of_go(found["finished"]),
+                    code, reason_of(found["reason"]))
     for found in PRINTED_LEFT.finditer(text):
         code = outside.number_of(found["code"], -outside.MOST_OF_CODE - 1, outside.MOST_OF_CODE)
         has_ended = found["state"] == "exited"

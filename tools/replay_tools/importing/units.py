@@ -1,5 +1,6 @@
-"""Which lines of a journal are the kubelet's and which are a runtime's, by the unit that journald has for them. journald
-itself sets `_SYSTEMD_UNIT`, and whoever logs chooses `SYSLOG_IDENTIFIER`: so the unit decides where both are there."""
+"""Which lines of a journal are the kubelet's and which are a runtime's, by the unit that journald has for them.
+journald itself sets `_SYSTEMD_UNIT`, and whoever logs chooses `SYSLOG_IDENTIFIER`: so the unit decides if both are
+there."""
 
 from __future__ import annotations
 
