@@ -13,7 +13,8 @@ FOLDERS = ("tools/tests/imported", "tools/tests/recordings/imported_journal")
 # what is put somewhere: what nests, repeats, is no text, or ends what is around it
 WORDS = (b"[" * 2000, b"{" * 2000, b" a={" * 3000, b' a="' * 999, b"\\ud800", b"\xff\xfe", b"\x00",
          b"\x1b[31m\x1b]0;x\x07", b'"', b"\\", b"\n", b"\r\n", b"\t", b"9" * 5000, b"-1", b"1e999", b"null",
-         b'{"a":[{}]}', b"a" * 300_000, b"shop/" + b"x" * 300, b"../../etc/passwd", b"I0301 10:00:99.000000 1 a:1] ", b"I9999 99:99:99.9 1 a:1] \"x\"",
+         b'{"a":[{}]}', b"a" * 300_000, b"shop/" + b"x" * 300, b"../../etc/passwd",
+         b"I0301 10:00:99.000000 1 a:1] ", b"I9999 99:99:99.9 1 a:1] \"x\"",
          b'time="x" level=info msg="', b" F ", b"<\n\ta\n >", b",", b";;", b"\xef\xbb\xbf", b"\x1e", b"data: ",
          b"oom-kill:constraint=A,task_memcg=/a/", b"shim disconnected id=", b"__CURSOR=s=1;i=2;t=3")
 

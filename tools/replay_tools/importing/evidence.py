@@ -20,8 +20,8 @@ EVENTS, AUDIT = "events", "audit"
 MEMBER = "importedFrom"
 LACKS = {
     EVENTS: "of Events alone: starts are known, of several alike the first and the last one; exits without their "
-            "codes, and their moments to within the next start; no successes of probes, no signals, and nothing that is "
-            "older than the cluster keeps Events (1 h, if it does not say otherwise)",
+            "codes, and their moments to within the next start; no successes of probes, no signals, and nothing "
+            "that is older than the cluster keeps Events (1 h, if it does not say otherwise)",
     AUDIT: "of an audit log alone: starts and exits with their codes, as far as a status has them; no results of "
            "probes, no kills, no waits, no signals, and of what began and ended between two statuses the last "
            "instance alone"}
