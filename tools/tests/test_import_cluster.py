@@ -128,6 +128,8 @@ def test_import_of_a_node_that_is_ended():
                           stderr=subprocess.DEVNULL) as process:
         wait_until("kubectl is asked for Events", lambda: os.path.exists(f"{answers.folder}/process")
                    and read(f"{answers.folder}/process"))
+        # it may still be within the start of kubectl
+        time.sleep(1)
         process.send_signal(signal.SIGTERM)
         status = process.wait(60)
     expect("import of a node that is ended", (status, os.listdir(f"{answers.folder}/tmp")), (143, []))

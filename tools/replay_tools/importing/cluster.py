@@ -52,10 +52,11 @@ class Cluster:
         """All that the cluster gives. Raises a fault where that is no log; without the rest it goes on."""
         found = Answers(self.logs())
         of_node = ["--field-selector", f"spec.nodeName={self.node}"]
-        for what, kind, words, paths in (
-                (f"the pods of {self.node}", "pods", of_node, found.pods),
-                ("what owns pods", OWNERS, [], found.pods), ("the Events of pods", "events", [], found.events)):
-            words = ["get", kind, "--all-namespaces", *words, "-o", "json"]
+        for what, kind, paths in ((f"the pods of {self.node}", "pods", found.pods),
+                                  ("what owns pods", OWNERS, found.pods),
+                                  ("the Events of pods", "events", found.events)):
+            chosen = of_node if kind == "pods" else []
+            words = ["get", kind, "--all-namespaces", *chosen, "-o", "json"]
             try:
                 paths.append(self.kept(kind.partition(",")[0], what, words, MOST_OF_LIST))
             except kubectl.NoAnswer as fault:

@@ -190,7 +190,7 @@ def rows_of(lines: Iterable[bytes], delimiter: str) -> Iterator[list[str]]:
 def of_rows(lines: Iterable[bytes], counts: Counts, delimiter: str) -> Iterator[Line]:
     """Rows of CSV, whose first one has the names of the columns."""
     rows = rows_of(lines, delimiter)
-    names = next(rows, [])
+    names: list[str] = next(rows, [])
     numbers = Numbers()
     for row in rows:
         if row:
@@ -201,7 +201,7 @@ def delimiter_of(head: bytes) -> Optional[str]:
     """What parts the columns of a table with lines; None of what is none."""
     for delimiter in (",", "\t", ";"):
         rows = rows_of(head.split(b"\n")[:50], delimiter)
-        first = next(rows, [])
+        first: list[str] = next(rows, [])
         if len(first) > 1 and any(BEGIN.match(cell) for row in rows for cell in row[1:]):
             return delimiter
     return None
