@@ -28,7 +28,7 @@ events, a watch. A pod without one has the containers that lines name, and no pr
 --unit NAME is a unit of systemd that runs the kubelet under another name: k3s, k3s-agent, rke2-server, kubelite.
 Without it lines are the kubelet's only if their unit is; give it more than once for several.
 --year N and --zone +02:00 are those of klog's own moments, which have neither: else the year of the file, and UTC.
---most 4Gi is how much of each journal is read.
+--most SIZE is how much of each journal is read (4Gi).
 --each 1h is how long a trace of --into is.
 NODE asks the cluster by kubectl, and needs nothing on the node: for the logs of its kubelet and its runtime since
 --since (1h), by the API of Kubernetes 1.30 and newer where NodeLogQuery is on, or else for the file messages or syslog;
@@ -61,7 +61,7 @@ def parser() -> entry.Words:
     taken.valued("--node", "--zone", "--since", "--context")
     taken.add_argument("--each", type=duration, default=3600)
     taken.add_argument("--timeout", type=seconds)
-    taken.add_argument("--most", type=size, default=4 << 30)
+    taken.add_argument("--most", type=size)
     taken.add_argument("--year", type=year)
     return taken
 

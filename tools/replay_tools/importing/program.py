@@ -16,7 +16,7 @@ from replay_tools.record.lines import TooLong
 
 from . import cluster, events, evidence, manifests, moments, reading, summary
 from .importer import Importer, refuse_strangers
-from .files import STANDARD_INPUT, Journal
+from .files import MOST, STANDARD_INPUT, Journal
 from .journals import Counts
 from .moments import Klog
 from .placing import Placing
@@ -165,7 +165,7 @@ def journals_of(words: Namespace) -> list[Journal]:
         raise entry.Fault("it wants a journal: --journal FILE, or one on standard input (--help says more)")
     if len(set(paths)) < len(paths):
         raise entry.Fault("--journal has a file twice (--help says more)")
-    return [Journal(path, Counts(), words.most, words.node) for path in paths]
+    return [Journal(path, Counts(), words.most or MOST, words.node) for path in paths]
 
 
 def has_no_input() -> bool:
