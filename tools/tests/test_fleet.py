@@ -353,8 +353,8 @@ def test_fleet_in_a_folder_of_others():
     expect("fleet in a folder of one's own", refusal_of(lambda: databases.check_replaceable(path)), None)
     os.chmod(f"{folder}/open", 0o777)
     expect("fleet in a folder that others may write", refusal_of(lambda: databases.check_replaceable(path)),
-           f"{folder}/open may be written by others, who may change what is written there: chmod go-w, or chmod +t, mends "
-           "that")
+           f"{folder}/open may be written by others, who may change what is written there: chmod go-w, or chmod +t, "
+           "mends that")
     os.chmod(f"{folder}/open", 0o1777)
     expect("fleet in a sticky folder", refusal_of(lambda: databases.check_replaceable(path)), None)
     os.mkdir(f"{folder}/elsewhere")
