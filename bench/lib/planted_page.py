@@ -17,7 +17,8 @@ not write. It plants none in definitions, in laws, or inside a loop. What is pro
 """, """
 In all {refused} were refused, {proved} proved, {not judged} not judged, and {not writable} could not be written. Where
 functions of a crate have another form since, these were not planted anew; a crate that is missing was not planted as it
-stands. The date is the day on which the figure was written down.
+stands. `words added` says that the code of the words `failed`, `judged`, `spared` and `waiting` came later, and that
+nothing was planted in it. The date is the day on which the figure was written down.
 """, """
 A refusal where the search for a proof gave up at one of its limits says less than one where it ended: nothing was found
 that is wrong, and a longer search might have found a proof. An audit counted some 27 edits of the gate and the shelf
