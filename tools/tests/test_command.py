@@ -141,6 +141,27 @@ def test_what_cannot_be_read():
     shutil.rmtree(folder)
 
 
+def test_unknown_options():
+    """An option that a command does not take is a bad word of status 2, with the nearest that it takes."""
+    for words, near in ((["run", "--workrs", "2"], "--workers"), (["check", "--extend"], "--extended"),
+                        (["story", "--sinse", "2h"], "--since"), (["why", "--nodee=n1"], "--node"),
+                        (["page", "--trases", "x"], "--traces"), (["nodes", "--recorder", "x"], "--recorders"),
+                        (["fetch", "n1", "--intoo", "x"], "--into"), (["json", "--sqlit", "x"], "--sqlite")):
+        answer = run([COMMAND, *words, *([TRACE] if words[0] in ("run", "check") else [])])
+        name = next(word for word in words if word.startswith("-")).partition("=")[0]
+        expect(f"kubelet-replay {' '.join(words)}", (answer[0], answer[1], name in answer[2], answer[2].count("\n"),
+                                                     f"the nearest is {near} " in answer[2]), (2, "", True, 1, True))
+
+
+def test_names_that_are_not_utf8():
+    """A byte of a name is written the same way by each command, whichever of them says that it can't be read."""
+    name = b"/nonexistent/\xff.trace"
+    for words in (["run"], ["check"], ["story", "-f"], ["what-if", ".", "-f"]):
+        status, _, said = run([COMMAND, *words, name])
+        expect(f"{' '.join(words)} of a name that is not UTF-8", (status != 0, "/nonexistent/\\xff.trace" in said, said),
+               (True, True, said))
+
+
 def test_words_of_the_program_are_only_shown():
     """What the program says of a word is shown, and not followed by a terminal."""
     for words in (["run", "--a\x1b[31mb"], ["check", "--a\x1b[31mb"],
@@ -148,7 +169,7 @@ def test_words_of_the_program_are_only_shown():
         status, out, said = run([COMMAND, *words])
         expect(f"kubelet-replay {words}", (status, out, "[31m" in said or "\\x9b" in said,
                                            [each for each in said if not each.isprintable() and each != "\n"]),
-               (3, "", True, []))
+               (2, "", True, []))
 
 
 def test_packed_reports():

@@ -10,7 +10,7 @@ from dataclasses import dataclass, field
 from typing import Any
 
 from replay_tools import entry, fields, outside
-from replay_tools.cluster import kubectl
+from replay_tools.cluster import kubectl, options
 from replay_tools.cluster.kubectl import NoAnswer
 from replay_tools.joined import files
 
@@ -68,15 +68,14 @@ class Recorder:
 
 @dataclass
 class Cluster:
-    """What kubectl reaches, in a context and the namespace of the recorders."""
+    """What kubectl reaches with its own options, and the namespace of the recorders."""
 
-    context: str | None = None
+    options: list[str] = field(default_factory=list)
     namespace: str = NAMESPACE
 
     def ask(self, *words: str, most: int, take: Callable[[bytes], object], seconds: float = SECONDS) -> None:
         """Hands on what kubectl answers, so many bytes at most. Raises NoAnswer."""
-        context = ["--context", self.context] if self.context else []
-        kubectl.answer([*context, *words], most, seconds, take)
+        kubectl.answer([*self.options, *words], most, seconds, take)
 
     def recorders(self) -> dict[str, Recorder]:
         """The recorders by their nodes; of several of one node, as while they are replaced, the one that is ready."""
@@ -165,13 +164,13 @@ def recorder_of(item: dict[str, Any]) -> Recorder:
 
 def add_words(words: entry.Words) -> None:
     """Adds the words of a tool that asks them."""
-    words.valued("--context")
+    options.add_to(words)
     words.add_argument("--recorders", default=NAMESPACE)
 
 
 def cluster_of(found: Namespace) -> Cluster:
     """The cluster that the words of a tool name."""
-    return Cluster(found.context, found.recorders)
+    return Cluster(found.kubectl, found.recorders)
 
 
 def on_nodes(recorders: dict[str, Recorder], nodes: Iterable[str]) -> list[Recorder]:

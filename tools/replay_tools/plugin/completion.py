@@ -5,6 +5,7 @@ from __future__ import annotations
 from collections.abc import Iterable
 
 from replay_tools import entry, tree
+from replay_tools.cluster import options as of_cluster
 from replay_tools.plugin import files, words, workload
 
 # kubectl's directives: the shell offers no files, or its files
@@ -28,13 +29,13 @@ def candidates(given: list[str], is_of_kubectl: bool) -> tuple[list[str], int]:
         return [], NO_FILES
     if command.subcommands and not rest:
         return beginning(command.subcommands, last), NO_FILES
-    found, parser = words.words_of(name, rest, is_of_kubectl), words.parser_of(name, rest)
+    found, parser = words.words_of(name, rest, is_of_kubectl, is_typed=True), words.parser_of(name, rest)
     if found.waiting in words.NAMESPACE:
         return beginning(namespaces(found), last), NO_FILES
     if found.waiting in parser.choices:
         return beginning(parser.choices[found.waiting], last), NO_FILES
     if found.waiting:
-        return [], FILES if found.waiting in (*parser.of_files, *words.FILE) else NO_FILES
+        return [], FILES if found.waiting in (*parser.of_files, *words.FILE, *of_cluster.OF_FILES) else NO_FILES
     if last.startswith("-"):
         return beginning(options(command, parser, is_of_kubectl), last), NO_FILES
     if command.pods == "none" or command.pods == "one" and found.plain:
@@ -46,7 +47,7 @@ def candidates(given: list[str], is_of_kubectl: bool) -> tuple[list[str], int]:
 
 def options(command: tree.Command, parser: entry.Words, is_of_kubectl: bool) -> Iterable[str]:
     """The words of a command that begin with a dash: its own, and those that say which pods and which file."""
-    of_pods = words.NAMESPACE + (words.EVERYWHERE + words.CONTEXT) * is_of_kubectl
+    of_pods = words.NAMESPACE + (words.EVERYWHERE + (of_cluster.CONTEXT,)) * is_of_kubectl
     yield from of_pods * (command.pods != "none") + words.FILE * command.takes_file
     yield from (*parser.names(with_value=True), *parser.names(with_value=False))
 
@@ -74,6 +75,6 @@ def pods(found: words.Words, last: str) -> list[str]:
         return named
     if found.is_everywhere:
         return named
-    namespace = found.namespace or words.current_namespace(found.context)
+    namespace = found.namespace or words.current_namespace(found.kubectl)
     before = f"{head}/" if slash else ""
     return [before + key.partition("/")[2] for key in named if key.startswith(namespace + "/")]

@@ -50,7 +50,7 @@ def without(rest: list[str], name: str) -> list[str]:
 def run_fetched(found: words.Words, node: str, run_on: Callable[[str], int]) -> int:
     """Fetches the traces of a node into a folder that goes again, and runs a tool on it; its status."""
     from replay_tools.cluster import fetching, recorders
-    cluster = recorders.Cluster(found.context, found.value(words.RECORDERS) or recorders.NAMESPACE)
+    cluster = recorders.Cluster(found.kubectl, found.value(words.RECORDERS) or recorders.NAMESPACE)
     first, last = asked.span_of(found.value("--since"), found.value("--at"), fetching.now())
     [recorder] = recorders.on_nodes(cluster.recorders(), [node])
     try:

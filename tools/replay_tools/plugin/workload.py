@@ -41,16 +41,16 @@ def target_of(found: words.Words) -> workloads.Target:
         raise entry.Fault("it wants -f FILE or FOLDER for traces that are here, or --node NODE for those of a node of "
                           "a cluster, or -n NAMESPACE for those of a namespace")
     if not found.plain:
-        return workloads.Target(found.namespace or words.current_namespace(found.context), selector=selector)
+        return workloads.Target(found.namespace or words.current_namespace(found.kubectl), selector=selector)
     [word] = found.plain
     named = workloads.kind_and_name(word)
     if named is None:
-        key = words.key_of(word, found.namespace, lambda: words.current_namespace(found.context))
+        key = words.key_of(word, found.namespace, lambda: words.current_namespace(found.kubectl))
         namespace, _, name = key.partition("/")
         return workloads.Target(namespace, "pod", name)
     if not named[1]:
         raise entry.Fault(f"{word} names none: {word}NAME (--help says more)")
-    return workloads.Target(found.namespace or words.current_namespace(found.context), *named)
+    return workloads.Target(found.namespace or words.current_namespace(found.kubectl), *named)
 
 
 def run(found: words.Words, is_of_kubectl: bool) -> int:
@@ -59,7 +59,7 @@ def run(found: words.Words, is_of_kubectl: bool) -> int:
     if is_of_kubectl and found.is_everywhere:
         raise entry.Fault(f"{words.EVERYWHERE[0]} is for traces that are here: a workload is of one namespace")
     target = target_of(found)
-    cluster = recorders.Cluster(found.context, found.value(words.RECORDERS) or recorders.NAMESPACE)
+    cluster = recorders.Cluster(found.kubectl, found.value(words.RECORDERS) or recorders.NAMESPACE)
     at, now = found.value("--at"), fetching.now()
     since = found.value("--since") or (SINCE if at is None else None)
     first, last = asked.span_of(since, at, now)
@@ -130,6 +130,6 @@ def candidates(found: words.Words, last: str) -> list[str]:
         return [f"{names[0]}/" for names, _ in workloads.KINDS.values()]
     if kind not in workloads.TYPES:
         return []
-    cluster, namespace = recorders.Cluster(found.context), found.namespace or words.current_namespace(found.context)
+    cluster, namespace = recorders.Cluster(found.kubectl), found.namespace or words.current_namespace(found.kubectl)
     names = workloads.names_of(cluster, workloads.TYPES[kind], namespace, SECONDS_OF_COMPLETION)
     return [f"{kind}/{name}" for name in names]
