@@ -7,15 +7,17 @@ import os
 import re
 import secrets
 import time
-from concurrent.futures import ThreadPoolExecutor
+from collections.abc import Iterator
+from concurrent.futures import ThreadPoolExecutor, as_completed
 from dataclasses import dataclass, field
 from typing import BinaryIO
 
 from replay_tools import amounts, entry, outside, packed, report as reports, safe_folder, traces
 from replay_tools.cluster import recorders as asking
+from replay_tools.cluster.waiting import Waiting
 from replay_tools.joined import files
 
-AT_ONCE = 8
+AT_ONCE = 16
 TRIES = 2
 # of a part, what stands ahead at its end is taken away at the next look
 MOST_OF_TRACE = traces.LONGEST_TRACE + (1 << 20)
@@ -62,6 +64,22 @@ def fetched(cluster: asking.Cluster, recorders: list[asking.Recorder], into: str
     try:
         with ThreadPoolExecutor(AT_ONCE) as threads:
             return list(threads.map(lambda recorder: of_node(cluster, recorder, folder, wanted), recorders))
+    finally:
+        os.close(folder)
+
+
+def coming(cluster: asking.Cluster, recorders: list[asking.Recorder], into: str, wanted: Wanted,
+           waiting: Waiting) -> Iterator[Fetched]:
+    """Copies what recorders hold of a time into a folder, and gives what came of each node once it is there."""
+    def of_one(recorder: asking.Recorder) -> Fetched:
+        with waiting.for_answer(recorder.node):
+            return of_node(cluster, recorder, folder, wanted)
+
+    folder = open_folder(into)
+    try:
+        with ThreadPoolExecutor(AT_ONCE) as threads:
+            for done in as_completed([threads.submit(of_one, recorder) for recorder in recorders]):
+                yield done.result()
     finally:
         os.close(folder)
 

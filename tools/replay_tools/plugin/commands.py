@@ -9,7 +9,7 @@ from typing import IO
 
 from replay_tools import entry, outside, program as programs, tree
 from replay_tools.commands.run import FAIL_ON
-from replay_tools.plugin import files, help, several, words, workload
+from replay_tools.plugin import files, help, several, target, words, workload
 from replay_tools.plugin.words import FOLLOW
 
 @dataclass(frozen=True)
@@ -52,7 +52,7 @@ def run(given: list[str], caller: Caller) -> int:
         return tree.run(name, [*([found.file] if found.file else []), *found.plain, *found.rest])
     if name == "story" and FOLLOW in found.rest:
         return tree.run(name, [*found.rest, *(words.pods_meant(command, found) or [])])
-    if name == "story" and workload.is_meant(found):
+    if command.takes_several and target.is_meant(name, found, caller.is_of_kubectl):
         return workload.run(found, caller.is_of_kubectl)
     if command.takes_several and several.is_meant(found):
         return several.run(name, command, found)

@@ -21,6 +21,8 @@ SECONDS_OF_KUBECTL = 10
 
 RECORDERS = "--recorders"
 SELECTOR, FOLLOW = ("-l", "--selector"), "--follow"
+OUTPUT, ALL, TIMEOUT = ("-o", "--output"), "--all", "--timeout"
+OF_CLUSTER = (*OUTPUT, ALL, TIMEOUT, RECORDERS)
 SEVERAL = (asked.TRACES, *asked.VALUED, RECORDERS)
 
 
@@ -55,8 +57,12 @@ def parser_of(name: str, given: list[str]) -> entry.Words:
     command, parser = tree.COMMANDS[name], tree.parser_of(name, given)
     if command.takes_several:
         parser.valued(RECORDERS)
-    if name == "story":
+        parser.add_argument(TIMEOUT)
         parser.add_argument(*SELECTOR)
+    if name == "story":
+        parser.add_argument(*OUTPUT)
+        parser.choices.update(dict.fromkeys(OUTPUT, ("json",)))
+        parser.flag(ALL)
     return parser
 
 
@@ -73,8 +79,8 @@ def words_of(name: str, given: list[str], is_of_kubectl: bool = True, is_typed: 
         found.plain = [word for word in found.plain if word not in more]
     if not is_of_kubectl and not is_typed:
         if found.kubectl or found.waiting in options.NAMES:
-            name = found.kubectl[0].partition("=")[0] if found.kubectl else found.waiting
-            raise entry.Fault(f"{name} is no word of it: kubectl replay takes kubectl's options (--help says more)")
+            option = found.kubectl[0].partition("=")[0] if found.kubectl else found.waiting
+            raise entry.Fault(f"{option} is no word of it: kubectl replay takes kubectl's options (--help says more)")
     if not is_of_kubectl:
         found.is_everywhere = found.is_everywhere or found.namespace is None
     return found
