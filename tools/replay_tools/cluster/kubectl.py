@@ -21,6 +21,10 @@ class NoAnswer(Exception):
     """Something was asked and not answered; the message says why."""
 
 
+class Silent(NoAnswer):
+    """Nothing came in time."""
+
+
 def answer(words: list[str], most: int, seconds: float, take: Callable[[bytes], object],
            silent: float | None = None) -> None:
     """Hands on what kubectl answers, which has to be whole within so many seconds, and has so many bytes at most;
@@ -31,7 +35,7 @@ def answer(words: list[str], most: int, seconds: float, take: Callable[[bytes], 
         status = process.wait(seconds)
     except (TimeoutError, subprocess.TimeoutExpired) as fault:
         waited = fault.args[0] if isinstance(fault, TimeoutError) else seconds
-        raise NoAnswer(f"kubectl has not answered within {waited:g} s") from None
+        raise Silent(f"kubectl has not answered within {waited:g} s") from None
     finally:
         process.kill()
         process.wait()

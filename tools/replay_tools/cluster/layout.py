@@ -52,7 +52,7 @@ class Layout:
                 lines += self.wrapped(f"{start.ljust(wide)}{cell}", "", " " * wide, len(start.ljust(wide)))
             else:
                 lines += self.wrapped(start, "", " " * BELOW, len(start) - len(start.lstrip()))
-                lines += self.wrapped(cell, " " * BELOW, " " * BELOW) if cell != heads[-1] else []
+                lines += self.wrapped(cell, " " * BELOW, " " * BELOW)
         return lines
 
     def wrapped(self, text: str, first: str, further: str, kept: int = 0) -> list[str]:

@@ -6,7 +6,6 @@ from __future__ import annotations
 import difflib
 from argparse import Namespace
 from collections.abc import Callable, Iterable
-from concurrent.futures import ThreadPoolExecutor
 from dataclasses import dataclass, field
 from typing import Any
 
@@ -94,6 +93,7 @@ class Cluster:
     def recorders(self) -> dict[str, Recorder]:
         """The pods that have the traces, by their nodes; of several of one node, as while they are replaced, the one
         that is ready. A reader is asked in place of a recorder."""
+        from concurrent.futures import ThreadPoolExecutor
         with ThreadPoolExecutor(2) as threads:
             of_readers = threads.submit(self.pods_of, f"{self.namespace}-{READER}", READER_LABEL)
             of_recorders = threads.submit(self.pods_of, self.namespace, LABEL)

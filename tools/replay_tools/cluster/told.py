@@ -98,7 +98,7 @@ def text(story: Story, show: Callable[[int], str], layout: Layout, is_all: bool)
     heads = ["pod", "node", "phase", "ready", "restarts", "why"]
     if story.unrecorded:
         lines += layout.table("Pods that no trace has, as the API server has them now", heads,
-                              [pod.row() for pod in story.unrecorded])
+                              [[name_of(story, pod.key), *pod.cells()] for pod in story.unrecorded])
     if story.recorded or not story.unrecorded:
         lines += pods_table(story, show, layout)
     if story.missing:

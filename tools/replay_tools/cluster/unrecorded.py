@@ -3,7 +3,7 @@ ended last."""
 
 from __future__ import annotations
 
-from collections.abc import Iterator
+from collections.abc import Iterable, Iterator
 from dataclasses import dataclass, field
 from typing import Any
 
@@ -28,9 +28,10 @@ class Pod:
     why: list[str] = field(default_factory=list)
     """what is wrong with it, the most telling first"""
 
-    def row(self) -> list[str]:
-        return [self.key.partition("/")[2], self.node or "-", self.phase, f"{self.ready}/{self.containers}",
-                str(self.restarts), "; ".join(self.why) or "-"]
+    def cells(self) -> list[str]:
+        """The cells of its row, but for its name."""
+        return [self.node or "-", self.phase, f"{self.ready}/{self.containers}", str(self.restarts),
+                "; ".join(self.why) or "-"]
 
     def record(self) -> dict[str, Any]:
         return {"pod": self.key, "node": self.node, "phase": self.phase, "ready": self.ready,
@@ -49,6 +50,11 @@ def pod_of(key: str, item: dict[str, Any]) -> Pod:
     found.why = list(dict.fromkeys([*of_pod(status), *of_deletion(metadata), *(
         words for one in statuses for words in of_container(one)), *of_conditions(status)]))
     return found
+
+
+def worst_first(pods: Iterable[Pod]) -> list[Pod]:
+    """Those of which something is wrong come first, those that were restarted most in front."""
+    return sorted(pods, key=lambda pod: (not pod.why, -pod.restarts, pod.key))
 
 
 def dicts_of(found: Any, name: str) -> list[dict[str, Any]]:

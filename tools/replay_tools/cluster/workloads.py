@@ -5,14 +5,16 @@ from __future__ import annotations
 
 import re
 from collections.abc import Iterable, Iterator
-from concurrent.futures import Executor
 from dataclasses import dataclass, field, replace
-from typing import Any
+from typing import Any, TYPE_CHECKING
 
-from replay_tools import dates, entry, outside
+from replay_tools import dates, outside
 from replay_tools.cluster.kubectl import NoAnswer
 from replay_tools.cluster.recorders import Cluster
 from replay_tools.cluster.waiting import Waiting
+
+if TYPE_CHECKING:
+    from concurrent.futures import Executor
 
 # of each kind the names by which kubectl knows it, and how the names of its pods end
 KINDS = {

@@ -8,7 +8,7 @@ from collections.abc import Callable
 
 from replay_tools import entry, tree
 from replay_tools.joined import asked
-from replay_tools.plugin import words, workload
+from replay_tools.plugin import words
 
 
 def is_meant(found: words.Words) -> bool:
@@ -49,6 +49,7 @@ def without(rest: list[str], name: str) -> list[str]:
 def run_fetched(found: words.Words, node: str, run_on: Callable[[str], int]) -> int:
     """Fetches the traces of a node into a folder that goes again, and runs a tool on it; its status."""
     from replay_tools.cluster import fetching, recorders
+    from replay_tools.plugin import workload
     cluster = workload.cluster_of(found)
     first, last = asked.span_of(found.value("--since"), found.value("--at"), fetching.now())
     [recorder] = recorders.on_nodes(cluster.recorders(), [node])

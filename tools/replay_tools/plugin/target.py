@@ -27,8 +27,8 @@ def plain_of(found: words.Words) -> list[str]:
 def names_workload(found: words.Words) -> bool:
     """Whether a workload or a label is named."""
     return any(word in found.rest for word in words.SELECTOR) or any(
-        workloads.kind_and_name(word) is not None and word.partition("/")[0].lower() not in words.POD_TYPES
-        for word in plain_of(found))
+        workloads.kind_and_name(word) is not None and not os.path.exists(word) and not (
+            word.partition("/")[0].lower() in words.POD_TYPES) for word in plain_of(found))
 
 
 def is_meant(name: str, found: words.Words, is_of_kubectl: bool) -> bool:
@@ -38,7 +38,9 @@ def is_meant(name: str, found: words.Words, is_of_kubectl: bool) -> bool:
         return False
     if names_workload(found):
         return True
-    if name != "story" or "--node" in found.rest:
+    if name not in ("story", "why") or "--node" in found.rest:
+        return False
+    if name == "why" and not found.plain:
         return False
     if any(word in found.rest for word in ("--since", "--at", *words.OF_CLUSTER)):
         return True

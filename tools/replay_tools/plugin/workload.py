@@ -3,27 +3,29 @@ told over all of them, with what the API server has of pods that no trace has.""
 
 from __future__ import annotations
 
+import contextlib
 import sys
 import tempfile
-from concurrent.futures import Executor, ThreadPoolExecutor
-from dataclasses import dataclass, replace
+from collections.abc import Iterator
+from dataclasses import dataclass
 from typing import TYPE_CHECKING
 
 from replay_tools import entry, naming
 from replay_tools.clock import Clock
-from replay_tools.cluster import recorders, workloads
+from replay_tools.cluster import kubectl, recorders, workloads
 from replay_tools.cluster.waiting import Waiting
 from replay_tools.joined import asked
 from replay_tools.plugin import files, target as targets, words
 
 if TYPE_CHECKING:
+    from concurrent.futures import Executor
     from replay_tools.cluster import fetching, told
 
 # where neither --since nor --at is given
 SINCE = "2h"
 SECONDS_OF_COMPLETION = 5
 AT_ONCE = 32
-MOST_NODES = 200
+MOST_NODES, MOST_ASKED = 200, 1000
 OF_RECORDERS = "the recorders"
 
 
@@ -34,6 +36,10 @@ class Time:
     since: str | None
     at: str | None
     now: float
+
+    def words(self) -> list[str]:
+        """The same for a tool."""
+        return [*(["--since", self.since] if self.since else []), *(["--at", self.at] if self.at else [])]
 
     @property
     def span(self) -> tuple[int | None, int | None]:
@@ -52,23 +58,30 @@ class Found:
 def run(found: words.Words, is_of_kubectl: bool) -> int:
     """Prints the story of what the words name; the status."""
     from replay_tools.cluster import layout, told
-    if not is_of_kubectl and found.namespace is None and not targets.plain_of(found):
-        raise entry.Fault("it wants -f FILE or FOLDER for traces that are here, or --node NODE for those of a node of "
-                          "a cluster, or -n NAMESPACE for those of a namespace")
     output = next(filter(None, map(found.value, words.OUTPUT)), None)
     if output not in (None, "json"):
         raise entry.Fault(f"{words.OUTPUT[0]} takes json, not '{output}'")
-    cluster, target, time = cluster_of(found), targets.target_of(found), time_of(found)
-    with Waiting(cluster.seconds) as waiting, folder_for_traces() as folder:
-        of_target = gathered(cluster, target, found.value("--node"), time, waiting)
-        story = story_of(cluster, of_target, folder, time, waiting)
-        if not story.recorded and not story.unrecorded:
-            raise nothing(story, waiting)
+    with gathering(found, is_of_kubectl) as (story, _, __):
         if output == "json":
             sys.stdout.write(told.record(story))
         else:
             sys.stdout.write(told.text(story, clock_of(found).text, layout.of_output(), words.ALL in found.rest))
     return 0
+
+
+@contextlib.contextmanager
+def gathering(found: words.Words, is_of_kubectl: bool) -> Iterator[tuple[told.Story, str, Time]]:
+    """What is known of what the words name, with the folder of its traces, which goes again, and the time."""
+    if not is_of_kubectl and found.namespace is None and not targets.plain_of(found):
+        raise entry.Fault("it wants -f FILE or FOLDER for traces that are here, or --node NODE for those of a node of "
+                          "a cluster, or -n NAMESPACE for those of a namespace")
+    cluster, target, time = cluster_of(found), targets.target_of(found), time_of(found)
+    with Waiting(cluster.seconds) as waiting, folder_for_traces() as folder:
+        of_target = gathered(cluster, target, found.value("--node"), time, waiting)
+        story = story_of(cluster, of_target, folder, time, waiting)
+        if not story.recorded and not story.unrecorded:
+            raise nothing(story)
+        yield story, folder, time
 
 
 def cluster_of(found: words.Words) -> recorders.Cluster:
@@ -109,19 +122,22 @@ def gathered(cluster: recorders.Cluster, target: workloads.Target, node: str | N
              waiting: Waiting) -> Found:
     """The pods of a workload as the API server has them, and the recorders of the nodes of these and of those that are
     gone."""
+    from concurrent.futures import ThreadPoolExecutor
     with ThreadPoolExecutor(AT_ONCE) as threads:
-        listed = threads.submit(recorders_of, cluster, waiting)
-        members = workloads.members_of(cluster, target, waiting, threads)
-        there = listed.result()
+        of_members = threads.submit(workloads.members_of, cluster, target, waiting, threads)
+        there = recorders_of(cluster, waiting)
         if node is not None:
             there = {node: there[node]} if node in there else {}
-            members.keep_node(node)
-        held = names_held(cluster, members, there, time, waiting, threads)
-    members = with_whole_name(members, held)
-    workloads.take_events(members)
+        # of a label without a pod no name is known
+        has_names = target.selector is None or of_members.result().forms
+        held = names_held(cluster, target, there, time, waiting, threads) if has_names else {}
+        members = with_whole_name(of_members.result(), held)
     if node is not None:
-        members.nodes = {name: None for name in members.nodes if name == node}
-    chosen = [one for name, one in there.items() if name in members.nodes or any(map(members.has, held.get(name, ())))]
+        members.keep_node(node)
+    workloads.take_events(members)
+    silent = {name for name, keys in held.items() if keys is None}
+    chosen = [one for name, one in there.items() if name not in silent and (
+        name in members.nodes or any(map(members.has, held.get(name) or ())))]
     if len(chosen) > MOST_NODES:
         waiting.miss(f"{len(chosen) - MOST_NODES} nodes", f"at most {MOST_NODES} are asked for their traces")
     return Found(members, chosen[:MOST_NODES])
@@ -139,33 +155,31 @@ def recorders_of(cluster: recorders.Cluster, waiting: Waiting) -> dict[str, reco
         return {}
 
 
-def names_held(cluster: recorders.Cluster, members: workloads.Members, there: dict[str, recorders.Recorder],
-               time: Time, waiting: Waiting, threads: Executor) -> dict[str, set[str]]:
-    """The pods that each recorder's traces have of a time, of names that may fit; recorders are asked that may have
-    pods which are gone."""
-    target = members.target
-    if target.selector is not None and not members.forms:
-        return {}
-
-    def of_one(recorder: recorders.Recorder) -> set[str]:
+def names_held(cluster: recorders.Cluster, target: workloads.Target, there: dict[str, recorders.Recorder], time: Time,
+               waiting: Waiting, threads: Executor) -> dict[str, set[str] | None]:
+    """The pods that each recorder's traces have of a time, of names that may fit, so that those are found which are
+    gone; None of a recorder that does not answer at all."""
+    def of_one(recorder: recorders.Recorder) -> set[str] | None:
         try:
             with waiting.for_answer(recorder.node):
                 return cluster.names(recorder, workloads.name_pattern(target), time.span[0])
         except recorders.NoAnswer as fault:
             waiting.miss(recorder.node, str(fault))
-            return set()
+            return None if isinstance(fault, kubectl.Silent) else set()
 
-    asked_for = list(there.values())[:MOST_NODES]
-    return dict(zip((one.node for one in asked_for), threads.map(of_one, asked_for)))
+    if len(there) > MOST_ASKED:
+        waiting.miss(f"{len(there) - MOST_ASKED} recorders", f"at most {MOST_ASKED} are asked for pods that are gone")
+    asked_for = dict(list(there.items())[:MOST_ASKED])
+    return dict(zip(asked_for, threads.map(of_one, asked_for.values())))
 
 
-def with_whole_name(members: workloads.Members, held: dict[str, set[str]]) -> workloads.Members:
+def with_whole_name(members: workloads.Members, held: dict[str, set[str] | None]) -> workloads.Members:
     """The members of a pod whose name may be cut: it has to fit one pod, of the API server's or of the traces'."""
     target = members.target
     if target.kind != "pod":
         return members
     namespace = f"{target.namespace}/"
-    keys = {key for keys in held.values() for key in keys if key.startswith(namespace)}
+    keys = {key for keys in held.values() for key in keys or () if key.startswith(namespace)}
     keys |= {f"{namespace}{name}" for name in members.others} | set(members.pods)
     key = naming.only_key(f"{namespace}{target.name}", sorted(keys))
     if key is None or key == f"{namespace}{target.name}":
@@ -186,7 +200,8 @@ def story_of(cluster: recorders.Cluster, found: Found, folder: str, time: Time, 
             parts += [] if part is None else [part]
     parts.sort(key=lambda part: part.node)
     recorded = {pod.key for part in parts for pod in part.pods}
-    others = [unrecorded.pod_of(key, pod) for key, pod in sorted(members.pods.items()) if key not in recorded]
+    others = unrecorded.worst_first(unrecorded.pod_of(key, pod) for key, pod in members.pods.items()
+                                    if key not in recorded)
     without = sorted({pod.node for pod in others if pod.node} - {one.node for one in found.chosen})
     if without and OF_RECORDERS not in waiting.missing:
         waiting.miss(", ".join(without[:MOST_NODES]), "no recorder")
@@ -215,14 +230,19 @@ def part_of(came: fetching.Fetched, folder: str, time: Time, members: workloads.
     return told.on_node(came.node, several, members)
 
 
-def nothing(story: told.Story, waiting: Waiting) -> entry.Fault:
+def nothing(story: told.Story) -> entry.Fault:
     """That nothing is known of a workload, with the first thing that did not come."""
     target = story.members.target
-    missing = [f"{name} {why}" if name == target.words() else f"{name}: {why}"
-               for name, why in waiting.missing.items()]
-    first = next((line for line in missing if line.startswith(target.words())), None)
-    said = first or f"{target.words()}: no pod of it is known, in the cluster or in a trace of that time"
-    return entry.Fault(said, 1, "; ".join(line for line in missing if line != first) or None)
+    why = story.missing.get(target.words())
+    said = f"{target.words()} {why}" if why else \
+        f"{target.words()}: no pod of it is known, in the cluster or in a trace of that time"
+    return entry.Fault(said, 1, missing_words(story))
+
+
+def missing_words(story: told.Story) -> str | None:
+    """What was asked for and did not come, in one line."""
+    own = story.members.target.words()
+    return "; ".join(f"{name}: {why}" for name, why in story.missing.items() if name != own) or None
 
 
 def clock_of(found: words.Words) -> Clock:
