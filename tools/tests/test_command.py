@@ -105,8 +105,9 @@ def test_one_tree():
             own = {*parser.names(with_value=True), *parser.names(with_value=False)}
             words = [name, *([subcommand] if subcommand else []), "--"]
             completed = set(run([COMMAND, "__complete", *words])[1].split()[:-1])
-            beside = {"--filename", "--namespace", "--recorders", "--selector"}
-            expect(f"{' '.join(words)} completes its options", completed - beside, own - beside)
+            beside = {"--filename", "--namespace", "--recorders", "--selector", "--timeout", "--output"} - own | (
+                {"--all"} if name == "story" else set())
+            expect(f"{' '.join(words)} completes its options", completed - beside, own)
             if not command.is_of_program:
                 expect(f"the help of {name} has its options", [each for each in own if each not in parser.text], [])
                 expect(f"the help of {' '.join(words[:-1])} has its defaults", defaults_left_out(parser), [])
@@ -234,7 +235,7 @@ def test_run_of_what_cannot_be_read():
     """The file and the reason are named; the program's own words have neither."""
     for words in (["run"], ["check"], ["run", "-f"]):
         answer = run([COMMAND, *words, "/nonexistent/x.trace"])
-        expect_refused(f"{' '.join(words)} of no file", answer, 1, "/nonexistent/x.trace: No such file or directory")
+        expect_refused(f"{' '.join(words)} of no file", answer, 2, "/nonexistent/x.trace: No such file or directory")
 
 
 def test_what_if_on_a_terminal():
@@ -273,9 +274,9 @@ def test_command_completion():
         ([""], [*sorted(NAMES), ":4"]),
         (["story", "-f", TRACE, "d"], ["default/a", "default/b", "default/c", ":4"]),
         (["story", "-f", TRACE, "-n", "default", ""], ["a", "b", "c", ":4"]),
-        (["story", "--"], ["--at", "--filename", "--follow", "--local", "--namespace", "--node", "--recorders",
-                           "--seconds", "--selector", "--since", "--trace", "--traces", "--utc", "--without-why",
-                           ":4"]),
+        (["story", "--"], ["--all", "--at", "--filename", "--follow", "--local", "--namespace", "--node", "--output",
+                           "--recorders", "--seconds", "--selector", "--since", "--timeout", "--trace", "--traces",
+                           "--utc", "--without-why", ":4"]),
         (["run", ""], [":0"]),
         (["record", "--e"], ["--each", "--events", "--every", "--eviction-pause", "--extended", ":4"]),
         (["record", "--curl", ""], [":0"]),

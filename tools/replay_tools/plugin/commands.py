@@ -127,7 +127,7 @@ def check_readable(path: str) -> None:
         with open(path, "rb"):
             pass
     except OSError as fault:
-        raise entry.Fault(f"{outside.visible(path)}: {fault.strerror}", 1) from None
+        raise entry.Fault(f"{outside.visible(path)}: {fault.strerror}") from None
 
 
 def without_fail_on(rest: list[str]) -> tuple[list[str], dict[str, None] | None]:

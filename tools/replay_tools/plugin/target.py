@@ -2,9 +2,12 @@
 
 from __future__ import annotations
 
+import fcntl
 import os
 import select
 import stat
+import sys
+import termios
 
 from replay_tools import entry, outside
 from replay_tools.cluster import workloads
@@ -60,7 +63,9 @@ def has_report() -> bool:
         return False
     if not select.select([0], [], [], SECONDS_UNSAID)[0]:
         entry.say("waiting for a report on standard input, which is a pipe; < /dev/null asks the cluster")
-    return bool(entry.standard_input().peek(1))  # type: ignore[attr-defined]
+        select.select([0], [], [])
+    # at its end there is nothing to read; what there is stays for the tool
+    return bool(int.from_bytes(fcntl.ioctl(0, termios.FIONREAD, bytes(4)), sys.byteorder))
 
 
 def target_of(found: words.Words) -> workloads.Target:
