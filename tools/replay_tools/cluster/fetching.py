@@ -6,6 +6,7 @@ import contextlib
 import os
 import re
 import secrets
+import stat
 import time
 from collections.abc import Iterator
 from concurrent.futures import ThreadPoolExecutor, as_completed
@@ -110,12 +111,13 @@ def without_copy(name: str) -> str:
 
 
 def drop_left(folder: int) -> None:
-    """Takes away what a fetch that was killed has left long ago."""
+    """Takes away what a fetch that was killed has left long ago, and links of such names."""
     for name in os.listdir(folder):
-        is_copy = name.endswith(COPY) and files.parts_of(without_copy(name))[1] is not None
-        if is_copy and safe_folder.is_own(folder, name):
+        if name.endswith(COPY) and files.parts_of(without_copy(name))[1] is not None:
             with contextlib.suppress(OSError):
-                if now() - os.stat(name, dir_fd=folder, follow_symlinks=False).st_mtime > LEFT_SECONDS:
+                found = os.stat(name, dir_fd=folder, follow_symlinks=False)
+                is_left = safe_folder.is_own(folder, name) and now() - found.st_mtime > LEFT_SECONDS
+                if is_left or stat.S_ISLNK(found.st_mode):
                     safe_folder.drop(folder, name)
 
 
