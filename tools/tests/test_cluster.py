@@ -228,7 +228,8 @@ def test_story_of_a_cluster():
             (["story", "web", "--node"], 2, "--node wants a value"),
             (["story", "web", "--node", "n1", "-f", folder.path, "--recorders", "x"], 2, "--recorders is for"),
         ):
-            means = "may still lie on" if "n12" in words else "the pods of default: can't" if len(words) == 4 else None
+            means = "may still lie on" if "n12" in words else "the pods of default: can't" if (
+                words[:3] == ["story", "web", "--since"]) else None
             expect_refused(f"kubectl replay {' '.join(words)}", cluster.run("kubectl-replay", *words), status, said, means)
         answer = cluster.run("kubectl-replay", "story", "shop/wab", "--node", "n1")
         expect("kubectl replay of a pod that is not on the node", (answer[0], answer[1], answer[2].split("\n")[1:]),
