@@ -23,7 +23,7 @@ def text(report: reports.Report, namespace: str | None, show: Callable[[int], st
         raise entry.Fault(f"the report has no pod in the namespace {namespace}")
     is_part = since != summing.NEVER
     heads = ["pod", "phase", "restarts", *["in all"] * is_part, "unready s", "moment", "worst event"]
-    rows = [row_of(report, summary, show, is_part) for summary in ranked]
+    rows = [row_of(report, summary, show, is_part, trace) for summary in ranked]
     where, of_time = "" if namespace is None else f" in {namespace}", f" since {show(since)}" if is_part else ""
     title = f"{report.node}: {entry.counted(len(rows), 'pod')}{where}, the worst{of_time} first"
     of_node = telling.node_lines(trace, report, pods, show, since) if trace is not None else []
@@ -31,9 +31,10 @@ def text(report: reports.Report, namespace: str | None, show: Callable[[int], st
     return "\n".join([*of_node, *telling.table(title, heads, rows)[:-1]]) + "\n"
 
 
-def row_of(report: reports.Report, summary: summing.Summary, show: Callable[[int], str], is_part: bool) -> list[str]:
+def row_of(report: reports.Report, summary: summing.Summary, show: Callable[[int], str], is_part: bool,
+           trace: traces.Trace | None) -> list[str]:
     pod, found = report.pods[summary.number], summary.found
-    return [pod.key + reports.number_words(report, pod), pod.phase, str(summary.restarts),
+    return [pod.key + reports.number_words(report, pod), provenance.phase_words(trace, pod), str(summary.restarts),
             *[str(summary.all_restarts)] * is_part, str(summary.unready_seconds),
             "-" if found.at is None else show(found.at), found.words or "-"]
 

@@ -9,10 +9,11 @@ from typing import Any, TYPE_CHECKING
 from replay_tools import outside
 
 if TYPE_CHECKING:
-    from replay_tools import traces
+    from replay_tools import report as reports, traces
 
 UNKNOWN_MANIFEST = "its manifest is unknown"
 UNKNOWN_CLASS = "class unknown"
+UNKNOWN_PHASE = "Succeeded or Failed"
 # a container that runs so long after its pod was marked as being deleted is of a pod that was not deleted: longer than
 # the graces of nearly all pods
 STILL_RUNS = 120
@@ -21,6 +22,12 @@ STILL_RUNS = 120
 def class_words(pod: traces.Pod | None, qos: str) -> str:
     """A pod's class as its report has it, which says nothing if its manifest is unknown."""
     return UNKNOWN_CLASS if pod is not None and pod.is_guessed else qos
+
+
+def phase_words(trace: traces.Trace | None, pod: reports.Pod) -> str:
+    """A pod's phase as its report has it, unless the code that decides it was guessed."""
+    is_unknown = trace is not None and pod.number in trace.reasons.unknown_phases
+    return UNKNOWN_PHASE if is_unknown and pod.phase in ("Succeeded", "Failed") and pod.reason == "-" else pod.phase
 
 
 def manifest_lines(pod: traces.Pod | None) -> list[str]:

@@ -6,7 +6,7 @@ from __future__ import annotations
 from collections.abc import Iterator
 from typing import Any, TYPE_CHECKING
 
-from replay_tools import events, kubelet as kubelets, reasons, report as reports, summary as summing
+from replay_tools import events, kubelet as kubelets, provenance, reasons, report as reports, summary as summing
 from replay_tools.summary import NEVER, came_again, last_moment, seconds_of
 
 if TYPE_CHECKING:
@@ -136,9 +136,11 @@ def pod_record(report: reports.Report, pod: reports.Pod, rank: int, summary: sum
 
 
 def manifest_fields(pod: reports.Pod, trace: traces.Trace | None) -> dict[str, Any]:
-    """Where its manifest is unknown, that it is, and with it the class."""
+    """Where its manifest is unknown, that it is, and with it the class; the same of its phase."""
     is_guessed = trace is not None and trace.pods[pod.number].is_guessed
-    return {"qos": None, "manifest_is_unknown": True} if is_guessed else {}
+    found: dict[str, Any] = {"qos": None, "manifest_is_unknown": True} if is_guessed else {}
+    is_unknown = provenance.phase_words(trace, pod) == provenance.UNKNOWN_PHASE
+    return found | ({"phase": None, "phase_is_unknown": True} if is_unknown else {})
 
 
 def deletion_fields(pod: reports.Pod, trace: traces.Trace | None) -> dict[str, Any]:

@@ -5,10 +5,11 @@ from __future__ import annotations
 from collections.abc import Callable
 from typing import TYPE_CHECKING
 
-from replay_tools import asking, endings, kubelet as kubelets, provenance, reasons, report as reports, why_text
+from replay_tools import (asking, endings, kubelet as kubelets, provenance, readiness, reasons, report as reports,
+                          why_text)
 from replay_tools.joined import told as told_of_several
-from replay_tools.telling import (DECIDED, OF_NODE, beside_words, containers_title, event_words, last_lines, node_lines,
-                                  node_rows, rank_of, rank_of_said, table)
+from replay_tools.telling import (DECIDED, OF_NODE, SAID_LATER, beside_words, containers_title, event_words,
+                                  last_lines, node_lines, node_rows, rank_of, rank_of_said, table)
 
 if TYPE_CHECKING:
     from replay_tools import traces
@@ -96,6 +97,7 @@ def events(report: reports.Report, pod: reports.Pod, show: Show, kubelet: kubele
         cells, rank = [event.container or "-", attempt or "-"], rank_of(event)
         rows.append((event.at, rank, [*cells, what + beside_words(pod, event, show, trace)]))
         rows += [(event.at, rank, [*cells, wrote]) for wrote in last_lines(event, trace)]
+    rows += [(at, SAID_LATER, ["-", "-", what]) for at, what in readiness.rows(trace, pod)]
     rows += [(said.at, rank_of_said(said), [said.container or "-", "-", said.words()])
              for said in (trace.said.of(pod.number) if trace else ())]
     fact = kubelet and kubelet.fact(pod.number)
@@ -150,7 +152,8 @@ def story(given: asking.Given, pod: reports.Pod, show: Show, kubelet: kubelets.K
     names = kubelet is not None and kubelet.names
     is_by_rules = is_evicted and not names and endings.ended_by_kubelet(report, pod) is None
     by_rules = "by the rules " if is_by_rules else ""
-    lines = [f"{pod.key} on {report.node}{reports.number_words(report, pod)}: {by_rules}{pod.phase}{reason}, "
+    lines = [f"{pod.key} on {report.node}{reports.number_words(report, pod)}: {by_rules}"
+             f"{provenance.phase_words(trace, pod)}{reason}, "
              f"{provenance.class_words(ours, pod.qos)}", *provenance.head_lines(trace, show),
              *provenance.manifest_lines(ours), *kubelets.lines_of(kubelet, pod.number, show),
              *(node_lines(trace, report, [pod], show, given.since) if trace else []),

@@ -37,7 +37,14 @@ KEPT = (
     ("FailedPostStartHook", f"Exec lifecycle hook ([{SECRET}]) failed", None),
     ("NodeNotReady", "Node is not ready", "Node is not ready"),
     ("TaintManagerEviction", "Marking for deletion Pod shop/web-1", "Marking for deletion Pod shop/web-1"),
-    ("FailedMount", f'MountVolume.SetUp failed for volume "{SECRET}" : secret "{SECRET}" not found', None))
+    ("FailedPostStartHook",
+     f"Exec lifecycle hook ([{SECRET}]) failed - error: command '{SECRET}' exited with 7: {SECRET}", "exited with 7"),
+    ("FailedMount", f'MountVolume.SetUp failed for volume "{SECRET}" : secret "web-tls" not found',
+     'secret "web-tls" not found'),
+    ("FailedMount", f'MountVolume.SetUp failed for volume "{SECRET}" : {SECRET} "web-tls" not found', None),
+    ("FailedMount",
+     f"Unable to attach or mount volumes: unmounted volumes=[{SECRET}]: timed out waiting for the condition",
+     "timed out waiting for the condition"))
 
 
 def event(at, reason, message, identity="e1", count=1, uid="uid-web", path="spec.containers{app}"):

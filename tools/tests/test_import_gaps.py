@@ -24,7 +24,7 @@ def test_import_of_a_kubelet_that_is_started_anew():
     rest = text[at:].replace("    2211 ", "    9999 ")
     folder = tempfile.mkdtemp()
     status, _, said = imported("--into", folder, given=text[:at] + begin + rest)
-    expect("import of a kubelet that is started anew", (status, "was started anew" in said), (0, True))
+    expect("import of a kubelet that is started anew", (status, "the kubelet was restarted" in said), (0, True))
     traces = []
     for name in sorted(os.listdir(folder)):
         with gzip.open(f"{folder}/{name}", "rt", encoding="utf-8") as file:
@@ -247,7 +247,7 @@ def test_import_of_an_exit_in_a_hole():
         0, 0, {"since": 1772359235, "until": 1772359550}, 1772359235))
     [web] = [entry["containers"] for entry in tick["pods"] if entry["pod"] == "shop/web"]
     expect("import of an exit in a hole: the exit", [(each["attempt"], each["ended"]) for each in web], [
-        (2, {"attempt": 1, "exitCode": 137, "guessed": ["exitCode"]})])
+        (2, {"attempt": 1, "exitCode": 137, "guessed": ["moment", "exitCode"]})])
     at = text.index("I0301 10:00:50")
     other = text[at:].replace("11111111-", "99999999-").replace("aaaa0", "cccc0")
     status, trace, _ = imported(given=later(text[:at] + other, "I0301 10:00:50", 300))

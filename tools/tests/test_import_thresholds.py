@@ -208,7 +208,7 @@ def test_import_of_a_kubelet_that_is_started_anew_with_other_thresholds():
     text = text[:at] + text[at:].replace("    2211 ", "    9999 ")
     status, trace, said = imported(given=text)
     expect("import of other thresholds: a trace alone", (
-        status, json.loads(trace.split("\n")[0])["evictionHard"], "started anew with other thresholds" in said), (
+        status, json.loads(trace.split("\n")[0])["evictionHard"], "restarted with other thresholds" in said), (
             0, {DISK: "10%"}, True))
     folder = tempfile.mkdtemp()
     imported("--into", folder, given=text)

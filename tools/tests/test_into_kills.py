@@ -150,7 +150,7 @@ def other_line(text, wanted):
 def test_kills_where_a_trace_ends():
     """At 200 moments of the looks in which one trace ends and the next begins: what had been written is there, once, as
     one that was not killed wrote it, before that look or behind it."""
-    for second in (15, 25, 39):
+    for second in (15, 25, 35):
         expect(f"kills at moments of the look at {second}",
                list(faults_of(probed_play(), ["--each", "10s"], second, 67))[:1], [])
 

@@ -51,6 +51,8 @@ class Told:
 
     def by(self, tool, *words):
         options = [] if tool == "page" else ["--trace"]
+        # its why is another tool's
+        words = (*words, "--without-why") if tool == "story" and words else words
         status, told, said = run([f"{TOOLS}/{tool}", *words, *options, self.trace], self.report)
         expect(f"{tool} of a made trace", (status, said), (0, ""))
         return told
@@ -78,8 +80,8 @@ def test_a_kubelet_that_is_restarted():
     story = told.by("story", "shop/web")
     expect("story: the kubelet's restart, above", lines_with(story, "the kubelet was restarted at"),
            ["the kubelet was restarted at 2026-01-01 00:00:29Z"])
-    expect("story: the kubelet's restart, among the events", lines_with(story, "-  -", "the kubelet was restarted"),
-           ["00:00:29Z - - the kubelet was restarted"])
+    expect("story: the kubelet's restart, among the events", [line for line in lines_with(
+        story, "the kubelet was restarted") if "restarted at" not in line], ["00:00:29Z - - the kubelet was restarted"])
     expect("story of a pod that stayed ready", lines_with(told.by("story", "shop/calm"), "the kubelet was restarted"),
            ["00:00:29Z - - the kubelet was restarted"])
     expect("story of all pods", "the kubelet was restarted at" in told.by("story"), True)
@@ -90,6 +92,46 @@ def test_a_kubelet_that_is_restarted():
     picture = told.by("timeline")
     expect("timeline", (picture.count(">the kubelet was restarted<"), "the kubelet was restarted at 2026" in picture),
            (1, True))
+
+
+def test_turns_of_ready():
+    """What the kubelet's status shows of Ready counts, with its own moments; what no probe explains has its cause."""
+    def turn(at, status):
+        return {"readyTurns": [{"status": status, "at": BEGIN + at}]}
+    dip = [{"status": "False", "at": BEGIN + 21}, {"status": "True", "at": BEGIN + 28}]
+    told = Told(NODE, pod("web"), tick(0, entry("web", runs(), **turn(0, "True"))),
+                tick(30, entry("web", runs(), readyTurns=dip), kubeletStartedAt=BEGIN + 20),
+                tick(60, entry("web", runs(), **turn(50, "False"), readinessGates={"lb": False})),
+                tick(80, entry("web", runs(), readinessGates={"lb": True}, **turn(70, "True"))),
+                tick(90, entry("web", runs())))
+    story = told.by("story", "shop/web")
+    expect("turns in the events", [line.partition(" - - ")[2] for line in lines_with(story, "kubelet's status")], [
+        "not ready in the kubelet's status: the kubelet was restarted", "ready again in the kubelet's status",
+        "not ready in the kubelet's status: its readiness gate lb is not true", "ready again in the kubelet's status"])
+    expect("turns count", "not ready for 27 s" in story, True)
+    expect("turns in json", [record["unready_seconds"] for record in told.records("pod")], [27])
+    expect("turns on the page", told.data()["podList"][0]["ready"], [[0, 1], [21, 0], [28, 1], [50, 0], [70, 1]])
+
+
+def test_a_pod_that_was_refused_again():
+    """One that had run, and was refused when a kubelet that had restarted admitted its pods, is not told as evicted."""
+    refused = {"kubelet": {"refused": [{"pod": "shop/web", "at": BEGIN + 9, "reason": "Evicted", "message":
+                                        "The node had condition: [MemoryPressure]. "}]}}
+    told = Told(NODE, pod("web"), tick(0, entry("web", runs())),
+                tick(9, entry("web", exited(137), failed="Evicted"), **refused))
+    story = told.by("story", "shop/web")
+    expect("refused again", lines_with(story, "the kubelet refused it at"),
+           ["the kubelet refused it at 2026-01-01 00:00:09Z: the node had MemoryPressure"])
+    expect("it is no eviction", "the kubelet evicted it" in story, False)
+
+
+def test_an_end_without_a_reason():
+    ended = {"kubelet": {"ended": [{"pod": "shop/web", "at": BEGIN + 9, "reason": "Other", "message": "",
+                                    "guessed": ["reason"]}]}}
+    told = Told(NODE, pod("web"), tick(0, entry("web", runs())),
+                tick(9, entry("web", exited(137), failed="Other"), **ended))
+    expect("an end without a reason", lines_with(told.by("story", "shop/web"), "the kubelet ended it"),
+           ["the kubelet ended it at 2026-01-01 00:00:09Z: for a reason that was not seen"])
 
 
 def test_unknown_manifests():
@@ -113,6 +155,21 @@ def test_unknown_manifests():
            [(None, True), ("BestEffort", None)])
     expect("page", [(one["qos"], one.get("guessed")) for one in told.data()["podList"]],
            [("class unknown", True), ("BestEffort", None)])
+
+
+def test_an_unknown_phase():
+    """A pod of policy Never has exited with an unknown code: no tool says that it failed."""
+    never = pod("once")
+    never["pod"]["spec"]["restartPolicy"] = "Never"
+    told = Told(NODE, never, tick(0, entry("once", runs())),
+                tick(9, entry("once", exited(137, guessed=["exitCode"]), guessed=["phase"])))
+    story = told.by("story", "shop/once")
+    expect("the phase in the head", story.splitlines()[0].split(",")[0], "shop/once on n1: Succeeded or Failed")
+    expect("no event says that it failed", (re.findall(r"phase .*", story)[-1], "phase Failed" in story),
+           ("phase Succeeded or Failed: no code is known that tells which", False))
+    expect("the list", "Succeeded or Failed" in told.by("story"), True)
+    expect("json", [(record["phase"], record.get("phase_is_unknown")) for record in told.records("pod")],
+           [(None, True)])
 
 
 def test_an_owners_template():
@@ -201,7 +258,7 @@ def test_a_kill_and_its_death():
     expect("the worst", lines_with(story, "the worst:")[0].partition("; ")[0],
            "the worst: 2026-01-01 00:00:10Z app killed by its liveness probe (HTTP 503), exited 137 after its grace "
            "period of 3 s")
-    expect("the death", lines_with(story, "died with code 137", "13Z app 0"), [
+    expect("the death", lines_with(story, "app", "died with code 137"), [
         "00:00:13Z app 0 died with code 137: Error, as signal 9 leaves it; killed by its liveness probe (HTTP 503) at "
         "00:00:10Z, after its grace period of 3 s"])
     events = [re.sub(r"^\S* *app *\S* *", "", line.strip()) for line in story.splitlines() if "00:00:10Z  app" in line]

@@ -83,7 +83,7 @@ def test_metrics():
         ("deaths", "done", "Error", "0"): 1})
     expect("metrics: what is so now", series_of(text, "ready", "pressure", "available", "evictions", "ended"), {
         ("ready", "crash"): 0, ("ready", "done"): 0, ("ready", "probed"): 1,
-        ("pressure", "MemoryPressure"): 1, ("pressure", "DiskPressure"): 0, ("pressure", "PIDPressure"): 0,
+        ("pressure", "MemoryPressure"): 1,
         ("available", "memory.available"): 2 ** 26, ("evictions",): 1, ("ended", "Evicted"): 1})
     unready = series_of(text, "unready_seconds")
     expect("metrics: seconds that were not ready", (unready["unready_seconds", "probed"],

@@ -2,6 +2,7 @@
 them."""
 
 import json
+from dataclasses import replace
 
 import cases
 from checks import HERE, expect, read
@@ -10,6 +11,9 @@ from into_plays import Into
 from replay_tools.record.node import node_line_of
 from replay_tools.record import lines, node
 from replay_tools.record.rounds import Rounds
+from replay_tools.record.runtime import EXITED, RUNNING, Container, Instance
+from replay_tools.record.samples import Sampling
+from replay_tools.record.seen import Recorded
 from replay_tools.record.standing import Standing
 from replay_tools.record.summary import Sample, Summary
 
@@ -54,6 +58,52 @@ def test_rounds_behind_an_eviction():
     list(waits.of(sampled(memory=103), frozenset(), 101))
     expect("rounds: what waits for the next sample", [waits.open_since(moment) for moment in (104, 115, 116)],
            [103, 103, 116])
+
+
+def test_rounds_that_evictions_show():
+    """A sample that waits is a round where the kubelet has evicted a pod since, whatever follows."""
+    for evicted, wanted in ((102, (None, 103)), (103, (103, 103)), (106, (103, 106))):
+        waits = Rounds()
+        list(waits.of(sampled(memory=103), frozenset(), 101))
+        expect(f"rounds: an eviction at {evicted} after a sample at 103",
+               (waits.confirm(evicted), waits.open_since(106)), (wanted[0], 103 if wanted[0] is None else 106))
+
+
+def test_last_eviction_of_a_series():
+    """The round of the last eviction is judged, though the next sample is long after it, and so is that of a pod that
+    takes long to end; the eviction is told at the moment of its sample, whichever look shows it."""
+    hard = {"evictionHard": {"memory.available": "100Mi"}}
+    samples = {-1: 4096, 20: 90, 25: 80, 45: 4096}
+    play = low_play(samples={str(at): {"memory": value * 2 ** 20, "pods": {}} for at, value in samples.items()},
+                    configz=hard)
+    for name, evicted, exited in (("hog", 20.4, 22), ("last", 25.6, 40)):
+        play["pods"][f"shop/{name}"] = {"evicted": evicted, "spec": {"containers": [{"name": "app"}]}}
+        play["containers"].append({"id": f"b{name}", "pod": f"shop/{name}", "name": "app", "attempt": 0, "created": -3,
+                                   "started": -2, "exited": exited, "code": 137})
+    for look in ("1", "5"):
+        place = Into(play)
+        status, trace, _ = place.record("--extended", "--for", "70", "--kubelet", "http://127.0.0.1:10250",
+                                        "--look", look)
+        place.clean()
+        expect(f"the last eviction of a series, --look {look}", (status, judged_in(trace)[0]), (0, [0, 20, 25, 45]))
+        told = [each["at"] - BEGIN for line in trace.splitlines() if '"evicted":[' in line
+                for each in json.loads(line)["kubelet"]["evicted"]]
+        expect(f"the last eviction of a series, --look {look}: when they are told", told, [20, 25])
+
+
+def test_usage_of_what_was_killed():
+    """A sample of no memory of a pod that has used some is not what it used, where it was killed as it was taken; where
+    an instance has started since it is."""
+    before, none = {"memory": Sample(5, 10)}, {"memory": Sample(0, 20)}
+    running = Instance("a", "u", "app", 0, RUNNING, 1, started=5)
+    for name, newest, kept in (("it runs", running, True), ("it has exited", replace(running, state=EXITED), True),
+                               ("it has started since", replace(running, started=15), False)):
+        container = Container("shop/web app", lambda *_: None)
+        container.newest = newest
+        recorded = Recorded(None, 0, 0, containers={"app": container}, usage=before)
+        expect(f"no memory of what was killed: {name}", Sampling.known_usage(recorded, none),
+               before if kept else none)
+    expect("no memory from the first on", Sampling.known_usage(Recorded(None, 0, 0), none), none)
 
 
 def judged_in(trace):

@@ -34,7 +34,8 @@ KEPT = (
     ("ImagePullBackOff", f'Back-off pulling image "registry.example/u:{SECRET}@web"', None),
     ("StartError", f'exec: "--image \\"{SECRET}\\"": permission denied: unknown', "permission denied"),
     ("Error", "permission denied", None),
-    ("PostStartHookError", f"command 'image \"{SECRET}\"' exited with 126: permission denied", None),
+    ("PostStartHookError", f"command 'image \"{SECRET}\"' exited with 126: permission denied",
+     "exited with 126: permission denied"),
     ("Evicted", f"The node was low on resource: memory. Container app was using 9Mi, which exceeds its request of 0. {SECRET}",
      "The node was low on resource: memory. Container app was using 9Mi, which exceeds its request of 0."),
 )
@@ -51,7 +52,7 @@ def test_secrets():
     expect("secrets: in the trace", (status, SECRET in trace, SECRET in said), (0, False, False))
     left_out = re.findall(r'"reason":"([A-Za-z]+)","messageLeftOut":true', trace)
     expect("secrets: messages that are left out", sorted(left_out),
-           ["CreateContainerConfigError", "CreateContainerError", "Error", "OOMKilled", "Other", "PostStartHookError"])
+           ["CreateContainerConfigError", "CreateContainerError", "Error", "OOMKilled", "Other"])
 
 
 def test_kept_parts():

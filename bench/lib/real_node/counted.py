@@ -159,6 +159,31 @@ def said_facts(report, trace):
     return facts + [Fact(each.pod, "-", "told", each.at) for each in trace.decisions if each.kind == "evicted"]
 
 
+def turned_facts(trace_path):
+    """How the condition Ready of pods has turned, as a recording has it of their statuses; the first value of each is
+    no turn."""
+    known = set()
+    with open(trace_path, encoding="utf-8") as lines:
+        for line in lines:
+            record = json.loads(line) if "readyTurns" in line else {}
+            for entry in record.get("pods", []):
+                for turn in entry.get("readyTurns", []):
+                    if entry["pod"] in known or turn["status"] == "True":
+                        what = "ready" if turn["status"] == "True" else "unready"
+                        yield Fact(entry["pod"], "-", what, turn["at"])
+                    known.add(entry["pod"])
+
+
+def with_turns(said, trace_path):
+    """What a report says, and the turns of Ready that it has not."""
+    found = list(said)
+    for turn in turned_facts(trace_path):
+        if not any((each.pod, each.what) == (turn.pod, turn.what) and abs(each.moment - turn.moment) <= NEAR
+                   for each in said):
+            found.append(turn)
+    return found
+
+
 def by_rules(report, trace):
     """Whom the rules evict, or name: each pod once, where they do it nearest to its eviction by the kubelet."""
     told = {each.number: each.at for each in trace.decisions if each.kind == "evicted"}
@@ -254,7 +279,7 @@ def read_run(trace_path, report_text):
 def counts_of(real, trace_path, report_text):
     """The rows of a recording beside what the kubelet did, and its false codes."""
     report, trace = read_run(trace_path, report_text)
-    said = said_facts(report, trace)
+    said = with_turns(said_facts(report, trace), trace_path)
     return counts_of_facts(real, said, trace.ticks[0].at, trace.ticks[-1].at), list(false_codes(real, said))
 
 

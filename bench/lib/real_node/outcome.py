@@ -9,7 +9,7 @@ import time
 from beside import text_of
 from chained import show_chain
 from counted import (added, counts_of_facts, false_codes, read_run, real_facts, said_facts, side_by_side,
-                     table_of)
+                     table_of, with_turns)
 from from_log import MARKED, at_level, compared, import_log, unknown_places
 from kit import read, write
 from restarts import restarts_of
@@ -51,7 +51,7 @@ def show_recording(real, folder, name, replay, show):
     with open(f"{folder}/{name}.report", "wb") as file:
         subprocess.run([replay, "run", trace, *words], stdout=file, check=True)
     report, recorded = read_run(trace, read(f"{folder}/{name}.report"))
-    said = said_facts(report, recorded)
+    said = with_turns(said_facts(report, recorded), trace)
     rows = counts_of_facts(real, said, recorded.ticks[0].at, recorded.ticks[-1].at)
     codes, restarts = list(false_codes(real, said)), restarts_of(real, report, recorded)
     show_table(f"{os.path.basename(folder)}, {name}", rows, [

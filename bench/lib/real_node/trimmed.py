@@ -11,6 +11,8 @@ STATUS_FIELDS = ("phase", "reason", "message")
 STATUSES = ("initContainerStatuses", "containerStatuses")
 END_FIELDS = ("containerID", "startedAt", "finishedAt", "exitCode", "reason")
 WAIT_FIELDS = ("reason", "message")
+CONDITION_FIELDS = ("type", "status", "reason", "lastTransitionTime")
+CONTAINER_STATUS_FIELDS = ("name", "resources", "ready", "started", "restartCount")
 SPEC_FIELDS = ("restartPolicy", "priority", "terminationGracePeriodSeconds", "nodeName", "volumes", "readinessGates",
                "resources")
 CONTAINER_FIELDS = ("name", "image", "resources", "restartPolicy", "restartPolicyRules", "startupProbe",
@@ -40,8 +42,10 @@ def pods_of(answer):
 def status_of(pod):
     """A pod's status, with how its containers ended, why they wait, and whether its readiness gates are true."""
     status = pod.get("status", {})
-    types = {"DisruptionTarget", *(each.get("conditionType") for each in pod["spec"].get("readinessGates") or [])}
-    conditions = [each for each in status.get("conditions") or [] if each.get("type") in types]
+    gates = pod["spec"].get("readinessGates") or []
+    types = {"DisruptionTarget", "Ready", *(each.get("conditionType") for each in gates)}
+    conditions = [picked(each, CONDITION_FIELDS) for each in status.get("conditions") or []
+                  if each.get("type") in types]
     return {**picked(status, STATUS_FIELDS), **({"conditions": conditions} if conditions else {}),
             **{role: list(map(container_status, status[role])) for role in STATUSES if status.get(role)}}
 
@@ -50,10 +54,10 @@ def container_status(status):
     """How a container ended and why it waits; a message of its end may be its own words."""
     states = {}
     for state in ("lastState", "state"):
-        for kind, fields in (("terminated", END_FIELDS), ("waiting", WAIT_FIELDS)):
+        for kind, fields in (("terminated", END_FIELDS), ("waiting", WAIT_FIELDS), ("running", ("startedAt",))):
             if (status.get(state) or {}).get(kind):
                 states[state] = {kind: picked(status[state][kind], fields)}
-    return {**picked(status, ("name", "resources")), **states}
+    return {**picked(status, CONTAINER_STATUS_FIELDS), **states}
 
 
 def sample_of(value):
@@ -77,7 +81,13 @@ def counts_of(text):
     return "".join(f"{line}\n" for line in text.split("\n") if line.startswith("prober_probe_total{"))
 
 
-TRIMS = {"ps": lambda text: list_of(json.loads(text)), "pods": lambda text: pods_of(json.loads(text)),
+def start_of(text):
+    """When the kubelet was started, of its metrics."""
+    return "".join(f"{line}\n" for line in text.split("\n") if line.startswith("process_start_time_seconds "))
+
+
+TRIMS = {"metrics": start_of, "ps": lambda text: list_of(json.loads(text)),
+         "pods": lambda text: pods_of(json.loads(text)),
          "summary": lambda text: sample_of(json.loads(text)), "probes": counts_of,
          "configz": lambda text: configuration_of(json.loads(text))}
 
@@ -85,7 +95,7 @@ TRIMS = {"ps": lambda text: list_of(json.loads(text)), "pods": lambda text: pods
 def kind_of(words):
     if words[0] == "crictl":
         return "ps" if words[1] == "ps" else words[-1]
-    return next(kind for kind in ("configz", "summary", "probes", "pods") if kind in " ".join(words))
+    return next(kind for kind in ("configz", "summary", "probes", "pods", "metrics") if kind in " ".join(words))
 
 
 def looks_of(lines):
@@ -105,9 +115,15 @@ def looks_of(lines):
 
 
 def main(path, out):
+    with open(path, encoding="utf-8") as file:
+        pack(looks_of(file), out)
+
+
+def pack(looks, out):
+    """Writes the answers of each look that are others than at the look before."""
     last = {}
-    with open(path, encoding="utf-8") as file, gzip.GzipFile(out, "wb", mtime=0) as packed:
-        for moment, answers in looks_of(file):
+    with gzip.GzipFile(out, "wb", mtime=0) as packed:
+        for moment, answers in looks:
             changed = {kind: answer for kind, answer in answers.items() if last.get(kind) != answer}
             last.update(changed)
             entry = {"at": moment, "answers": changed}

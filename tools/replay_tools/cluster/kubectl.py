@@ -2,6 +2,7 @@
 
 from __future__ import annotations
 
+import math
 import os
 import selectors
 import subprocess
@@ -25,13 +26,13 @@ class Silent(NoAnswer):
     """Nothing came in time."""
 
 
-def answer(words: list[str], most: int, seconds: float, take: Callable[[bytes], object],
+def answer(words: list[str], most: int, seconds: float, take: Callable[[bytes], object], is_long: bool = False,
            silent: float | None = None) -> None:
-    """Hands on what kubectl answers, which has to be whole within so many seconds, and has so many bytes at most;
-    `silent` is for how many seconds no byte may come. Raises NoAnswer."""
+    """Hands on what kubectl answers, which has to be whole within so many seconds, or, of a long answer, each piece of
+    it; and has so many bytes at most. `silent` is for how many seconds no piece may come. Raises NoAnswer."""
     process = started(words)
     try:
-        said = handed_on(process, most, seconds, seconds if silent is None else silent, take)
+        said = handed_on(process, most, math.inf if is_long else seconds, seconds if silent is None else silent, take)
         status = process.wait(seconds)
     except (TimeoutError, subprocess.TimeoutExpired) as fault:
         waited = fault.args[0] if isinstance(fault, TimeoutError) else seconds

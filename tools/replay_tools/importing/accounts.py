@@ -5,7 +5,7 @@ from __future__ import annotations
 from dataclasses import dataclass, field, replace
 from typing import Any, Optional, TYPE_CHECKING
 
-from replay_tools.record.decisions import EVICTED, EVICTION, Decision
+from replay_tools.record.decisions import ENDED, EVICTED, EVICTION, Decision
 from replay_tools.record.formats import without_nones
 from replay_tools.record.pods import Pod
 from replay_tools.record.reasons import Reason, reason_of
@@ -45,10 +45,17 @@ class Account:
         self.key = key
         self.uid = uid
         self.added_at = at
+        # when it took the place of another one of its name
+        self.follows_at = 0.0
         self.pod: Optional[Pod] = None
         self.is_template = False
         # whether a line says that it comes, and whether it did not run before that
         self.is_listed = self.was_added = False
+        # whether it is of a file on the node, and the uids of its copies in the API server
+        self.is_static = False
+        self.copies: set[str] = set()
+        # what the condition Ready was last
+        self.is_ready: Optional[bool] = None
         self.instances = Instances()
         # what waits to be placed
         self.pending: list[Item] = []
@@ -90,9 +97,17 @@ class Account:
                 instance.seen, instance.is_met = (self.added_at, True) if is_met else (fact.at - BETWEEN_LOOKS, False)
             instance.gone = fact.at
 
-    def entry_of_wait(self, fact: facts.Waits) -> dict[str, Reason]:
+    def ready_turned(self, fact: facts.Readied) -> Optional[dict[str, Any]]:
+        """A status has the condition Ready: how it turned, where it had another value before."""
+        if fact.is_ready == self.is_ready:
+            return None
+        self.is_ready = fact.is_ready
+        since = fact.at if fact.since is None else fact.since
+        return {"status": "True" if fact.is_ready else "False", "at": int(since)}
+
+    def entry_of_wait(self, fact: facts.Waits, name: str) -> dict[str, Reason]:
         found = reason_of(without_nones({"reason": fact.reason, "message": fact.message}))
-        return {} if found is None else {fact.container: found}
+        return {} if found is None else {name: found}
 
     def forget(self, before: float) -> None:
         self.instances.forget(before)
@@ -107,6 +122,21 @@ class Account:
     def known_uid(self) -> str:
         """The uid as a trace's pod has it; one that no cluster gives where it is not known."""
         return self.uid if self.uid is not None else f"?{self.number}"
+
+    def is_copied_as(self, uid: str) -> bool:
+        """Whether a uid is that of a copy of it in the API server, as it is a static pod."""
+        return uid in self.copies
+
+    @property
+    def has_left(self) -> bool:
+        """Whether something of it has ended behind a line that says that it goes."""
+        since = self.deleted_at if self.removed_at is None else self.removed_at
+        return since is not None and any(each.gone is not None and each.gone >= since
+                                         for each in self.instances.by_id.values())
+
+    def come_back(self) -> None:
+        """A line says that it comes, under the same uid: it did not go."""
+        self.deleted_at = self.removed_at = None
 
     def leaves_at(self) -> Optional[float]:
         """When it is no more: once it was told to go and all its instances have exited, else when the kubelet has
@@ -142,6 +172,29 @@ class Account:
         self.told_at, self.is_moment_told = at, bool(moments)
         self.decision = Decision(EVICTED, min([at, *moments]), EVICTION, message)
 
+    def end(self, at: float, reason: str, message: str, is_late: bool, kind: str = ENDED) -> None:
+        """The kubelet has ended it for a reason of its own, or has not admitted it again as it was restarted. A line
+        that may come late is behind the first order to stop what ran, or behind the first exit that this led to."""
+        ordered = self.stopped_since(at) if is_late else at
+        self.told_at, self.is_moment_told = at, ordered is not None
+        self.decision = Decision(kind, at if ordered is None else min(at, ordered), reason, message)
+
+    def has_run(self) -> bool:
+        """Whether a container or a sandbox of it was seen."""
+        return any(each.seen is not None for each in self.instances.by_id.values())
+
+    def all_stopped_at(self) -> Optional[float]:
+        """The first exit of the last instances of its containers, where none of these runs; None where one does."""
+        newest = [chain.newest for chain in self.instances.chains]
+        ends = [each.end for each in newest if each.end is not None]
+        return min(ends) if ends and len(ends) == len(newest) else None
+
+    def first_stop(self) -> Optional[float]:
+        """The first order to stop the last instance of a container, for no reason of the container's own."""
+        orders = [chain.newest.killing.at for chain in self.instances.chains
+                  if chain.newest.killing is not None and not chain.newest.killing.why]
+        return min(orders, default=None)
+
     def stopped_since(self, at: float) -> Optional[float]:
         """The first order to stop what ran shortly before a moment, for no reason of a container's own, and not since
         the pod was deleted."""
@@ -159,8 +212,13 @@ class Account:
         """When the kubelet decided; where no line tells that, with the first of the last exits, if it is of the second
         before the line that it is evicted."""
         moment = decision.moment or 0.0
-        ends = [] if self.is_moment_told else [chain.newest.end for chain in self.instances.chains]
-        return min([moment, *(end for end in ends if end is not None and end >= moment - 1)])
+        if self.is_moment_told:
+            return moment
+        is_ended = decision.kind != EVICTED
+        waits = {name: at for at, name in self.instances.hints.waits}
+        ends = [chain.newest.end for chain in self.instances.chains if chain.newest.end is not None
+                and not (is_ended and waits.get(str(chain.name), 0.0) >= chain.newest.end)]
+        return min([moment, *(end for end in ends if end >= moment - (GOING_SECONDS if is_ended else 1))])
 
     def failed_in(self, second: int, decision: Decision) -> int:
         """The second in which it has failed, as a kubelet says where it begins to stop the containers: that of its

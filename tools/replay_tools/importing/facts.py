@@ -58,13 +58,21 @@ class Added(Fact):
 
 
 @dataclass
+class Updated(Fact):
+    """The object of a pod has changed, as where an ephemeral container is added."""
+    pod: Reference
+
+
+@dataclass
 class Deleted(Fact):
     pod: Reference
+    source: str = ""
 
 
 @dataclass
 class Removed(Fact):
     pod: Reference
+    source: str = ""
 
 
 @dataclass
@@ -210,16 +218,45 @@ class Refused(Fact):
 
 
 @dataclass
+class Ended(Fact):
+    """The kubelet ended a pod for a reason of its own, or did not admit it: no eviction under pressure of the node.
+    What was ended may have exited before the line that says so."""
+    pod: Reference
+    reason: str
+    message: str = ""
+    is_refused: bool = False
+    is_late: bool = False
+
+
+@dataclass
+class Readied(Fact):
+    """A status has the condition Ready: its value, and since when it has that."""
+    pod: Reference
+    is_ready: bool
+    since: Optional[float] = None
+
+
+@dataclass
 class Happened(Fact):
-    """An Event that the kubelet made of a pod, or of one of its containers."""
+    """An Event that the kubelet made of a pod, or of one of its containers; or a line of the kubelet's that says as
+    much, of a pod of its own."""
     pod: Reference
     reason: str
     message: str
     count: int = 1
     container: Optional[str] = None
+    is_line: bool = False
 
 
 @dataclass
 class OutOfMemory(Fact):
-    """The kernel ended a process since a memory limit was reached; of a container's id where the runtime says it."""
+    """The kernel killed a process since a memory limit was reached: of a container, where a line has its id."""
     id: Optional[str] = None
+
+
+@dataclass
+class NodeReady(Fact):
+    """The node is Ready, or not and why; whether a line has the condition itself, or a reason why it is not Ready."""
+    is_ready: bool
+    reason: str = ""
+    is_condition: bool = False

@@ -5,22 +5,25 @@ from __future__ import annotations
 import json
 import os
 from collections.abc import Callable
-from typing import Any, Optional
+from typing import Any, Optional, TYPE_CHECKING
 
 from replay_tools import entry
 from replay_tools.record.folder import Folder, Refused, made, may_be_made
 from replay_tools.record.formats import MOST_TICKS, shown
 from replay_tools.record.into import Traces
 
-from .placing import CLOCK_BACK, TICK_AT
+from .placing import CLOCK_BACK, STARTED_AT, TICK_AT
 from .thresholds import MEMBERS
 from .writing import Ended, NodeLine, Writer
+
+if TYPE_CHECKING:
+    from replay_tools.record.traces import Due
 
 # what is imported is not taken away for its age or its size
 KEPT_SECONDS, KEPT_BYTES = 1 << 36, 1 << 60
 # a tick behind a gap has this member
 GAP = '"gap":{'
-MOMENTS = ("at", "since", "until")
+MOMENTS = ("at", "since", "until", STARTED_AT)
 
 
 def thresholds_in(node: dict[str, Any]) -> dict[str, Any]:
@@ -35,6 +38,13 @@ def set_back(value: Any, seconds: int) -> Any:
         return value
     return {name: inner - seconds if name in MOMENTS and isinstance(inner, int) else set_back(inner, seconds)
             for name, inner in value.items()}
+
+
+class ImportedTraces(Traces):
+    """Traces that are not recorded: after a crash the journals are still there, and nothing is written ahead."""
+
+    def write_ahead(self, due: list[Due]) -> None:
+        """Writes nothing."""
 
 
 class Folded(Writer):
@@ -52,6 +62,8 @@ class Folded(Writer):
         self.node: Optional[NodeLine] = None
         # what the node line says of thresholds
         self.thresholds: dict[str, Any] = {}
+        # when the kubelet was restarted, where the trace that begins with that has no tick of the journal yet
+        self.started: Optional[int] = None
 
     def begin(self, node: NodeLine) -> None:
         self.node = node
@@ -65,7 +77,7 @@ class Folded(Writer):
             raise entry.Fault(str(refused), 1) from None
         if folder.traces():
             raise entry.Fault(f"--into: '{self.path}' has traces of {node['name']} already: take an empty folder", 1)
-        self.traces = Traces(folder, self.each, MOST_TICKS, self.say)
+        self.traces = ImportedTraces(folder, self.each, MOST_TICKS, self.say)
         self.traces.write([shown(node)])
         self.thresholds = thresholds_in(node)
         self.is_begun = True
@@ -93,9 +105,16 @@ class Folded(Writer):
         elif self.back:
             lines = self.by_the_clock(lines)
         if lines:
-            self.traces.write_due(iter([(lines, has_tick)]))
+            self.traces.write_due(iter([(list(map(self.with_start, lines)), has_tick)]))
         if self.traces.is_lost:
             raise Ended(1, f"--into: '{self.path}' takes no more")
+
+    def with_start(self, line: str) -> str:
+        """The first tick of the journal in a trace that begins as the kubelet was restarted has that moment."""
+        if self.started is None or TICK_AT.match(line) is None:
+            return line
+        started, self.started = self.started, None
+        return f"{line[:-1]},{shown({STARTED_AT: started})[1:]}"
 
     def by_the_clock(self, lines: list[str]) -> list[str]:
         """Lines with the moments that the clock said."""
@@ -112,6 +131,7 @@ class Folded(Writer):
         before, self.back = self.back, self.back + gap.get(CLOCK_BACK, 0)
         records = [set_back(record, self.back) for record in records]
         records[place]["gap"]["since"] = gap["since"] - before
+        self.started = records[place].get(STARTED_AT)
         if self.traces.standing.at is None:
             return [shown(record) for record in records]
         self.traces.end()

@@ -8,15 +8,18 @@ from typing import Optional
 
 from replay_tools import entry
 from replay_tools.record.decisions import EVICTION, REFUSED, Decision
+from replay_tools.record.events import Ready
 from replay_tools.record.formats import without_nones
 from replay_tools.record.messages import message_kept
 
 from . import facts
+from .endings import Endings
 from .evictions import Evictions
 from .manifests import Manifests
-from .placing import FILLED, LATE_SECONDS, TURNS, Placing
+from .placing import FILLED, LATE_SECONDS, READY_TURNS, RESTARTS, TURNS, WITH_MANIFEST, Placing
 from .pods import Pods
 from .silences import OF_KUBELET
+from .summary import stamp
 from .thresholds import Round, Thresholds
 
 # what is placed waits so long for what later lines say of it
@@ -47,6 +50,7 @@ class Importer(Pods):
         self.process: Optional[int] = None
         self.thresholds = Thresholds()
         self.evictions = Evictions(manifests, placing)
+        self.endings = Endings(manifests, placing)
         self.capacity: dict[str, int] = {}
         self.happened: dict[tuple[str, str, str], str] = {}
         self.handlers |= {
@@ -54,7 +58,8 @@ class Importer(Pods):
             facts.TurnedBack: self.on_turned_back, facts.Observed: self.on_observed,
             facts.Reclaims: self.evictions.take_reclaims, facts.Ranked: self.evictions.take_ranked,
             facts.Evicted: self.on_evicted, facts.Refused: self.on_refused,
-            facts.Happened: self.on_happened, facts.Begun: self.on_begun,
+            facts.Ended: self.on_ended, facts.Readied: self.on_readied,
+            facts.Happened: self.on_happened, facts.Begun: self.on_begun, facts.NodeReady: self.on_node_ready,
             **dict.fromkeys(self.thresholds.readers, self.thresholds.take)}
 
     # --- the stream ---
@@ -84,14 +89,15 @@ class Importer(Pods):
 
     def settle(self, horizon: float, is_end: bool = False) -> Iterator[tuple[list[str], bool]]:
         """Places what happened up to a moment, and gives the lines that nothing changes any more."""
-        self.settled_at = self.now
+        self.settled_at = self.placing.now = self.now
         if self.begun is None or horizon < self.begun or not self.placing.counts["met"]:
             return
         if not self.has_met_running:
             self.meet_running()
         self.evictions.take_events_alone(self.lives, horizon)
         for life in self.lives:
-            life.resolve(self.placing)
+            life.resolve(horizon, self.placing)
+        self.endings.take_statuses(self.lives, horizon, is_end)
         for life in self.lives:
             life.settle(horizon, is_end, self.placing)
         before = float("inf") if is_end else int(horizon) - LATE_SECONDS
@@ -117,9 +123,7 @@ class Importer(Pods):
         if fact.node and self.node is None:
             self.node = fact.node
         if self.process is not None and fact.process != self.process:
-            self.placing.count("processes of the kubelet")
-            self.placing.gap(self.before, fact.at)
-            self.say(f"{int(fact.at)}: the kubelet was started anew; what happened shortly before is not known")
+            self.restart(fact.at)
             self.started_at = fact.at
             self.thresholds.begin(fact.at)
             self.evictions.end_round()
@@ -129,9 +133,15 @@ class Importer(Pods):
         """A process of the kubelet begins, which may have the number of the one before, as in a container."""
         if self.started_at is None or fact.at - self.started_at > AGAIN_SECONDS:
             if self.has_turned:
-                self.placing.count("processes of the kubelet")
-                self.placing.gap(self.before, fact.at)
+                self.restart(fact.at)
         self.started_at = fact.at
+
+    def restart(self, at: float) -> None:
+        """Another process of the kubelet begins."""
+        self.placing.count(RESTARTS)
+        self.placing.gap(self.before, at)
+        self.placing.started.append(int(at))
+        self.say(f"{stamp(at)}: the kubelet was restarted; what happened shortly before is not known")
 
     def on_node(self, fact: facts.NodeName) -> None:
         self.node = fact.name
@@ -154,7 +164,7 @@ class Importer(Pods):
         self.pause()
         self.placing.gap(self.before, fact.at, fact.seconds)
         self.placing.count(TURNS)
-        self.say(f"{int(fact.at) - fact.seconds}: the clock went back by {fact.seconds} s")
+        self.say(f"{stamp(fact.at - fact.seconds)}: the clock went back by {fact.seconds} s")
 
     def on_observed(self, fact: facts.Observed) -> None:
         """A round says first that it begins, and then, by less than a second, what it finds: that stands in one tick,
@@ -192,16 +202,41 @@ class Importer(Pods):
         refused = life.pod_refused(Decision(REFUSED, fact.at, EVICTION, message))
         self.placing.timeline.place_decision(refused, fact.at, None)
 
+    def on_ended(self, fact: facts.Ended) -> None:
+        """The kubelet ended a pod for a reason of its own, or did not admit it."""
+        life = self.life_of(fact.pod, fact.at)
+        if life is not None:
+            self.endings.take(life, fact)
+
+    def on_readied(self, fact: facts.Readied) -> None:
+        """A status has the condition Ready. It turns where no probe failed too: a kubelet that was started takes a pod
+        with a readiness probe for unready until that has passed."""
+        life = self.known_life(fact.pod)
+        turn = None if life is None else life.ready_turned(fact)
+        if life is not None and turn is not None:
+            self.placing.put_beside(life.key, min(turn["at"], int(fact.at)), READY_TURNS, turn)
+
+    def on_node_ready(self, fact: facts.NodeReady) -> None:
+        """The node turned Ready, or is not."""
+        self.placing.timeline.place_ready(fact.at, Ready("True" if fact.is_ready else "False", fact.reason or None,
+                                                         fact.at))
+
+    def pod_of_line(self, pod: facts.Reference) -> facts.Reference:
+        """A pod that a line of the kubelet's has by its uid alone, with the name that its manifest has."""
+        known = self.manifests.by_uid.get(pod.uid or "") if pod.key is None else None
+        return pod if known is None else facts.Reference(known.key, pod.uid)
+
     def on_happened(self, fact: facts.Happened) -> None:
         """An Event says more of what a line says."""
-        life = self.known_life(fact.pod)
-        if life is None:
+        life = self.life_of(self.pod_of_line(fact.pod), fact.at) if fact.is_line else self.known_life(fact.pod)
+        if life is None or (fact.is_line and self.happened.get((life.key, "", fact.reason)) == fact.message):
             return
         self.placing.count("events")
         if fact.reason in TOLD:
             self.say_event(life.key, fact)
         if fact.reason == EVICTION:
             self.evictions.take_event(life, fact)
+        self.endings.take_event(life, fact)
 
     def say_event(self, key: str, fact: facts.Happened) -> None:
         """What an Event says, where that is another message than the one before for its reason."""
@@ -218,6 +253,6 @@ def refuse_strangers(importer: Importer) -> None:
     """Refuses manifests of which none is of a pod of the journal."""
     has_manifests = bool(importer.manifests.by_key or importer.manifests.owners)
     met = importer.placing.counts["met"]
-    if has_manifests and met and not importer.placing.counts["pods with a manifest"]:
+    if has_manifests and met and not importer.placing.counts[WITH_MANIFEST]:
         raise entry.Fault(f"none of the {entry.counted(met, 'pod')} of the journal is among the manifests: they are of "
                           "another cluster, or of another time", 1)

@@ -4,106 +4,15 @@ run is the one that starts."""
 
 from __future__ import annotations
 
-from dataclasses import dataclass, field
+import bisect
+from collections.abc import Iterator
 from typing import Optional, TYPE_CHECKING
+
+from .chains import AFTER, FAILED_SECONDS, LOOK_SECONDS, MOST_CHAINS, MOST_NAMES, Chain, Hints, Instance
+from .linking import Linking
 
 if TYPE_CHECKING:
     from replay_tools.record.pods import Pod
-
-    from . import facts
-
-# starts that the kubelet told within so many seconds came from one look
-LOOK_SECONDS = 0.4
-# a line that names a container which is started stands so long before the look that finds it
-CREATED_SECONDS = 4.0
-# how long a container waits for its next start, by how often it exited
-BACK_OFFS = (0.0, 10.0, 20.0, 40.0, 80.0, 160.0, 300.0)
-# containers that start so soon behind an exit come one behind the other
-SOON_SECONDS = 3.0
-# one that runs so long has not crashed at its start
-LONG_SECONDS = 10.0
-# a container of which no line says the name
-UNNAMED = "unnamed"
-
-
-@dataclass
-class Instance:
-    """One instance of a container, or a sandbox: when the kubelet's look found it started and exited, what is known
-    exactly, and how it ended. `name` is that of its container, once it is known or found."""
-    id: str
-    seen: Optional[float] = None
-    gone: Optional[float] = None
-    started: Optional[float] = None
-    finished: Optional[float] = None
-    name: Optional[str] = None
-    attempt: Optional[int] = None
-    code: Optional[int] = None
-    reason: Optional[str] = None
-    is_sandbox: bool = False
-    is_found: bool = False
-    is_met: bool = False
-    killing: Optional[facts.Killing] = None
-    written: Optional[int] = None
-    # the seconds in which its start and its exit are placed
-    started_in: int = 0
-    ended_in: int = 0
-    has_ended: bool = False
-    # whether the kubelet's look found it, and its exit alone
-    is_looked: bool = False
-    is_unseen: bool = False
-
-    @property
-    def begin(self) -> Optional[float]:
-        """When it started, as exactly as is known."""
-        return self.seen if self.started is None or self.is_met else self.started
-
-    @property
-    def end(self) -> Optional[float]:
-        return self.gone if self.finished is None else self.finished
-
-    def know(self, known: facts.Known) -> None:
-        """Takes what a line says of it; what was known stays."""
-        self.name = self.name if known.container is None or (self.name and not self.is_found) else known.container
-        self.is_found = self.is_found and known.container is None
-        self.attempt = known.attempt if self.attempt is None else self.attempt
-        self.started = known.started if self.started is None else self.started
-        self.finished = known.finished if self.finished is None else self.finished
-        self.code = known.code if self.code is None else self.code
-        self.reason = known.reason if self.reason is None else self.reason
-        self.is_sandbox = self.is_sandbox or known.is_sandbox
-
-
-@dataclass
-class Chain:
-    """The instances of one container, one behind the other, whose name may not be known yet."""
-    instances: list[Instance]
-    name: Optional[str] = None
-
-    @property
-    def newest(self) -> Instance:
-        return self.instances[-1]
-
-    def is_down(self, at: float) -> bool:
-        """Whether none of them runs at a moment."""
-        before = [each for each in self.instances if each.seen is not None and each.seen <= at]
-        return bool(before) and before[-1].gone is not None and before[-1].gone <= at + LOOK_SECONDS
-
-    def expected(self) -> float:
-        """When its next start is due."""
-        exits = len(self.instances) - 1
-        return (self.newest.gone or 0.0) + BACK_OFFS[min(exits, len(BACK_OFFS) - 1)]
-
-
-@dataclass
-class Hints:
-    """The moments at which lines name a container: one that waits, that is made, that is probed."""
-    waits: list[tuple[float, str]] = field(default_factory=list)
-    created: list[tuple[float, str]] = field(default_factory=list)
-    probed: list[tuple[float, str]] = field(default_factory=list)
-
-    def forget(self, before: float) -> None:
-        for kept in (self.waits, self.created, self.probed):
-            kept[:] = [each for each in kept if each[0] >= before]
 
 
 class Instances:
@@ -125,7 +34,7 @@ class Instances:
     def note_name(self, name: str) -> None:
         """A name of a container that a line says, of a pod without a manifest."""
         self.is_news = True
-        if name not in self.names:
+        if name not in self.names and len(self.names) < MOST_NAMES:
             self.names.append(name)
 
     def forget(self, before: float) -> None:
@@ -138,16 +47,69 @@ class Instances:
         self.hints.forget(before)
 
     def lost(self) -> list[tuple[Instance, Instance]]:
-        """The instances of which no line says that they exited, each with the next one of its container: the kubelet's
-        looks found both."""
+        """The instances of which no line says that they exited, each with the next one of its container."""
         return [(each, after) for chain in self.chains for each, after in zip(chain.instances, chain.instances[1:])
-                if each.end is None and each.is_looked and after.is_looked]
+                if each.end is None]
 
-    def heard(self, instance: Instance, before: float) -> float:
-        """When a line said last that an instance ran, before a moment."""
-        probed = [at for at, name in self.hints.probed if name == instance.name and at < before]
-        killed = [] if instance.killing is None else [instance.killing.at]
-        return max([instance.seen or 0.0, *probed, *killed])
+    def lose(self, horizon: float) -> None:
+        """An instance of which no line says that it exited has exited all the same where its container is said to wait,
+        or starts again: with the first line that says so."""
+        for chain in self.chains:
+            if chain.newest.end is None or any(each.end is None for each in chain.instances):
+                waits = [at for at, name in self.hints.waits if name == chain.name]
+                for place, each in enumerate(chain.instances):
+                    after = chain.instances[place + 1] if place + 1 < len(chain.instances) else None
+                    self.lose_one(each, after, waits, horizon)
+
+    @staticmethod
+    def lose_one(each: Instance, after: Optional[Instance], waits: list[float], horizon: float) -> None:
+        begin = each.begin
+        if each.end is not None or begin is None:
+            return
+        until = float("inf") if after is None else after.begin or 0.0
+        place = bisect.bisect_right(waits, max(begin, each.seen or begin))
+        ends = [at for at in waits[place:place + 1] if at < until] or ([] if after is None else [until - AFTER])
+        if ends and ends[0] <= horizon:
+            each.gone, each.is_lost = max(ends[0], begin), True
+
+    def untangle(self) -> None:
+        """An instance whose start no look found ran behind those that started and exited before its exit."""
+        for chain in self.chains:
+            guessed = [each for each in chain.instances if each.is_unseen and each.written is None
+                       and each.started is None and each.gone is not None]
+            if not guessed:
+                continue
+            starts = [each.seen or 0.0 for each in chain.instances]
+            others = list(chain.instances)
+            for each in guessed:
+                begin, end = bisect.bisect_left(starts, each.seen or 0.0), bisect.bisect_left(starts, each.gone or 0.0)
+                ends = [other.gone for other in others[max(begin, end - MOST_CHAINS):end] if other is not each
+                        and other.gone is not None and other.gone < (each.gone or 0.0)]
+                if ends:
+                    each.seen, each.is_met = max(ends) + AFTER, False
+            chain.instances.sort(key=lambda each: (each.written is None, each.seen or 0))
+
+    def see_starts_that_failed(self) -> None:
+        """What came and went between two looks never ran, if a line says that the container could not be started."""
+        for chain in self.chains:
+            for each in chain.instances:
+                if each.is_unseen and each.started is None and each.gone is not None and each.written is None:
+                    begin = bisect.bisect_left(self.hints.failed, (each.gone - FAILED_SECONDS, ""))
+                    near = self.hints.failed[begin:begin + MOST_CHAINS]
+                    each.never_ran = any(name == chain.name and at <= each.gone + LOOK_SECONDS for at, name in near)
+
+    def in_holes(self) -> Iterator[tuple[Instance, float, float]]:
+        """The instances that the kubelet's looks found, and whose exits no look found, though one found the next: each
+        with the last moment at which a line said that it ran, and that of the next start."""
+        lost = [(each, after) for each, after in self.lost() if each.is_looked and after.is_looked]
+        probed: dict[str, list[float]] = {}
+        for at, name in self.hints.probed if lost else ():
+            probed.setdefault(name, []).append(at)
+        for each, after in lost:
+            start, of_name = after.seen or 0.0, probed.get(str(each.name), [])
+            place = bisect.bisect_left(of_name, start)
+            killed = [] if each.killing is None else [each.killing.at]
+            yield each, max([each.seen or 0.0, *of_name[max(place - 1, 0):place], *killed]), start
 
     def complete(self, added_at: float) -> None:
         """Instances that no look found, and of which a status says when they started, ran all the same: from then on,
@@ -168,8 +130,10 @@ class Instances:
             known = [each for each in look if each.is_sandbox]
             if known:
                 running = known[-1]
-            elif running is None or (running.gone is not None and running.gone <= (look[0].seen or 0)):
+            elif running is None or (running.gone is not None and running.gone <= look[0].looked_at):
                 unknown = [each for each in look if each.name is None or each.is_found]
+                # what has exited already is a container, if the sandbox that it had was found by then
+                unknown = [each for each in unknown if not each.is_unseen] or unknown
                 if unknown and unknown[-1].written is None:
                     running = unknown[-1]
                     running.is_sandbox, running.name, running.is_found = True, None, False
@@ -191,8 +155,8 @@ class Instances:
         """The instances that started, by the looks that found them."""
         found: list[list[Instance]] = []
         seen = (each for each in self.by_id.values() if each.seen is not None)
-        for each in sorted(seen, key=lambda each: each.seen or 0):
-            if found and (each.seen or 0) - (found[-1][-1].seen or 0) <= LOOK_SECONDS:
+        for each in sorted(seen, key=lambda each: each.looked_at):
+            if found and each.looked_at - found[-1][-1].looked_at <= LOOK_SECONDS:
                 found[-1].append(each)
             else:
                 found.append([each])
@@ -219,173 +183,11 @@ class Instances:
         kept = [Chain([each for each in chain.instances if each.written is not None], chain.name)
                 for chain in self.chains]
         chains = [chain for chain in kept if chain.instances]
-        linking = Linking(chains, names, inits, sidecars, policy, self.hints)
+        linking = Linking(chains, names, inits, sidecars, policy, self.hints, pod is not None)
         unwritten = sorted((each for each in self.by_id.values() if each.written is None and not each.is_sandbox
                             and each.seen is not None), key=lambda each: each.seen or 0)
         linking.count_extra(unwritten)
         for each in unwritten:
             linking.take(each)
-        self.chains = linking.chains
         linking.name_all()
-
-
-def serial(instances: list[Instance]) -> int:
-    """How many instances came one behind the other, each soon behind the exit of the one before."""
-    count = 1
-    for before, after in zip(instances, instances[1:]):
-        if before.gone is None or not 0 <= (after.seen or 0) - before.gone + LOOK_SECONDS < SOON_SECONDS:
-            break
-        count += 1
-    return count
-
-
-class Linking:
-    """Puts instances into the chains of their containers, in the order of their starts."""
-
-    def __init__(self, chains: list[Chain], names: list[str], inits: list[str], sidecars: set[str], policy: str,
-                 hints: Hints) -> None:
-        self.chains = chains
-        self.names = names
-        self.inits = inits
-        # those of them that run on beside what comes behind them, and come again
-        self.sidecars = sidecars
-        self.policy = policy
-        self.hints = hints
-        self.created = list(hints.created)
-        # how many runs of init containers are runs again
-        self.extra = 0
-
-    def take(self, instance: Instance) -> None:
-        name = instance.name if instance.name and not instance.is_found else self.created_name(instance)
-        if name is None:
-            name = self.init_name(instance)
-        chain = self.named(name) if name is not None else self.chain_by_exclusion(instance)
-        if chain is None:
-            self.chains.append(Chain([instance], name))
-        else:
-            chain.instances.append(instance)
-
-    def created_name(self, instance: Instance) -> Optional[str]:
-        """The name in a line that a container is made, shortly before the look that found it."""
-        at = instance.seen or 0
-        near = [each for each in self.created if at - CREATED_SECONDS <= each[0] <= at + LOOK_SECONDS]
-        # where two are made before one look, only exclusion says which is which
-        if len({name for _, name in near}) != 1:
-            return None
-        self.created.remove(near[0])
-        return near[0][1]
-
-    def named(self, name: str) -> Optional[Chain]:
-        """The chain of a container; where none has its name, the one that may be it."""
-        found = next((chain for chain in self.chains if chain.name == name), None)
-        unnamed = [chain for chain in self.chains if chain.name is None]
-        if found is None and len(unnamed) == 1 and len(self.chains) >= len(self.names):
-            unnamed[0].name = name
-            return unnamed[0]
-        return found
-
-    def init_name(self, instance: Instance) -> Optional[str]:
-        """The init container that starts next, while they do: the next one behind an exit with 0, else the same. What
-        ran before the journal begins is most likely none: they are short."""
-        ran = [chain for chain in self.chains if chain.name in self.inits]
-        if instance.is_met and not ran:
-            return None
-        if not self.inits or any(chain.name is None or chain.name not in self.inits for chain in self.chains):
-            return None
-        if not ran:
-            return self.inits[0]
-        last = max(ran, key=lambda chain: chain.newest.seen or 0)
-        place = self.inits.index(str(last.name))
-        next_name = self.inits[place + 1] if place + 1 < len(self.inits) else None
-        if any(chain.name in self.sidecars and chain.is_down(instance.seen or 0) for chain in ran):
-            return None
-        if last.name in self.sidecars:
-            return next_name
-        since = last.newest.gone if last.newest.gone is not None else last.newest.seen
-        waited = [name for at, name in self.hints.waits if (since or 0) <= at <= (instance.seen or 0)]
-        if last.newest.code not in (0, None) or (last.newest.code is None and last.name in waited):
-            return last.name
-        if last.newest.code is None and self.extra > 0 and place >= len(self.inits) // 2:
-            self.extra -= 1
-            return last.name
-        return next_name
-
-    def count_extra(self, instances: list[Instance]) -> None:
-        """How often an init container ran again without a code that says it, by how many came one behind the other up
-        to the app's. Which of them it was is not known: the middle one leaves most of the others right."""
-        apps = [name for name in self.names if name not in self.inits]
-        if not self.inits or self.chains or not instances:
-            return
-        count = next((place for place, each in enumerate(instances) if each.name in apps and not each.is_found), None)
-        if count is None:
-            count = serial(instances) - 1
-            last = instances[count]
-            # where the last of them soon exited too, and the app is said to wait, it was the app that came again
-            is_short = last.gone is not None and last.gone - (last.seen or 0) < LONG_SECONDS
-            has_crashed = is_short and any(name in apps and at >= (last.gone or 0) for at, name in self.hints.waits)
-            count = 0 if has_crashed or len(apps) != 1 else count
-        known = sum(each.code not in (0, None) for each in instances[:count])
-        self.extra = max(count - known - len(self.inits), 0)
-
-    def chain_by_exclusion(self, instance: Instance) -> Optional[Chain]:
-        """The container that does not run, of which the next start is due about then; None where it is one that has not
-        run yet."""
-        at = instance.seen or 0
-        apps = [chain for chain in self.chains if chain.name not in self.inits]
-        down = [chain for chain in self.chains if (chain in apps or chain.name in self.sidecars)
-                and chain.is_down(at) and self.comes_again(chain)]
-        rest = len([name for name in self.names if name not in self.inits]) - len(apps)
-        if rest > 0 and not any(chain.expected() <= at for chain in down):
-            return None
-        if down:
-            return min(down, key=lambda chain: abs(chain.expected() - at))
-        if rest > 0 or not self.names or not apps:
-            return None
-        # the look that found its exit is not in the journal
-        return min(apps, key=lambda chain: chain.newest.seen or 0)
-
-    def comes_again(self, chain: Chain) -> bool:
-        code = chain.newest.code
-        is_kept = self.policy == "Always" or chain.name in self.sidecars
-        return is_kept or (self.policy == "OnFailure" and code != 0)
-
-    # --- names ---
-
-    def name_all(self) -> None:
-        """Names each chain: by a line that names one of its instances, or a container that waits while it alone is
-        down; then in the order in which a kubelet starts them."""
-        for chain in self.chains:
-            said = [each.name for each in chain.instances if each.name and not each.is_found]
-            if chain.name is None and said and not self.is_taken(said[-1]):
-                chain.name = said[-1]
-        if any(chain.name is None for chain in self.chains):
-            self.name_by(self.hints.waits, True)
-            self.name_by(self.hints.probed, False)
-        left = sorted((name for name in self.names if not self.is_taken(name)), key=lambda name: name in self.inits)
-        for chain in self.chains:
-            if chain.name is None:
-                chain.name = left.pop(0) if left else self.unnamed()
-            for each in chain.instances:
-                if each.name is None or each.is_found or each.name != chain.name:
-                    each.name, each.is_found = chain.name, len(self.names) != 1
-
-    def name_by(self, hints: list[tuple[float, str]], is_down: bool) -> None:
-        """Names chains by moments at which a container is down, or runs, and just one chain does so."""
-        for at, name in hints:
-            if self.is_taken(name) or (self.names and name not in self.names):
-                continue
-            fits = [chain for chain in self.chains
-                    if chain.is_down(at) == is_down and (chain.instances[0].seen or 0) <= at]
-            if len(fits) == 1 and fits[0].name is None:
-                fits[0].name = name
-
-    def is_taken(self, name: Optional[str]) -> bool:
-        return any(chain.name == name for chain in self.chains)
-
-    def unnamed(self) -> str:
-        number, name = 1, UNNAMED
-        while self.is_taken(name):
-            number += 1
-            name = f"{UNNAMED}-{number}"
-        return name
-
+        self.chains = linking.chains + linking.others

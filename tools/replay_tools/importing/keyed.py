@@ -12,9 +12,9 @@ from typing import Any
 from replay_tools import outside
 from replay_tools.record.decisions import EVICTION
 
-from . import configured, facts
+from . import configured, endings, facts, nodes
 from .messages import Message
-from .printed import TYPES, UNRECLAIMED, amount, below, patched, waits_in
+from .printed import MOUNT_EVENT, TYPES, UNRECLAIMED, amount, below, patched, waits_in
 from .references import container_at, id_of, reference_of, references_of
 from .statuses import code_of, of_printed, of_status
 
@@ -45,12 +45,18 @@ def of_added(message: Message) -> Iterator[facts.Fact]:
         yield facts.Added(message.at, pod, str(message.keys.get("source") or ""))
 
 
+def of_updated(message: Message) -> Iterator[facts.Fact]:
+    yield from (facts.Updated(message.at, pod) for pod in references_of(message.keys.get("pods")))
+
+
 def of_deleted(message: Message) -> Iterator[facts.Fact]:
-    yield from (facts.Deleted(message.at, pod) for pod in references_of(message.keys.get("pods")))
+    source = str(message.keys.get("source") or "")
+    yield from (facts.Deleted(message.at, pod, source) for pod in references_of(message.keys.get("pods")))
 
 
 def of_removed(message: Message) -> Iterator[facts.Fact]:
-    yield from (facts.Removed(message.at, pod) for pod in references_of(message.keys.get("pods")))
+    source = str(message.keys.get("source") or "")
+    yield from (facts.Removed(message.at, pod, source) for pod in references_of(message.keys.get("pods")))
 
 
 def of_event(message: Message) -> Iterator[facts.Fact]:
@@ -120,7 +126,9 @@ def of_error(message: Message) -> Iterator[facts.Fact]:
 def of_patch(message: Message) -> Iterator[facts.Fact]:
     pod, patch = pod_of(message), message.keys.get("patch")
     if pod.key or pod.uid:
-        yield from of_status(message.at, pod, patched(bytes_of(message.keys.get("patchBytes")) or patch))
+        status = patched(bytes_of(message.keys.get("patchBytes")) or patch)
+        yield from of_status(message.at, pod, status)
+        yield from endings.of_conditions(message.at, pod, status)
 
 
 def bytes_of(value: Any) -> str | None:
@@ -183,7 +191,8 @@ def of_round(message: Message) -> Iterator[facts.Fact]:
 
 
 def of_reclaim(message: Message) -> Iterator[facts.Fact]:
-    yield facts.Reclaims(message.at, str(message.keys.get("resourceName") or ""))
+    resource = message.keys.get("resourceName")
+    yield facts.Reclaims(message.at, resource if isinstance(resource, str) and outside.is_label(resource) else "")
 
 
 def of_ranked(message: Message) -> Iterator[facts.Fact]:
@@ -247,6 +256,13 @@ def of_started(message: Message) -> Iterator[facts.Fact]:
     yield facts.Begun(message.at)
 
 
+def of_volumes(message: Message) -> Iterator[facts.Fact]:
+    """A pod's volumes can't be mounted in time."""
+    said = str(message.keys.get("err") or "")
+    yield facts.Happened(message.at, pod_of(message), MOUNT_EVENT, f"Unable to attach or mount volumes: {said}",
+                         is_line=True)
+
+
 def of_status_line(message: Message) -> Iterator[facts.Fact]:
     """A status that was sent or is as before, as an object or as Go prints it."""
     pod, status = pod_of(message), message.keys.get("status") or message.keys.get("apiStatus")
@@ -259,7 +275,8 @@ def of_status_line(message: Message) -> Iterator[facts.Fact]:
 
 # by the words of a message, or how it begins
 FORMS: dict[str, Callable[[Message], Iterator[facts.Fact]]] = {
-    "SyncLoop ADD": of_added, "SyncLoop DELETE": of_deleted, "SyncLoop REMOVE": of_removed,
+    "SyncLoop ADD": of_added, "SyncLoop UPDATE": of_updated, "SyncLoop DELETE": of_deleted,
+    "SyncLoop REMOVE": of_removed,
     "SyncLoop (PLEG): event for pod": of_event,
     "SyncLoop (PLEG): pod does not exist, ignore irrelevant event": of_event,
     "SyncLoop (probe)": of_turnover, "Generic (PLEG): container finished": of_finished,
@@ -284,6 +301,11 @@ FORMS: dict[str, Callable[[Message], Iterator[facts.Fact]]] = {
     "Pod is terminated, but some containers have not been cleaned up": of_left,
     "Pod attempted illegal phase transition": of_status_line, "Status for pod updated successfully": of_status_line,
     "Ignoring same status for pod": of_status_line, "Attempting to register node": of_node,
-    "Successfully registered node": of_node, "Started kubelet": of_started}
+    "Successfully registered node": of_node, "Started kubelet": of_started,
+    "Unable to attach or mount volumes for pod; skipping pod": of_volumes, "Got sys oom event": nodes.of_kill,
+    "Node became not ready": nodes.of_condition, "Skipping pod synchronization": nodes.of_skipped,
+    "Recording event message for node": nodes.of_recorded,
+    "Shutdown manager detected new shutdown event, isNodeShuttingDownNow": nodes.of_shutdown,
+    **endings.KEYED}
 # the first words of these, by which a line is wanted
-FIRST_WORDS = {words.split(" ")[0] for words in FORMS} | {"Pod", "FLAG:"}
+FIRST_WORDS = {words.split(" ")[0] for words in FORMS} | {"Pod", "FLAG:", "Operation"}

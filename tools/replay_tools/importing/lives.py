@@ -2,7 +2,8 @@
 
 from __future__ import annotations
 
-from collections.abc import Iterator
+import bisect
+from collections.abc import Iterable, Iterator
 from dataclasses import replace
 from typing import Optional, TYPE_CHECKING
 
@@ -13,18 +14,21 @@ from replay_tools.record.reasons import reason_of
 from replay_tools.record.runtime import EXITED, LOST_CODE, RUNNING, Change, Listing
 
 from . import marks
-from .accounts import ORDER, Account, Item
+from .accounts import LOOK_SECONDS, ORDER, Account, Item
+from .chains import UNNAMED
 from .outputs import why_killed
-from .placing import PROBED
+from .placing import NAMED_LATE, PROBED, UNKNOWN_PHASES
 from .probing import FAILURE, SUCCESS, Probing
 
 if TYPE_CHECKING:
     from replay_tools.record.reasons import Reason
 
-    from .instances import Chain, Instance
+    from .chains import Chain, Instance
     from .placing import Placing
 
 STARTUP, LIVENESS, READINESS = PROBES
+# a container that has failed is said to wait, or starts again, within so many seconds
+LEFT_SECONDS = 15.0
 # of a moment in whole seconds as a status has it
 WHOLE = 0.999
 # a start that comes so soon behind an exit is of the same second
@@ -39,16 +43,32 @@ class ByItself(Change):
         return True
 
 
+def merged(spans: Iterable[tuple[float, float]]) -> list[tuple[float, float]]:
+    """Times without overlaps, in order."""
+    found: list[tuple[float, float]] = []
+    for since, until in sorted(spans):
+        if found and since <= found[-1][1]:
+            found[-1] = found[-1][0], max(found[-1][1], until)
+        else:
+            found.append((since, until))
+    return found
+
+
 class Life(Account):
     """One pod, from its first line to its last, as a trace has it."""
 
     def __init__(self, number: int, key: str, uid: Optional[str], at: float) -> None:
         super().__init__(number, key, uid, at)
         self.probings: dict[tuple[str, str], Probing] = {}
+        # of what is placed now and waits to be: the first result of each probe, and the times without a success
+        self.first_results: dict[tuple[str, str], float] = {}
+        self.without: dict[tuple[str, str], list[tuple[float, float]]] = {}
         # what is placed now
         self.placed: list[Item] = []
         self.waits: dict[str, Reason] = {}
         self.attempts: dict[str, int] = {}
+        # the codes of the newest exits, None where one is not known
+        self.codes: dict[str, Optional[int]] = {}
         self.started: dict[str, float] = {}
         # the second of its line, and that from which on its containers change
         self.arrived: Optional[int] = None
@@ -56,6 +76,9 @@ class Life(Account):
         self.is_deleting = False
         self.is_over = False
         self.is_refused = False
+        # whether its manifest was made of lines, and the names of containers that lines have only behind its own
+        self.is_made = False
+        self.named_late: dict[str, str] = {}
 
     # --- what is placed ---
 
@@ -70,23 +93,27 @@ class Life(Account):
         leaves_at = self.leaves_at()
         until = horizon if leaves_at is None else min(horizon, leaves_at)
         self.placed = self.items(until)
+        self.foresee(pod, placing)
         for item in self.placed:
             self.place(pod, item, placing)
         self.place_silent(pod, None, until, placing)
         self.decide(pod, horizon, is_end, placing)
         self.leave(pod, horizon, placing)
 
-    def resolve(self, placing: Placing) -> None:
-        """Finds the containers of its instances, and ends what ended in a hole of the journal: an instance behind which
-        the next one started, and the pod itself where another one has its name, without a line that says so."""
+    def resolve(self, horizon: float, placing: Placing) -> None:
+        """Finds the containers of its instances, and ends what no line ends: an instance whose container waits or
+        starts again, in a hole of the journal if there is one; and the pod where another one has its name."""
         if self.is_over or self.is_refused:
             return
         is_ending = self.decision is not None or any(at is not None for at in (
             self.deleted_at, self.removed_at, self.cleaned_at, self.replaced_at))
         self.instances.resolve(self.pod, self.added_at, self.is_listed, is_ending)
-        for instance, after in self.instances.lost():
-            start = after.seen or 0.0
-            instance.gone = placing.hole_between(self.instances.heard(instance, start), start)
+        for instance, heard_at, start in self.instances.in_holes():
+            instance.gone = placing.hole_between(heard_at, start)
+            instance.is_lost = instance.gone is not None
+        self.instances.untangle()
+        self.instances.lose(horizon)
+        self.instances.see_starts_that_failed()
         is_told = self.decision is not None or any(at is not None for at in (
             self.deleted_at, self.removed_at, self.cleaned_at))
         if self.replaced_at is not None and not is_told:
@@ -98,6 +125,8 @@ class Life(Account):
         found = self.pod if self.pod is not None else self.made_pod()
         has_ended = self.deleted_at is not None and not self.is_listed and not self.instances.by_id
         if found is None or has_ended:
+            return None
+        if placing.is_there(self.key):
             return None
         if not placing.has_room(self):
             self.is_refused = True
@@ -120,27 +149,54 @@ class Life(Account):
         if not names:
             return None
         namespace, _, name = self.key.partition("/")
-        self.is_template = True
+        self.is_template = self.is_made = True
         return recorded.pod_of({"metadata": {"namespace": namespace, "name": name},
                                 "spec": {"containers": [{"name": each} for each in names]}})
 
+    def placed_name(self, name: str, at: float, placing: Placing) -> str:
+        """The name that a container has in the pod's line. One that lines name only later, of a pod without a manifest,
+        is the first there that had no name."""
+        if not self.is_made or self.pod is None or name in self.pod.containers():
+            return name
+        if name not in self.named_late:
+            free = [each for each in self.pod.containers()
+                    if each.startswith(UNNAMED) and each not in self.named_late.values()]
+            if not free:
+                return name
+            self.named_late[name] = free[0]
+            placing.count(NAMED_LATE, f"{self.key} {name}")
+            placing.say(self.key, at, {"container": free[0], "reason": "Named", "message": name})
+        return self.named_late[name]
+
     def items(self, horizon: float) -> list[Item]:
         """What happened up to a moment and is not placed yet, in order."""
+        self.hold_waits()
         found = [item for item in self.pending if item.at <= horizon]
         self.pending = [item for item in self.pending if item.at > horizon]
         for chain in self.instances.chains:
             found += self.items_of(chain, horizon)
         return sorted(found)
 
+    def hold_waits(self) -> None:
+        """A line may say that a container waits before the look that finds its exit: it waits from that exit on."""
+        chains = {chain.name: chain for chain in self.instances.chains}
+        for item in self.pending:
+            chain = chains.get(next(iter(item.value))) if item.what == "wait" and item.value else None
+            if chain is not None:
+                item.at = max(item.at, chain.end_of_running(item.at))
+
     def items_of(self, chain: Chain, horizon: float) -> Iterator[Item]:
         """The starts and exits of a container: each exit before the next start."""
         latest = 0.0
-        for instance in chain.instances:
+        for instance, after in zip(chain.instances, [*chain.instances[1:], None]):
             begin, end = instance.begin, instance.end
             if begin is None or begin > horizon:
                 return
+            if end is not None and after is not None and end > (after.begin or end):
+                # its exit was found late, or another one is taken for it
+                end, instance.is_lost = max((after.begin or end) - AFTER, begin), True
             latest = max(latest + AFTER, begin)
-            if instance.written is None:
+            if instance.written is None and not instance.never_ran:
                 yield Item(latest, ORDER["start"], 0, "start", (chain, instance))
             if end is None or end > horizon:
                 continue
@@ -166,7 +222,9 @@ class Life(Account):
                 self.place_exit(pod, chain, instance, placing)
 
     def place_kill(self, at: float, instance: Instance, grace: int, placing: Placing) -> None:
-        """The kubelet ends an instance, which stands at its own second."""
+        """The kubelet ends an instance, which stands at its own second; what has exited already it does not."""
+        if not instance.is_killed:
+            return
         said = None if instance.killing is None else why_killed(instance.killing.why)
         is_deleted = self.deleted_at is not None and self.deleted_at <= at
         placing.say(self.key, at, without_nones({
@@ -180,10 +238,7 @@ class Life(Account):
             placing.count("containers that no manifest has", f"{self.key} {name}")
             instance.written = 0
             return
-        attempt = max(self.attempts.get(name, -1) + 1, instance.attempt or 0)
-        self.attempts[name] = instance.written = attempt
-        placing.mark(self, name, attempt, [marks.MOMENT] if instance.started is None or instance.is_met else [],
-                     [marks.CONTAINER] if instance.is_found else [])
+        attempt = self.begin_attempt(name, instance, placing)
         moment = max(instance.begin or 0, self.arrived or 0)
         placing.timeline.place_container(pod, name, [Change(moment, Listing(attempt, RUNNING))], [], self.changes_from)
         instance.started_in = placing.timeline.listed_in(pod, name) or 0
@@ -192,6 +247,14 @@ class Life(Account):
         first = (STARTUP,) if (name, STARTUP) in self.probings else PROBES
         self.end_probes(name)
         self.begin_probes(name, first, instance.seen or moment)
+
+    def begin_attempt(self, name: str, instance: Instance, placing: Placing) -> int:
+        """Gives an instance its number, and notes what of it was guessed."""
+        attempt = max(self.attempts.get(name, -1) + 1, instance.attempt or 0)
+        self.attempts[name] = instance.written = attempt
+        placing.mark(self, name, attempt, [marks.MOMENT] if instance.started is None or instance.is_met else [],
+                     [marks.CONTAINER] if instance.is_found else [])
+        return attempt
 
     def begin_probes(self, name: str, probes: tuple[str, ...], seen: float) -> None:
         """Probes of an instance that runs come from a moment on, also where a journal does not have its start."""
@@ -202,25 +265,41 @@ class Life(Account):
     def place_exit(self, pod: recorded.Pod, chain: Chain, instance: Instance, placing: Placing) -> None:
         name = str(chain.name)
         instance.has_ended = True
+        if instance.never_ran and name in pod.containers():
+            self.begin_attempt(name, instance, placing)
         if name not in pod.containers() or instance.written is None:
             return
-        code, is_guessed = self.code_of(pod, chain, instance)
+        code, is_guessed = self.code_of(pod, chain, instance, placing)
         placing.mark(self, name, instance.written, [marks.CODE] if is_guessed else [],
-                     [marks.MOMENT] if instance.finished is None else [])
+                     [marks.LOST] if instance.is_lost else [] if instance.finished is not None else [marks.MOMENT])
         placing.count("exits without their code" if is_guessed else "exits with their code")
         reason = None if instance.reason is None else reason_of({"reason": instance.reason})
         listing = Listing(instance.written, EXITED, code, reason)
-        make = Change if instance.killing is not None or not is_guessed else ByItself
+        # what starts again in the same second has its exit in the tick of that start
+        is_by_itself = is_guessed and not instance.is_killed and not instance.is_lost
+        make = ByItself if is_by_itself else Change
         placing.timeline.place_container(pod, name, [make(instance.end or 0, listing)], [], self.changes_from)
         instance.ended_in = placing.timeline.listed_in(pod, name) or 0
         self.end_probes(name)
+        self.codes[name] = None if is_guessed else code
+        self.mark_phase(pod, instance.ended_in, placing)
+
+    def mark_phase(self, pod: recorded.Pod, second: int, placing: Placing) -> None:
+        """Of a pod that is not started again, and of which no container has a known code that makes it failed, the
+        phase is not known where a code is not."""
+        policy = pod.manifest["spec"].get("restartPolicy") or "Always"
+        apps = [each["name"] for each in pod.manifest["spec"]["containers"]]
+        if policy == "Never" and not any(code for code in self.codes.values()) and self.decision is None \
+                and all(name in self.codes for name in apps) and any(self.codes[name] is None for name in apps):
+            placing.put_beside(self.key, second, marks.PHASE, None)
+            placing.count(UNKNOWN_PHASES, self.key)
 
     def end_probes(self, name: str) -> None:
         for (container, _), probing in self.probings.items():
             if container == name:
                 probing.end()
 
-    def code_of(self, pod: recorded.Pod, chain: Chain, instance: Instance) -> tuple[int, bool]:
+    def code_of(self, pod: recorded.Pod, chain: Chain, instance: Instance, placing: Placing) -> tuple[int, bool]:
         """The code of an exit, and whether it is guessed: then it is 0 where what came behind it says so, else that of
         an instance that is lost, which the rules take as a failure."""
         if instance.code is not None:
@@ -231,9 +310,18 @@ class Life(Account):
         is_init = place < len(pod.manifest["spec"].get("initContainers") or [])
         is_passed = is_init and any(names.index(str(other.name)) > place for other in self.instances.chains
                                     if other.name in names and (other.newest.seen or 0) >= (instance.gone or 0))
-        is_left_so = policy == "OnFailure" and self.deleted_at is None and self.decision is None and not is_init
-        is_success = not has_next and (is_passed or is_left_so) and instance.killing is None
+        is_left_so = policy == "OnFailure" and not is_init and self.is_left(chain, instance, placing)
+        is_success = not has_next and (is_passed or is_left_so) and not instance.is_killed
         return (0 if is_success else LOST_CODE), True
+
+    def is_left(self, chain: Chain, instance: Instance, placing: Placing) -> bool:
+        """Whether an exit of a container that is started again where it failed was left as it is, so that it did not:
+        no line says by then that it waits."""
+        end = instance.end or 0.0
+        is_going = any(at is not None and at <= end + LOOK_SECONDS for at in (
+            self.deleted_at, None if self.decision is None else self.decision.moment))
+        return not is_going and placing.now - end >= LEFT_SECONDS and not self.instances.hints.has_wait(
+            str(chain.name), end - LOOK_SECONDS)
 
     # --- probes ---
 
@@ -253,28 +341,36 @@ class Life(Account):
         for (container, probe), probing in self.probings.items():
             if name in (None, container) and placing.is_silent(probe):
                 self.set_phase(container, probe, probing)
-                found = probing.silent(until - probing.period / 2,
-                                       [*placing.timeline.gaps, *self.failing(pod, container, probe, probing)])
+                found = probing.silent(until - probing.period / 2, self.without.get((container, probe), []))
                 self.place_results(pod, container, found, placing)
 
-    def failing(self, pod: recorded.Pod, name: str, probe: str, probing: Probing) -> Iterator[tuple[float, float]]:
-        """From the first of the failures for which the kubelet ends an instance, as its line says, up to that line: on
-        a busy node results come late, and none between was a success."""
+    def foresee(self, pod: recorded.Pod, placing: Placing) -> None:
+        """What is placed now and waits to be placed has of each probe: its first result, and the times in which none
+        was a success: gaps, and from the first of the failures for which the kubelet ends an instance up to the line
+        that says so, since on a busy node results come late."""
+        found: dict[tuple[str, str], list[float]] = {}
+        self.first_results = {}
+        for item in (*self.placed, *self.pending):
+            if item.what == "result":
+                place = item.value[:2]
+                self.first_results.setdefault(place, item.at)
+                if item.value[2] == FAILURE:
+                    found.setdefault(place, []).append(item.at)
+        self.without = {(name, probe): merged([*placing.timeline.gaps, *self.failing(pod, name, probe, sorted(
+            {*found.get((name, probe), ()), *probing.failures}))]) for (name, probe), probing in self.probings.items()}
+
+    def failing(self, pod: recorded.Pod, name: str, probe: str, failures: list[float]) -> Iterator[tuple[float, float]]:
+        """From the first of the failures that each kill by a probe took up to that kill."""
         wanted = pod.failures_wanted(name, probe)
-        for chain in [each for each in self.instances.chains if each.name == name]:
+        for chain in [each for each in self.instances.chains if each.name == name and failures]:
             for killing in [each.killing for each in chain.instances if each.killing is not None]:
-                if why_killed(killing.why) == probe:
-                    known = {item.at for item in (*self.placed, *self.pending)
-                             if item.what == "result" and item.value == (name, probe, FAILURE)}
-                    failures = sorted(at for at in known.union(probing.failures) if at <= killing.at)[-wanted:]
-                    yield from [(failures[0], killing.at)] if failures else []
+                place = bisect.bisect_right(failures, killing.at)
+                if place > 0 and why_killed(killing.why) == probe:
+                    yield failures[max(place - wanted, 0)], killing.at
 
     def set_phase(self, container: str, probe: str, probing: Probing) -> None:
         """A probe comes at a period of its own, which the next line that it has shows too."""
-        if probing.phase is not None:
-            return
-        later = next((item.at for item in (*self.placed, *self.pending)
-                      if item.what == "result" and item.value[:2] == (container, probe)), None)
+        later = self.first_results.get((container, probe)) if probing.phase is None else None
         if later is not None:
             probing.phase = later
             if probing.due is not None:

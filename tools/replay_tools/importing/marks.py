@@ -8,6 +8,9 @@ from replay_tools.record.asides import Asides
 from replay_tools.record.runtime import RUNNING
 
 CODE, MOMENT, CONTAINER, MANIFEST, STATE = "exitCode", "moment", "container", "manifest", "state"
+PHASE = "phase"
+# an exit that no line has, so that neither its code nor its moment is known; it is no word of a trace
+LOST = "lost"
 
 
 def doubted(listing: dict[str, Any]) -> dict[str, Any]:
@@ -23,6 +26,13 @@ def is_code_known(listing: dict[str, Any]) -> bool:
     return not (isinstance(guessed, list) and CODE in guessed)
 
 
+def of_exit(found: tuple[str, ...]) -> tuple[str, ...]:
+    """The marks of an exit: where no line has it, its code and its moment."""
+    if LOST not in found:
+        return found
+    return (*dict.fromkeys([*(mark for mark in found if mark != LOST), CODE, MOMENT]),)
+
+
 class ImportedAsides(Asides):
     """Those of a recording, with the parts of an instance's exit and start that were guessed."""
 
@@ -35,15 +45,16 @@ class ImportedAsides(Asides):
         the first tick of each of its states."""
         said = super().of_listing(uid, name, listing)
         marks = self.guessed.get((uid, name, listing.attempt), ())
-        if listing.exit_code is None:
-            marks = tuple(mark for mark in marks if mark != CODE)
+        marks = of_exit(marks) if listing.exit_code is not None else tuple(
+            mark for mark in marks if mark not in (CODE, LOST))
         if not self.is_new((uid, name, "guessed"), (listing.attempt, listing.state)):
             marks = tuple(mark for mark in marks if mark == CODE)
         if marks:
             said["guessed"] = list(marks)
         before = listing.ended
         if before is not None and "ended" in said:
-            of_end = [mark for mark in self.guessed.get((uid, name, before.attempt), ()) if mark != MOMENT]
+            known = self.guessed.get((uid, name, before.attempt), ())
+            of_end = [mark for mark in of_exit(known) if mark != MOMENT or LOST in known]
             if of_end:
                 said["ended"]["guessed"] = of_end
         return said

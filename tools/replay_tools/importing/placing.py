@@ -32,10 +32,17 @@ LATE_SECONDS = 60
 # what is counted: holes that the journal of the kubelet alone shows, those of a journal that another one fills, pods of
 # which no line behind a gap speaks, and how often the clock went back
 HOLES, FILLED, DOUBTED, TURNS = "holes", "filled holes", "pods in doubt", "turns"
-# and pods that have probes
-PROBED = "pods with probes"
+# pods that have probes, and new processes of the kubelet
+PROBED, RESTARTS = "pods with probes", "processes of the kubelet"
+# those of which lines have a manifest, those of a made one, and those of which no line says whether they failed
+WITH_MANIFEST, WITHOUT_MANIFEST = "met with a manifest", "pods without a manifest"
+UNKNOWN_PHASES = "pods of an unknown phase"
+# containers that lines name only behind the line of their pod
+NAMED_LATE = "containers named late"
 # a member of a pod's entry: what the kubelet said
-SAID, FAILED = "said", "failed"
+SAID, FAILED, GUESSED, READY_TURNS = "said", "failed", "guessed", "readyTurns"
+# of a tick: when the kubelet was started again
+STARTED_AT = "kubeletStartedAt"
 # of a gap: by how many seconds the clock went back there
 CLOCK_BACK = "clockBack"
 # of a pod in a tick, and of all pods
@@ -59,10 +66,15 @@ class Placing:
         self.beside: list[tuple[int, int, str, str, Any]] = []
         self.said = 0
         self.gaps: list[tuple[int, dict[str, int]]] = []
+        # the seconds in which the kubelet was started again, and the newest moment of the journal
+        self.started: list[int] = []
+        self.now = 0.0
         # the ends of gaps of which it is not settled which pods are there behind them
         self.behind: list[float] = []
         self.silences = Silences()
         self.templates: dict[str, bool] = {}
+        # the keys of the pods that are there
+        self.there: set[str] = set()
         self.gone_at: dict[str, int] = {}
         self.counts: Counter[str] = Counter()
         self.named: dict[str, set[str]] = defaultdict(set)
@@ -95,20 +107,28 @@ class Placing:
         return len(self.timeline.present) + sum(len(tick.arrivals) - len(tick.departures)
                                                 for tick in self.timeline.ticks.values())
 
+    def is_there(self, key: str) -> bool:
+        """Whether a pod of a name is there, so that no other one can come."""
+        return key in self.there
+
     def arrive(self, life: Life, pod: Pod) -> int:
         """The second of a pod's line, behind that in which the one before it under its name went."""
         self.count("pods")
+        self.there.add(life.key)
+        if life.is_made:
+            self.count(WITHOUT_MANIFEST, life.key)
         self.templates[life.key] = life.is_template
         return self.timeline.place_arrival(pod, max(life.added_at, self.gone_at.get(life.key, -1) + 1.0))
 
     def depart(self, pod: Pod, moment: float) -> None:
         self.gone_at[pod.key] = self.timeline.place_departure(pod, moment)
+        self.there.discard(pod.key)
 
     def decide(self, life: Life, pod: Pod, decision: Decision) -> int:
         """What the kubelet did to a pod; the second of its tick."""
         arrived = Recorded(pod, life.changes_from if life.arrived is None else life.arrived, life.changes_from)
         second = self.timeline.place_decision(replace(pod, decision=decision), decision.moment or 0.0, arrived)
-        self.put_beside(life.key, life.failed_in(second, decision), FAILED, decision.reason)
+        self.put_beside(life.key, life.failed_in(second, decision), FAILED, decision.word)
         self.count(f"pods {decision.kind}")
         return second
 
@@ -175,19 +195,25 @@ class Placing:
         latest = self.written_at
         for second in wanted:
             while latest is not None and second - latest > self.every:
-                latest += self.every
+                latest = self.next_look(latest)
                 self.timeline.place_look(latest)
             latest = second
         while latest is not None and before != float("inf") and before - latest > self.every:
-            latest += self.every
+            latest = self.next_look(latest)
             self.timeline.place_look(latest)
         self.written_at = latest
+
+    def next_look(self, latest: int) -> int:
+        """The second of the look after one: none is in a gap, which may be of years."""
+        at = latest + self.every
+        return next((until for since, until in self.timeline.gaps if since < at < until), at)
 
     def with_members(self, line: str) -> str:
         """A line with the members that are not the timeline's."""
         if line.startswith(POD_LINE):
             return self.pod_with_members(json.loads(line))
-        return self.tick_with_gap(line) if self.gaps else line
+        line = self.tick_with_gap(line) if self.gaps else line
+        return self.tick_with_start(line) if self.started else line
 
     def pod_with_members(self, fields: dict[str, Any]) -> str:
         """A pod's line. No journal has what it uses, by which the rules would name it, so it is spared."""
@@ -207,6 +233,16 @@ class Placing:
         told = {**gaps[-1], "since": gaps[0]["since"], **({CLOCK_BACK: back} if back else {})}
         self.gaps = [each for each in self.gaps if each[0] > at]
         return f"{line[:-1]},{shown({'gap': told})[1:]}"
+
+    def tick_with_start(self, line: str) -> str:
+        """A tick's line with the moment at which the kubelet was started again, the last one up to then."""
+        found = TICK_AT.match(line)
+        at = -1 if found is None else int(found[1])
+        seconds = [second for second in self.started if second <= at]
+        if not seconds:
+            return line
+        self.started = [second for second in self.started if second > at]
+        return f"{line[:-1]},{shown({STARTED_AT: seconds[-1]})[1:]}"
 
     def rows_due(self, at: int) -> Rows:
         """What was said of each pod up to a second, which is taken; a later tick has what is more than a line takes."""
@@ -234,4 +270,7 @@ class Placing:
             taken["containers"] = [marks.doubted(listing) for listing in taken["containers"]]
         said = [value for _, member, value in due[key] if member == SAID]
         failed = {FAILED: value for _, member, value in due[key] if member == FAILED}
-        return taken | failed | ({SAID: said[:MOST_SAID]} if said else {})
+        guessed = {GUESSED: [marks.PHASE]} if any(member == marks.PHASE for _, member, _ in due[key]) else {}
+        turns = [value for _, member, value in due[key] if member == READY_TURNS][-MOST_SAID:]
+        return taken | failed | guessed | ({READY_TURNS: turns} if turns else {}) | (
+            {SAID: said[:MOST_SAID]} if said else {})

@@ -3,6 +3,7 @@ without a line has succeeded. Of these successes those are made that change some
 
 from __future__ import annotations
 
+import bisect
 from collections.abc import Iterator, Sequence
 from typing import Optional
 
@@ -58,9 +59,10 @@ class Probing:
 
     def silent(self, until: float, without: Sequence[tuple[float, float]]) -> Iterator[Result]:
         """The successes without a line that were due by a moment, up to those that are wanted: none in a time without
-        them, as a gap, of which no line is known."""
+        them, as a gap, of which no line is known. These times are in order."""
         while self.due is not None and self.due <= until and self.successes < self.wanted:
-            behind = next((end for since, end in without if since < self.due < end), None)
+            place = bisect.bisect_left(without, (self.due, 0.0))
+            behind = without[place - 1][1] if place > 0 and self.due < without[place - 1][1] else None
             if behind is not None:
                 self.due = self.first_behind(behind)
                 continue

@@ -20,7 +20,7 @@ LOOK_SECONDS = 2
 # what a kubelet alone says
 OF_KUBELET = {facts.Process, facts.Begun, facts.Added, facts.Deleted, facts.Removed, facts.Turned, facts.Probed,
               facts.Turnover, facts.Killing, facts.Waits, facts.Observed, facts.Reclaims, facts.Ranked, facts.Evicted,
-              facts.Refused}
+              facts.Refused, facts.Updated, facts.Ended, facts.Readied}
 
 
 @dataclass

@@ -2,6 +2,7 @@
 
 from __future__ import annotations
 
+import re
 import time
 from argparse import Namespace
 from collections import Counter
@@ -10,7 +11,8 @@ from typing import Any, TYPE_CHECKING
 from replay_tools import entry
 from replay_tools.traces import SIGNALS
 
-from .placing import DOUBTED, FILLED, HOLES, PROBED, TURNS
+from .placing import (DOUBTED, FILLED, HOLES, NAMED_LATE, PROBED, RESTARTS, TURNS, UNKNOWN_PHASES,
+                      WITHOUT_MANIFEST)
 from .thresholds import HARD, SOFT
 
 if TYPE_CHECKING:
@@ -26,6 +28,7 @@ KINDS = {
     "Killing": ("kills", None), "Probed": ("results of probes", None), "Waits": ("waits", None),
     "Created": ("names of starts", None), "Deleted": ("deletions", None), "Happened": ("events", None),
     "Evicted": ("lines of evictions", None), "Refused": ("refusals", None),
+    "Ended": ("lines of pods that were ended or not admitted", None),
     "Observed": ("observations of rounds", "no rounds of the eviction manager (a kubelet writes them from -v=3 on): "
                  "no signals")}
 NAMED = 3
@@ -53,7 +56,9 @@ def lines_of(importer: Importer, readers: list[Reader], counts: Counts, words: N
         year = time.gmtime(importer.begun or 0).tm_year
         said.append(f"its moments have neither a year nor a zone: taken as {words.year or year} and "
                     f"{words.zone or 'UTC'} (--year, --zone)")
-    return said + of_overlaps(readers[0].overlaps) + lacking(importer, kinds, placed) + of_counts(counts)
+    has_sentences = any(reader.has_sentences for reader in readers)
+    return (said + of_overlaps(readers[0].overlaps) + lacking(importer, kinds, placed, has_sentences)
+            + of_counts(counts))
 
 
 def of_overlaps(overlaps: Overlaps) -> list[str]:
@@ -73,24 +78,28 @@ def stamp(moment: float | None) -> str:
     return time.strftime("%Y-%m-%dT%H:%M:%SZ", time.gmtime(moment or 0))
 
 
-def lacking(importer: Importer, kinds: Counter[str], placed: Counter[str]) -> list[str]:
+def lacking(importer: Importer, kinds: Counter[str], placed: Counter[str], has_sentences: bool) -> list[str]:
     """What the journal lacks, and what was made in its place."""
     said = [without for kind, (_, without) in KINDS.items() if without is not None and not kinds[kind]]
     lost, known = placed["exits without their code"], placed["exits with their code"]
     if lost:
         exits = entry.counted(lost + known, "exit")
-        said.append(f"{lost} of {exits} without a code, which is guessed: a kubelet up to 1.20 writes "
-                    "codes from -v=3 on, later ones from -v=2 on")
+        written = "a kubelet up to 1.20 writes codes from -v=3 on" if has_sentences else (
+            "a kubelet from 1.21 on writes codes from -v=2 on")
+        said.append(f"{lost} of {exits} without a code, which is guessed: {written}")
     if kinds["Probed"] and importer.placing.is_silent("readiness"):
         said.append("no successes of probes (a kubelet writes them from -v=3 on): where a period passes without a "
                     "failure one is inferred")
     elif placed[PROBED] and not kinds["Probed"] and importer.placing.is_silent("readiness"):
         said.append("no results of probes (a kubelet writes failures from -v=1 on): each one is taken to succeed")
-    for what, means in (("pods without a manifest", "they have the containers that lines name, and no probes"),
+    for what, means in ((WITHOUT_MANIFEST, "they have the containers that lines name; limits and probes are unknown"),
+                        (NAMED_LATE, "the trace has them as unnamed, as it did before"),
                         ("containers that no manifest has", "they are left out"),
+                        (UNKNOWN_PHASES, "no line has the code that says whether they succeeded"),
                         ("pods left out", "a trace has at most 256 at once")):
         if placed[what]:
-            said.append(f"{placed[what]} {what} ({names_of(importer, what)}): {means}")
+            called = re.sub(r"^(pod|container)s", r"\1", what) if placed[what] == 1 else what
+            said.append(f"{placed[what]} {called} ({names_of(importer, what)}): {means}")
     return said + of_holes(importer, placed) + of_thresholds(importer) + [
         "no journal has what pods use of the node: each is spared, and the rules name none for an eviction"]
 
@@ -106,7 +115,7 @@ def of_thresholds(importer: Importer) -> list[str]:
     if "guessed" in members:
         said.append(f"as the rounds show, and no line says: {', '.join(members['guessed'])}")
     if has_others:
-        said.append("the kubelet was started anew with other thresholds: a trace alone has those that stayed, with "
+        said.append("the kubelet was restarted with other thresholds: a trace alone has those that stayed, with "
                     "--into each has its own")
     return said
 
@@ -120,6 +129,8 @@ def names_of(importer: Importer, what: str) -> str:
 def of_holes(importer: Importer, placed: Counter[str]) -> list[str]:
     """What the journal of the kubelet alone shows of lines that it lacks, and what its gaps come to."""
     said = []
+    if placed[RESTARTS]:
+        said.append(f"{entry.counted(placed[RESTARTS], 'time')} the kubelet was restarted")
     if placed[TURNS]:
         said.append(f"{entry.counted(placed[TURNS], 'time')} the clock went back: with --into the next trace has the "
                     "moments that it said from there on; in a trace alone they go on")

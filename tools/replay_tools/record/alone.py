@@ -68,6 +68,6 @@ class RuntimeAlone:
                         if pod in self.settled or self.is_first or now - self.came_at[pod] >= SETTLED_SECONDS}
         self.is_first = False
         return json.dumps({"items": [{
-            "metadata": {"uid": uid, "namespace": namespace, "name": name},
+            "guessed": ["manifest"], "metadata": {"uid": uid, "namespace": namespace, "name": name},
             "spec": {"containers": [{"name": container} for container in self.names[uid, namespace, name]]}}
             for uid, namespace, name in sorted(self.settled)]})

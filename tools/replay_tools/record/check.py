@@ -7,6 +7,7 @@ from typing import Any, TYPE_CHECKING
 
 from .events import ready_in, said_in
 from .formats import shown
+from .kubelet_start import PATH as START_PATH, REMAINS, asked as start_asked
 from .node import node_line_of
 from .observer import EVENTS, NODE
 from .pods import pods_of
@@ -86,6 +87,17 @@ def node_checks(sources: Sources, node: str, trace_format: Format) -> list[tuple
             ("/configz", configure, wish(sources, "configz") + own)]
 
 
+def start_checks(sources: Sources) -> list[tuple[str, Callable[..., Any], str]]:
+    """What asks when the kubelet was started."""
+    def ask() -> str:
+        try:
+            return f"the kubelet was started at {int(start_asked(sources))}"
+        except Failed as failed:
+            raise Without(f"{failed}; {wish(sources, 'metrics')}; {REMAINS}") from None
+
+    return [(f"/{START_PATH}", ask, "")]
+
+
 def throttled_checks(sources: Sources, is_asked: bool) -> list[tuple[str, Callable[..., Any], str]]:
     """What asks for how long processors were throttled."""
     def ask() -> str:
@@ -127,7 +139,8 @@ def checks_of(sources: Sources, node: str, trace_format: Format,
             (sources.pods_name(), lambda: counted(len(pods_of(sources.pods(), sources.pods_name())), "pod"), pods),
             ("/metrics/probes", lambda: f"{counted(len(counters_of(sources.probes())), 'probe')} with results",
              wish(sources, "metrics")),
-            *node_checks(sources, node, trace_format), *throttled_checks(sources, asks_throttled),
+            *node_checks(sources, node, trace_format), *start_checks(sources),
+            *throttled_checks(sources, asks_throttled),
             *api_checks(sources)]
 
 

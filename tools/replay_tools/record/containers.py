@@ -15,6 +15,10 @@ if TYPE_CHECKING:
     from .timeline import Timeline
 
 
+# so long the reason is looked for in Events for which the node has ended a pod
+REASON_SECONDS = 12
+
+
 class Containers:
     """Finds the changes of containers, and gives them and the results of their probes their places."""
 
@@ -77,10 +81,17 @@ class Containers:
         for name in recorded.pod.containers():
             changes = recorded.changes.pop(name, [])
             results = self.counts.results(recorded, name, self.course.planned_at, moment)
+            results = results or self.counts.by_status(recorded, name, moment)
             self.timeline.place_container(recorded.pod, name, changes, results, recorded.changes_from)
-        if recorded.ended is not None and not recorded.is_end_placed and self.says_gone:
+        if recorded.ended is not None and not recorded.is_end_placed and self.says_gone \
+                and not self.awaits_reason(recorded, moment):
             recorded.is_end_placed = True
             self.timeline.place_end(recorded.pod, second_of_end(recorded, self.timeline), recorded.ended)
+
+    def awaits_reason(self, recorded: Recorded, moment: float) -> bool:
+        """Whether an Event may yet say why the node has ended a pod, of which its status does not."""
+        is_guessed = recorded.ended is not None and recorded.ended.is_guessed
+        return is_guessed and self.course.asks_events and moment - recorded.ended_at < REASON_SECONDS
 
     def silent_from(self, moment: float) -> int | None:
         """The second from which on the runtime was silent, by a moment; None where it was not."""

@@ -6,12 +6,17 @@ from collections.abc import Callable
 from dataclasses import dataclass, field
 from typing import TYPE_CHECKING
 
-from .probes import PROBES, grown, have_begun_anew, most_results, results_of
+from .probes import PROBES, Result, grown, have_begun_anew, most_results, results_of
 
 if TYPE_CHECKING:
     from .pods import Pod
-    from .probes import Counters, Result, Series
+    from .probes import Counters, Series
     from .seen import Recorded
+
+
+# a status that shows a container as ready for so long has the result of a probe that is counted by then
+COUNTED_SECONDS = 5
+READINESS = "readiness"
 
 
 @dataclass
@@ -57,6 +62,22 @@ class ProbeCounts:
             recorded.found.update({(name, probe): each.result for each in results})
             found += results
         return found
+
+    def by_status(self, recorded: Recorded, name: str, moment: float) -> list[Result]:
+        """The results that a container's status shows of a readiness probe that the kubelet does not count, as of the
+        first pod of a file: those by which the container has become ready, or is so no more."""
+        pod, turn = recorded.pod, recorded.ready
+        if turn is None or (pod.uid, name, READINESS) in self.now.counts or not pod.has_probe(name, READINESS):
+            return []
+        restarts, _, is_ready = recorded.probed.get(name, (None, False, False))
+        shown, before = (restarts, is_ready), recorded.shown.get(name)
+        if shown == before or restarts is None or moment - turn.at < COUNTED_SECONDS:
+            return []
+        recorded.shown[name] = shown
+        if is_ready:
+            return [Result(turn.at, READINESS, "success")] * pod.successes_wanted(name, READINESS)
+        return [Result(turn.at, READINESS, "failure")] * pod.failures_wanted(name, READINESS) \
+            if before == (restarts, True) else []
 
     def growth(self, pod: Pod, name: str, probe: str) -> dict[str, int]:
         """What the counts of a probe grew by since what was planned last. Counts that an answer before had left out, as

@@ -5,16 +5,17 @@ from __future__ import annotations
 
 import re
 from collections.abc import Callable
-from dataclasses import dataclass
+from dataclasses import dataclass, replace
 from typing import Any, Optional, TYPE_CHECKING
 
 from replay_tools import outside
 
 from .formats import without_nones
-from .messages import LONGEST_MESSAGE, message_kept
+from .messages import LONGEST_MESSAGE, STOPS, message_kept
 from .runtime import moment_of
 
 if TYPE_CHECKING:
+    from .events import Said
     from .pods import Pod
     from .samples import Sampling
     from .seen import Course, Recorded, Seen
@@ -26,6 +27,12 @@ EVICTION = "Evicted"
 # what a kubelet says of a pod that it did not admit while the node was under pressure
 PRESSURE = re.compile(r"The node had condition: \[")
 LONGEST_OF_EVICTION = 4096
+# what a kubelet says as it does not admit a pod, so that it never ran, or runs no more after the kubelet's start
+ADMISSION = ("UnexpectedAdmissionError", "NodeAffinity", "NodePorts", "NodeUnschedulable", "NodeName", "NodeTaint",
+             "TaintToleration", "PodOSNotSupported", "PodOSSelectorNodeLabelDoesNotMatch", "TopologyAffinityError",
+             "PodFeatureUnsupported", "AppArmor", "SysctlForbidden", "Forbidden", "InvalidNodeInfo")
+NOT_ADMITTED = re.compile("Pod was rejected|Predicate [A-Za-z]+ failed|not admitting any new pods"
+                          "|rejected as the node")
 # what a tick may say that the node has ended a pod for, and what it says of any other reason
 WORD = re.compile(r"[A-Za-z][-A-Za-z0-9_./]{0,62}")
 OTHER = "Other"
@@ -34,11 +41,17 @@ OTHER = "Other"
 @dataclass(frozen=True)
 class Decision:
     """What was done, and why; its moment in seconds since 1970, where the status says one, as from Kubernetes 1.26 on.
-    A pod that was refused never ran."""
+    A pod that was refused never ran, or not since the kubelet was started. `is_guessed` is that no reason is known."""
     kind: str
     moment: Optional[float]
     reason: str
     message: str
+    is_guessed: bool = False
+
+    @property
+    def is_by_pressure(self) -> bool:
+        """Whether the node was short of something."""
+        return self.reason == EVICTION
 
     @property
     def word(self) -> str:
@@ -58,23 +71,46 @@ class Told:
         """A pod that is left out has no line in the trace, and may have one in another."""
         uid = self.pod.known_uid() if self.is_left_out else None
         return without_nones({"pod": self.pod.key, "uid": uid, "at": self.at, "reason": self.decision.reason,
-                              "message": self.decision.message or None, "leftOut": self.is_left_out or None})
+                              "message": self.decision.message or None, "leftOut": self.is_left_out or None,
+                              "guessed": ["reason"] if self.decision.is_guessed else None})
 
     def is_eviction(self, second: int) -> bool:
         """Whether it is that the kubelet evicted the pod at this second."""
         return self.decision.kind == EVICTED and self.at == second
 
 
-def end_of(status: dict[str, Any]) -> Decision | None:
-    """What a pod's status says that the kubelet did to it, or None. A pod that failed by itself has no reason."""
+def end_of(status: dict[str, Any], is_restarted: bool = False, seen_at: float | None = None) -> Decision | None:
+    """What a pod's status says that the kubelet did to it, or None. A pod that failed by itself has no reason; one that
+    is always restarted does not fail by itself. `seen_at` is when the kubelet took the pod last, if that is known."""
     reason, message = status.get("reason"), str(status.get("message") or "")
-    if status.get("phase") != "Failed" or not isinstance(reason, str) or not reason.strip():
+    if status.get("phase") != "Failed":
         return None
+    if not isinstance(reason, str) or not reason.strip():
+        return Decision(ENDED, moment_in(status), OTHER, "", True) if is_restarted else None
     if reason != EVICTION:
         shown = outside.visible(reason)[:LONGEST_MESSAGE]
-        return Decision(ENDED, moment_in(status), shown, message_kept(reason, message) or "")
+        kept = message_kept(reason, message) or ""
+        if is_refusal(reason, message):
+            return Decision(REFUSED, refused_at(status, seen_at), shown, kept)
+        return Decision(ENDED, moment_in(status), shown, kept)
     kind = REFUSED if PRESSURE.search(message) else EVICTED
-    return Decision(kind, moment_in(status), reason, message_kept(reason, message, LONGEST_OF_EVICTION) or "")
+    moment = moment_in(status)
+    if kind == REFUSED and moment is None:
+        moment = refused_at(status, seen_at)
+    return Decision(kind, moment, reason, message_kept(reason, message, LONGEST_OF_EVICTION) or "")
+
+
+def is_refusal(reason: str, message: str) -> bool:
+    """Whether a status says that the kubelet did not admit a pod."""
+    return reason.startswith("OutOf") or reason in ADMISSION or NOT_ADMITTED.search(message) is not None
+
+
+def refused_at(status: dict[str, Any], seen_at: float | None) -> float | None:
+    """When a pod was not admitted: as the kubelet took it, which its annotation says, and so does its status where no
+    container of it has run."""
+    if seen_at is not None or status.get("containerStatuses"):
+        return seen_at
+    return moment_of(status.get("startTime"))
 
 
 def moment_in(status: dict[str, Any]) -> float | None:
@@ -96,6 +132,8 @@ class Decisions:
         self.uids: set[str] = set()
         # the second up to which a recording before this one says what the kubelet did
         self.told_until: float | None = None
+        # the look that showed the last decision
+        self.looked_at: float | None = None
         # the pods that had gone by the time at which the kubelet evicted them
         self.behind: list[Recorded] = []
 
@@ -110,6 +148,8 @@ class Decisions:
             return
         self.uids.add(pod.uid)
         moment = self.moment_of(pod, decision, seen)
+        if decision.kind == EVICTED and not self.course.is_first:
+            self.sampling.confirm_round(moment)
         if recorded is not None:
             self.say(f"{pod.key} was {decision.kind} by the kubelet, seen at {int(seen.moment)}")
             second = self.timeline.place_decision(pod, moment, recorded)
@@ -120,12 +160,49 @@ class Decisions:
         elif self.told_until is not None and decision.moment is not None and self.told_until < int(decision.moment):
             self.timeline.place_past_decision(pod, decision, int(decision.moment), seen.moment)
 
+    def take_event(self, recorded: Recorded, said: Said, seen: Seen) -> None:
+        """What an Event says that the kubelet did to a pod, where no list has shown it: it evicted it, or ended it for
+        a reason that its status has not."""
+        if said.reason == EVICTION and not self.has(recorded.pod):
+            end = end_of({"phase": "Failed", "reason": EVICTION, "message": said.message})
+            if end is not None:
+                end = replace(end, moment=said.at)
+                self.take(replace(recorded.pod, decision=end), recorded, seen)
+                self.know_reason(recorded, end, seen)
+        elif said.reason in STOPS:
+            self.know_reason(recorded, Decision(ENDED, said.at, said.reason, said.message or ""), seen)
+
+    @staticmethod
+    def know_reason(recorded: Recorded, end: Decision, seen: Seen) -> None:
+        """The reason for which the node has ended a pod, where none is written yet."""
+        is_open = recorded.ended is None or (recorded.ended.is_guessed and not recorded.is_end_placed)
+        if is_open and (end.kind != ENDED or recorded.ended is not None):
+            recorded.ended_at = seen.moment if recorded.ended is None else recorded.ended_at
+            recorded.ended = end
+
     def moment_of(self, pod: Pod, decision: Decision, seen: Seen) -> float:
-        """When the kubelet decided: as the pod's status says, else when that or an exit that it led to was seen."""
+        """When the kubelet decided: as the pod's status says, else with the sample by which it did, or when that or an
+        exit that it led to was seen."""
         if decision.moment is not None:
             return min(seen.end, decision.moment)
-        return min([seen.moment, *(each.finished for each in (seen.instances or {}).get(pod.uid, [])
-                                   if each.finished is not None and each.finished > self.course.planned_at)])
+        exits = [each.finished for each in (seen.instances or {}).get(pod.uid, [])
+                 if each.finished is not None and each.finished > self.course.planned_at]
+        sampled = self.sample_of(decision, seen)
+        if sampled is None:
+            # its sample is not shown yet, which is newer than that of the eviction before, and than an exit by itself
+            is_awaited = decision.kind == EVICTED and self.sampling.timeline.tells_rounds
+            return seen.moment if is_awaited and self.timeline.evicted_last is not None else min([seen.moment, *exits])
+        # an exit before the sample was no work of the kubelet's
+        return sampled if exits and min(exits) < sampled else min([seen.moment, sampled, *exits])
+
+    def sample_of(self, decision: Decision, seen: Seen) -> float | None:
+        """When the sample was taken by which the kubelet evicted a pod, which is none by which it evicted one before:
+        of several in one look it is the same."""
+        sampled = self.sampling.sampled_for(seen) if decision.kind == EVICTED else None
+        last, was_at, self.looked_at = self.timeline.evicted_last, self.looked_at, seen.moment
+        if sampled is None or last is None or int(sampled) > last or (int(sampled) == last and was_at == seen.moment):
+            return None if sampled is None else max(sampled, self.course.begun)
+        return None
 
     def see_behind(self, gone_at: dict[str, int]) -> None:
         """Of a pod that was deleted and had ended the kubelet's sample has none, and until it knows of that end the

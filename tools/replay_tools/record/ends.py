@@ -46,9 +46,12 @@ def second_of_end(recorded: Recorded, timeline: Ticks) -> int:
 
 def settled_before(followed: Iterable[Recorded], with_status: set[str], listed_at: float, moment: float) -> int:
     """The second from which on a list of pods may yet say that a pod is being deleted, or was ended: that of the newest
-    list, or of an exit behind which nothing has shown so far that the kubelet goes on. None waits for longer than for a
-    silent source."""
+    list, of the first that lacks a pod, or of an exit behind which nothing has shown so far that the kubelet goes on.
+    None waits for longer than for a silent source."""
+    followed = list(followed)
+    absent = [recorded.absent_since for recorded in followed
+              if recorded.absent_since is not None and not recorded.is_deleting]
     exits = [exit_at for recorded in followed
-             if recorded.pod.uid in with_status and not recorded.is_deleting and recorded.ended is None
+             if recorded.pod.uid in with_status and not recorded.is_deleting and not recorded.is_end_placed
              for exit_at in open_exits(recorded).values() if moment - exit_at <= PATIENCE]
-    return max(int(min([listed_at, *exits])), int(moment) - PATIENCE)
+    return max(int(min([listed_at, *absent, *exits])), int(moment) - PATIENCE)

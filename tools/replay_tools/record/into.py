@@ -36,6 +36,7 @@ class LastingRecording(Recording):
         super().__init__(words, sources, clock, output, say)
         self.say = say
         self.recorder = LastingRecorder(words.format, words.every, say)
+        self.recorder.course.asks_events = sources.api is not None
         self.damages = damages(output.folder)
         self.observer.answered = Answered(output.folder.path, say)
         command = () if words.into is None else words.into.ship

@@ -90,5 +90,7 @@ def forget_strangers(observer: Observer) -> None:
 def set_back(observer: Any, moment: float) -> None:
     """The clock says an earlier moment than it did."""
     observer.missed_at = {}
+    if observer.list.since is not None:
+        observer.list.begin_anew(moment)
     near = observer.near
     near.pressed_at = None if near.pressed_at is None else min(near.pressed_at, moment)

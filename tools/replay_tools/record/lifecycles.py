@@ -7,8 +7,9 @@ from typing import TYPE_CHECKING
 
 from .decisions import EVICTED, REFUSED
 from .formats import MOST_PODS
-from .runtime import EXITED
+from .runtime import EXITED, RUNNING
 from .seen import Recorded
+from .statuses import turns_between
 
 if TYPE_CHECKING:
     from .containers import Containers
@@ -21,9 +22,15 @@ if TYPE_CHECKING:
 
 # how long the new pod of a name waits for the containers of the one before to exit
 GOING_SECONDS = 30
+# so many lists in a row lack a pod that is deleted, while the kubelet was up
+ABSENCES = 2
+# for these a container waits that has not run yet
+INITIAL = ("ContainerCreating", "PodInitializing")
+# these last for longer than from one tick to the next, or are told by other things; others may be over by then
+LASTING = (*INITIAL, "CrashLoopBackOff", "ImagePullBackOff")
 ANEW = "was made anew under its name, and is left out from here on"
 LEFT_OUT = {EVICTED: "the kubelet had evicted it before it was seen",
-            REFUSED: "the kubelet refused it under pressure, so it never ran"}
+            REFUSED: "the kubelet refused it, so it never ran"}
 
 
 class Lifecycles:
@@ -45,6 +52,10 @@ class Lifecycles:
         # the pods that their source listed last, and when
         self.listed: list[Pod] = []
         self.listed_at: float = 0
+        # the pods whose objects said that they are being deleted
+        self.deleted: set[str] = set()
+        # when the kubelet was started last
+        self.started_at: float = 0
         # the second behind which the last pod of a name is no more
         self.gone_at: dict[str, int] = {}
 
@@ -57,22 +68,36 @@ class Lifecycles:
 
     def take(self, seen: Seen) -> None:
         """Takes the pods of a look: those that are followed first, then those that come."""
+        self.started_at = self.started_at if seen.kubelet_started is None else seen.kubelet_started
         if seen.pods is not None:
             self.listed, self.listed_at = seen.pods, seen.moment
+            self.deleted |= {pod.uid for pod in seen.pods if pod.is_deleted}
         listed = {pod.uid: pod for pod in self.listed}
         for recorded in self.followed():
-            pod = listed.get(recorded.pod.uid)
-            if pod is not None:
-                self.see_status(recorded, pod, seen)
-            if pod is None or pod.is_deleted:
-                self.see_deletion(recorded, pod, seen)
-            # the status of a pod that was evicted may be written anew
-            if pod is None or pod.is_deleted or self.decisions.has(pod):
-                self.see_going(recorded, pod, seen)
+            self.follow(recorded, listed.get(recorded.pod.uid), seen)
         for pod in self.listed:
+            if self.shows_again(pod):
+                del self.recorded[pod.uid]
             if pod.uid not in self.recorded and pod.uid not in self.left_out:
                 self.arrive(pod, seen)
             self.decisions.take(pod, self.recorded.get(pod.uid), seen)
+
+    def follow(self, recorded: Recorded, pod: Pod | None, seen: Seen) -> None:
+        """What a look shows of a pod that is there: it as it is listed, or that it is not."""
+        if pod is None:
+            if self.is_absent(recorded, seen):
+                self.see_deletion(recorded, None, seen)
+                self.see_going(recorded, None, seen)
+            return
+        self.take_back(recorded, pod, seen)
+        if not recorded.is_followed:
+            return
+        self.see_status(recorded, pod, seen)
+        if pod.is_deleted:
+            self.see_deletion(recorded, pod, seen)
+        # the status of a pod that was evicted may be written anew
+        if pod.is_deleted or self.decisions.has(pod):
+            self.see_going(recorded, pod, seen)
 
     # --- a pod comes ---
 
@@ -95,6 +120,7 @@ class Lifecycles:
             self.see_waits(recorded, pod.waits, seen)
             self.see_end(recorded, pod, seen)
             self.see_beside(recorded, pod, seen)
+            self.see_ready(recorded, pod, seen)
             for name in pod.ruled:
                 self.say(f"{pod.key} {name}: its own rules of restarts are left out, and it restarts as its pod does")
 
@@ -130,23 +156,29 @@ class Lifecycles:
         self.decisions.take(pod, recorded, seen)
         self.see_end(recorded, pod, seen)
         self.see_beside(recorded, pod, seen)
+        self.see_ready(recorded, pod, seen)
 
     def see_waits(self, recorded: Recorded, waits: dict[str, Reason], seen: Seen) -> None:
         """Why a pod's containers wait, where that is another than before."""
         if waits == recorded.waits:
             return
-        recorded.waits = waits
+        before, recorded.waits = recorded.waits, waits
         for name, wait in waits.items():
             container = recorded.containers.get(name)
-            if container is not None and container.newest is not None:
+            if container is not None and container.newest is not None and wait.word not in INITIAL:
                 recorded.waited[name] = container.newest.attempt if wait.behind is None else wait.behind
-        self.timeline.place_waits(recorded.pod, seen.moment, waits)
+        short = any(wait.word not in LASTING and wait != before.get(name) for name, wait in waits.items())
+        self.timeline.place_waits(recorded.pod, seen.moment, waits, short)
 
     @staticmethod
     def see_end(recorded: Recorded, pod: Pod, seen: Seen) -> None:
-        """The node has ended a pod, which finds its place among what happened to it."""
-        if pod.ended is not None and recorded.ended is None:
+        """The node has ended a pod, which finds its place among what happened to it. Why may be shown later."""
+        if pod.ended is None:
+            return
+        if recorded.ended is None:
             recorded.ended, recorded.ended_at = pod.ended, seen.moment
+        elif recorded.ended.is_guessed and not recorded.is_end_placed:
+            recorded.ended = pod.ended
 
     def see_beside(self, recorded: Recorded, pod: Pod, seen: Seen) -> None:
         """What the object says beside what the formats read, where that is another than before."""
@@ -154,13 +186,64 @@ class Lifecycles:
             recorded.beside = pod.beside
             self.timeline.place_beside(recorded.pod, seen.moment, pod.beside)
 
+    def see_ready(self, recorded: Recorded, pod: Pod, seen: Seen) -> None:
+        """How the condition Ready of its status has turned. The first list that shows it has how it is."""
+        recorded.probed = pod.probed
+        if not self.says_gone or pod.ready is None or seen.pods is None:
+            return
+        if pod.ready != recorded.ready:
+            unseen_at = max(recorded.seen_at, self.started_at) if self.started_at <= pod.ready.at else recorded.seen_at
+            for turn in turns_between(recorded.ready, pod.ready, unseen_at):
+                self.timeline.place_turn(recorded.pod, turn, recorded.arrived)
+            recorded.ready = pod.ready
+        recorded.seen_at = seen.moment
+
+    # --- a pod is listed no more ---
+
+    def is_absent(self, recorded: Recorded, seen: Seen) -> bool:
+        """Whether a pod is deleted that is listed no more: its object said so before, or two lists lack it and its
+        containers stop, or another pod has its name."""
+        if seen.pods is not None:
+            recorded.absences += 1
+            recorded.absent_since = seen.moment if recorded.absent_since is None else recorded.absent_since
+        if recorded.is_deleting or recorded.pod.uid in self.deleted or self.has_next(recorded.pod):
+            return True
+        return recorded.absences >= ABSENCES and self.have_stopped(recorded, seen)
+
+    @staticmethod
+    def have_stopped(recorded: Recorded, seen: Seen) -> bool:
+        """Whether a container of a pod that is absent has exited since, or none of them runs."""
+        if seen.instances is None:
+            return False
+        instances, since = seen.instances.get(recorded.pod.uid, []), recorded.absent_since or 0
+        exits = [each.finished for each in instances if each.state == EXITED and each.finished is not None]
+        return any(exit_at >= since - 1 for exit_at in exits) or all(each.state != RUNNING for each in instances)
+
+    def take_back(self, recorded: Recorded, pod: Pod, seen: Seen) -> None:
+        """A pod that was absent is listed again. Where it was taken for deleted that is taken back: where a line says
+        so, the pod has gone with it, and comes again."""
+        recorded.absences, recorded.absent_since = 0, None
+        if not (recorded.went_absent and recorded.is_deleting) or pod.is_deleted:
+            return
+        recorded.is_deleting = recorded.went_absent = False
+        recorded.going_since = None
+        if not self.timeline.take_back_deletion(recorded.pod):
+            self.depart(recorded, seen)
+            recorded.went_absent = True
+
+    def shows_again(self, pod: Pod) -> bool:
+        """Whether a pod is listed that has gone since lists lacked it."""
+        recorded = self.recorded.get(pod.uid)
+        return (recorded is not None and not recorded.is_followed and recorded.went_absent and not pod.is_deleted
+                and pod.ended is None)
+
     # --- a pod goes ---
 
     def see_deletion(self, recorded: Recorded, pod: Pod | None, seen: Seen) -> None:
         """A pod was told to go, or is no longer listed: nothing of it is restarted from then on, which is said once."""
         if self.says_gone and not recorded.is_deleting:
-            recorded.is_deleting = True
-            told_at = None if pod is None else pod.deleted_at
+            recorded.is_deleting, recorded.went_absent = True, pod is None and recorded.pod.uid not in self.deleted
+            told_at = recorded.absent_since if pod is None else pod.deleted_at
             moment = seen.moment if told_at is None else min(told_at, seen.end)
             deletion = {} if pod is None else pod.deletion
             self.timeline.place_deletion(recorded.pod, max(moment, recorded.arrived), deletion)
@@ -213,6 +296,7 @@ class Lifecycles:
         self.recorded = {uid: recorded for uid, recorded in self.recorded.items()
                          if recorded.is_followed or uid in listed}
         self.left_out &= listed
+        self.deleted &= listed | set(self.recorded)
         self.gone_at = {key: gone_at for key, gone_at in self.gone_at.items() if gone_at >= second}
 
     def begin_at(self, moment: float) -> None:
@@ -221,6 +305,8 @@ class Lifecycles:
         for recorded in self.followed():
             recorded.arrived = recorded.changes_from = int(moment)
             recorded.going_since = None if recorded.going_since is None else moment
+            recorded.absent_since = None if recorded.absent_since is None else moment
+            recorded.seen_at = moment
 
 
 def went_at(recorded: Recorded, pod: Pod | None) -> float | None:

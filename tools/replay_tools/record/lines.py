@@ -15,6 +15,7 @@ if TYPE_CHECKING:
     from .events import Said
     from .pods import Pod
     from .runtime import Listing
+    from .statuses import ReadyTurn
 
 
 class TooLong(Exception):
@@ -59,12 +60,15 @@ def line_of_text(text: str) -> str:
 
 
 def pod_line(pod: Pod, says_spared: bool = True) -> str:
-    return line_of(pod_fields(pod.known_uid(), pod.manifest, says_spared and pod.is_spared))
+    return line_of(pod_fields(pod.known_uid(), pod.manifest, says_spared and pod.is_spared, pod.is_guessed))
 
 
-def pod_fields(uid: str | None, manifest: dict[str, Any], is_spared: bool = False) -> dict[str, Any]:
-    """The line of a pod, with its uid, which the formats don't read, where it is known, and whether it is spared."""
-    return without_nones({"kind": "pod", "uid": uid, "pod": manifest, "spared": is_spared or None})
+def pod_fields(uid: str | None, manifest: dict[str, Any], is_spared: bool = False,
+               is_guessed: bool = False) -> dict[str, Any]:
+    """The line of a pod, with its uid, which the formats don't read, where it is known, whether it is spared, and
+    whether its manifest is made up."""
+    return without_nones({"kind": "pod", "uid": uid, "pod": manifest, "spared": is_spared or None,
+                          "guessed": ["manifest"] if is_guessed else None})
 
 
 def gone_line(pod: Pod) -> str:
@@ -84,10 +88,12 @@ def container_fields(name: str, listing: Listing) -> dict[str, int | str]:
 
 def entry_of(pod: Pod, listings: dict[str, Listing], results: dict[tuple[str, str], str], usage: dict[str, int] | None,
              is_unsampled: bool, deletion: dict[str, Any] | None, asides: Asides,
-             failed: str | None = None, events: Sequence[Said] = ()) -> dict[str, Any] | None:
+             failed: str | None = None, events: Sequence[Said] = (),
+             turns: Sequence[ReadyTurn] = ()) -> dict[str, Any] | None:
     """One pod's entry of a tick: {container: listing}, {(container, probe): result}, its usage or None, whether it has
     no sample from here on, what is known of its deletion where it is being deleted from here on, what stands beside,
-    for what the node has ended it here, and what Events say of it; None where there is nothing to say of it."""
+    for what the node has ended it here, what Events say of it, and how its condition Ready has turned; None where there
+    is nothing to say of it."""
     containers = [container_fields(name, listing) | asides.of_container(pod, name)
                   | asides.of_listing(pod.uid, name, listing) for name, listing in sorted(listings.items())]
     probes = [{"container": name, "probe": probe, "result": results[name, probe]}
@@ -97,6 +103,7 @@ def entry_of(pod: Pod, listings: dict[str, Listing], results: dict[tuple[str, st
     said = without_nones({"probes": probes or None, "usage": usage or None, "unsampled": is_unsampled or None,
                           "deleting": None if deletion is None else True, "deletion": deletion or None,
                           "failed": failed, "readinessGates": asides.of_gates(pod.uid), "waiting": waiting,
+                          "readyTurns": [each.told() for each in turns[-MOST_EVENTS:]] or None,
                           "said": [each.told() for each in events[:MOST_EVENTS]] or None})
     return {"pod": pod.key, "containers": containers, **said} if containers or said else None
 
@@ -112,6 +119,7 @@ def told(decisions: Sequence[Told]) -> dict[str, list[dict[str, Any]]] | None:
 
 def tick_line(second: int, entries: list[dict[str, Any]], signals: dict[str, int],
               kubelet: dict[str, list[dict[str, Any]]] | None = None, is_judged: bool = True,
-              node_ready: dict[str, Any] | None = None) -> str:
+              node_ready: dict[str, Any] | None = None, started: int | None = None) -> str:
     return line_of(without_nones({"kind": "tick", "at": second, "judged": None if is_judged else False, "pods": entries,
-                                  "signals": signals, "kubelet": kubelet, "nodeReady": node_ready}))
+                                  "signals": signals, "kubelet": kubelet, "nodeReady": node_ready,
+                                  "kubeletStartedAt": started}))

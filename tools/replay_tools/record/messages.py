@@ -37,6 +37,9 @@ BACK_OFF = compiled(rf"^[Bb]ack-off {SECONDS} restarting failed container"
                     rf"(?:={NAME}(?: pod={NAME}_{NAME}\([-0-9a-f]{{1,64}}\))?)?$")
 CONFIGURATION = compiled(rf"^(?:secret|configmap) \"{NAME}\" not found$",
                          rf"^couldn't find key {KEY} in (?:Secret|ConfigMap) {NAME}/{NAME}$")
+# what a volume lacks stands behind its name
+MOUNTS = compiled(rf"(?<= : )(?:secret|configmap) \"{NAME}\" not found$", r"timed out waiting for the condition$",
+                  r"references non-existent (?:secret|config) key(?=: )")
 ENDED = compiled(
     rf"The node was low on resource: {KEY}\.",
     rf"Threshold quantity: {AMOUNT}, available: {AMOUNT}\.",
@@ -70,13 +73,16 @@ BACK_OFFS = compiled(rf"^Back-off restarting failed container(?:{OF_POD})?$", r"
 SANDBOX = compiled(r"^Pod sandbox changed, it will be killed and re-created\.$")
 NODE_SAYS = compiled(r"^Node is not ready$", r"^Preempted in order to admit critical pod$",
                      r"^(?:Marking for deletion|Cancelling deletion of) Pod [-a-z0-9./]{1,317}$")
+# what a hook came to; its command and what that wrote may have a secret
+HOOKS = compiled(r"exited with [0-9]{1,3}(?![0-9])", r"HTTP probe failed with statuscode: [0-9]{3}")
 STARTS = ("StartError", "ContainerCannotRun", "RunContainerError", "CreateContainerError")
 PULLS = ("ErrImagePull", "ImagePullBackOff", "ErrImageNeverPull", "InvalidImageName", "ImageInspectError",
          "RegistryUnavailable", "Failed", "BackOff", "Pulling", "Pulled")
 KNOWN = {**dict.fromkeys(STARTS, FIXED), **dict.fromkeys(PULLS, FIXED), "CrashLoopBackOff": BACK_OFF,
          "CreateContainerConfigError": (*FIXED, *CONFIGURATION), "Evicted": ENDED,
+         **dict.fromkeys(("PostStartHookError", "FailedPostStartHook", "FailedPreStopHook"), (*HOOKS, *FIXED)),
          **dict.fromkeys(STOPS, STOPPED), "Unhealthy": (*PROBED, *FIXED), "ProbeWarning": (*PROBED, *FIXED),
-         "Killing": KILLS, "BackOff": BACK_OFFS, "SandboxChanged": SANDBOX, "FailedMount": CONFIGURATION,
+         "Killing": KILLS, "BackOff": BACK_OFFS, "SandboxChanged": SANDBOX, "FailedMount": (*CONFIGURATION, *MOUNTS),
          **dict.fromkeys(("NodeNotReady", "TaintManagerEviction", "Preempting"), NODE_SAYS)}
 
 

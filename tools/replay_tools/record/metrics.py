@@ -129,7 +129,9 @@ class Metrics:
         for who asks by how much."""
         signals = self.standing.signals
         below = self.near.below(signals)
-        pressed = dict.fromkeys(sorted(CONDITIONS.values()), 0) | {CONDITIONS[each.split(".")[0]]: 1 for each in below}
+        # nothing is known of a condition of which no signal was sampled
+        pressed = dict.fromkeys(sorted({CONDITIONS[each.split(".")[0]] for each in signals}), 0)
+        pressed |= {CONDITIONS[each.split(".")[0]]: 1 for each in below}
         restarts, evictions = self.counts["restarts"], self.counts["evictions"]
         containers = [(*of_pod(key), ("container", name))
                       for key, pod in self.standing.pods.items() for name in pod.containers]

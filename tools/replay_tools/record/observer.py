@@ -3,11 +3,12 @@
 from __future__ import annotations
 
 import functools
-from collections.abc import Callable
+from collections.abc import Callable, Iterable
 from dataclasses import replace
 from typing import Any, TYPE_CHECKING
 
 from .events import Asking, failing, has_changed, ready_in, said_in
+from .kubelet_start import KubeletStart, ListOfPods, uids_running
 from .logs import kept_of, lines_of
 from .near import Nearness
 from .pods import pods_of
@@ -22,6 +23,7 @@ from .throttled import Throttling, are_limited
 if TYPE_CHECKING:
     from .events import Ready, Said
     from .pods import Pod
+    from .probes import Counters
     from .reasons import Reason
     from .runtime import End, Instance
     from .sources import Sources
@@ -36,10 +38,12 @@ NODE_SECONDS = 10
 PRESSED_PODS_SECONDS = {True: 1, False: 5}
 # where nothing has happened for some seconds the runtime is asked again after more than one, as its moments are exact
 STILL_SECONDS = 30
+# why a container failed is shown for some seconds, as that its hook did
+FAILED_SECONDS = 3
 LIST_SECONDS = 1.5
 # how long, and in how many more answers, the end of an instance that the runtime has removed is looked for in its pod's
 # status, which may come later
-STATUS_SECONDS = 3
+STATUS_SECONDS = 10
 STATUS_ANSWERS = 2
 # a list is asked for anew so often where a container has gone between it and `crictl inspect`
 MOST_LISTS = 3
@@ -66,6 +70,12 @@ class Observer:
                  now: Callable[[], float] | None = None, log_lines: int = 0, asks_throttled: bool = False) -> None:
         self.sources = sources
         self.throttling = Throttling(sources, say) if asks_throttled else None
+        self.start = KubeletStart(sources, say)
+        self.list = ListOfPods()
+        # whether the newest list lacks pods of the one before, so that another one is asked for at once
+        self.lacks_pods = False
+        # when a container was seen to fail last
+        self.failed_at = float("-inf")
         self.log_lines = log_lines
         self.say = say
         self.now = now
@@ -96,13 +106,15 @@ class Observer:
 
     def first_look(self, moment: float) -> tuple[Seen, Summary]:
         """A look that needs all sources, and its summary; Failed where one of them gives no answer."""
-        counters = counters_of(self.sources.probes())
+        probes = self.sources.probes()
+        counters = counters_of(probes)
+        self.start.begin(probes, moment)
         listed = instances_of(self.sources.listed())
         pods = self.take_pods(moment)
         summary = self.take_summary(moment)
         self.listed_at = self.moved_at = moment
         self.may_have_changed_pods(listed, moment)
-        self.decided = {pod.uid for pod in pods if pod.decision is not None}
+        self.decided = short_of(pods)
         self.pass_over(listed)
         return Seen(moment, self.resolved(listed, moment), counters, pods, summary, ready=self.ready(moment)), summary
 
@@ -122,7 +134,9 @@ class Observer:
         if self.throttling is not None and are_limited(self.listed_pods.values(), self.instances or {}):
             self.throttling.begin(moment)
         # the probes come first: a result that is counted was found on an instance that the list then shows
-        seen.counters = self.attempt(PROBES, moment, lambda: counters_of(self.sources.probes()))
+        was_silent = PROBES in self.silent
+        seen.counters = self.attempt(PROBES, moment, lambda: self.take_probes(moment))
+        self.see_start(was_silent, seen.counters, moment)
         if not self.wants_list(seen.counters, moment):
             listed, seen.instances = None, self.instances
         else:
@@ -141,9 +155,40 @@ class Observer:
         seen.ready = self.ready(moment)
         seen.throttled = {} if self.throttling is None else self.throttling.taken()
         seen.took = 0 if self.now is None else max(self.now() - moment, 0)
+        seen.kubelet_started = self.start.taken()
+        self.start.end_look(seen.counters is not None, moment)
         if self.answered is not None:
             self.answered(RUNTIME not in self.silent and not self.silent.keys() >= KUBELETS)
         return seen
+
+    # --- the kubelet is started anew ---
+
+    def take_probes(self, moment: float) -> Counters:
+        """The counts of probes, with which newer kubelets say when they were started."""
+        text = self.sources.probes()
+        self.start.see_probes(text, moment)
+        return counters_of(text)
+
+    def see_start(self, was_silent: bool, counters: Counters | None, moment: float) -> None:
+        """Looks for signs of a start in what the kubelet answers, and asks it where there is one."""
+        if counters is None:
+            return
+        self.start.see_counts(self.counters, counters)
+        if was_silent:
+            self.start.suspect()
+            self.list.begin_anew(moment)
+        self.start.check(moment)
+
+    def whole_list(self, listed: list[Pod], moment: float) -> list[Pod]:
+        """The pods of a list of the kubelet's. One that lacks pods too soon after a start lacks none of them."""
+        lost = self.list.lost(listed)
+        if lost:
+            self.start.suspect()
+            self.start.check(moment)
+        is_unknown = not self.start.is_known() and self.list.since is None
+        if self.start.news is not None or (lost and is_unknown and self.list.vanished(lost, listed)):
+            self.list.begin_anew(moment)
+        return self.list.take(listed, uids_running(self.instances, RUNNING), moment)
 
     def events(self, moment: float) -> dict[str, list[Said]]:
         """The Events of pods in which something has happened some moments ago, by their uids."""
@@ -163,14 +208,22 @@ class Observer:
         self.asked_at[NODE] = moment
         return self.attempt(NODE, moment, lambda: ready_in(self.sources.node_object()))
 
-    def glance(self, moment: float) -> Seen:
-        """What the summary alone shows at a moment between two looks."""
-        seen = Seen(moment, summary=self.attempt(SUMMARY, moment, lambda: self.take_summary(moment)))
-        seen.is_summary_silent, seen.low = SUMMARY in self.silent, self.near.low
-        return seen
+    def looks_soon(self, moment: float) -> bool:
+        """Whether the next look comes soon: where the kubelet may evict a pod, each of its samples counts, and what it
+        did may be shown for a second; after its start pods are unready for seconds; why a container failed is shown
+        until it waits for its next start; and how an instance ended that the runtime has removed until the next one has
+        ended."""
+        return (self.near.is_near(moment) or self.start.is_watched(moment) or self.has_failed(moment)
+                or bool(self.missed_at))
+
+    def has_failed(self, moment: float) -> bool:
+        """Whether a container has just exited with a failure."""
+        return 0 <= moment - self.failed_at < FAILED_SECONDS
 
     def wants_pods(self, moment: float) -> bool:
         """Whether the pods are asked for, though the runtime shows nothing new."""
+        if self.lacks_pods or self.start.is_watched(moment) or self.has_failed(moment):
+            return True
         often = PRESSED_PODS_SECONDS[self.sources.kubelet is not None]
         return self.is_due(PODS, moment, often if self.near.is_pressed(moment) else None)
 
@@ -192,6 +245,8 @@ class Observer:
             return None
         since = self.silent.pop(source, None) if is_whole else None
         if since is not None:
+            if source in KUBELETS:
+                self.start.suspect()
             self.say(f"{int(moment)}: {source} answers again, after {round(moment - since)} s",
                      (source, moment, "again"))
         return answer
@@ -212,7 +267,7 @@ class Observer:
     def wants_summary(self, pods: list[Pod] | None, moment: float) -> bool:
         """Whether the summary is asked for: at each look while the kubelet may evict a pod, at once where it is seen
         that it has, and else from time to time, as one that gives no answer."""
-        decided = {pod.uid for pod in pods or () if pod.decision is not None}
+        decided = short_of(pods or ())
         has_decided = not decided <= self.decided
         self.decided |= decided
         if has_decided:
@@ -229,6 +284,9 @@ class Observer:
     def take_pods(self, moment: float) -> list[Pod]:
         self.asked_at[PODS] = moment
         pods = pods_of(self.sources.pods(), self.sources.pods_name())
+        if self.sources.kubelet is not None:
+            pods = self.whole_list(pods, moment)
+        self.lacks_pods = not self.lacks_pods and not self.listed_pods.keys() <= {pod.uid for pod in pods}
         if self.pods_answers:
             self.asking.want((pod.uid for pod in pods if has_changed(self.listed_pods.get(pod.uid), pod)), moment)
         # a pod that is no longer listed stays known, since its containers may have yet to exit
@@ -264,6 +322,9 @@ class Observer:
         for _ in range(MOST_LISTS):
             asked = [(each, self.inspect(each)) for each in listed if self.wants_inspection(each)]
             failures = [failed for _, failed in asked if failed]
+            if self.instances is not None and any(self.details[each.id].exit_code for each, failed in asked
+                                                  if failed is None):
+                self.failed_at = moment
             if not failures:
                 break
             if self.instances is not None:
@@ -353,3 +414,8 @@ class Observer:
         if instance.state == EXITED and detail.exit_code is not None:
             return replace(detail, state=EXITED, reason=self.reason(detail))
         return replace(instance, started=detail.started)
+
+
+def short_of(pods: Iterable[Pod]) -> set[str]:
+    """The pods that the kubelet evicted or refused since the node was short of something."""
+    return {pod.uid for pod in pods if pod.decision is not None and pod.decision.is_by_pressure}

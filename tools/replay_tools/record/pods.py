@@ -15,7 +15,7 @@ from .formats import (at_place, first_fault, is_whole, label_fault, name_fault, 
 from .reasons import reason_of, waits_in
 from .runtime import End, code_fault, moment_of
 from .sources import Failed, reads
-from .statuses import Beside, beside_in, deletion_in, picked, resources_of
+from .statuses import Beside, ReadyTurn, beside_in, deletion_in, picked, ready_turn_in, resources_of
 
 if TYPE_CHECKING:
     from .answers import Answer
@@ -37,9 +37,11 @@ class Pod:
     the kubelet did to it, `is_deleted` that it was told to go, and `deleted_at` when, if that is known; `ends` has the
     instances that its status says have ended, by their ids, and is None where its status has no container; `waits` why
     its containers wait, by their names; `probed` has of each container that runs its restarts, whether it has started,
-    and whether it is ready. `ended` is the decision by which the node has ended it, of whatever kind, and
-    `is_spared` whether a kubelet evicts it for no lack of the node's. `ruled` names its containers whose own rules of
-    restarts are left out, and `deletion` has by whom it is deleted, and its grace."""
+    and whether it is ready. `ended` is the decision by which the node has ended it, of whatever kind, and `is_spared`
+    whether a kubelet evicts it for no lack of the node's. `ruled` names its containers whose own rules of restarts are
+    left out, and `deletion` has by whom it is deleted, and its grace. `is_static` is whether the kubelet has it of a
+    file, `is_guessed` that its manifest is made up, and `ready` its condition Ready with the moment at which that
+    turned."""
     key: str
     uid: str
     manifest: dict
@@ -56,6 +58,9 @@ class Pod:
     ruled: tuple = ()
     beside: Beside = field(default_factory=Beside, compare=False)
     deletion: dict = field(default_factory=dict, compare=False)
+    is_static: bool = False
+    is_guessed: bool = False
+    ready: Optional[ReadyTurn] = field(default=None, compare=False)
 
     def known_uid(self) -> str | None:
         """Its uid as a trace has it; None where its source says none, or one that no cluster gives."""
@@ -118,12 +123,13 @@ def pod_of(item: Any) -> Pod:
         fault = manifest_fault(manifest)
     except (KeyError, TypeError, AttributeError):
         manifest, volumes, ruled, fault = {}, frozenset(), [], "no manifest"
-    ended = end_of(status)
+    ended = end_of(status, is_restarted(item), seen_at(metadata))
     return Pod(f"{metadata.get('namespace') or 'default'}/{metadata.get('name')}", str(uid_of(metadata)), manifest,
                fault, volumes, None if ended is None or ended.kind == ENDED else ended,
                metadata.get("deletionTimestamp") is not None, deleted_at(metadata), ends_in(status), waits_in(item),
                probed_in(status), ended, is_spared(metadata, item.get("spec") or {}), tuple(ruled),
-               beside_in(item, RESOURCES), deletion_in(item))
+               beside_in(item, RESOURCES), deletion_in(item), is_static(metadata), item.get("guessed") == ["manifest"],
+               ready_turn_in(status))
 
 
 def is_spared(metadata: dict[str, Any], spec: dict[str, Any]) -> bool:
@@ -133,6 +139,23 @@ def is_spared(metadata: dict[str, Any], spec: dict[str, Any]) -> bool:
     source = annotations.get("kubernetes.io/config.source")
     return (source not in (None, FROM_API) or "kubernetes.io/config.mirror" in annotations
             or (is_whole(priority) and priority >= LEAST_CRITICAL))
+
+
+def is_restarted(item: Any) -> bool:
+    """Whether a pod's policy starts its containers whatever their codes, and it is not being deleted: it does not fail
+    by itself."""
+    policy = (item.get("spec") or {}).get("restartPolicy")
+    return policy in (None, "Always") and (item.get("metadata") or {}).get("deletionTimestamp") is None
+
+
+def seen_at(metadata: dict[str, Any]) -> float | None:
+    """When the kubelet took a pod, which it does anew once it is started."""
+    return moment_of((metadata.get("annotations") or {}).get("kubernetes.io/config.seen"))
+
+
+def is_static(metadata: dict[str, Any]) -> bool:
+    """Whether the kubelet has a pod of a file or a URL, and not of the API server."""
+    return (metadata.get("annotations") or {}).get("kubernetes.io/config.source") not in (None, FROM_API)
 
 
 def deleted_at(metadata: dict[str, Any]) -> float | None:

@@ -29,8 +29,8 @@ if TYPE_CHECKING:
 
 # a recorder that goes on for ever does not grow by what it has said
 MOST_REMEMBERED = 10000
-# how often the summary is asked between two looks
-GLANCE_SECONDS = 1
+# the next look comes so soon where the kubelet may evict, was just started, or a container has just failed
+SOON_SECONDS = 1
 
 
 class Says:
@@ -60,9 +60,12 @@ class Recording:
         self.observer = Observer(sources, words.every, say, clock.now, words.log_lines,
                                  words.throttled and words.format.says_gone)
         self.recorder = Recorder(words.format, words.every, say)
+        self.recorder.course.asks_events = sources.api is not None
         self.metrics = None if words.metrics is None else Metrics(words.metrics, say)
         # the moment of the first look, once that is taken
         self.begun: float = 0
+        # that of the last look that came as it was asked for
+        self.regular: float = 0
         self.has_begun = False
 
     def begin(self) -> None:
@@ -103,19 +106,19 @@ class Recording:
     def is_over(self, moment: float) -> bool:
         """Whether the next look would come too late."""
         duration = self.words.duration
-        return duration is not None and moment + self.words.look - self.begun > duration
+        return duration is not None and self.next_at(moment) - self.begun > duration
 
     def wait_for_next(self, moment: float) -> None:
-        """Waits for the look behind one at a moment. Where the kubelet may evict a pod the summary is asked each second
-        until then, since each of its samples counts."""
-        until = moment + self.words.look
-        while self.observer.near.is_near(moment) and not self.output.is_stopped \
-                and moment <= self.clock.now() < until - GLANCE_SECONDS:
-            self.clock.wait(GLANCE_SECONDS)
-            seen = self.observer.glance(self.clock.now())
-            with self.output.undisturbed():
-                self.recorder.take(seen)
-        self.clock.wait(min(max(until - self.clock.now(), 0), self.words.look))
+        """Waits for the look after one at a moment."""
+        self.clock.wait(min(max(self.next_at(moment) - self.clock.now(), 0), self.words.look))
+
+    def next_at(self, moment: float) -> float:
+        """When the look after one at a moment comes: so long after the last regular one as was asked for, and sooner if
+        something is likely to happen that is shown for a second. Looks in between move no regular one."""
+        if not self.regular <= moment < self.regular + self.words.look:
+            self.regular = moment
+        regular = self.regular + self.words.look
+        return min(moment + SOON_SECONDS, regular) if self.observer.looks_soon(moment) else regular
 
     def go_on(self) -> None:
         """Looks until the end."""

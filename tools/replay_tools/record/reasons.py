@@ -15,6 +15,8 @@ PLAIN = ("Error", "")
 LONGEST_REASON = 64
 MOST_ATTEMPTS = 2 ** 31 - 1
 WORD = re.compile(rf"[A-Za-z][A-Za-z0-9]{{0,{LONGEST_REASON - 1}}}")
+# a reason with its message behind it, as a kubelet writes that of a hook
+WITH_MESSAGE = re.compile(rf"(?P<word>[A-Za-z][A-Za-z0-9]{{0,{LONGEST_REASON - 1}}}Error): (?P<message>.*)", re.DOTALL)
 # in place of a reason that is no word of the runtime's or the kubelet's
 OTHER = "Other"
 
@@ -37,8 +39,12 @@ def reason_of(said: Any) -> Reason | None:
     word, message = said.get("reason"), said.get("message")
     if not isinstance(word, str) or not word.strip():
         return None
+    message = message if isinstance(message, str) else ""
+    parts = WITH_MESSAGE.fullmatch(word.strip())
+    if parts is not None and len(parts["word"]) <= LONGEST_REASON:
+        word, message = parts["word"], f"{parts['message']} {message}"
     word = word.strip() if WORD.fullmatch(word.strip()) else OTHER
-    there = isinstance(message, str) and bool(message.strip())
+    there = bool(message.strip())
     kept = message_kept(word, message) if there else None
     return Reason(word, kept, there and kept is None)
 

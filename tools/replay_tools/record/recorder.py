@@ -67,6 +67,8 @@ class Recorder:
             self.containers.take(seen.instances, seen.moment, self.pods.followed())
         self.sampling.take(seen, self.pods.followed())
         self.take_events(seen)
+        if seen.kubelet_started is not None:
+            self.timeline.place_start(max(seen.kubelet_started, self.course.begun))
         self.decisions.see_behind(self.pods.gone_at)
         has_both = seen.instances is not None and seen.counters is not None
         if has_both or seen.moment - self.course.planned_at > PATIENCE:
@@ -97,6 +99,7 @@ class Recorder:
             for each in said:
                 if each.at >= int(begun) and recorded.said.get(each.identity) != each.count:
                     recorded.said[each.identity] = each.count
+                    self.decisions.take_event(recorded, each, seen)
                     self.timeline.place_said(recorded.pod, max(each.at, recorded.arrived), each)
 
     def check_clock(self, moment: float) -> None:

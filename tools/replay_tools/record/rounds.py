@@ -53,6 +53,14 @@ class Rounds:
         else:
             yield moment
 
+    def confirm(self, moment: float) -> float | None:
+        """The sample that waits is a round where the kubelet has evicted a pod since, by a moment: its own moment."""
+        before = self.pending
+        if before is None or int(moment) < int(before):
+            return None
+        self.pending = None
+        return before
+
     def open_since(self, moment: float) -> float:
         """The moment of a sample of which it is not known yet whether it is a round; else the one that is given."""
         if self.pending is not None and moment - self.pending > SOON_SECONDS + SEEN_SECONDS:

@@ -14,10 +14,13 @@ if TYPE_CHECKING:
     from .summary import Sample, Summary, Used
     from .timeline import Timeline
 
+MEMORY = "memory"
 # how long signals stand as last sampled where the summary is silent
 SIGNAL_AGE = 60
 # the kubelet takes a sample about as often where nothing is near a threshold
 SAMPLE_SECONDS = 10
+# what the kubelet decided by a sample is shown at most so much later
+DECIDED_SECONDS = 8
 
 
 class Sampling:
@@ -54,7 +57,8 @@ class Sampling:
         self.take_signals(summary.signals, seen, True)
         self.take_rounds(summary, seen)
         for recorded in followed:
-            usage = summary.usage(recorded.pod, has_running(recorded))
+            usage = self.known_usage(recorded, summary.usage(recorded.pod, has_running(recorded)))
+            self.see_first_sample(recorded, usage, seen)
             for resource, sample in usage.items():
                 if sample != recorded.usage.get(resource):
                     moment = max(self.sampled_moment(sample, seen), recorded.arrived, recorded.unsampled_at or 0)
@@ -62,6 +66,25 @@ class Sampling:
             recorded.usage = usage
             self.take_used(recorded, summary.used(recorded.pod))
             self.see_unsampled(recorded, seen)
+
+    @staticmethod
+    def known_usage(recorded: Recorded, usage: dict[str, Sample]) -> dict[str, Sample]:
+        """The samples of a pod, without one of no memory of what has used some: it was killed as that was taken, and
+        the kubelet ranks the pod by the one before. An instance that started since has used none."""
+        before, now = recorded.usage.get(MEMORY), usage.get(MEMORY)
+        if before is None or now is None or now.value or not before.value or has_started_since(recorded, before.moment):
+            return usage
+        return {**usage, MEMORY: before}
+
+    def see_first_sample(self, recorded: Recorded, usage: dict[str, Sample], seen: Seen) -> None:
+        """The first sample of a pod that came late: until its moment the kubelet had none, and evicts it before all
+        others. That is said where it may evict."""
+        sample = usage.get(MEMORY)
+        is_late = not self.course.is_first and recorded.arrived > int(self.course.begun) and not recorded.sampled_at
+        if self.says_gone and is_late and not recorded.usage and recorded.unsampled_at is None and sample is not None \
+                and self.timeline.near.may_evict(seen.moment) and has_running(recorded):
+            if int(self.sampled_moment(sample, seen)) > max(recorded.arrived, self.timeline.next_second):
+                self.timeline.place_unsampled(recorded.pod, recorded.arrived)
 
     def take_used(self, recorded: Recorded, used: dict[str, Used]) -> None:
         """What its containers used, where that is a new sample; the formats do not read it."""
@@ -129,6 +152,22 @@ class Sampling:
                 self.timeline.place_signal(self.sampled_moment(sample, seen), signal, sample.value, is_wanted and wants)
         self.samples = samples
 
+    def confirm_round(self, moment: float) -> None:
+        """The kubelet evicted a pod by a moment, which it does in a round: a sample that waits to be known is that
+        one."""
+        confirmed = self.rounds.confirm(moment)
+        if confirmed is not None and self.timeline.tells_rounds:
+            self.timeline.place_round(max(self.course.begun, confirmed))
+
+    def sampled_for(self, seen: Seen) -> float | None:
+        """When the kubelet took the sample by which it evicted a pod that a look shows as evicted: the newest of its
+        memory. None where that is not known, or long ago."""
+        samples = self.samples if seen.summary is None else seen.summary.signals
+        sample = samples.get(rounds.MEMORY)
+        if sample is None or sample.moment is None or not 0 <= seen.end - sample.moment <= DECIDED_SECONDS:
+            return None
+        return sample.moment
+
     def take_rounds(self, summary: Summary, seen: Seen) -> None:
         """The kubelet judges its thresholds in rounds, and the tick of each round's sample is judged."""
         if self.course.is_first:
@@ -149,6 +188,13 @@ class Sampling:
     def begin_at(self, moment: float) -> None:
         """The clock says an earlier moment than it did."""
         self.sampled_at, self.wanted_at = moment, float("-inf")
+
+
+def has_started_since(recorded: Recorded, moment: float | None) -> bool:
+    """Whether an instance of a pod has started since a moment, which may not be known."""
+    return moment is None or any(each.newest is not None and each.newest.state == RUNNING
+                                 and (each.newest.started or moment + 1) > moment
+                                 for each in recorded.containers.values())
 
 
 def has_running(recorded: Recorded) -> bool:

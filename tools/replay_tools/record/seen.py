@@ -5,7 +5,7 @@ from __future__ import annotations
 from dataclasses import dataclass, field
 from typing import Optional, TYPE_CHECKING
 
-from .statuses import Beside
+from .statuses import Beside, ReadyTurn
 
 if TYPE_CHECKING:
     from .decisions import Decision
@@ -26,7 +26,8 @@ class Seen:
     """What one look saw that began at a moment in seconds since 1970, and `took` so many. None is what was not asked,
     or gave no answer: `instances` has the instances of each pod's uid, `counters` the counts of probes, `pods` those
     that are there, `low` the signals near their thresholds, `said` the Events of the pods that were asked for,
-    `ready` whether the node is Ready, and `throttled` for how long instances were throttled, by their ids."""
+    `ready` whether the node is Ready, `throttled` for how long instances were throttled, by their ids, and
+    `kubelet_started` when the kubelet was started, where it was since the look before."""
     moment: float
     instances: Optional[dict[str, list[Instance]]] = None
     counters: Optional[Counters] = None
@@ -38,6 +39,7 @@ class Seen:
     ready: Optional[Ready] = None
     throttled: dict[str, Throttled] = field(default_factory=dict)
     took: float = 0
+    kubelet_started: Optional[float] = None
 
     @property
     def end(self) -> float:
@@ -53,7 +55,10 @@ class Recorded:
     what each of their probes found last. `ended` is the decision by which the node has ended it, `ended_at` when that
     was seen; `beside` is what was placed of what its object says beside, `used_at` has the moments of the newest
     samples of its containers, `throttled` for how long the newest instances were throttled, by the ids of these, and
-    `said` how often each Event was by then."""
+    `said` how often each Event was by then. `absent_since` is when the first of the last lists was taken that lack it,
+    `absences` how many these are, and `went_absent` that it was taken for deleted by them alone; `ready` is its
+    condition Ready as it was placed last, and `seen_at` when a list had it last; `probed` has what its status says of
+    its probes, and `shown` of which instances that was taken for results."""
     pod: Pod
     arrived: int
     changes_from: int
@@ -76,12 +81,20 @@ class Recorded:
     used_at: dict[str, float] = field(default_factory=dict)
     throttled: dict[str, int] = field(default_factory=dict)
     said: dict[str, int] = field(default_factory=dict)
+    absent_since: Optional[float] = None
+    absences: int = 0
+    went_absent: bool = False
+    ready: Optional[ReadyTurn] = None
+    seen_at: float = 0
+    probed: dict[str, tuple] = field(default_factory=dict)
+    shown: dict[str, tuple] = field(default_factory=dict)
 
 
 @dataclass
 class Course:
     """How far a recording has come: the moment from which on what is seen is recorded, the one up to which what
-    happened has its place, and whether the first look is taken."""
+    happened has its place, and whether the first look is taken; and whether Events are asked for."""
     begun: float = 0
     planned_at: float = 0
     is_first: bool = True
+    asks_events: bool = False

@@ -224,7 +224,8 @@ class Container:
 class Pod:
     """A pod that is there, as its line has it."""
 
-    def __init__(self, manifest: Any, uid: str | None, is_spared: bool = False) -> None:
+    def __init__(self, manifest: Any, uid: str | None, is_spared: bool = False, is_guessed: bool = False) -> None:
+        self.is_guessed = is_guessed
         metadata, spec = manifest["metadata"], manifest["spec"]
         self.key = f"{metadata['namespace']}/{metadata['name']}"
         self.uid = uid
@@ -236,8 +237,10 @@ class Pod:
         self.usage: dict[str, Any] = {}
         self.is_unsampled = False
         self.is_deleting = False
-        # members that the formats do not read: what is known of its deletion, and its readiness gates
+        # members that the formats do not read: what is known of its deletion, its readiness gates, and since when its
+        # condition Ready has its value
         self.deletion: dict[str, Any] | None = None
+        self.turn: dict[str, Any] | None = None
         self.gates: dict[str, bool] | None = None
         # for what the node has ended it
         self.failed: str | None = None
@@ -266,6 +269,7 @@ class Pod:
         self.failed = self.failed or entry.get("failed")
         self.deletion = self.deletion or entry.get("deletion")
         self.gates = entry.get("readinessGates") or self.gates
+        self.turn = (entry.get("readyTurns") or [self.turn])[-1]
         # a message stands in the first tick alone
         before, self.waiting = self.waiting, {}
         for each in entry.get("waiting") or []:
@@ -290,7 +294,8 @@ class Pod:
                                 "deletion": self.deletion, "failed": self.failed, "readinessGates": self.gates}
         if back == 0:
             said |= {"usage": self.usage or None, "unsampled": self.is_unsampled or None,
-                     "waiting": list(self.waiting.values()) or None}
+                     "waiting": list(self.waiting.values()) or None,
+                     "readyTurns": None if self.turn is None else [self.turn]}
         if not containers and not any(said.values()):
             return None
         return without_nones({"pod": self.key, "containers": containers, **said})
@@ -318,7 +323,7 @@ class Standing:
         if kind == "node":
             self.node = record
         elif kind == "pod":
-            pod = Pod(record["pod"], record.get("uid"), record.get("spared") is True)
+            pod = Pod(record["pod"], record.get("uid"), record.get("spared") is True, "guessed" in record)
             self.pods[pod.key] = pod
         elif kind == "gone":
             self.pods.pop(record["pod"], None)
@@ -359,7 +364,7 @@ class Standing:
         count = max([1, *(len(container.carried()) for container in containers)])
         yield line_of(without_nones({**self.node, "follows": follows}))
         for pod in self.pods.values():
-            yield line_of(pod_fields(pod.uid, pod.manifest(), pod.is_spared))
+            yield line_of(pod_fields(pod.uid, pod.manifest(), pod.is_spared, pod.is_guessed))
         # of a pod without a line it is told once
         did = [each for pod in self.pods.values() for each in pod.decisions] + ([] if follows else self.left_out)
         for back in reversed(range(count)):

@@ -10,8 +10,11 @@ from typing import Any, Optional
 from replay_tools import amounts
 
 from .formats import without_nones, whole_fault
+from .runtime import moment_of
 
 MOST_GRACE = 2 ** 40 - 1
+READY, TRUE, FALSE = "Ready", "True", "False"
+STATUSES = (TRUE, FALSE, "Unknown")
 # the condition of a pod that is to end for the sake of others, and its reasons
 DISRUPTED = "DisruptionTarget"
 WORD = re.compile(r"[A-Za-z][A-Za-z0-9]{0,63}")
@@ -25,6 +28,36 @@ class Beside:
     status says, where it does."""
     gates: dict = field(default_factory=dict)
     resources: dict = field(default_factory=dict)
+
+
+@dataclass(frozen=True)
+class ReadyTurn:
+    """Since when the condition Ready of a pod's status has its value; `is_guessed` is that the moment is not known."""
+    status: str
+    at: float
+    is_guessed: bool = False
+
+    def told(self) -> dict[str, Any]:
+        return without_nones({"status": self.status, "at": int(self.at),
+                              "guessed": ["moment"] if self.is_guessed else None})
+
+
+def ready_turn_in(status: dict[str, Any]) -> ReadyTurn | None:
+    """The condition Ready of a status, where it has the moment at which that turned."""
+    for each in status.get("conditions") or []:
+        at = moment_of(each.get("lastTransitionTime"))
+        if each.get("type") == READY and each.get("status") in STATUSES and at is not None:
+            return ReadyTurn(each["status"], at)
+    return None
+
+
+def turns_between(before: ReadyTurn | None, now: ReadyTurn, unseen_at: float) -> list[ReadyTurn]:
+    """The turns of a condition from what a list showed to what the next one shows. Where that has the same value since
+    a later moment it was another one between, from a moment that is not known."""
+    if before is None or before.status != now.status:
+        return [now]
+    other = FALSE if now.status == TRUE else TRUE
+    return [ReadyTurn(other, max(before.at, min(unseen_at, now.at)), True), now]
 
 
 def beside_in(item: Any, resources: tuple[str, ...]) -> Beside:

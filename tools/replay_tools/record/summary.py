@@ -76,9 +76,11 @@ def used_in(stats: dict[str, Any]) -> dict[str, Used]:
 
 def used_of(memory: dict[str, Any], cpu: dict[str, Any]) -> Used | None:
     moment, nano = moment_of(memory.get("time")), units(cpu.get("usageNanoCores"))
-    if moment is None:
+    working_set, usage = units(memory.get("workingSetBytes")), units(memory.get("usageBytes"))
+    # what runs uses some memory: 0 is of a cgroup that is no more, or not yet
+    if moment is None or working_set == 0 or usage == 0:
         return None
-    return Used(moment, units(memory.get("workingSetBytes")), units(memory.get("usageBytes")),
+    return Used(moment, working_set, usage,
                 None if nano is None else round(nano / NANO_OF_MILLI))
 
 

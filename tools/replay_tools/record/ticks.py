@@ -25,7 +25,7 @@ if TYPE_CHECKING:
     from .probes import Result
     from .reasons import Reason
     from .seen import Recorded
-    from .statuses import Beside
+    from .statuses import Beside, ReadyTurn
     from .summary import Used
 
 # a start that had to stand later must not bring a result before the probe's initial delay
@@ -53,13 +53,16 @@ class Tick:
     said: dict = field(default_factory=dict)
     signals: dict = field(default_factory=dict)
     ready: Optional[Ready] = None
+    started: Optional[int] = None
+    turns: dict = field(default_factory=dict)
     decisions: list = field(default_factory=list)
     departures: list = field(default_factory=list)
 
     def forget(self, uid: str) -> None:
         """What stands beside of a pod that has gone by then is no more."""
         of_pods: dict
-        for of_pods in (self.usages, self.deleted, self.failed, self.waits, self.beside, self.said):
+        for of_pods in (self.usages, self.deleted, self.failed, self.waits, self.beside, self.said,
+                        self.turns):
             of_pods.pop(uid, None)
         for of_pods in (self.used, self.throttled):
             for place in [place for place in of_pods if place[0] == uid]:
@@ -145,9 +148,9 @@ class Ticks:
         """The kubelet has judged its thresholds by a sample of this moment, whose tick says so."""
         self.tick(self.second_of(moment), True).is_judged = True
 
-    def place_waits(self, pod: Pod, moment: float, waits: dict[str, Reason]) -> None:
-        """Why the containers of a pod wait from a moment on; that wants no tick."""
-        self.tick(self.second_of(moment), False).waits[pod.uid] = waits
+    def place_waits(self, pod: Pod, moment: float, waits: dict[str, Reason], is_short: bool = False) -> None:
+        """Why the containers of a pod wait from a moment on; that wants no tick, but where it may be over soon."""
+        self.tick(self.second_of(moment), is_short and self.format.says_gone).waits[pod.uid] = waits
 
     def place_beside(self, pod: Pod, moment: float, beside: Beside) -> None:
         """What a pod's object says beside from a moment on; that wants no tick."""
@@ -156,6 +159,14 @@ class Ticks:
     def place_ready(self, moment: float, ready: Ready) -> None:
         """Whether the node is Ready from a moment on."""
         self.tick(self.second_of(moment), True).ready = ready
+
+    def place_start(self, moment: float) -> None:
+        """The kubelet was started anew at a moment."""
+        self.tick(self.second_of(moment), True).started = int(moment)
+
+    def place_turn(self, pod: Pod, turn: ReadyTurn, arrived: int) -> None:
+        """The condition Ready of a pod's status has turned, which stands in the first tick from then on."""
+        self.tick(self.second_of(turn.at, arrived), False).turns.setdefault(pod.uid, []).append(turn)
 
     def place_said(self, pod: Pod, moment: float, said: Said) -> None:
         """What was said of a pod, which stands in the first tick from then on."""
@@ -184,6 +195,10 @@ class Ticks:
         """From this moment on a pod is being deleted, which stands in the first tick that is written then, with what is
         known of that."""
         self.tick(self.second_of(moment), False).deleted[pod.uid] = deletion or {}
+
+    def take_back_deletion(self, pod: Pod) -> bool:
+        """A pod is not being deleted after all; whether no line says so yet."""
+        return any([tick.deleted.pop(pod.uid, None) is not None for tick in self.ticks.values()])
 
     def place_end(self, pod: Pod, second: int, decision: Decision) -> None:
         """The node has ended a pod in a second. What it says of an eviction stands with the kubelet's decision."""

@@ -17,6 +17,7 @@ if TYPE_CHECKING:
     from .events import Ready, Said
     from .lines import Format
     from .pods import Pod
+    from .statuses import ReadyTurn
     from .ticks import Tick
 
 
@@ -34,6 +35,7 @@ class Timeline(Ticks):
         self.deleted: dict[str, dict[str, Any]] = {}
         self.failed: dict[str, str] = {}
         self.said: dict[str, list[Said]] = {}
+        self.turns: dict[str, list[ReadyTurn]] = {}
         self.ready: Ready | None = None
         self.signals: dict[str, int] = {}
         # when the kubelet evicted a pod last, and the signals that were not sampled since
@@ -62,6 +64,7 @@ class Timeline(Ticks):
         copied.usages = {uid: dict(usages) for uid, usages in self.usages.items()}
         copied.deleted, copied.failed = dict(self.deleted), dict(self.failed)
         copied.said = {uid: list(said) for uid, said in self.said.items()}
+        copied.turns = {uid: list(turns) for uid, turns in self.turns.items()}
         copied.asides = self.asides.copied()
         copied.place_look(moment)
         return list(copied.due(float("inf"), silent_from))
@@ -83,6 +86,8 @@ class Timeline(Ticks):
         self.ready = tick.ready or self.ready
         for uid, said in tick.said.items():
             self.said.setdefault(uid, []).extend(said)
+        for uid, turns in tick.turns.items():
+            self.turns.setdefault(uid, []).extend(turns)
         for uid, waits in tick.waits.items():
             self.asides.take_waits(uid, waits)
         self.asides.beside.update(tick.beside)
@@ -92,7 +97,7 @@ class Timeline(Ticks):
         if tick.is_wanted:
             lines.append(self.tick_of(second, tick, signals, set(tick.listings) if is_silent else None))
             self.results, self.usages, self.failed, self.deleted, self.unsampled = {}, {}, {}, {}, set()
-            self.said = {}
+            self.said, self.turns = {}, {}
         if self.format.says_gone:
             lines += [gone_line(pod) for pod in tick.departures]
             self.depart(tick.departures)
@@ -107,7 +112,8 @@ class Timeline(Ticks):
         """The line of a tick with these entries of pods."""
         is_judged = tick.is_judged or not self.tells_rounds
         node_ready = None if self.ready is None else self.ready.told()
-        return tick_line(second, entries, signals, told([*tick.decisions, *tick.ends]), is_judged, node_ready)
+        return tick_line(second, entries, signals, told([*tick.decisions, *tick.ends]), is_judged, node_ready,
+                         tick.started)
 
     def shown_signals(self, second: int, tick: Tick) -> dict[str, int]:
         """The signals of a tick, as last sampled. What was left before the kubelet evicted a pod is not what is left
@@ -151,4 +157,5 @@ class Timeline(Ticks):
         of_pod = {(container, probe): result for (uid, container, probe), result in self.results.items()
                   if uid == pod.uid}
         return entry_of(pod, listings, of_pod, self.usages.get(pod.uid), pod.uid in self.unsampled,
-                        self.deleted.get(pod.uid), self.asides, self.failed.get(pod.uid), self.said.get(pod.uid, ()))
+                        self.deleted.get(pod.uid), self.asides, self.failed.get(pod.uid), self.said.get(pod.uid, ()),
+                        self.turns.get(pod.uid, ()))

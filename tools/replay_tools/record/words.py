@@ -21,7 +21,7 @@ from .sources import KUBECTL
 HELP = """\
 usage: tools/record [--node NAME] [--every SECONDS] [--look SECONDS] [--ticks N] [--for SECONDS]
                     [--kubelet URL [--curl FILE]] [--crictl WORDS] [--node-line FILE] [--logs N] [--metrics FILE]
-                    [--events API] [--throttled yes|no]
+                    [--events URL] [--throttled yes|no]
                     [--standard | --extended [--eviction-pause N] [--simulate]] > TRACE
        tools/record --into FOLDER [--each 1h] [--keep 48h] [--most 2Gi] [--ship COMMAND], and the other words but
                     --standard
@@ -34,13 +34,14 @@ of a line. NAME is the node's name in the cluster (uname -n). --check asks each 
 is there where another one is missing, says what works and what is missing, and ends.
 --crictl has the words that start crictl, as 'chroot /host crictl'. With --logs N the last N lines of each container
 that exits with another code than 0 are asked for (crictl logs), and what of them is known to have no secret is told.
-With --events the Events of a pod are asked for, behind an exit, a probe that fails and a wait: of the API server at
-API, as https://kubernetes.default.svc, with the token of --curl, or of kubectl, where that is the word; it wants the
-right to list events. With --metrics FILE has what was recorded so far as OpenMetrics text: restarts, deaths, kills,
-readiness, pressure. With --throttled yes the kubelet's /metrics/cadvisor is asked for how long processors were
-throttled, with no leaves it out. It is asked by default where the kubelet is asked at its port, since an answer, of
-some MB where many pods run, goes through the API server otherwise, and in no case where no container that runs has a
-limit of its processor. It is read beside the looks, which do not wait for it, line by line, up to 64 MiB.
+With --events https://kubernetes.default.svc the Events of a pod are asked for at the API server, after an exit, a
+probe that fails and a wait, with the token of --curl; that needs the right to list events. Without a token use
+--events kubectl: it takes 2.2 s of a processor in a minute, where the URL takes 0.1. With --metrics FILE has what was
+recorded so far as OpenMetrics text: restarts, deaths, kills, readiness, pressure. With --throttled yes the kubelet's
+/metrics/cadvisor is asked for how long processors were throttled, with no leaves it out. It is asked by default where
+the kubelet is asked at its port, since an answer, of some MB where many pods run, goes through the API server
+otherwise, and in no case where no container that runs has a limit of its processor. It is read beside the looks, which
+do not wait for it, line by line, up to 64 MiB.
 
 --into FOLDER writes traces of the extended format one behind the other, as NODE.2026-11-27T05-00-00Z.trace.gz, until it
 is interrupted (docs/recorder.md). Each begins where the one before it ends: after --each (1h, by UTC), or earlier at
@@ -69,18 +70,23 @@ It asks                                  how often              for
                                          happens twice that
   crictl inspect                         once a start, an exit  startedAt, finishedAt, exitCode, reason, message
   /metrics/probes                        --look                 results of probes, as what the counters grew by
-  kubectl get pods -o json, or /pods     10 s, and where an     the pods, without their environment; whom the kubelet
+  kubectl get pods -o json, or /pods     10 s, where an         the pods, without their environment; whom the kubelet
                                          instance exited or     evicted or refused; the codes of what the runtime has
-                                         went                   removed; why containers wait
+                                         went, and for 30 s     removed; why containers wait; how Ready has turned
+                                         after a restart
   /stats/summary                         10 s, or --every; at   capacity, signals and usage, at the moments at which the
                                          each look where the    kubelet sampled them
                                          kubelet may evict
   /configz                               once                   thresholds, graces and periods
+  /metrics                               after a sign of a      when the kubelet was started
+                                         restart
   /metrics/cadvisor                      10 s, or 20 times as   for how long processors were throttled, as far as the
                                          long as an answer      kubelet has it
                                          takes
 
-The kubelet may evict while a signal is below twice its threshold, and while the node is under pressure. What it did,
+It looks each second, whatever --look is, where the kubelet may evict, for 30 s after the kubelet restarted, and for 3 s
+after a container failed. The kubelet may evict while a signal is below twice its threshold, and while the node is under
+pressure. What it did,
 why instances ended and why containers wait stands in the ticks, for the tools; the program does not read it.
 
 --standard writes version 2, --extended version 3 with a line for a pod that goes, its new line where its name comes
@@ -96,6 +102,7 @@ It leaves out
   - afterReclaim, so no threshold is reclaimed in the replay; thresholds on other signals, and percentages of a signal
     without a capacity; mergeDefaultEvictionSettings;
   - ephemeral containers, and of a pod's manifest every field that the formats do not read, as its environment;
+  - the pods that a kubelet does not list yet since it has just restarted: they stay as they were;
   - a pod that the formats refuse, the 257th pod, one that the kubelet refused or had evicted before it was seen; in the
     standard format that a pod has gone, and a pod from the moment on that it was made anew under its name.
 A file system for images of the same size as the node's is taken for the same one. On standard error it says what it

@@ -27,7 +27,8 @@ def kind_of(words):
     text = " ".join(words)
     if re.search("/api/v1/nodes/[^/]+$", text):
         return "node", None
-    kinds = [kind for kind in ("cadvisor", "events", "configz", "summary", "probes", "pods") if kind in text]
+    kinds = [kind for kind in ("cadvisor", "events", "configz", "summary", "probes", "pods", "metrics")
+             if kind in text]
     return kinds[0], text.rpartition("%3D")[2] if kinds[0] == "events" else None
 
 
@@ -51,6 +52,8 @@ class Play:
     throttled   {moment: {container id: [seconds, moment]}}: for how long processors were throttled
     events      [{"at"}]: Events of the API, as they are from a moment on
     ready       [{"at", "status", "reason"}]: the condition Ready of the node's object
+    started     [moments] at which the kubelet was started; its counts of probes begin anew with each
+    lists       [{"from", "until", "pods": [keys]}]: when a list of pods has these alone
     fails       {"kind", "from", "until", "text"}: answers that do not come
     slow        {kind: seconds}: how long an answer takes, for which the clock goes on
     empty       [from, until]: when no probe is counted
@@ -138,21 +141,32 @@ class Play:
     def probes(self, moment):
         if any(since <= moment < until for since, until in self.script.get("empty", [])):
             return ""
-        counts = {}
+        counts, started = {}, self.started(moment) if "started" in self.script else float("-inf")
         for each in self.script.get("probes", []):
             labels = (each["container"], self.uid(each), each["probe"].capitalize(), RESULTS[each["result"]])
-            counts[labels] = counts.get(labels, 0) + bisect(each["at"], moment)
+            counts[labels] = counts.get(labels, 0) + bisect(each["at"], moment) - bisect(each["at"], started)
         lines = [f'prober_probe_total{{container="{container}",pod_uid="{uid}",probe_type="{probe}",'
                  f'result="{result}"}} {count}' for (container, uid, probe, result), count in counts.items() if count]
         return "".join(f"{line}\n" for line in lines)
 
+    def started(self, moment):
+        """When the kubelet was started last."""
+        return max(each for each in self.script.get("started", [-3600]) if each <= moment)
+
+    def metrics(self, moment):
+        """The kubelet's own metrics, among them when it was started."""
+        return f"go_threads 20\nprocess_start_time_seconds {self.begin + self.started(moment):.11e}\n"
+
     def pods(self, moment):
         items = []
+        kept = [each["pods"] for each in self.script.get("lists", []) if each["from"] <= moment < each["until"]]
         for key, lives in self.script["pods"].items():
+            if kept and key not in kept[-1]:
+                continue
             for life in lives if isinstance(lives, list) else [lives]:
                 if life.get("from", 0) <= moment < life.get("until", float("inf")):
                     items.append(self.pod(key, life, moment))
-        return json.dumps({"kind": "PodList", "items": items})
+        return json.dumps({"kind": "PodList", "items": items or (None if kept else [])})
 
     def pod(self, key, life, moment):
         namespace, name = key.split("/")

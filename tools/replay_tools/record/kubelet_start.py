@@ -1,0 +1,219 @@
+"""When the kubelet was started, and which of its lists of pods come too soon after that to be an answer: a kubelet that
+has just started lists no pod, then some, then all."""
+
+from __future__ import annotations
+
+import re
+from collections.abc import Callable, Iterable
+from typing import Any, TYPE_CHECKING
+
+from replay_tools import outside
+
+from .answers import decoded
+from .sources import Failed, too_long
+
+if TYPE_CHECKING:
+    from .answers import Answer
+    from .pods import Pod
+    from .probes import Counters
+    from .sources import Sources
+
+PATH = "metrics"
+REMAINS = "a restart of the kubelet is known by the counts of its probes alone"
+METRIC = "process_start_time_seconds"
+LINE = re.compile(rf"^{METRIC} (?P<value>[0-9]{{1,10}}(?:\.[0-9]+)?(?:e\+?[0-9]{{1,2}})?)[ \t\r]*$", re.MULTILINE)
+# the longest answer that is read, and how much of its end may be the begin of the line
+MOST_BYTES = 64 << 20
+LONGEST_LINE = 100
+# the clock of the system's start, which the moment is counted from, is exact to about a second
+FUZZ_SECONDS = 2
+# a kubelet that gives no moment is asked so often after each sign of a restart
+MOST_TRIES = 3
+# a source of pods is whole some seconds after its first pod; one that shows none is waited for so long
+SETTLE_SECONDS = 5
+EMPTY_SECONDS = 60
+# after a start the pods are asked for at each look, and between two looks each second
+WATCH_SECONDS = 30
+STATIC, FROM_API = "static", "api"
+
+
+def started_in(text: Answer) -> float | None:
+    """When the kubelet's process was started, by an answer that has its metrics; None where it does not say."""
+    found = LINE.search(decoded(text))
+    return None if found is None else outside.moment(int(float(found["value"])))
+
+
+class StartLine:
+    """Takes an answer part by part, and keeps the moment alone."""
+
+    def __init__(self) -> None:
+        self.size = 0
+        self.rest = b""
+        self.started: float | None = None
+
+    def take(self, part: bytes) -> None:
+        self.size += len(part)
+        if self.size > MOST_BYTES:
+            raise too_long(MOST_BYTES)
+        text = self.rest + part
+        if self.started is None and METRIC.encode() in text:
+            whole = text[:text.rfind(b"\n") + 1]
+            self.started = started_in(whole)
+        self.rest = text[-LONGEST_LINE - len(METRIC):]
+
+
+def asked(sources: Sources) -> float:
+    """Asks the kubelet; Failed where it does not say when it was started."""
+    line = StartLine()
+    sources.stream(PATH, line.take)
+    if line.started is None:
+        raise Failed(f"/{PATH}: no {METRIC} in the answer")
+    return line.started
+
+
+def have_fallen(before: Counters | None, now: Counters | None) -> bool:
+    """Whether the counts of a probe are below those before, as those of a kubelet that was started since are."""
+    if before is None or now is None:
+        return False
+    return any(count < before[series].get(result, 0) for series, counts in now.items() if series in before
+               for result, count in counts.items())
+
+
+class KubeletStart:
+    """Finds out that the kubelet restarted. It asks the kubelet after a sign of that: it was silent, counts of probes
+    fell or are gone, or pods are gone from its list."""
+
+    def __init__(self, sources: Sources, say: Callable[..., None]) -> None:
+        self.sources = sources
+        self.say = say
+        self.started: float | None = None
+        # when it answered last, in a look before
+        self.answered_at: float | None = None
+        self.tries = 0
+        self.has_fallen = False
+        # a start that is not told yet, and since when the new kubelet is watched
+        self.news: float | None = None
+        self.since: float | None = None
+
+    def begin(self, probes: Answer, moment: float) -> None:
+        """The answer of the first look."""
+        self.started, self.answered_at = started_in(probes), moment
+
+    def see_probes(self, text: Answer, moment: float) -> None:
+        """Newer kubelets say it with the counts of probes."""
+        started = started_in(text)
+        if started is not None:
+            self.see(started, moment)
+
+    def see_counts(self, before: Counters | None, now: Counters | None) -> None:
+        """Counts that fell or are all gone are a sign."""
+        if have_fallen(before, now):
+            self.has_fallen = True
+            self.suspect()
+        elif before and now is not None and not now:
+            self.suspect()
+
+    def suspect(self) -> None:
+        """There is a sign of a start."""
+        self.tries = MOST_TRIES
+
+    def check(self, moment: float) -> None:
+        """Asks the kubelet, where there is a sign of a start."""
+        if self.tries and self.sources.alone is None:
+            self.tries -= 1
+            try:
+                self.see(asked(self.sources), moment)
+                self.tries = 0
+            except Failed as failed:
+                self.say(f"{failed}; {REMAINS}", "kubelet start")
+                self.guess(moment)
+
+    def see(self, started: float, moment: float) -> None:
+        """The kubelet says when it was started, which is none where that is to come."""
+        if started > moment + FUZZ_SECONDS:
+            return
+        before, self.started = self.started, started
+        self.has_fallen = False
+        least = self.answered_at if before is None else before + 2 * FUZZ_SECONDS
+        if least is not None and started > least - FUZZ_SECONDS:
+            self.begin_anew(started, moment)
+
+    def guess(self, moment: float) -> None:
+        """It does not say so: where counts fell it was started since it answered last."""
+        if self.has_fallen:
+            self.has_fallen, self.tries = False, 0
+            self.begin_anew(moment, moment)
+
+    def begin_anew(self, started: float, moment: float) -> None:
+        self.news, self.since = started, moment
+        self.say(f"{int(moment)}: the kubelet restarted at {int(started)}", ("start", int(started)))
+
+    def end_look(self, has_answered: bool, moment: float) -> None:
+        if has_answered:
+            self.answered_at = moment
+
+    def taken(self) -> float | None:
+        """The start that is not told yet."""
+        news, self.news = self.news, None
+        return news
+
+    def is_watched(self, moment: float) -> bool:
+        """Whether the kubelet was started some seconds ago, so that its pods are asked for often."""
+        return self.since is not None and 0 <= moment - self.since < WATCH_SECONDS
+
+    def is_known(self) -> bool:
+        """Whether the kubelet says when it was started."""
+        return self.started is not None
+
+
+class ListOfPods:
+    """What the lists of a kubelet have, and what they lack since the kubelet was started: those pods stay as they were.
+    """
+
+    def __init__(self) -> None:
+        self.pods: dict[str, Pod] = {}
+        # since when a list may lack pods, and since when each of the kubelet's sources has shown some
+        self.since: float | None = None
+        self.shown_at: dict[str, float] = {}
+
+    def begin_anew(self, moment: float) -> None:
+        """The kubelet restarted, and learns its pods again."""
+        self.since, self.shown_at = moment, {}
+
+    def lost(self, listed: Iterable[Pod]) -> list[Pod]:
+        """The pods that a list has no more, though they were neither told to go nor ended."""
+        uids = {pod.uid for pod in listed}
+        return [pod for uid, pod in self.pods.items() if uid not in uids and not pod.is_deleted and pod.ended is None]
+
+    def take(self, listed: list[Pod], running: set[str], moment: float) -> list[Pod]:
+        """The pods of a list with those that it lacks too soon."""
+        for pod in listed:
+            self.shown_at.setdefault(source_of(pod), moment)
+        keys = {pod.key for pod in listed}
+        kept = [] if self.since is None else [pod for pod in self.lost(listed) if pod.key not in keys
+                                              and self.is_early(pod, running, moment)]
+        self.pods = {pod.uid: pod for pod in (*listed, *kept)}
+        if self.since is not None and not kept and moment - self.since > EMPTY_SECONDS:
+            self.since = None
+        return sorted(self.pods.values(), key=lambda pod: pod.key)
+
+    def is_early(self, pod: Pod, running: set[str], moment: float) -> bool:
+        """Whether a list that lacks a pod says nothing of it, since its source has yet to show its pods."""
+        shown_at = self.shown_at.get(source_of(pod))
+        if shown_at is not None:
+            return moment - shown_at < SETTLE_SECONDS
+        return pod.uid in running or moment - (self.since or 0) < EMPTY_SECONDS
+
+    def vanished(self, lost: list[Pod], listed: Iterable[Pod]) -> bool:
+        """Whether a source of which pods are gone shows none any more."""
+        return bool({source_of(pod) for pod in lost} - {source_of(pod) for pod in listed})
+
+
+def source_of(pod: Pod) -> str:
+    """The source of the kubelet that a pod comes by: the node's files, or the API server."""
+    return STATIC if pod.is_static else FROM_API
+
+
+def uids_running(instances: dict[str, list[Any]] | None, state: str) -> set[str]:
+    """The pods of which an instance is in a state."""
+    return {uid for uid, of_pod in (instances or {}).items() if any(each.state == state for each in of_pod)}
