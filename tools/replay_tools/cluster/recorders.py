@@ -87,8 +87,8 @@ class Cluster:
     def ask(self, *words: str, most: int, take: Callable[[bytes], object], seconds: float | None = None) -> None:
         """Hands on what kubectl answers, so many bytes at most; the cluster's seconds are those of silence, and without
         others those for all of it. Raises NoAnswer."""
-        kubectl.answer([*self.options, *words], most, seconds or self.seconds, take,
-                       min(self.seconds, seconds or self.seconds))
+        seconds = seconds or self.seconds
+        kubectl.answer([*self.options, *words], most, seconds, take, silent=min(self.seconds, seconds))
 
     def recorders(self) -> dict[str, Recorder]:
         """The pods that have the traces, by their nodes; of several of one node, as while they are replaced, the one
