@@ -9,7 +9,7 @@ from paragraphs import wrapped
 COLUMNS = ("crate", "what", "refused", "proved", "not judged", "not writable", "since", "date",
            "why what is proved is right")
 COUNTS = COLUMNS[2:6]
-TITLES = ("Crates", "Rejected", "Proved", "Not judged", "Not writable", "Last run")
+TITLES = ("Crates", "Rejected", "Proved", "Not judged", "Not writable", "Last run", "Changed since")
 HEAD = ("""
 Which mistakes in the bodies of functions the prover rejects, for whoever changes a contract or an edit of the gate.
 `bench/planted` writes this page from `bench/planted.tsv` and `bench/edits.tsv`.
@@ -17,8 +17,10 @@ Which mistakes in the bodies of functions the prover rejects, for whoever change
 `rt plant`, run manually, puts mistakes into the bodies of a crate's functions, one at a time, and checks each. The
 prover rejects it, proves it, or can't judge it; some mistakes `rt plant` can't write. It plants none in definitions, in
 laws, or inside a loop. A proved mistake needs a reason why it changes no answer. In all, {refused} were rejected,
-{proved} proved, {not judged} not judged, and {not writable} not writable. `bench/planted.tsv` has what each run covered.
-If a function has changed since its run, nobody planted it again. A crate without a row has no run in its present form.
+{proved} proved, {not judged} not judged, and {not writable} not writable. `bench/planted.tsv` has what each run
+covered.
+If a function has changed since its run, nobody planted it again: `words added` is the code of the words `failed`,
+`judged`, `spared` and `waiting`, which came later. A crate without a row has no run in its present form.
 """, """
 A rejection shows less if the search for a proof reached a limit: it found no counterexample, and a longer search might
 find a proof. By the gate's log this holds for 16 of its 60 edits. A rejection shows nothing about the contract if a
@@ -66,9 +68,10 @@ def sums_of(rows):
 
 
 def line_of_runs(crates, rows):
-    """A line with the sums of the rows and the date of the last one."""
+    """A line with the sums of the rows, the date of the last one, and what changed since."""
     names = ", ".join(f"`{crate}`" for crate in crates.split())
-    return line_of([names, *map(str, sums_of(rows).values()), max(row["date"] for row in rows)])
+    changed = ", ".join(dict.fromkeys(row["since"] for row in rows if row["since"]))
+    return line_of([names, *map(str, sums_of(rows).values()), max(row["date"] for row in rows), changed])
 
 
 def page_of(rows, edits, spent):

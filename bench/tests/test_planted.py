@@ -59,7 +59,7 @@ class Planted(Case):
     def test_the_page(self):
         self.assertEqual(self.planted(HEAD, ROW), (0, "", ""))
         text = read(self.top, "docs/planted.md")
-        self.assertIn("| `a`, `b` | 3 | 1 | 0 | 2 | 2026-11-27 |\n", text)
+        self.assertIn("| `a`, `b` | 3 | 1 | 0 | 2 | 2026-11-27 |  |\n", text)
         self.assertIn("In all, 3 were rejected, 1 proved, 0 not judged, and 2 not writable.", " ".join(text.split()))
         self.assertIn("- `a b`: it is slower.\n", text)
         self.assertEqual(self.planted(HEAD, ROW, words=["--check"]), (0, "", ""))
@@ -68,9 +68,11 @@ class Planted(Case):
 
     def test_the_runs_of_a_crate_are_one_line(self):
         later = ROW.replace("2026-11-27", "2026-11-30").replace("all", "private functions")
+        later = later.replace("\t\t2026", "\tone more\t2026")
         self.assertEqual(self.planted(HEAD, ROW, ROW.replace("a b", "c"), later), (0, "", ""))
         text = read(self.top, "docs/planted.md")
-        self.assertIn("| `a`, `b` | 6 | 2 | 0 | 4 | 2026-11-30 |\n| `c` | 3 | 1 | 0 | 2 | 2026-11-27 |\n\n", text)
+        self.assertIn("| `a`, `b` | 6 | 2 | 0 | 4 | 2026-11-30 | one more |\n"
+                      "| `c` | 3 | 1 | 0 | 2 | 2026-11-27 |  |\n\n", text)
 
     def test_faults(self):
         for lines, said in ((["crate"], f": the columns are not {', '.join(planted_page.COLUMNS)}"),

@@ -36,6 +36,10 @@ class Decision:
     message: str
     uid: str | None = None
     """that of a pod that has no line in the trace, where it is known"""
+    had_run: bool = False
+    """of a refused pod: it had run before, and was refused when the kubelet admitted its pods again"""
+    is_guessed: bool = False
+    """no source gave its reason"""
 
 
 @dataclass
@@ -93,11 +97,13 @@ def decisions_of(trace: Trace, found: dict[str, Any]) -> Iterator[Decision]:
                 pods = [] if each.get("leftOut") is True else [pod for pod in trace.pods if pod.key == key]
                 reason, message = (outside.text_of(str(each.get(name) or "")) for name in ("reason", "message"))
                 yield Decision(kind, found["at"] if at is None else at, key, pods[-1].number if pods else None,
-                               reason or "", message or "", outside.text_of(each.get("uid")))
+                               reason or "", message or "", outside.text_of(each.get("uid")),
+                               is_guessed="reason" in (each.get("guessed") or ()))
 
 
 def decisions_with_endings(trace: Trace) -> list[Decision]:
     """All that the kubelet did; of a pod that it ended what a recording says with its message, where it does."""
-    told = {decision.number for decision in trace.decisions if decision.kind != "refused"}
+    # a pod that was refused at its re-admission has `failed` too, which is that refusal
+    told = {decision.number for decision in trace.decisions if decision.number is not None}
     return sorted([*trace.decisions, *(each for number, each in trace.failed.items() if number not in told)],
                   key=lambda decision: decision.at)

@@ -20,6 +20,8 @@ OWN_LIMIT = re.compile(r"exceeds the (?:total )?limit|exceeded its local ephemer
 MEANINGS = {"DeadlineExceeded": "it ran for longer than its activeDeadlineSeconds",
             "Preempting": "a critical pod had no room beside it", "Terminated": "the node was shut down",
             "Shutdown": "the node was shut down", "NodeShutdown": "the node was shut down"}
+# what a recorder writes for a reason that no source gave
+OTHER = "Other"
 USING = re.compile(r"Container (\S+) was using ([^\s,]+), "
                    r"(?:which exceeds its request of|request is) ([^\s,]+?)[.,]?(?:\s|$)")
 CONDITION = re.compile(r"The node had condition: \[([^\]]*)\]")
@@ -102,6 +104,8 @@ def beside(trace: traces.Trace, report: reports.Report) -> Kubelet | None:
     found = Kubelet(names=report.names_pods or trace.is_imported())
     for decision in decided.decisions_with_endings(trace):
         if decision.kind == "refused":
+            decision.had_run = decision.number is not None and any(
+                event.word == "started" for event in report.pods[decision.number].events)
             found.refused.append(decision)
         else:
             fact = Fact(decision, of_rules(rules, decision), is_imported=trace.is_imported())
@@ -271,6 +275,8 @@ def why_words(decision: traces.Decision) -> str:
     if decision.kind == "refused":
         found = CONDITION.search(decision.message)
         return f"the node had {found[1]}" if found else decision.message or decision.reason
+    if decision.kind == "ended" and (decision.is_guessed or decision.reason == OTHER and not decision.message):
+        return "for a reason that was not seen"
     if decision.kind == "ended":
         return reason_words(decision.reason, decision.message)
     resource = resource_of(decision)
@@ -308,7 +314,7 @@ def event_words(decision: traces.Decision) -> str:
 
 def did_words(decision: traces.Decision, show: Callable[[int], str]) -> str:
     """What the kubelet did, as a fact."""
-    never = "; it never ran" if decision.kind == "refused" else ""
+    never = "; it never ran" if decision.kind == "refused" and not decision.had_run else ""
     return f"the kubelet {decision.kind} it at {show(decision.at)}: {why_words(decision)}{never}"
 
 

@@ -6,7 +6,7 @@ from __future__ import annotations
 from dataclasses import dataclass
 from typing import TYPE_CHECKING
 
-from replay_tools import report as reports
+from replay_tools import readiness, report as reports
 from replay_tools.spans import Span
 
 if TYPE_CHECKING:
@@ -63,7 +63,8 @@ class Lanes:
 def lanes_of(pod: reports.Pod, trace: traces.Trace | None) -> Lanes:
     """The lanes of a pod, by its events and, with the trace of its report, by what that says beside them."""
     names = [container.name for container in pod.containers]
-    return Lanes(reports.ready_spans(pod), [lane_of(pod, name, trace) for name in names],
+    ready = readiness.spans_of(trace, pod) or reports.ready_spans(pod)
+    return Lanes(ready, [lane_of(pod, name, trace) for name in names],
                  trace.said.by_lane(pod.number, names) if trace else {})
 
 

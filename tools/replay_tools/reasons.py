@@ -19,7 +19,8 @@ HOOK_FAILED = "PostStartHookError"
 # a start that failed
 NEVER_RAN = ("StartError", "ContainerCannotRun", "CreateContainerError", "RunContainerError")
 # a tick line without one of them says no reason
-SIGNS = (b'"reason"', b'"waiting"', b'"ended"', b'"guessed"', b'"readinessGates"', b"\\u")
+SIGNS = (b'"reason"', b'"waiting"', b'"ended"', b'"guessed"', b'"readinessGates"', b'"readyTurns"',
+         b"\\u")
 # in the array of members that were guessed, as where a log says of an exit no code, and of a start or an exit no moment
 # but that of the kubelet's next look
 CODE, MOMENT, PHASE = "exitCode", "moment", "phase"
@@ -68,6 +69,8 @@ class Reasons:
         self.gates: dict[tuple[int, str], list[Wait]] = {}
         """as waits, by the pod's number and the condition of a readiness gate that is not true"""
         self.closed: dict[tuple[int, str], Wait] = {}
+        self.turns: dict[int, dict[int, str]] = {}
+        """how the condition Ready has turned in the kubelet's status: its status by the moment, by the pod's number"""
         self.unknown_phases: set[int] = set()
         """the numbers of pods that have ended, and of which no code says whether they succeeded"""
         self.looked: set[tuple[str, int, str, int]] = set()
@@ -81,6 +84,8 @@ class Reasons:
         closed: dict[tuple[int, str], tuple[str, str | None]] = {}
         for key, found in entries.items():
             number = present[key].number
+            for turn in dicts_at(found, "readyTurns"):
+                self.take_turn(number, turn)
             if is_guessed_in(found, PHASE):
                 self.unknown_phases.add(number)
             for listed in dicts_at(found, "containers"):
@@ -97,6 +102,11 @@ class Reasons:
             closed.update({(number, gate): ("readiness gate", None) for gate in closed_gates(found)})
         take_waits(self.waits, self.open, at, waiting)
         take_waits(self.gates, self.closed, at, closed)
+
+    def take_turn(self, number: int, turn: dict[str, Any]) -> None:
+        moment, status = outside.moment(turn.get("at")), text_at(turn, "status")
+        if moment is not None and status in ("True", "False", "Unknown"):
+            self.turns.setdefault(number, {})[moment] = status
 
     def take_look(self, number: int, listed: dict[str, Any]) -> None:
         attempt, name = outside.whole(listed.get("attempt", 0), 0, outside.MOST_OF_CODE), text_at(listed, "name")

@@ -5,10 +5,11 @@ from __future__ import annotations
 from collections.abc import Callable
 from typing import TYPE_CHECKING
 
-from replay_tools import asking, endings, kubelet as kubelets, provenance, reasons, report as reports, why_text
+from replay_tools import (asking, endings, kubelet as kubelets, provenance, readiness, reasons, report as reports,
+                          why_text)
 from replay_tools.joined import told as told_of_several
-from replay_tools.telling import (DECIDED, OF_NODE, beside_words, containers_title, event_words, last_lines, node_lines,
-                                  node_rows, rank_of, rank_of_said, table)
+from replay_tools.telling import (DECIDED, OF_NODE, SAID_LATER, beside_words, containers_title, event_words,
+                                  last_lines, node_lines, node_rows, rank_of, rank_of_said, table)
 
 if TYPE_CHECKING:
     from replay_tools import traces
@@ -96,6 +97,7 @@ def events(report: reports.Report, pod: reports.Pod, show: Show, kubelet: kubele
         cells, rank = [event.container or "-", attempt or "-"], rank_of(event)
         rows.append((event.at, rank, [*cells, what + beside_words(pod, event, show, trace)]))
         rows += [(event.at, rank, [*cells, wrote]) for wrote in last_lines(event, trace)]
+    rows += [(at, SAID_LATER, ["-", "-", what]) for at, what in readiness.rows(trace, pod)]
     rows += [(said.at, rank_of_said(said), [said.container or "-", "-", said.words()])
              for said in (trace.said.of(pod.number) if trace else ())]
     fact = kubelet and kubelet.fact(pod.number)

@@ -3,12 +3,11 @@ others. All tools have these from here, so that a pod stands at the same place i
 
 from __future__ import annotations
 
-from collections.abc import Sequence
 from dataclasses import dataclass
 from enum import Enum
 from typing import TYPE_CHECKING
 
-from replay_tools import endings, kubelet as kubelets, reasons, report as reports, telling
+from replay_tools import endings, kubelet as kubelets, readiness, reasons, report as reports, telling
 
 if TYPE_CHECKING:
     from replay_tools import decided, traces
@@ -87,7 +86,7 @@ def summary_of(report: reports.Report, pod: reports.Pod, trace: traces.Trace | N
                kubelet: kubelets.Kubelet | None, last: int, since: int = NEVER) -> Summary:
     whole = sum(int(container.restarts) for container in pod.containers)
     restarts = whole if since == NEVER else sum(came_again(pod, one.name, since) for one in pod.containers)
-    unready = unready_seconds(pod, last, since, closed_spans(pod, trace)) if has_ticks(report, pod, trace) else 0
+    unready = unready_seconds(pod, last, since, trace) if has_ticks(report, pod, trace) else 0
     return Summary(pod.number, worst_of(report, pod, trace, kubelet, since), restarts, unready, whole)
 
 
@@ -241,12 +240,15 @@ def has_ticks(report: reports.Report, pod: reports.Pod, trace: traces.Trace | No
     return ours.first < (len(trace.ticks) if ours.gone is None else ours.gone)
 
 
-def unready_seconds(pod: reports.Pod, last: int, since: int = NEVER, gates: Sequence[reports.Span] = ()) -> int:
-    """For how long the pod was not Ready after a moment, or one of its readiness gates was not true: from its first
-    tick until its end, or until it was gone, or else until the last moment."""
+def unready_seconds(pod: reports.Pod, last: int, since: int = NEVER, trace: traces.Trace | None = None) -> int:
+    """For how long the pod was not Ready after a moment, in the kubelet's status where the trace has it; else by the
+    rules, or while one of its readiness gates was not true. It counts from its first tick until its end, or until it
+    was gone, or else until the last moment."""
     end = reports.end_of_spans(pod)
-    spans = [span for span in reports.ready_spans(pod) if span.value == "False"]
-    return seconds_of(together([*spans, *gates]) if gates else spans, last if end is None else end, since)
+    shown, gates = readiness.spans_of(trace, pod), closed_spans(pod, trace)
+    spans = [span for span in (reports.ready_spans(pod) if shown is None else shown) if span.value == "False"]
+    whole = together([*spans, *gates]) if gates and shown is None else spans
+    return seconds_of(whole, last if end is None else end, since)
 
 
 def closed_spans(pod: reports.Pod, trace: traces.Trace | None) -> list[reports.Span]:

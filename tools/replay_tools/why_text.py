@@ -5,7 +5,7 @@ from __future__ import annotations
 from collections.abc import Callable
 from typing import Any, TYPE_CHECKING
 
-from replay_tools import entry, events, kubelet as kubelets, provenance, reasons, traces, why
+from replay_tools import entry, events, kubelet as kubelets, provenance, readiness, reasons, traces, why
 from replay_tools.amounts import amount_text
 from replay_tools.telling import (DECIDED, OF_NODE, SAID_LATER, beside_words, event_words, node_rows, rank_of,
                                   rank_of_said, table)
@@ -37,6 +37,7 @@ def whole_text(trace: traces.Trace, report: reports.Report, pod: reports.Pod, sh
     parts += [(said.at, rank_of_said(said),
                [" ".join(filter(None, [f"{show(said.at)} ", said.container, said.words()]))])
               for said in trace.said.of(pod.number)]
+    parts += [(at, SAID_LATER, [f"{show(at)}  {what}"]) for at, what in readiness.rows(trace, pod)]
     parts += [(at, OF_NODE, [f"{show(at)}  {what}", *lines])
               for at, what, lines in node_rows(trace, report, pod, show)]
     lines, kept = [], [part for part in parts if is_near(part[0])]

@@ -51,6 +51,8 @@ class Told:
 
     def by(self, tool, *words):
         options = [] if tool == "page" else ["--trace"]
+        # its why is another tool's
+        words = (*words, "--without-why") if tool == "story" and words else words
         status, told, said = run([f"{TOOLS}/{tool}", *words, *options, self.trace], self.report)
         expect(f"{tool} of a made trace", (status, said), (0, ""))
         return told
@@ -78,8 +80,8 @@ def test_a_kubelet_that_is_restarted():
     story = told.by("story", "shop/web")
     expect("story: the kubelet's restart, above", lines_with(story, "the kubelet was restarted at"),
            ["the kubelet was restarted at 2026-01-01 00:00:29Z"])
-    expect("story: the kubelet's restart, among the events", lines_with(story, "-  -", "the kubelet was restarted"),
-           ["00:00:29Z - - the kubelet was restarted"])
+    expect("story: the kubelet's restart, among the events", [line for line in lines_with(
+        story, "the kubelet was restarted") if "restarted at" not in line], ["00:00:29Z - - the kubelet was restarted"])
     expect("story of a pod that stayed ready", lines_with(told.by("story", "shop/calm"), "the kubelet was restarted"),
            ["00:00:29Z - - the kubelet was restarted"])
     expect("story of all pods", "the kubelet was restarted at" in told.by("story"), True)
@@ -90,6 +92,46 @@ def test_a_kubelet_that_is_restarted():
     picture = told.by("timeline")
     expect("timeline", (picture.count(">the kubelet was restarted<"), "the kubelet was restarted at 2026" in picture),
            (1, True))
+
+
+def test_turns_of_ready():
+    """What the kubelet's status shows of Ready counts, with its own moments; what no probe explains has its cause."""
+    def turn(at, status):
+        return {"readyTurns": [{"status": status, "at": BEGIN + at}]}
+    dip = [{"status": "False", "at": BEGIN + 21}, {"status": "True", "at": BEGIN + 28}]
+    told = Told(NODE, pod("web"), tick(0, entry("web", runs(), **turn(0, "True"))),
+                tick(30, entry("web", runs(), readyTurns=dip), kubeletStartedAt=BEGIN + 20),
+                tick(60, entry("web", runs(), **turn(50, "False"), readinessGates={"lb": False})),
+                tick(80, entry("web", runs(), readinessGates={"lb": True}, **turn(70, "True"))),
+                tick(90, entry("web", runs())))
+    story = told.by("story", "shop/web")
+    expect("turns in the events", [line.partition(" - - ")[2] for line in lines_with(story, "kubelet's status")], [
+        "not ready in the kubelet's status: the kubelet was restarted", "ready again in the kubelet's status",
+        "not ready in the kubelet's status: its readiness gate lb is not true", "ready again in the kubelet's status"])
+    expect("turns count", "not ready for 27 s" in story, True)
+    expect("turns in json", [record["unready_seconds"] for record in told.records("pod")], [27])
+    expect("turns on the page", told.data()["podList"][0]["ready"], [[0, 1], [21, 0], [28, 1], [50, 0], [70, 1]])
+
+
+def test_a_pod_that_was_refused_again():
+    """One that had run, and was refused when a kubelet that had restarted admitted its pods, is not told as evicted."""
+    refused = {"kubelet": {"refused": [{"pod": "shop/web", "at": BEGIN + 9, "reason": "Evicted", "message":
+                                        "The node had condition: [MemoryPressure]. "}]}}
+    told = Told(NODE, pod("web"), tick(0, entry("web", runs())),
+                tick(9, entry("web", exited(137), failed="Evicted"), **refused))
+    story = told.by("story", "shop/web")
+    expect("refused again", lines_with(story, "the kubelet refused it at"),
+           ["the kubelet refused it at 2026-01-01 00:00:09Z: the node had MemoryPressure"])
+    expect("it is no eviction", "the kubelet evicted it" in story, False)
+
+
+def test_an_end_without_a_reason():
+    ended = {"kubelet": {"ended": [{"pod": "shop/web", "at": BEGIN + 9, "reason": "Other", "message": "",
+                                    "guessed": ["reason"]}]}}
+    told = Told(NODE, pod("web"), tick(0, entry("web", runs())),
+                tick(9, entry("web", exited(137), failed="Other"), **ended))
+    expect("an end without a reason", lines_with(told.by("story", "shop/web"), "the kubelet ended it"),
+           ["the kubelet ended it at 2026-01-01 00:00:09Z: for a reason that was not seen"])
 
 
 def test_unknown_manifests():
@@ -126,7 +168,8 @@ def test_an_unknown_phase():
     expect("no event says that it failed", (re.findall(r"phase .*", story)[-1], "phase Failed" in story),
            ("phase Succeeded or Failed: no code is known that tells which", False))
     expect("the list", "Succeeded or Failed" in told.by("story"), True)
-    expect("json", [(record["phase"], record.get("phase_is_unknown")) for record in told.records("pod")], [(None, True)])
+    expect("json", [(record["phase"], record.get("phase_is_unknown")) for record in told.records("pod")],
+           [(None, True)])
 
 
 def test_an_owners_template():
@@ -139,12 +182,18 @@ def test_an_owners_template():
 
 def test_imported():
     """Stories and pages of an import say so in their heads, with what it lacks."""
-    source = {"sources": ["the kubelet's journal at -v=2"], "lacks": ["successes of probes"]}
-    lines = [pod("web"), tick(0, entry("web", runs()))]
-    for node, wanted in (({**NODE, "imported": True, "importedFrom": source},
-                          ["imported from the kubelet's journal at -v=2", "the import lacks successes of probes"]),
-                         ({**NODE, "imported": True}, ["imported from a kubelet's journal: what the journal lacks is "
-                                                       "missing here, or guessed and marked so"]), (NODE, [])):
+    probe = {"readinessProbe": {"periodSeconds": 1}}
+    lines = [pod("web", probe), pod("calm", guessed=["manifest"]),
+             tick(0, entry("web", exited(1, guessed=["exitCode"])), entry("calm", runs()))]
+    of_events = {**NODE, "imported": True, "importedFrom": ["events"]}
+    lacks = ("the import lacks the node's signals, what pods use, results of probes, the exit codes of 1 instance, "
+             "the manifests of 1 pod")
+    for node, wanted in (
+        (of_events, ["imported from the Events of its pods: no journal was left", lacks]),
+        ({**of_events, "importedFrom": ["events", "audit"]}, [
+            "imported from the Events of its pods and the audit log of the API server: no journal was left", lacks]),
+        ({**NODE, "imported": True}, ["imported from a kubelet's journal", lacks]), (NODE, []),
+    ):
         told = Told(node, *lines)
         heads = [told.by("story", "shop/web").splitlines()[1:], told.by("story").splitlines(),
                  told.by("why", "shop/web").splitlines()[1:]]
@@ -215,7 +264,7 @@ def test_a_kill_and_its_death():
     expect("the worst", lines_with(story, "the worst:")[0].partition("; ")[0],
            "the worst: 2026-01-01 00:00:10Z app killed by its liveness probe (HTTP 503), exited 137 after its grace "
            "period of 3 s")
-    expect("the death", lines_with(story, "died with code 137", "13Z app 0"), [
+    expect("the death", lines_with(story, "app", "died with code 137"), [
         "00:00:13Z app 0 died with code 137: Error, as signal 9 leaves it; killed by its liveness probe (HTTP 503) at "
         "00:00:10Z, after its grace period of 3 s"])
     events = [re.sub(r"^\S* *app *\S* *", "", line.strip()) for line in story.splitlines() if "00:00:10Z  app" in line]

@@ -9,7 +9,8 @@ import time
 from collections.abc import Callable, Iterator
 from dataclasses import dataclass, field
 
-from replay_tools import decided, endings, entry, events, kubelet as kubelets, report as reports, telling, traces
+from replay_tools import (decided, endings, entry, events, kubelet as kubelets, readiness, report as reports, telling,
+                          traces)
 from replay_tools.joined import asked as asking_for, files, join
 
 # seconds between two looks; a replay takes a tenth of the time at most
@@ -93,6 +94,7 @@ class Follower:
 
 def asides(trace: traces.Trace, pod: reports.Pod) -> Iterator[Row]:
     """What the trace says of a pod's deletion and waits."""
+    yield from readiness.rows(trace, pod)
     deletion = trace.deletions.get(pod.number)
     if deletion is not None:
         yield deletion.at, f"is being deleted{deletion.words()}"

@@ -102,6 +102,9 @@ def number_of(made: traces.Trace, decision: traces.Decision) -> int | None:
 
 
 def take_reasons(made: traces.Trace, trace: traces.Trace, of: dict[int, int], border: reports.Border | None) -> None:
+    for number, turns in trace.reasons.turns.items():
+        # a trace that follows another begins with the turn that was the last, by its own moment
+        made.reasons.turns.setdefault(of[number], {}).update(turns)
     made.reasons.unknown_phases |= {of[number] for number in trace.reasons.unknown_phases}
     made.reasons.looked |= {(word, of[number], name, attempt) for word, number, name, attempt in trace.reasons.looked}
     for (number, name, attempt), end in trace.reasons.ends.items():

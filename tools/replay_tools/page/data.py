@@ -305,8 +305,7 @@ def pod_of(report: reports.Report, trace: traces.Trace | None, span: Span, pod: 
         "qos": provenance.class_words(trace.pods[pod.number] if trace else None, pod.qos),
         "first": span.of(reports.first_tick(pod)) if seen else None,
         "end": [span.of(ended[0]), ended[1]] if ended else None, "gone": span.of(pod.left),
-        "unready": summing.unready_seconds(pod, span.last, gates=summing.closed_spans(pod, trace))
-        if seen else 0,
+        "unready": summing.unready_seconds(pod, span.last, trace=trace) if seen else 0,
         "ready": [[span.of(ready.since), int(ready.value == "True")]
                   for ready in (lanes.ready if seen else [])],
         "conditions": [[one.kind, one.value, span.of(one.at) if seen else None, one.reason] for one in pod.conditions],
