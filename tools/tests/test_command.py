@@ -159,8 +159,8 @@ def test_names_that_are_not_utf8():
     name = b"/nonexistent/\xff.trace"
     for words in (["run"], ["check"], ["story", "-f"], ["what-if", ".", "-f"]):
         status, _, said = run([COMMAND, *words, name])
-        expect(f"{' '.join(words)} of a name that is not UTF-8", (status != 0, "/nonexistent/\\xff.trace" in said, said),
-               (True, True, said))
+        expect(f"{' '.join(words)} of a name that is not UTF-8", (
+            status, "/nonexistent/\\xff.trace" in said, said), (2, True, said))
 
 
 def test_words_of_the_program_are_only_shown():

@@ -239,8 +239,8 @@ def test_around_a_moment():
         status, told, said = cluster.run("story", "deploy/web", "--at", "2026-01-01T05:12Z")
         expect("story deploy/web --at another moment", (status, told.split("\n")[0], said), (
             0, "deployment/web in shop: 4 pods, none recorded, on 3 nodes", ""))
-        expect("story deploy/web --at another moment: what is missing", "worker-1: nothing was recorded at 2026-01-01 05:12:00Z" in told,
-               True)
+        expect("story deploy/web --at another moment: what is missing",
+               "worker-1: nothing was recorded at 2026-01-01 05:12:00Z" in told, True)
 
 
 def test_refused():
@@ -274,7 +274,8 @@ def test_completion():
     """Where no file is named the cluster is asked for the names of a kind; what no name may be is none."""
     with Cluster() as cluster:
         for words, wanted in ((("story", ""), "cj/ deploy/ ds/ job/ po/ rs/ sts/ :4"),
-                              (("story", "d"), "deploy/ ds/ :4"), (("story", "deploy/"), "deploy/web deploy/webhook :4"),
+                              (("story", "d"), "deploy/ ds/ :4"),
+                              (("story", "deploy/"), "deploy/web deploy/webhook :4"),
                               (("story", "sts/"), ":4"), (("story", "nothing/"), ":4"),
                               (("why", "deploy/"), "deploy/web deploy/webhook :4"), (("story", "-l", ""), ":4"),
                               (("story", "--node", ""), "node-a worker-1 worker-2 :4"),

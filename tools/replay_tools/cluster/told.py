@@ -48,7 +48,9 @@ class Row:
     last: int | None = None
 
     def words(self, show: Callable[[int], str]) -> str:
-        return self.what if self.times == 1 else f"{self.what} ({self.times} times, last at {show(self.last or self.at)})"
+        if self.times == 1:
+            return self.what
+        return f"{self.what} ({self.times} times, last at {show(self.last or self.at)})"
 
     def record(self) -> dict[str, Any]:
         return {"at": self.at, "node": self.node, "pod": self.pod, "container": blank(self.container),
@@ -71,7 +73,8 @@ class Story:
 
     def head(self, show: Callable[[int], str]) -> str:
         spans = [one.several for one in self.found]
-        of_time = f", {show(min(one.first for one in spans))} to {show(max(one.last for one in spans))}" if spans else ""
+        first, last = min((one.first for one in spans), default=0), max((one.last for one in spans), default=0)
+        of_time = f", {show(first)} to {show(last)}" if spans else ""
         nodes = {one.node for one in self.found if one.pods} | {pod.node for pod in self.unrecorded if pod.node}
         all_of_them = self.recorded + len(self.unrecorded)
         recorded = "" if not self.unrecorded else f", {self.recorded or 'none'} recorded,"
