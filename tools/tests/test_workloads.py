@@ -167,9 +167,9 @@ What happened
 it used 64Mi 4 s before (attempt 0)
              03:10:00Z  worker-1  web-7d4b9c-aaaaa  app        it wrote last: Out of memory
              03:10:00Z  worker-1  web-7d4b9c-aaaaa  app        unready
-             03:12:00Z  worker-2  web-7d4b9c-ccccc  app        unready
              03:12:00Z  worker-2  web-7d4b9c-ccccc  app        the API's event Unhealthy: Readiness probe failed: HTTP \
 probe failed with statuscode: 503 (3 times, last then)
+             03:12:00Z  worker-2  web-7d4b9c-ccccc  app        unready
   3 more events, which --all prints too
 
 Pods that no trace has, as the API server has them now

@@ -47,9 +47,10 @@ its words: {typed} COMMAND --help, or help COMMAND, shows them. Beside these the
   --node NODE            of these tools: chooses a node of a folder; without -f the traces of that node, which its
                          recorder holds, are fetched for it and go again; --recorders NAMESPACE is where recorders are
                          (kubelet-replay)
-  deploy/web             of story, why, page, timeline and json without -f: a workload, also sts/, ds/, rs/, job/, cj/, pod/, in
-                         each form that kubectl takes (deployment web, Deployment.apps/web), or a label as -l app=web.
-                         story and why take a pod or, story, a namespace (-n) too, if no report comes on standard input.
+  deploy/web             of story, why, page, timeline and json without -f: a workload, also sts/, ds/, rs/, job/, cj/,
+                         pod/, in each form that kubectl takes (deployment web, Deployment.apps/web), or a label as
+                         -l app=web. If no report comes on standard input, story takes a namespace (-n) or all (-A) too,
+                         and story and why take a pod.
                          They find the nodes that its pods are and were on, by the API server and by the names in all
                          recorders' traces, and fetch these nodes' traces, of the last 2 h without --since and --at.
                          Pods that no trace has are printed as the API server has them. What may not be listed or does
