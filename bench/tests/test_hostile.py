@@ -9,6 +9,7 @@ import tempfile
 
 from common import COMMANDS, TOP, Case, loaded, read, run, write
 import answers
+import journal_mutations
 import mutations
 import shapes
 
@@ -54,6 +55,29 @@ class Answers(Case):
         self.assertTrue(answers.is_cut_short((2, b"", b""), ample))
         self.assertTrue(answers.is_cut_short((1, b"", b"out of memory\n"), ample))
         self.assertFalse(answers.is_cut_short((2, b"", b"line 2: 34 Order\n"), ample))
+
+
+class Journals(Case):
+    def test_a_seed_settles_the_journals(self):
+        seeds = journal_mutations.seeds_of(TOP)
+        self.assertGreater(len(seeds), 2)
+        made = [journal_mutations.mutated(1, number, seeds) for number in range(60)]
+        self.assertEqual(made, [journal_mutations.mutated(1, number, seeds) for number in range(60)])
+        self.assertGreater(len(set(made)), 50)
+
+    def test_what_an_import_may_come_to(self):
+        said, trace = b"import: it has no lines\n", b'{"kind":"node"}\n{"kind":"tick"}\n'
+        for (status, out, error), kind in (
+                ((0, trace, said), "a trace"), ((1, b"", said), "status 1"), ((2, b"", said), "status 2"),
+                ((-14, b"", b""), "!status -14"), ((70, b"", said), "!status 70"),
+                ((1, b"", b"Traceback (most recent call last):\nKeyError: 'a'\n"), "!KeyError: 'a'"),
+                ((0, trace, b"import: \x1b[31m\n"), "!standard error is not lines that can be shown"),
+                ((0, b"", said), "!no trace"), ((0, b'{"kind":"x"}\n', said), "!no trace")):
+            self.assertEqual(journal_mutations.kind_of(status, out, error), kind)
+
+    def test_imports_of_mutated_journals(self):
+        status, out, _ = run("hostile", "--import", "--jobs", "2", "40", "1")
+        self.assertEqual((status, out.splitlines()[-1].rpartition("; ")[2]), (0, "0 failed"), out)
 
 
 class Mutations(Case):

@@ -57,16 +57,17 @@ def not_ready(trace: traces.Trace | None, pod: reports.Pod) -> list[NotReady]:
     if trace is None:
         return []
     spans = spans_of(trace, pod) or []
-    return [NotReady(span.since or 0, span.until, because_of(trace, pod, span.since or 0), span is spans[0])
+    return [NotReady(span.since or 0, span.until, because_of(trace, pod, span.since or 0, span.until), span is spans[0])
             for span in spans if span.value == "False"]
 
 
-def because_of(trace: traces.Trace, pod: reports.Pod, at: int) -> str:
-    """Why a pod became not ready in the kubelet's status, where no event of the report says it."""
+def because_of(trace: traces.Trace, pod: reports.Pod, at: int, until: int | None) -> str:
+    """Why a pod was not ready in the kubelet's status for a time, where no event of the report says it."""
     if is_told(pod, "unready", at):
         return ""
-    gate = next((gate for gate, wait in trace.reasons.gates_of(pod)
-                 if wait.since <= at + NEAR and (wait.until is None or wait.until > at)), None)
+    # a tick shows a gate some seconds after it turned
+    gate = next((gate for gate, wait in trace.reasons.gates_of(pod) if (until is None or wait.since < until)
+                 and (wait.until is None or wait.until > at)), None)
     if gate is not None:
         return f"its readiness gate {gate} is not true"
     is_after_start = any(start <= at <= start + telling.AFTER_START for start in trace.kubelet_starts())

@@ -21,7 +21,7 @@ from checks import (HERE, LONGEST, REPLAY, TOOLS, TOP, copy_package, expect, exp
 import fleet_runs
 import node_traces
 from replay_tools import entry
-from replay_tools.fleet import database, kept
+from replay_tools.fleet import database as databases, kept as keeping
 
 load_tests = cases.loaded(__name__)
 
@@ -350,27 +350,28 @@ def test_fleet_in_a_folder_of_others():
     folder = tempfile.mkdtemp()
     os.mkdir(f"{folder}/open")
     path = f"{folder}/open/fleet.db"
-    expect("fleet in a folder of one's own", refusal_of(lambda: database.check_replaceable(path)), None)
+    expect("fleet in a folder of one's own", refusal_of(lambda: databases.check_replaceable(path)), None)
     os.chmod(f"{folder}/open", 0o777)
-    expect("fleet in a folder that others may write", refusal_of(lambda: database.check_replaceable(path)),
-           f"{folder}/open may be written by others, who may change what is written there: chmod go-w, or chmod +t, mends "
-           "that")
+    expect("fleet in a folder that others may write", refusal_of(lambda: databases.check_replaceable(path)),
+           f"{folder}/open may be written by others, who may change what is written there: chmod go-w, or chmod +t, "
+           "mends that")
     os.chmod(f"{folder}/open", 0o1777)
-    expect("fleet in a sticky folder", refusal_of(lambda: database.check_replaceable(path)), None)
+    expect("fleet in a sticky folder", refusal_of(lambda: databases.check_replaceable(path)), None)
     os.mkdir(f"{folder}/elsewhere")
     os.symlink(f"{folder}/elsewhere", f"{path}.done")
-    expect("fleet keeps nothing behind a link", "can't be written" in str(refusal_of(lambda: kept.Kept(f"{path}.done", "0"))),
-           True)
+    behind = refusal_of(lambda: keeping.Kept(f"{path}.done", "0"))
+    expect("fleet keeps nothing behind a link", "can't be written" in str(behind), True)
     expect("fleet: nothing came behind the link", os.listdir(f"{folder}/elsewhere"), [])
     os.remove(f"{path}.done")
     os.mkdir(f"{path}.done")
     os.symlink(f"{folder}/victim", f"{path}.done/lock")
-    expect("fleet opens no lock behind a link", refusal_of(lambda: kept.Kept(f"{path}.done", "0")) is None, False)
+    behind = refusal_of(lambda: keeping.Kept(f"{path}.done", "0"))
+    expect("fleet opens no lock behind a link", behind is None, False)
     expect("fleet: no lock came behind the link", os.path.exists(f"{folder}/victim"), False)
     os.remove(f"{path}.done/lock")
     os.chmod(f"{path}.done", 0o777)
     expect("fleet believes no rows that others may write", "may be written by others" in
-           str(refusal_of(lambda: kept.Kept(f"{path}.done", "0"))), True)
+           str(refusal_of(lambda: keeping.Kept(f"{path}.done", "0"))), True)
     shutil.rmtree(folder)
 
 

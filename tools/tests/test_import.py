@@ -473,6 +473,8 @@ KUBECTL = """#!/bin/sh
 case "$*" in
 */proxy/logs/*query=kubelet*) [ -s "$ANSWERS/log" ] || { echo 'Error from server (NotFound): 404' >&2; exit 1; }
     cat "$ANSWERS/log" ;;
+*"/proxy/logs/?query=containerd&query=crio&sinceTime="*) echo '-- No entries --' ;;
+*"get deployments,replicasets,statefulsets,daemonsets,jobs,cronjobs --all-namespaces -o json") echo '{"items":[]}' ;;
 *"get pods --all-namespaces --field-selector spec.nodeName=worker-3 -o json") cat "$ANSWERS/pods" ;;
 *"get events --all-namespaces -o json") cat "$ANSWERS/events" ;;
 *) echo "unexpected: $*" >&2; exit 1 ;;

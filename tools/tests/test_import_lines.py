@@ -9,7 +9,7 @@ import cases
 from checks import expect
 from test_import_reading import HEADER, WORDS
 
-from replay_tools.importing import journals, messages, moments, skipping
+from replay_tools.importing import files, journals, messages, moments, skipping
 
 load_tests = cases.loaded(__name__)
 
@@ -97,8 +97,9 @@ def read_by_line(text):
 
 def read_as_journal(text, form="short-iso"):
     counts, made = journals.Counts(), []
-    journal = journals.Journal.__new__(journals.Journal)
-    journal.file, journal.counts, journal.form = io.BytesIO(text), counts, form
+    journal = files.Journal.__new__(files.Journal)
+    journal.file, journal.counts, journal.form = files.buffered(io.BytesIO(text), files.MOST), counts, form
+    journal.head, journal.is_prefixed = b"", False
     for line in journal.lines(moments.Klog(2026, 0, 0.0), skipping.SKIPPING):
         fields = line.moment, line.text, line.unit, line.process, line.node
         made.append(None if line is journals.SKIPPED else fields)

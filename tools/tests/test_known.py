@@ -51,6 +51,8 @@ class Told:
 
     def by(self, tool, *words):
         options = [] if tool == "page" else ["--trace"]
+        # its why is another tool's
+        words = (*words, "--without-why") if tool == "story" and words else words
         status, told, said = run([f"{TOOLS}/{tool}", *words, *options, self.trace], self.report)
         expect(f"{tool} of a made trace", (status, said), (0, ""))
         return told
@@ -78,8 +80,8 @@ def test_a_kubelet_that_is_restarted():
     story = told.by("story", "shop/web")
     expect("story: the kubelet's restart, above", lines_with(story, "the kubelet was restarted at"),
            ["the kubelet was restarted at 2026-01-01 00:00:29Z"])
-    expect("story: the kubelet's restart, among the events", lines_with(story, "-  -", "the kubelet was restarted"),
-           ["00:00:29Z - - the kubelet was restarted"])
+    expect("story: the kubelet's restart, among the events", [line for line in lines_with(
+        story, "the kubelet was restarted") if "restarted at" not in line], ["00:00:29Z - - the kubelet was restarted"])
     expect("story of a pod that stayed ready", lines_with(told.by("story", "shop/calm"), "the kubelet was restarted"),
            ["00:00:29Z - - the kubelet was restarted"])
     expect("story of all pods", "the kubelet was restarted at" in told.by("story"), True)
@@ -256,7 +258,7 @@ def test_a_kill_and_its_death():
     expect("the worst", lines_with(story, "the worst:")[0].partition("; ")[0],
            "the worst: 2026-01-01 00:00:10Z app killed by its liveness probe (HTTP 503), exited 137 after its grace "
            "period of 3 s")
-    expect("the death", lines_with(story, "died with code 137", "13Z app 0"), [
+    expect("the death", lines_with(story, "app", "died with code 137"), [
         "00:00:13Z app 0 died with code 137: Error, as signal 9 leaves it; killed by its liveness probe (HTTP 503) at "
         "00:00:10Z, after its grace period of 3 s"])
     events = [re.sub(r"^\S* *app *\S* *", "", line.strip()) for line in story.splitlines() if "00:00:10Z  app" in line]

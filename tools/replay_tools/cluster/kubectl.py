@@ -21,12 +21,12 @@ class NoAnswer(Exception):
     """Something was asked and not answered; the message says why."""
 
 
-def answer(words: list[str], most: int, seconds: float, take: Callable[[bytes], object]) -> None:
-    """Hands on what kubectl answers, which has to be whole within so many seconds, and has so many bytes at most.
-    Raises NoAnswer."""
+def answer(words: list[str], most: int, seconds: float, take: Callable[[bytes], object], is_long: bool = False) -> None:
+    """Hands on what kubectl answers, which has to be whole within so many seconds, or, of a long answer, each piece of
+    it; and has so many bytes at most. Raises NoAnswer."""
     process = started(words)
     try:
-        said = handed_on(process, most, time.monotonic() + seconds, take)
+        said = handed_on(process, most, time.monotonic() + seconds, take, seconds if is_long else 0.0)
         status = process.wait(seconds)
     except (TimeoutError, subprocess.TimeoutExpired):
         raise NoAnswer(f"kubectl has not answered within {seconds} s") from None
@@ -51,8 +51,10 @@ def started(words: list[str]) -> subprocess.Popen:
         raise entry.Fault(f"kubectl can't be started: {fault.strerror}", 127) from None
 
 
-def handed_on(process: subprocess.Popen, most: int, until: float, take: Callable[[bytes], object]) -> bytes:
-    """Hands on what a process writes, until a moment of the clock; gives what it said last on standard error."""
+def handed_on(process: subprocess.Popen, most: int, until: float, take: Callable[[bytes], object],
+              more: float = 0.0) -> bytes:
+    """Hands on what a process writes, until a moment of the clock, which each piece puts off by some seconds; gives
+    what it said last on standard error."""
     size, said = 0, b""
     with selectors.DefaultSelector() as selector:
         for stream in filter(None, (process.stdout, process.stderr)):
@@ -72,4 +74,5 @@ def handed_on(process: subprocess.Popen, most: int, until: float, take: Callable
                     if size > most:
                         raise NoAnswer(f"more than {amounts.amount_text(1000 * most, True)} came, and no more is taken")
                     take(piece)
+                    until = max(until, time.monotonic() + more)
     return said

@@ -9,7 +9,7 @@ from replay_tools import entry
 HELP = """\
 usage: tools/import [--journal FILE ..] [--pods FILE ..] [--node NAME] > TRACE
        tools/import [--journal FILE ..] [--pods FILE ..] [--node NAME] --into FOLDER [--each 1h]
-       tools/import NODE [--since 3h] [--context NAME], and the other words
+       tools/import NODE [--since 3h] [--context NAME] [--timeout 60], and the other words
        journalctl -u kubelet --since -3h -o json | tools/import --pods pods.json > TRACE
 
 Makes a trace of the extended format (docs/import.md) out of the journal of a node's kubelet, where no recorder ran; or,
@@ -17,18 +17,24 @@ with --into, traces one behind the other as tools/record --into writes them, whi
 
 --journal FILE is a journal of the kubelet, of containerd or of CRI-O; several in any order, which may overlap, or
 standard input ("-").
-It may be what journalctl prints with -o json, export, short-iso or short-iso-precise, or without a word, klog's own
-lines, text or JSON, or what kubectl logs or a runtime has of a kubelet in a container; gzip may have packed it.
+It may be what journalctl prints with each of its -o, klog's own lines, text or JSON, what oc adm node-logs, kubectl
+logs or a runtime has of a kubelet, or what a store of logs exports, as JSON or CSV; gzip may have packed it. Its lines
+may be the newest first.
 --pods FILE has manifests, as JSON or YAML: kubectl get pods -o json, a list, single pods, what owns them (Deployment,
 StatefulSet, DaemonSet, ReplicaSet, Job, CronJob: their templates, by the pods' names), static pods' files, audit
 events, a watch. A pod without one has the containers that lines name, and no probes.
 --events FILE is kubectl get events -o json; --audit FILE an audit log, which has manifests and statuses.
 --node NAME is the node, where no line names it, and of which lines are read, where a journal has several.
+--unit NAME is a unit of systemd that runs the kubelet under another name: k3s, k3s-agent, rke2-server, kubelite.
+Without it lines are the kubelet's only if their unit is; give it more than once for several.
 --year N and --zone +02:00 are those of klog's own moments, which have neither: else the year of the file, and UTC.
+--most SIZE is how much of each journal is read (4Gi).
 --each 1h is how long a trace of --into is.
-NODE asks the cluster by kubectl, and needs nothing on the node: for its kubelet's log since --since (1h), by the API of
-Kubernetes 1.30 and newer where NodeLogQuery is on, for its pods and for their events. Where the cluster does not give
-the log it says what to run on the node. It wants the rights to get nodes/proxy and to list pods and events.
+NODE asks the cluster by kubectl, and needs nothing on the node: for the logs of its kubelet and its runtime since
+--since (1h), by the API of Kubernetes 1.30 and newer where NodeLogQuery is on, or else for the file messages or syslog;
+for its pods, for what owns pods and for Events. It goes on without all but the kubelet's log; if the cluster does not
+give that, it prints what to run on the node. An answer has to go on within --timeout (60 seconds). It needs the rights
+to get nodes/proxy and to list pods, owners and events.
 
 What the journal does not have is not made up. An exit without its code has "guessed":["exitCode"], a start or an exit
 that is known by the second of the kubelet's look "moment", an instance that no line names, but exclusion, "container",
@@ -47,12 +53,15 @@ or of manifests of another cluster, and nothing is written; the cluster gives no
 
 def parser() -> entry.Words:
     taken = entry.Words(HELP)
+    taken.add_argument("--unit", action="append", default=[])
     for name in ("--journal", "--pods", "--events", "--audit"):
         taken.files(name, action="append", default=[])
     taken.add_argument("named", nargs="*")
     taken.files("--into")
     taken.valued("--node", "--zone", "--since", "--context")
     taken.add_argument("--each", type=duration, default=3600)
+    taken.add_argument("--timeout", type=seconds)
+    taken.add_argument("--most", type=size)
     taken.add_argument("--year", type=year)
     return taken
 
@@ -69,6 +78,21 @@ def duration(text: str) -> int:
     if text[-1:] not in units or not 60 <= number * units[text[-1]] <= 86400:
         raise argparse.ArgumentTypeError(f"takes a time from 1m to 1d, as 1h, not '{text}'")
     return number * units[text[-1]]
+
+
+def seconds(text: str) -> float:
+    number = text.removesuffix("s")
+    if not (number.isascii() and number.isdigit() and len(number) < 5 and int(number) > 0):
+        raise argparse.ArgumentTypeError(f"takes a number of seconds, as 60, not '{text}'")
+    return float(number)
+
+
+def size(text: str) -> int:
+    units = {"Mi": 1 << 20, "Gi": 1 << 30, "Ti": 1 << 40}
+    number = int(text[:-2]) if text[:-2].isascii() and text[:-2].isdigit() and len(text) < 7 else 0
+    if text[-2:] not in units or number == 0:
+        raise argparse.ArgumentTypeError(f"takes a number of bytes, as 512Mi or 4Gi, not '{text}'")
+    return number * units[text[-2:]]
 
 
 def year(text: str) -> int:

@@ -14,7 +14,7 @@ from replay_tools.traces import SIGNALS
 from . import facts
 
 # the hard ones of a kubelet's configuration, as Go prints them and as JSON has them
-HARD = re.compile(r'HardEvictionThresholds"?: ?\[([^\]]*)\]')
+HARD = re.compile(r'HardEvictionThresholds"?: ?\[([^\]]{0,4096})\]')
 SHARE = r"(\d{1,3}(?:\.\d{1,20})?(?:e-\d{1,2})?)"
 LIMIT = re.compile(r'Signal"?: ?"?([\w.]{1,64})"?[ ,]+"?Operator"?: ?"?LessThan"?[ ,]+"?Value"?: ?\{"?Quantity"?: ?"?'
                    rf'([^\s",{{}}]{{1,64}})"?[ ,]+"?Percentage"?: ?{SHARE}\}}')

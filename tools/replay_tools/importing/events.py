@@ -36,15 +36,17 @@ def beside(found: Iterator[facts.Fact], happened: Iterator[facts.Fact]) -> Itera
         yield fact
 
 
-def of_value(value: Any) -> Iterator[facts.Happened]:
+def of_value(value: Any, depth: int = 0) -> Iterator[facts.Happened]:
     """The events of pods in a list, a watch's line or a single one."""
+    if depth > manifests.DEEPEST_LIST:
+        return
     if isinstance(value, list):
         for each in value:
-            yield from of_value(each)
+            yield from of_value(each, depth + 1)
     elif isinstance(value, dict) and isinstance(value.get("items"), list):
-        yield from of_value(value["items"])
+        yield from of_value(value["items"], depth + 1)
     elif isinstance(value, dict) and isinstance(value.get("object"), dict):
-        yield from of_value(value["object"])
+        yield from of_value(value["object"], depth + 1)
     elif isinstance(value, dict) and isinstance(value.get("involvedObject"), dict):
         pod, of = value["involvedObject"], value
         stamp = of.get("lastTimestamp") or of.get("eventTime") or of.get("firstTimestamp")

@@ -238,15 +238,25 @@ class Readied(Fact):
 
 @dataclass
 class Happened(Fact):
-    """An Event that the kubelet made of a pod, or of one of its containers."""
+    """An Event that the kubelet made of a pod, or of one of its containers; or a line of the kubelet's that says as
+    much, of a pod of its own."""
     pod: Reference
     reason: str
     message: str
     count: int = 1
     container: Optional[str] = None
+    is_line: bool = False
 
 
 @dataclass
 class OutOfMemory(Fact):
-    """The kernel ended a process since a memory limit was reached; of a container's id where the runtime says it."""
+    """The kernel killed a process since a memory limit was reached: of a container, where a line has its id."""
     id: Optional[str] = None
+
+
+@dataclass
+class NodeReady(Fact):
+    """The node is Ready, or not and why; whether a line has the condition itself, or a reason why it is not Ready."""
+    is_ready: bool
+    reason: str = ""
+    is_condition: bool = False

@@ -5,7 +5,7 @@ from __future__ import annotations
 import json
 import os
 from collections.abc import Callable
-from typing import Any, Optional
+from typing import Any, Optional, TYPE_CHECKING
 
 from replay_tools import entry
 from replay_tools.record.folder import Folder, Refused, made, may_be_made
@@ -15,6 +15,9 @@ from replay_tools.record.into import Traces
 from .placing import CLOCK_BACK, STARTED_AT, TICK_AT
 from .thresholds import MEMBERS
 from .writing import Ended, NodeLine, Writer
+
+if TYPE_CHECKING:
+    from replay_tools.record.traces import Due
 
 # what is imported is not taken away for its age or its size
 KEPT_SECONDS, KEPT_BYTES = 1 << 36, 1 << 60
@@ -35,6 +38,13 @@ def set_back(value: Any, seconds: int) -> Any:
         return value
     return {name: inner - seconds if name in MOMENTS and isinstance(inner, int) else set_back(inner, seconds)
             for name, inner in value.items()}
+
+
+class ImportedTraces(Traces):
+    """Traces that are not recorded: after a crash the journals are still there, and nothing is written ahead."""
+
+    def write_ahead(self, due: list[Due]) -> None:
+        """Writes nothing."""
 
 
 class Folded(Writer):
@@ -67,7 +77,7 @@ class Folded(Writer):
             raise entry.Fault(str(refused), 1) from None
         if folder.traces():
             raise entry.Fault(f"--into: '{self.path}' has traces of {node['name']} already: take an empty folder", 1)
-        self.traces = Traces(folder, self.each, MOST_TICKS, self.say)
+        self.traces = ImportedTraces(folder, self.each, MOST_TICKS, self.say)
         self.traces.write([shown(node)])
         self.thresholds = thresholds_in(node)
         self.is_begun = True

@@ -8,6 +8,7 @@ from typing import Optional
 
 from replay_tools import entry
 from replay_tools.record.decisions import EVICTION, REFUSED, Decision
+from replay_tools.record.events import Ready
 from replay_tools.record.formats import without_nones
 from replay_tools.record.messages import message_kept
 
@@ -58,7 +59,7 @@ class Importer(Pods):
             facts.Reclaims: self.evictions.take_reclaims, facts.Ranked: self.evictions.take_ranked,
             facts.Evicted: self.on_evicted, facts.Refused: self.on_refused,
             facts.Ended: self.on_ended, facts.Readied: self.on_readied,
-            facts.Happened: self.on_happened, facts.Begun: self.on_begun,
+            facts.Happened: self.on_happened, facts.Begun: self.on_begun, facts.NodeReady: self.on_node_ready,
             **dict.fromkeys(self.thresholds.readers, self.thresholds.take)}
 
     # --- the stream ---
@@ -215,10 +216,20 @@ class Importer(Pods):
         if life is not None and turn is not None:
             self.placing.put_beside(life.key, min(turn["at"], int(fact.at)), READY_TURNS, turn)
 
+    def on_node_ready(self, fact: facts.NodeReady) -> None:
+        """The node turned Ready, or is not."""
+        self.placing.timeline.place_ready(fact.at, Ready("True" if fact.is_ready else "False", fact.reason or None,
+                                                         fact.at))
+
+    def pod_of_line(self, pod: facts.Reference) -> facts.Reference:
+        """A pod that a line of the kubelet's has by its uid alone, with the name that its manifest has."""
+        known = self.manifests.by_uid.get(pod.uid or "") if pod.key is None else None
+        return pod if known is None else facts.Reference(known.key, pod.uid)
+
     def on_happened(self, fact: facts.Happened) -> None:
         """An Event says more of what a line says."""
-        life = self.known_life(fact.pod)
-        if life is None:
+        life = self.life_of(self.pod_of_line(fact.pod), fact.at) if fact.is_line else self.known_life(fact.pod)
+        if life is None or (fact.is_line and self.happened.get((life.key, "", fact.reason)) == fact.message):
             return
         self.placing.count("events")
         if fact.reason in TOLD:

@@ -1,34 +1,27 @@
-"""Lines of journals in the forms in which they are kept: each with its moment, and what it says. A form is known by
-the first lines of a file; several files are read as one, by their moments."""
+"""Lines of journals in the forms that journalctl, a runtime and the kubelet itself write: each with its moment, and its
+message."""
 
 from __future__ import annotations
 
 import functools
-import gzip
-import io
 import itertools
-import os
 import re
-import sys
-import time
 from collections.abc import Callable, Iterator
 from dataclasses import dataclass, field
 from typing import Any, BinaryIO, Optional
 
-from replay_tools import entry, outside, packed
+from replay_tools import outside
 
 from .holes import HOLE, Numbers
 from .moments import Klog, moment_of_iso
+from .units import unit_of
 
 PIECE = 1 << 20
 # a line that is longer is cut, which is counted
 LONGEST_LINE = 1 << 18
 MOST_PARTS = 64
-# so many bytes say which form a journal has
-LOOKED_AT = 1 << 16
 # so many seconds and programs are kept, since most lines have those of the line before
 MOST_KEPT = 16
-STANDARD_INPUT = "-"
 # the form of a log as a process writes it
 PLAIN = "plain"
 
@@ -39,6 +32,15 @@ CONTAINER = re.compile(ISO.pattern + rb" (?:stdout|stderr) ([FP])(?:\S*) ")
 STAMPED = re.compile(ISO.pattern + rb" ")
 SYSLOG = re.compile(rb"([A-Z][a-z]{2}) +(\d{1,2}) (\d\d):(\d\d):(\d\d)(?:\.(\d{1,9}))? (\S+) ([^\s:\[]+)"
                     rb"(?:\[(\d{1,10})\])?: ")
+# -o short-full and with-unit, which have the zone by its letters; -o short-unix; those that count from the node's start
+SHORT_FULL = re.compile(rb"(?:[A-Z][a-z]{2} )?(\d{4})-(\d\d)-(\d\d) (\d\d:\d\d:\d\d)(?:\.(\d{1,9}))? (\S{1,8}) (\S+) "
+                        rb"([^\s:\[]+)(?:\[(\d{1,10})\])?: ")
+SHORT_UNIX = re.compile(rb"(\d{9,12}\.\d{1,9}) (\S+) ([^\s:\[]+)(?:\[(\d{1,10})\])?: ")
+SINCE_START = re.compile(rb"\[[ \d.]{3,20}[^\]]{0,24}\] (\S+) ([^\s:\[]+)(?:\[(\d{1,10})\])?: ")
+VERBOSE = re.compile(rb"[A-Z][a-z]{2} \d{4}-\d\d-\d\d \d\d:\d\d:\d\d(?:\.\d{1,9})? \S+ \[(s=[0-9a-f]+;[^\]]{0,300})\]")
+STAMP_OF_CURSOR = re.compile(r";t=([0-9a-f]{1,16})")
+# labels that Loki's client puts before a line
+LABELS = re.compile(rb'\{\w{1,64}="[^}]{0,2000}\}\s+')
 MONTHS = {name: place + 1 for place, name in enumerate(
     (b"Jan", b"Feb", b"Mar", b"Apr", b"May", b"Jun", b"Jul", b"Aug", b"Sep", b"Oct", b"Nov", b"Dec"))}
 # klog's header, and how it stands in a record of JSON
@@ -154,14 +156,13 @@ def line_of(member: Callable[[str], Any], counts: Counts) -> Iterator[Line]:
     said, stamp = member("MESSAGE"), member("__REALTIME_TIMESTAMP") or member("_SOURCE_REALTIME_TIMESTAMP")
     if isinstance(said, list):
         said = bytes(each for each in said if isinstance(each, int) and 0 <= each < 256)
-    said = said.encode("utf-8", "surrogateescape") if isinstance(said, str) else said
+    said = said.encode("utf-8", "replace") if isinstance(said, str) else said
     moment = outside.number_of(str(stamp)) if stamp is not None else None
     if not isinstance(said, bytes) or moment is None or not outside.moment(moment // 10 ** 6):
         counts.foreign += 1
         return
-    unit = str(member("SYSLOG_IDENTIFIER") or member("_SYSTEMD_UNIT") or member("_COMM") or "")
     process = outside.number_of(str(member("_PID") or member("SYSLOG_PID") or "0")) or 0
-    yield Line(moment / 1e6, said, unit, process, str(member("_HOSTNAME") or ""))
+    yield Line(moment / 1e6, said, unit_of(member), process, str(member("_HOSTNAME") or ""))
 
 
 def of_export(file: BinaryIO, counts: Counts) -> Iterator[Line]:
@@ -255,6 +256,8 @@ def of_container(lines: Iterator[Optional[bytes]], _counts: Counts) -> Iterator[
             continue
         found = CONTAINER.match(text) or STAMPED.match(text)
         said = text if found is None else text[found.end():]
+        if said.startswith(b"{") and (labels := LABELS.match(said)) is not None:
+            said = said[labels.end():]
         if found is not None and found.re is CONTAINER and found[4] == b"P" and len(parts) < MOST_PARTS:
             parts.append(said)
             continue
@@ -269,87 +272,59 @@ def of_plain(lines: Iterator[Optional[bytes]], _counts: Counts) -> Iterator[Line
         yield SKIPPED if text is None else Line(None, text)
 
 
-def form_of(head: bytes) -> str:
-    """The name of the form that a journal has that begins so."""
-    lines = [line for line in head.split(b"\n")[:200] if line.strip() and not line.startswith(b"-- ")]
-    for line in lines[:20]:
-        if line.startswith(b"{") and b'"__REALTIME_TIMESTAMP"' in line:
-            return "json"
-        if EXPORTED.match(line):
-            return "export"
-        if SHORT_ISO.match(line):
-            return "short-iso"
-        if CONTAINER.match(line) or STAMPED.match(line):
-            return "container"
-        if SYSLOG.match(line):
-            return "syslog"
-    return PLAIN
+def of_short_full(lines: Iterator[Optional[bytes]], counts: Counts, shift: int) -> Iterator[Line]:
+    """`journalctl -o short-full` and `with-unit`. What the letters of a zone mean depends on where it is: but for UTC
+    it is taken as the zone that was given."""
+    for text in lines:
+        if text is None:
+            yield SKIPPED
+            continue
+        found = SHORT_FULL.match(text)
+        day = None if found is None else b"-".join(found.group(1, 2, 3))
+        second = None if found is None or day is None else second_of(day + b"T" + found[4], b"Z")
+        if found is None or second is None:
+            counts.foreign += bool(text.strip()) and not text.startswith((b"-- ", b" ", b"\t"))
+            yield Line(None, text)
+            continue
+        ahead = 0 if found[6] in (b"UTC", b"GMT") else shift
+        yield Line(second - ahead + float(b"0." + (found[5] or b"0")), text[found.end():],
+                   *speaker_of(*found.group(8, 9, 7)))
 
 
-# --- files ---
+def of_short_unix(lines: Iterator[Optional[bytes]], counts: Counts) -> Iterator[Line]:
+    """`journalctl -o short-unix`, and short-monotonic and short-delta, whose moments are those of the messages."""
+    for text in lines:
+        if text is None:
+            yield SKIPPED
+            continue
+        found = SHORT_UNIX.match(text)
+        if found is not None:
+            yield Line(float(found[1]), text[found.end():], *speaker_of(*found.group(3, 4, 2)))
+            continue
+        found = SINCE_START.match(text)
+        if found is None:
+            counts.foreign += bool(text.strip()) and not text.startswith((b"-- ", b" ", b"\t"))
+            yield Line(None, text)
+            continue
+        yield Line(None, text[found.end():], *speaker_of(*found.group(2, 3, 1)))
 
 
-class Journal:
-    """A file of a journal, which may be packed, or standard input. Its lines are in the order of their moments."""
-
-    def __init__(self, path: str, counts: Counts) -> None:
-        self.path = path
-        self.counts = counts
-        self.name = "standard input" if path == STANDARD_INPUT else f"'{path}'"
-        self.file: Any
-        self.file, self.written = self.opened()
-        self.head = self.peeked()
-        self.form = form_of(self.head)
-
-    def opened(self) -> tuple[BinaryIO, float]:
-        """The file, and when it was written last."""
-        if self.path == STANDARD_INPUT:
-            return sys.stdin.buffer, time.time()
-        try:
-            descriptor = os.open(self.path, os.O_RDONLY | os.O_CLOEXEC)
-            return os.fdopen(descriptor, "rb"), os.fstat(descriptor).st_mtime
-        except OSError as fault:
-            raise entry.Fault(f"{self.name} can't be read: {fault.strerror}") from None
-
-    def peeked(self) -> bytes:
-        """What it begins with, unpacked."""
-        try:
-            self.file = buffered(self.file)
-            if self.file.peek(2)[:2] == packed.GZIP:
-                self.file = buffered(gzip.GzipFile(fileobj=self.file))
-            return self.file.peek(LOOKED_AT)[:LOOKED_AT]
-        except packed.DAMAGES as fault:
-            raise entry.Fault(f"{self.name} can't be read: {why(fault)}") from None
-
-    def lines(self, klog: Klog, skipping: Skipping) -> Iterator[Line]:
-        """Its lines, with one for messages that are not read; one behind which the file can't be read further ends it,
-        which is kept."""
-        try:
-            if self.form == PLAIN:
-                yield from self.read(klog, skipping)
-                return
-            for line in self.read(klog, skipping):
-                yield SKIPPED if line is not SKIPPED and skipping.is_skipped(line.text) else line
-        except packed.DAMAGES as fault:
-            self.counts.faults.append(f"{self.name} can't be read to its end: {why(fault)}")
-
-    def read(self, klog: Klog, skipping: Skipping) -> Iterator[Line]:
-        if self.form == "export":
-            return of_export(self.file, self.counts)
-        blocks = blocks_of(self.file, self.counts)
-        if self.form == "json":
-            return of_json(lines_of(blocks), self.counts, skipping)
-        lines = skipping.left_out(blocks, self.form)
-        if self.form == "syslog":
-            return of_syslog(lines, self.counts, klog)
-        readers = {"short-iso": of_short_iso, "container": of_container, PLAIN: of_plain}
-        return readers[self.form](lines, self.counts)
-
-
-def buffered(file: Any) -> Any:
-    """A file of which one can see how it goes on."""
-    return io.BufferedReader(file, LOOKED_AT)
-
-
-def why(fault: BaseException) -> str:
-    return getattr(fault, "strerror", None) or str(fault)
+def of_verbose(lines: Iterator[bytes], counts: Counts) -> Iterator[Line]:
+    """`journalctl -o verbose`: a line with the record's cursor, and its members behind blanks."""
+    numbers = Numbers()
+    record: dict[str, Any] = {}
+    for text in itertools.chain(lines, (None,)):
+        found = None if text is None else VERBOSE.match(text)
+        if text is not None and found is None:
+            name, equals, value = text.strip().partition(b"=")
+            if equals:
+                record.setdefault(name.decode("ascii", "replace"),
+                                  value if name == b"MESSAGE" else value.decode("utf-8", "replace"))
+            continue
+        if "MESSAGE" in record:
+            yield from of_record(record, counts, numbers)
+        cursor = "" if found is None else found[1].decode("ascii")
+        stamp = STAMP_OF_CURSOR.search(cursor)
+        record = {"__CURSOR": cursor}
+        if stamp is not None:
+            record["__REALTIME_TIMESTAMP"] = str(int(stamp[1], 16))

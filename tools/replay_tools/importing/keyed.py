@@ -12,9 +12,9 @@ from typing import Any
 from replay_tools import outside
 from replay_tools.record.decisions import EVICTION
 
-from . import configured, endings, facts
+from . import configured, endings, facts, nodes
 from .messages import Message
-from .printed import TYPES, UNRECLAIMED, amount, below, patched, waits_in
+from .printed import MOUNT_EVENT, TYPES, UNRECLAIMED, amount, below, patched, waits_in
 from .references import container_at, id_of, reference_of, references_of
 from .statuses import code_of, of_printed, of_status
 
@@ -191,7 +191,8 @@ def of_round(message: Message) -> Iterator[facts.Fact]:
 
 
 def of_reclaim(message: Message) -> Iterator[facts.Fact]:
-    yield facts.Reclaims(message.at, str(message.keys.get("resourceName") or ""))
+    resource = message.keys.get("resourceName")
+    yield facts.Reclaims(message.at, resource if isinstance(resource, str) and outside.is_label(resource) else "")
 
 
 def of_ranked(message: Message) -> Iterator[facts.Fact]:
@@ -255,6 +256,13 @@ def of_started(message: Message) -> Iterator[facts.Fact]:
     yield facts.Begun(message.at)
 
 
+def of_volumes(message: Message) -> Iterator[facts.Fact]:
+    """A pod's volumes can't be mounted in time."""
+    said = str(message.keys.get("err") or "")
+    yield facts.Happened(message.at, pod_of(message), MOUNT_EVENT, f"Unable to attach or mount volumes: {said}",
+                         is_line=True)
+
+
 def of_status_line(message: Message) -> Iterator[facts.Fact]:
     """A status that was sent or is as before, as an object or as Go prints it."""
     pod, status = pod_of(message), message.keys.get("status") or message.keys.get("apiStatus")
@@ -293,6 +301,11 @@ FORMS: dict[str, Callable[[Message], Iterator[facts.Fact]]] = {
     "Pod is terminated, but some containers have not been cleaned up": of_left,
     "Pod attempted illegal phase transition": of_status_line, "Status for pod updated successfully": of_status_line,
     "Ignoring same status for pod": of_status_line, "Attempting to register node": of_node,
-    "Successfully registered node": of_node, "Started kubelet": of_started, **endings.KEYED}
+    "Successfully registered node": of_node, "Started kubelet": of_started,
+    "Unable to attach or mount volumes for pod; skipping pod": of_volumes, "Got sys oom event": nodes.of_kill,
+    "Node became not ready": nodes.of_condition, "Skipping pod synchronization": nodes.of_skipped,
+    "Recording event message for node": nodes.of_recorded,
+    "Shutdown manager detected new shutdown event, isNodeShuttingDownNow": nodes.of_shutdown,
+    **endings.KEYED}
 # the first words of these, by which a line is wanted
-FIRST_WORDS = {words.split(" ")[0] for words in FORMS} | {"Pod", "FLAG:"}
+FIRST_WORDS = {words.split(" ")[0] for words in FORMS} | {"Pod", "FLAG:", "Operation"}

@@ -21,8 +21,14 @@ from . import facts
 from .references import key_of
 from .statuses import of_status
 
-# so many bytes of a file of manifests are read
-LONGEST_FILE = 1 << 30
+# so many bytes of a file of manifests are read, and of YAML, which is held as a whole
+LONGEST_FILE, LONGEST_YAML = 1 << 30, 64 << 20
+# what YAML may have of values, once each alias is what it stands for, and how deep they nest
+MOST_VALUES, DEEPEST = 5_000_000, 100
+# a number of so many digits, in YAML's own notations, is none of a manifest
+LONG_NUMBER = re.compile(rb"[0-9_:]{1000}")
+# lists of lists and of owners nest no deeper in what is read
+DEEPEST_LIST = 16
 LONGEST_LINE = 64 << 20
 # a first line that is longer is a whole list, which is read in pieces of so many bytes
 SHORT_LINE = 4 << 20
@@ -70,23 +76,25 @@ class Manifests:
         """Whether a pod is said to be on a node."""
         return node is not None and self.node_of.get(str(reference.uid)) == node
 
-    def take(self, value: Any) -> None:
+    def take(self, value: Any, depth: int = 0) -> None:
         """What a document has: a pod, a list, an owner, an audit event, or what a watch tells."""
+        if depth > DEEPEST_LIST:
+            return
         if not isinstance(value, dict):
             for each in value if isinstance(value, list) else ():
-                self.take(each)
+                self.take(each, depth + 1)
             return
         kind = value.get("kind")
         if isinstance(value.get("object"), dict) and "type" in value:
-            self.take(value["object"])
+            self.take(value["object"], depth + 1)
         elif kind == "Event" and "auditID" in value:
-            self.take(value.get("requestObject"))
-            self.take(value.get("responseObject"))
+            self.take(value.get("requestObject"), depth + 1)
+            self.take(value.get("responseObject"), depth + 1)
         elif any(isinstance(value.get(name), list) for name in LISTS) and kind in (None, "List", "PodList") \
                 or str(kind or "").endswith("List"):
             for each in next((value[name] for name in LISTS if isinstance(value.get(name), list)), ()):
                 self.take({"kind": str(kind or "PodList").removesuffix("List") or None, **each}
-                          if isinstance(each, dict) else each)
+                          if isinstance(each, dict) else each, depth + 1)
         elif kind in OWNED:
             self.take_owner(kind, value)
         elif kind in (None, "Pod"):
@@ -166,7 +174,10 @@ def read(path: str, what: str) -> Iterator[Any]:
 def documents_of(file: Any, path: str, what: str) -> Iterator[Any]:
     head = bytearray(file.read(SHORT_LINE))
     if head.lstrip()[:1] not in (b"{", b"["):
-        yield from yaml_of(bytes(head) + file.read(LONGEST_FILE), path, what)
+        data = bytes(head) + file.read(LONGEST_YAML)
+        if len(data) > LONGEST_YAML:
+            raise entry.Fault(f"{what}: '{path}' has more than {LONGEST_YAML >> 20} MiB of YAML: give it as JSON")
+        yield from yaml_of(data, path, what)
         return
     first, end, rest = bytes(head).partition(b"\n")
     found = outside.json_of(first) if end else None
@@ -218,15 +229,56 @@ def yaml_of(data: bytes, path: str, what: str) -> Iterator[Any]:
         import yaml  # Debian's python3-yaml, which no other tool wants
     except ImportError:
         raise entry.Fault(f"{what}: '{path}' is no JSON, and python3-yaml, which reads YAML, is missing", 127) from None
+    if LONG_NUMBER.search(data) is not None:
+        raise entry.Fault(f"{what}: '{path}' has a number that is too long")
     loader = getattr(yaml, "CSafeLoader", yaml.SafeLoader)
+    depth = 0
     try:
+        # what nests too deep would overflow the stack of libyaml's binding
+        for event in yaml.parse(data, Loader=loader):
+            depth += isinstance(event, yaml.CollectionStartEvent) - isinstance(event, yaml.CollectionEndEvent)
+            if depth > DEEPEST:
+                raise entry.Fault(f"{what}: '{path}' nests too deep")
         found = list(yaml.load_all(data, Loader=loader))
-    except (yaml.YAMLError, ValueError, RecursionError):
+    except (yaml.YAMLError, ValueError, RecursionError, OverflowError):
         raise entry.Fault(f"{what}: '{path}' is neither JSON nor YAML") from None
     if not any(isinstance(each, (dict, list)) for each in found):
         raise entry.Fault(f"{what}: '{path}' has no manifest")
-    # moments of YAML are no texts
-    yield from (json.loads(json.dumps(each, default=moment_text)) for each in found)
+    plain = Plain()
+    try:
+        yield from (plain.of(each) for each in found)
+    except Multiplied:
+        raise entry.Fault(f"{what}: '{path}' has more values than are read: its aliases multiply, or are a circle"
+                          ) from None
+
+
+class Multiplied(Exception):
+    """Aliases make more of a document than is read."""
+
+
+class Plain:
+    """Values of YAML as JSON has them: each alias as what it stands for, names and moments as texts."""
+
+    def __init__(self) -> None:
+        self.left = MOST_VALUES
+
+    def of(self, value: Any, depth: int = 0) -> Any:
+        self.left -= 1
+        if self.left < 0 or depth > DEEPEST:
+            raise Multiplied
+        if isinstance(value, dict):
+            return {key_text(name): self.of(inner, depth + 1) for name, inner in value.items()}
+        if isinstance(value, (list, tuple, set)):
+            return [self.of(inner, depth + 1) for inner in value]
+        is_plain = value is None or isinstance(value, (bool, int, str)) or (isinstance(value, float) and value == value)
+        return value if is_plain else moment_text(value)
+
+
+def key_text(name: Any) -> str:
+    """The name of a member, which YAML may take for a number or a truth."""
+    if isinstance(name, bool) or name is None:
+        return json.dumps(name)
+    return name if isinstance(name, str) else moment_text(name)
 
 
 def moment_text(value: Any) -> str:

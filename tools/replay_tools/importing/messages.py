@@ -13,12 +13,17 @@ from replay_tools import outside
 from .journals import SKIPPED, Hole, Line
 from .moments import Klog, moment_of_iso
 from .runtimes import KEYS, OF_RUNTIME
+from .units import Units, is_runtime
 
 HEADER = re.compile(rb"[IWEF](\d{4} \d\d:\d\d:\d\d)(\.\d{1,9}) +(\d{1,10}) [^\]\s]{1,200}:\d+\] ")
 # key="value" or key=value behind a quoted message; a value may have blanks in brackets, and one of several lines has a
 # tab before each, for which journalctl prints eight blanks
-KEY = re.compile(r' ([A-Za-z][\w./-]*)=("[^"\\]*(?:\\.[^"\\]*)*"|\{[^\n]*?\}(?= [A-Za-z][\w./-]*=|$)|\[[^\]\n]*\]'
-                 r"|&?\{[^}\n]*\}|<\n(?:(?:\t| {8})[^\n]*\n)* *>|[^\s]*)")
+NAME = re.compile(r" ([A-Za-z][\w./-]*)=")
+# how an object ends, with the next key behind it, and how a value in brackets does, each in one line
+OBJECT_END = re.compile(r"\}(?= [A-Za-z][\w./-]*=|$)|\n")
+ENDS = {"{": re.compile(r"[}\n]"), "&": re.compile(r"[}\n]"), "[": re.compile(r"[\]\n]")}
+LINES, LINES_END = re.compile(r"<\n(?:(?:\t| {8})[^\n]*\n)*"), re.compile(r" *>")
+WORD = re.compile(r"\S*")
 QUOTED = re.compile(r'"([^"\\]*(?:\\.[^"\\]*)*)"')
 ESCAPE = re.compile(r"\\(u[0-9a-fA-F]{4}|x[0-9a-fA-F]{2}|.)")
 ESCAPED = {"n": "\n", "t": "\t", "r": "\r", '"': '"', "\\": "\\"}
@@ -57,10 +62,62 @@ def split(text: str) -> tuple[str, dict[str, Any], bool]:
     found = QUOTED.match(text)
     if found is None:
         return text, {}, False
-    keys: dict[str, Any] = {}
-    for name, value in KEY.findall(text, found.end()):
-        keys[name] = unquoted(value[1:-1]) if value.startswith('"') else value
-    return unquoted(found[1]), keys, True
+    return unquoted(found[1]), Keys(text, found.end()).all(), True
+
+
+class Keys:
+    """Reads the keys behind a message. What does not end is looked for once, however often it begins."""
+
+    def __init__(self, text: str, at: int) -> None:
+        self.text = text
+        self.at = at
+        # up to where it is known of each kind of end that there is none
+        self.without: dict[str, int] = {}
+
+    def all(self) -> dict[str, Any]:
+        keys: dict[str, Any] = {}
+        while (found := NAME.search(self.text, self.at)) is not None:
+            self.at = found.end()
+            value = self.value()
+            keys[found[1]] = unquoted(value[1:-1]) if len(value) > 1 and value[0] == value[-1] == '"' else value
+        return keys
+
+    def value(self) -> str:
+        """The value that begins here, behind which it goes on."""
+        begin, mark = self.at, self.text[self.at:self.at + 1]
+        end = None
+        if mark == '"':
+            quoted = QUOTED.match(self.text, begin)
+            end = None if quoted is None else quoted.end()
+        elif mark == "{":
+            end = self.end_of("object", OBJECT_END)
+            end = self.end_of(mark, ENDS[mark]) if end is None else end
+        elif mark == "[" or self.text.startswith("&{", begin):
+            end = self.end_of(mark, ENDS[mark])
+        elif mark == "<":
+            end = self.end_of_lines()
+        if end is None:
+            word = WORD.match(self.text, begin)
+            end = begin if word is None else word.end()
+        self.at = end
+        return self.text[begin:end]
+
+    def end_of_lines(self) -> int | None:
+        """The end of a value of several lines."""
+        several = LINES.match(self.text, self.at) if self.at >= self.without.get("<", 0) else None
+        found = None if several is None else LINES_END.match(self.text, several.end())
+        if several is not None and found is None:
+            self.without["<"] = several.end()
+        return None if found is None else found.end()
+
+    def end_of(self, kind: str, form: re.Pattern[str]) -> int | None:
+        if self.at < self.without.get(kind, 0):
+            return None
+        found = form.search(self.text, self.at)
+        if found is not None and found[0] != "\n":
+            return found.end()
+        self.without[kind] = len(self.text) if found is None else found.start()
+        return None
 
 
 def json_message(text: bytes, line: Line) -> Message | Line | None:
@@ -99,12 +156,26 @@ def text_message(text: bytes, line: Line, klog: Klog) -> Message | None:
     return Message(moment, int(stamp[2]), said, NO_KEYS, line.node, False, line.moment is None, stamp)
 
 
-def messages_of(lines: Iterator[Line], klog: Klog) -> Iterator[Message | Line]:
+def of_other_unit(line: Line, units: Units) -> Line:
+    """A line of another unit than the kubelet's, which says nothing of the kubelet whatever its words are."""
+    if line.text.startswith(b"{"):
+        made = json_message(line.text, line) if is_runtime(line.unit) else None
+        return made if isinstance(made, Line) else line
+    if HEADER.match(line.text):
+        units.pass_over(line.unit)
+    return line
+
+
+def messages_of(lines: Iterator[Line], klog: Klog, units: Units | None = None) -> Iterator[Message | Line]:
     """The messages of a journal that are wanted, and the lines that are no kubelet's, as they are."""
     held: Message | None = None
-    continued = 0
+    units, continued = units or Units(), 0
     for line in lines:
         text = line.text
+        if line.unit and not units.is_kubelet(line.unit):
+            if not isinstance(line, Hole):
+                yield of_other_unit(line, units)
+                continue
         if line is SKIPPED or isinstance(line, Hole):
             if held is not None:
                 yield finished(held)

@@ -195,13 +195,18 @@ class Placing:
         latest = self.written_at
         for second in wanted:
             while latest is not None and second - latest > self.every:
-                latest += self.every
+                latest = self.next_look(latest)
                 self.timeline.place_look(latest)
             latest = second
         while latest is not None and before != float("inf") and before - latest > self.every:
-            latest += self.every
+            latest = self.next_look(latest)
             self.timeline.place_look(latest)
         self.written_at = latest
+
+    def next_look(self, latest: int) -> int:
+        """The second of the look after one: none is in a gap, which may be of years."""
+        at = latest + self.every
+        return next((until for since, until in self.timeline.gaps if since < at < until), at)
 
     def with_members(self, line: str) -> str:
         """A line with the members that are not the timeline's."""

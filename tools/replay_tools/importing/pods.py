@@ -319,7 +319,7 @@ class Pods:
     def on_turnover(self, fact: facts.Turnover) -> None:
         """All results of a probe came to something; from then on its successes have lines."""
         life = self.life_of(fact.pod, fact.at)
-        if life is None or life.pod is None or fact.probe == "liveness":
+        if life is None or life.pod is None or life.is_refused or fact.probe == "liveness":
             return
         self.placing.told_probes.add(fact.probe)
         if fact.status not in ("ready", "started"):

@@ -9,7 +9,7 @@ from collections.abc import Callable, Iterator
 from replay_tools import amounts, outside
 from replay_tools.traces import SIGNALS
 
-from . import configured, endings, facts
+from . import configured, endings, facts, nodes
 from .messages import Message
 from .references import id_of, placed, placed_in
 from .statuses import of_printed, of_status
@@ -17,13 +17,19 @@ from .statuses import of_printed, of_status
 LOOP = re.compile(r'SyncLoop \((ADD|UPDATE|DELETE|REMOVE), "(\w+)"\): (.*)', re.S)
 PLEG = re.compile(r'SyncLoop \(PLEG\): (?:"(?P<pod>[^"]*)", event|ignore irrelevant event): '
                   r'&pleg\.PodLifecycleEvent\{ID:"(?P<uid>[^"]*)", Type:"(?P<type>\w+)", Data:"(?P<id>\w*)"\}')
-PROBE = re.compile(r'(Readiness|Liveness|Startup) probe for "([^"]*\)):([^"]*)" '
+PROBE = re.compile(r'(Readiness|Liveness|Startup) probe for "([^"]{1,400}\)):([^"]{1,64})" '
                    r"(?:(succeeded)|failed \((\w+)\): ?(.*))", re.S)
 KILLING = re.compile(r'Killing container "\w+://(\w+)" with a (\d{1,9}) second grace period')
 RESTARTED = re.compile(r'Container "([^"]*)" \(\{"\w+" "(\w+)"\}\) of pod (\S+): (.*)', re.S)
 STOPPED = re.compile(r'Container "\w+://(\w+)" exited normally')
 WAITS = 'failed to "StartContainer" for "'
 WAITING = re.compile(r'failed to "(\w+)" for "([^"]*)" with (\w+): "((?:[^"\\]|\\.)*)"')
+HOOK_REASON, HOOK_EVENT, MOUNT_EVENT = "PostStartHookError", "FailedPostStartHook", "FailedMount"
+HOOK = re.compile(r'failed to "StartContainer" for "([^"]*)" with PostStartHookError: (.*)', re.S)
+HOOK_SAYS = re.compile(r'"((?:[^"\\]|\\.)*)"')
+UNABLE = re.compile(r'(Unable to (?:attach or )?mount volumes) for pod "([^"]*)": (.*?)(?:; skipping pod)?$', re.S)
+MOUNT = re.compile(r'([\w.]{1,64} failed for volume "[^"]*") \(UniqueName: "[^"]*"\) pod "[^"]*" '
+                   r'\(UID: "([-0-9A-Za-z]{1,64})"\) ?: (.*)', re.S)
 MADE = re.compile(r"container: ([a-z0-9][-a-z0-9]{0,62})/([-.a-z0-9]{1,253})/([a-z0-9][-a-z0-9]{0,62}) podIPs: ")
 PATCH = re.compile(r'Patch status for pod "([^"]*)" with (?=")')
 OBSERVED = re.compile(r"observations: signal=([\w.]+), available: ([^,\s]+), capacity: ([^,\s]+)")
@@ -44,7 +50,8 @@ DECODER = json.JSONDecoder()
 # what a patch has that says something of instances, or of the pod
 SIGNS = "containerID", "Ready", '"reason'
 # what is a sentence in JSON too
-FLAG = "FLAG: "
+FLAG, OPERATION = "FLAG: ", "Operation for "
+SENTENCES = FLAG, OPERATION
 TYPES = {"ContainerStarted": facts.STARTED, "ContainerDied": facts.DIED}
 WHERE = {"ADD": facts.Added, "DELETE": facts.Deleted, "REMOVE": facts.Removed}
 UPDATE = "UPDATE"
@@ -109,6 +116,29 @@ def waits_in(at: float, pod: facts.Reference | None, text: str) -> Iterator[fact
     for verb, container, reason, said in WAITING.findall(text):
         if pod is not None and verb == "StartContainer" and outside.is_label(container):
             yield facts.Waits(at, pod, container, reason, said.replace('\\"', '"'))
+    found = HOOK.search(text) if pod is not None and HOOK_REASON in text else None
+    if pod is not None and found is not None and outside.is_label(found[1]):
+        quoted = HOOK_SAYS.search(found[2])
+        message = (found[2] if quoted is None else quoted[1]).replace('\\"', '"')
+        if quoted is None or quoted.start() > 0:
+            yield facts.Waits(at, pod, found[1], HOOK_REASON, message)
+        yield facts.Happened(at, pod, HOOK_EVENT, message, container=found[1], is_line=True)
+
+
+def of_volumes(message: Message) -> Iterator[facts.Fact]:
+    """A pod's volumes can't be mounted in time."""
+    found = UNABLE.match(message.text)
+    pod = None if found is None else placed_in(found[2])
+    if found is not None and pod is not None:
+        yield facts.Happened(message.at, pod, MOUNT_EVENT, f"{found[1]}: {found[3]}", is_line=True)
+
+
+def of_operation(message: Message) -> Iterator[facts.Fact]:
+    """A volume can't be mounted: the message as the Event has it, of a pod that is known by its uid."""
+    found = MOUNT.search(message.text.replace('\\"', '"')) if " failed for volume " in message.text else None
+    if found is not None:
+        yield facts.Happened(message.at, facts.Reference(None, found[2]), MOUNT_EVENT,
+                             f"{found[1]} : {found[3]}".rstrip('"\n'), is_line=True)
 
 
 def of_pod(message: Message) -> Iterator[facts.Fact]:
@@ -221,18 +251,15 @@ def of_started(message: Message) -> Iterator[facts.Fact]:
         yield facts.Begun(message.at)
 
 
-def of_kernel(message: Message) -> Iterator[facts.Fact]:
-    if message.text.startswith("Got sys oom event") and " m=-" not in message.text:
-        yield facts.OutOfMemory(message.at)
-
-
 # by the first word of a message
 FORMS: dict[str, Callable[[Message], Iterator[facts.Fact]]] = {
     "SyncLoop": of_loop, "Readiness": of_probe, "Liveness": of_probe, "Startup": of_probe, "Killing": of_killing,
     "Container": of_container, "container:": of_made, "Error": of_error, "Pod": of_pod, "Status": of_pod,
     "Ignoring": of_pod, "Patch": of_patch, "eviction": of_eviction, "Failed": of_refusal, "Created": of_sandbox,
     "FLAG:": of_flag, "Creating": of_configuration, "Attempting": of_node, "Successfully": of_node,
-    "Started": of_started, "killContainer": of_named, "failed": of_named, "Got": of_kernel}
+    "Started": of_started, "killContainer": of_named, "failed": of_named,
+    "Unable": of_volumes, "Operation": of_operation, "Got": nodes.of_kill, "Node": nodes.of_condition,
+    "skipping": nodes.of_skipped, "Recording": nodes.of_recorded, "Shutdown": nodes.of_shutdown}
 
 
 def add_forms(others: dict[str, Callable[[Message], Iterator[facts.Fact]]]) -> None:

@@ -3,6 +3,7 @@
 from __future__ import annotations
 
 import gc
+import signal
 import sys
 import tempfile
 import time
@@ -13,17 +14,21 @@ from replay_tools.joined import asked
 from replay_tools.record.formats import name_fault
 from replay_tools.record.lines import TooLong
 
-from . import cluster, events, manifests, moments, reading, summary
+from . import cluster, events, evidence, manifests, moments, reading, summary
 from .importer import Importer, refuse_strangers
-from .journals import STANDARD_INPUT, Counts, Journal
+from .files import MOST, STANDARD_INPUT, Journal
+from .journals import Counts
 from .moments import Klog
 from .placing import Placing
 from .progress import Progress
+from .units import Units
 from .writing import Ended, NodeLine, Plain, Writer
 
 
-MOST_NOTES = 100
+MOST_NOTES, MOST_UNITS = 100, 5
 SINCE = "1h"
+# so long an answer of the cluster is waited for, unless another time is given
+SECONDS = 60.0
 # most of what is made lives on for ten minutes of the journal, so cycles are looked for more seldom
 MADE_BETWEEN_LOOKS = 100_000
 
@@ -33,6 +38,9 @@ def run(words: Namespace) -> int:
     if not words.named:
         if words.since is not None or words.context is not None:
             raise entry.Fault("--since and --context go with NODE (--help says more)")
+        if words.timeout is not None:
+            raise entry.Fault("--timeout goes with NODE (--help says more)")
+        words.optional, words.given = [], True
         return imported(words)
     if len(words.named) > 1 or words.journal or words.node is not None:
         raise entry.Fault("it takes one NODE, or --journal and --node in its place (--help says more)")
@@ -40,10 +48,14 @@ def run(words: Namespace) -> int:
     if name_fault(node) is not None:
         raise entry.Fault(f"NODE is a node's name, not '{node}'")
     since = asked.since_of(words.since or SINCE, time.time())
+    # what is kept goes with an end that is asked for, too
+    for number in (signal.SIGTERM, signal.SIGHUP):
+        signal.signal(number, lambda number, _: sys.exit(128 + number))
     with tempfile.TemporaryDirectory(prefix="import-") as folder:
-        found = cluster.fetch(folder, node, since, words.context)
-        words.node, words.journal, words.pods = node, [found.journal], [found.pods, *words.pods]
-        words.events = [found.events, *words.events] if found.events else words.events
+        found = cluster.Cluster(folder, node, since, words.context, words.timeout or SECONDS).fetch()
+        words.node, words.journal, words.given = node, found.journals, bool(words.pods)
+        words.optional, words.pods = found.pods, [*found.pods, *words.pods]
+        words.events = [*found.events, *words.events]
         try:
             return imported(words)
         except Nothing:
@@ -63,20 +75,30 @@ def imported(words: Namespace) -> int:
         raise entry.Fault(f"--node takes a node's name, not '{words.node}'")
     known = manifests_of(words)
     journals = journals_of(words)
+    sources = [] if journals else evidence.of_what(words.events, words.audit)
     writer = writer_of(words)
     placing = Placing(most_pods_at_once=words.into is not None)
     notes = Notes()
     importer = Importer(known, placing, notes)
-    found, readers = reading.read_all(journals, lambda journal: Klog(words.year, shift, journal.written), words.node)
-    stream = events.beside(found, events.read_all(words.events)) if words.events else found
+    units = Units(tuple(words.unit))
+    found, readers = reading.read_all(journals, lambda journal: Klog(words.year, shift, journal.written), words.node,
+                                      units)
+    if sources:
+        stream = evidence.read_all(words.events, words.audit, known, words.node)
+    else:
+        stream = events.beside(found, events.read_all(words.events)) if words.events else found
     progress = Progress(journals)
     try:
         for lines, has_tick in importer.take_all(progress.over(stream)):
             if not writer.is_begun:
-                refuse_strangers(importer)
-                writer.begin(node_line_of(importer, name_of(words, importer, known)))
+                if words.given:
+                    refuse_strangers(importer)
+                writer.begin(node_line_of(importer, name_of(words, importer, known), sources))
             writer.write(lines, has_tick)
-        refuse_nothing(importer, journals)
+        if sources:
+            refuse_no_evidence(importer, sources)
+        else:
+            refuse_nothing(importer, journals, units)
         progress.end()
         writer.end()
     except Ended as ended:
@@ -90,7 +112,8 @@ def imported(words: Namespace) -> int:
         raise entry.Fault(str(fault), 1) from None
     for line in notes.said:
         entry.say(line)
-    for line in summary.lines_of(importer, readers, reading.all_counts(journals), words):
+    counts = reading.all_counts(journals)
+    for line in evidence.lacks(sources) if sources else summary.lines_of(importer, readers, counts, words):
         entry.say(line)
     return 0
 
@@ -129,18 +152,26 @@ def manifests_of(words: Namespace) -> manifests.Manifests:
             before = known.taken
             for value in manifests.read(path, word):
                 known.take(value)
-            if known.taken == before and word == "--pods":
+            if known.taken == before and word == "--pods" and path not in words.optional:
                 raise entry.Fault(f"--pods: '{path}' has no manifest of a pod, or of what owns one")
     return known
 
 
 def journals_of(words: Namespace) -> list[Journal]:
     paths = words.journal or [STANDARD_INPUT]
+    if not words.journal and (words.events or words.audit) and has_no_input():
+        return []
     if STANDARD_INPUT in paths and entry.standard_input().isatty():
         raise entry.Fault("it wants a journal: --journal FILE, or one on standard input (--help says more)")
     if len(set(paths)) < len(paths):
         raise entry.Fault("--journal has a file twice (--help says more)")
-    return [Journal(path, Counts()) for path in paths]
+    return [Journal(path, Counts(), words.most or MOST, words.node) for path in paths]
+
+
+def has_no_input() -> bool:
+    """Whether standard input is a terminal or empty: then no journal is given."""
+    given = entry.standard_input()
+    return given.isatty() or not given.peek(1)  # type: ignore[attr-defined]
 
 
 def name_of(words: Namespace, importer: Importer, known: manifests.Manifests) -> str:
@@ -152,13 +183,29 @@ def name_of(words: Namespace, importer: Importer, known: manifests.Manifests) ->
     return str(name)
 
 
-def node_line_of(importer: Importer, name: str) -> NodeLine:
-    """The node line, asked for as it is to be written."""
-    return lambda second: summary.node_line(importer, name, second)
+def named(units: Units) -> str:
+    """The first of the units that have lines of klog's form, and are not the kubelet's."""
+    names = [f"'{name}'" for name in units.others]
+    return ", ".join(names[:MOST_UNITS]) + (", .." if len(names) > MOST_UNITS else "")
 
 
-def refuse_nothing(importer: Importer, journals: list[Journal]) -> None:
+def node_line_of(importer: Importer, name: str, sources: list[str]) -> NodeLine:
+    """The node line, asked for as it is to be written; with what the trace is made of, where that is no journal."""
+    more = {evidence.MEMBER: sources} if sources else {}
+    return lambda second: summary.node_line(importer, name, second) | more
+
+
+def refuse_no_evidence(importer: Importer, sources: list[str]) -> None:
+    """Refuses Events and audit logs that have nothing of a pod."""
+    if not importer.placing.counts["met"]:
+        raise entry.Fault(f"nothing in {' and '.join(f'--{each}' for each in sources)} is of a pod of the node", 1)
+
+
+def refuse_nothing(importer: Importer, journals: list[Journal], units: Units) -> None:
     """Refuses journals of which nothing was understood."""
+    if units.others and (importer.begun is None or not importer.placing.counts["met"]):
+        raise Nothing(f"no line is of the kubelet's unit; lines of its form are of {named(units)}: if one of these "
+                      "runs the kubelet, as k3s does, pass --unit with its name", 1)
     if importer.begun is None:
         faults = [fault for journal in journals for fault in journal.counts.faults]
         names = ", ".join(journal.name for journal in journals)

@@ -7,7 +7,7 @@ import time
 from collections.abc import Iterable, Iterator
 from typing import Any
 
-from .journals import Journal
+from .files import Journal
 
 EVERY = 0.2
 # a clock that is asked for each fact would take as long as the facts

@@ -9,18 +9,24 @@ from replay_tools import entry
 
 from . import facts, keyed, printed
 from .holes import FORWARD
-from .journals import Counts, Hole, Journal, Line
+from .files import Journal
+from .journals import Counts, Hole, Line
 from .messages import Message, messages_of
 from .moments import Klog
+from .ooms import OutOfMemories
 from .ordering import in_order
 from .overlaps import Overlaps
+from .readiness import Readiness
 from .runtimes import Runtime, moment_in
 from .skipping import LONGEST_WORD, SKIPPING
+from .units import Units
 
 SUPPRESSED = "Suppressed "
 # a clock that goes back by less stands still until its time comes again, and so often at most it goes back
 BACK_SECONDS = 60
 MOST_TURNS = 100
+# a clock that goes forward by so much went wrong, or the node was off: nothing is known of a time so long
+FORWARD_SECONDS = 86400
 # how often a process may say something again behind another one
 MOST_RETURNS = 4
 
@@ -60,8 +66,10 @@ class Processes:
 class Reader:
     """Reads one journal."""
 
-    def __init__(self, journal: Journal, klog: Klog, processes: Processes, place: int, overlaps: Overlaps) -> None:
+    def __init__(self, journal: Journal, klog: Klog, processes: Processes, place: int, overlaps: Overlaps,
+                 units: Units) -> None:
         self.journal = journal
+        self.units = units
         self.klog = klog
         self.processes = processes
         # which of several it is, and what these have both
@@ -82,7 +90,7 @@ class Reader:
     def all_facts(self) -> Iterator[facts.Fact]:
         """Its facts by the moments that it has. A line whose moment is a little before that of the one before it is put
         behind that one; where the clock went back that is a fact, and moments are those that it says from there on."""
-        for item in messages_of(self.journal.lines(self.klog, SKIPPING), self.klog):
+        for item in messages_of(self.journal.lines(self.klog, SKIPPING), self.klog, self.units):
             if item.node and not self.processes.is_ours(item.node):
                 continue
             read: Callable[[Any], Iterator[facts.Fact]] = self.of_message
@@ -96,6 +104,9 @@ class Reader:
                 since, self.newest, self.now = self.newest, moment, moment
                 yield facts.TurnedBack(moment, 0, since)
             elif moment is not None:
+                if 0 < self.newest < moment - FORWARD_SECONDS:
+                    self.journal.counts.forwards += 1
+                    yield facts.Missing(moment)
                 self.before, self.newest = self.newest, max(self.newest, moment)
             if self.is_alone or moment is None or not self.is_repeated(item, moment):
                 yield from read(item)
@@ -118,7 +129,7 @@ class Reader:
             self.process, self.node = message.process, message.node
             self.processes.take(message.process)
             yield facts.Process(message.at, message.process, message.node)
-        if message.is_structured and not message.text.startswith(printed.FLAG):
+        if message.is_structured and not message.text.startswith(printed.SENTENCES):
             reader = keyed.FORMS.get(message.text)
         else:
             reader = printed.FORMS.get(message.text[:LONGEST_WORD].partition(" ")[0])
@@ -152,12 +163,13 @@ class Reader:
         return max(self.now, line.moment or self.now)
 
 
-def read_all(journals: list[Journal], klog_of: Callable[[Journal], Klog], node: str | None) -> tuple[
+def read_all(journals: list[Journal], klog_of: Callable[[Journal], Klog], node: str | None, units: Units) -> tuple[
         Iterator[facts.Fact], list[Reader]]:
     """The facts of several journals by their moments."""
     processes, overlaps = Processes(node, len(journals)), Overlaps(len(journals))
-    readers = [Reader(journal, klog_of(journal), processes, place, overlaps) for place, journal in enumerate(journals)]
-    return in_order(readers), readers
+    readers = [Reader(journal, klog_of(journal), processes, place, overlaps, units)
+               for place, journal in enumerate(journals)]
+    return OutOfMemories().over(Readiness().over(in_order(readers))), readers
 
 
 def all_counts(journals: list[Journal]) -> Counts:

@@ -16,6 +16,8 @@ WANTED |= {b'"' + word.encode() + b'"' for word in keyed.FIRST_WORDS}
 # flags are many, and a few of them are read
 FLAG = b"FLAG:"
 READ_FLAGS = b"FLAG: --hostname-override=", b"FLAG: --eviction-", b"FLAG: --config="
+# what is a sentence in JSON too
+SENTENCES = *READ_FLAGS, printed.OPERATION.encode()
 # where a header ends, at the earliest and at the latest, and how long a first word may be
 SHORTEST, LONGEST_HEADER, LONGEST_WORD = 24, 260, 64
 LETTERS = b"IWEF"
@@ -26,10 +28,11 @@ BEGINS = sorted({re.escape(word[:BEGIN]) for word in WANTED})
 BEFORE_BRACKET = rb"[\x00-\t\x0b-\\^-\xff]"
 # how klog's header stands behind what journald and a runtime have of a line
 OF_JOURNALD, OF_RUNTIME = rb"\]: " + HEADER, rb" F " + HEADER
-HEADERS = {"short-iso": re.compile(OF_JOURNALD), "syslog": re.compile(OF_JOURNALD), "container": re.compile(OF_RUNTIME)}
+JOURNALDS = "short-iso", "syslog", "short-full", "short-unix"
+HEADERS = {**dict.fromkeys(JOURNALDS, re.compile(OF_JOURNALD)), "container": re.compile(OF_RUNTIME)}
 # a line up to its words, in each form that is text; there is no header before that one
 UP_TO_WORDS = {PLAIN: rb"[%b]%b{%d,%d}\] " % (LETTERS, BEFORE_BRACKET, SHORTEST - 1, LONGEST_HEADER - 3),
-               "short-iso": BEFORE_BRACKET + b"*" + OF_JOURNALD, "syslog": BEFORE_BRACKET + b"*" + OF_JOURNALD,
+               **dict.fromkeys(JOURNALDS, BEFORE_BRACKET + b"*" + OF_JOURNALD),
                "container": rb"[^ \n]+ [^ \n]+" + OF_RUNTIME}
 # the end of a line behind which one comes that these and the first bytes of its words do not tell to be skipped
 KEPT = {form: re.compile(rb"\n(?!%b(?!%b))" % (begin, b"|".join(BEGINS))) for form, begin in UP_TO_WORDS.items()}
@@ -65,7 +68,7 @@ def is_record_skipped(text: bytes) -> bool:
     """The same of a line of JSON, by all of its message."""
     place = text.find(SAYS, 0, LONGEST_HEADER) + len(SAYS)
     return (place >= len(SAYS) and text[place:text.find(b'"', place)] not in MESSAGES
-            and not text.startswith(READ_FLAGS, place))
+            and not text.startswith(SENTENCES, place))
 
 
 def is_unwanted(text: bytes, place: int) -> bool:

@@ -2,6 +2,7 @@
 
 from __future__ import annotations
 
+import bisect
 import re
 from collections.abc import Iterator
 from typing import Any
@@ -18,14 +19,14 @@ ROLES = ("initContainerStatuses", "containerStatuses", "ephemeralContainerStatus
 # a status as Go prints it; the name of the container stands before
 PRINTED_NAME = re.compile(r"Name:([a-z0-9][-a-z0-9]{0,62})[ ,](?:State|ID|PodSandboxID)\b")
 PRINTED_END = re.compile(
-    r"ContainerStateTerminated\{ExitCode:(?P<code>-?\d{1,10}),Signal:\d+,Reason:(?P<reason>\w*),.*?"
+    r"ContainerStateTerminated\{ExitCode:(?P<code>-?\d{1,10}),Signal:\d+,Reason:(?P<reason>\w*),.{0,8192}?"
     r"StartedAt:(?P<started>[^,]*),FinishedAt:(?P<finished>[^,]*),ContainerID:\w+://(?P<id>[0-9a-f]{12,64}),\}")
 # what is left of a pod that has ended
 PRINTED_LEFT = re.compile(
     r"\{ID:\{Type:\w+ ID:(?P<id>[0-9a-f]{12,64})\} Name:(?P<name>[a-z0-9][-a-z0-9]{0,62}) "
-    r"PodSandboxID:(?P<sandbox>\w*) State:(?P<state>\w+) CreatedAt:[^}]*? StartedAt:(?P<started>[^}]*?) "
-    r"FinishedAt:(?P<finished>[^}]*?) "
-    r"ExitCode:(?P<code>-?\d{1,10}) .*?RestartCount:(?P<attempt>\d{1,10}) Reason:(?P<reason>\w*) ")
+    r"PodSandboxID:(?P<sandbox>\w*) State:(?P<state>\w+) CreatedAt:[^}]{0,128}? StartedAt:(?P<started>[^}]{0,128}?) "
+    r"FinishedAt:(?P<finished>[^}]{0,128}?) "
+    r"ExitCode:(?P<code>-?\d{1,10}) .{0,8192}?RestartCount:(?P<attempt>\d{1,10}) Reason:(?P<reason>\w*) ")
 
 
 def code_of(value: Any) -> int | None:
@@ -71,11 +72,13 @@ def of_printed(at: float, pod: Reference, text: str) -> Iterator[Known]:
     if "ExitCode:" not in text:
         return
     names = [(found.start(), found[1]) for found in PRINTED_NAME.finditer(text)]
+    starts = [start for start, _ in names]
     for found in PRINTED_END.finditer(text):
-        before = [name for start, name in names if start < found.start()]
+        before = bisect.bisect_left(starts, found.start())
         code = outside.number_of(found["code"], -outside.MOST_OF_CODE - 1, outside.MOST_OF_CODE)
-        yield Known(at, found["id"], pod, before[-1] if before else None, None, moment_of_go(found["started"]),
-                    moment_of_go(found["finished"]), code, reason_of(found["reason"]))
+        name = names[before - 1][1] if before else None
+        yield Known(at, found["id"], pod, name, None, moment_of_go(found["started"]), moment_of_go(found["finished"]),
+                    code, reason_of(found["reason"]))
     for found in PRINTED_LEFT.finditer(text):
         code = outside.number_of(found["code"], -outside.MOST_OF_CODE - 1, outside.MOST_OF_CODE)
         has_ended = found["state"] == "exited"

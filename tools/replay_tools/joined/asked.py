@@ -104,8 +104,8 @@ def moment_of(text: str, word: str, now: float) -> int:
     if shift is None:
         raise entry.Fault(f"{word} {text}: there is no zone {parts['zone']}")
     date = parts["date"] or time.strftime("%Y-%m-%d", time.gmtime(now + shift))
-    said = dates.seconds_of(*map(int, date.split("-")), int(parts["hour"]), int(parts["minute"]),
-                            int(parts["second"] or 0))
+    year, month, day = map(int, date.split("-"))
+    said = dates.seconds_of(year, month, day, int(parts["hour"]), int(parts["minute"]), int(parts["second"] or 0))
     if said is None:
         raise entry.Fault(f"{word} {text} is no time that there is")
     at = said - shift

@@ -103,11 +103,8 @@ def number_of(made: traces.Trace, decision: traces.Decision) -> int | None:
 
 def take_reasons(made: traces.Trace, trace: traces.Trace, of: dict[int, int], border: reports.Border | None) -> None:
     for number, turns in trace.reasons.turns.items():
-        known = made.reasons.turns.setdefault(of[number], {})
-        last = known[max(known)] if known else None
-        # a trace that follows another begins with the turn that was the last
-        known.update({at: status for at, status in turns.items() if at not in known and (status != last or known == {})}
-                     if len(turns) == 1 else turns)
+        # a trace that follows another begins with the turn that was the last, by its own moment
+        made.reasons.turns.setdefault(of[number], {}).update(turns)
     made.reasons.unknown_phases |= {of[number] for number in trace.reasons.unknown_phases}
     made.reasons.looked |= {(word, of[number], name, attempt) for word, number, name, attempt in trace.reasons.looked}
     for (number, name, attempt), end in trace.reasons.ends.items():

@@ -24,9 +24,13 @@ DURATION = re.compile(r"0|([0-9]{1,12}[hms])+")
 UNITS = {"h": 3600, "m": 60, "s": 1}
 
 
+# json.dumps would make one for each value
+ENCODER = json.JSONEncoder(ensure_ascii=False, separators=(",", ":"))
+
+
 def shown(value: Any) -> str:
     """A value as JSON, in one line."""
-    return json.dumps(value, ensure_ascii=False, separators=(",", ":"))
+    return ENCODER.encode(value)
 
 
 def is_whole(value: Any) -> TypeGuard[int]:

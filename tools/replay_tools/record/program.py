@@ -64,6 +64,8 @@ class Recording:
         self.metrics = None if words.metrics is None else Metrics(words.metrics, say)
         # the moment of the first look, once that is taken
         self.begun: float = 0
+        # that of the last look that came as it was asked for
+        self.regular: float = 0
         self.has_begun = False
 
     def begin(self) -> None:
@@ -104,13 +106,19 @@ class Recording:
     def is_over(self, moment: float) -> bool:
         """Whether the next look would come too late."""
         duration = self.words.duration
-        return duration is not None and moment + self.words.look - self.begun > duration
+        return duration is not None and self.next_at(moment) - self.begun > duration
 
     def wait_for_next(self, moment: float) -> None:
-        """Waits for the look behind one at a moment: for a second alone where something is likely to happen that is
-        shown for a second."""
-        seconds = min(self.words.look, SOON_SECONDS) if self.observer.looks_soon(moment) else self.words.look
-        self.clock.wait(min(max(moment + seconds - self.clock.now(), 0), seconds))
+        """Waits for the look after one at a moment."""
+        self.clock.wait(min(max(self.next_at(moment) - self.clock.now(), 0), self.words.look))
+
+    def next_at(self, moment: float) -> float:
+        """When the look after one at a moment comes: so long after the last regular one as was asked for, and sooner if
+        something is likely to happen that is shown for a second. Looks in between move no regular one."""
+        if not self.regular <= moment < self.regular + self.words.look:
+            self.regular = moment
+        regular = self.regular + self.words.look
+        return min(moment + SOON_SECONDS, regular) if self.observer.looks_soon(moment) else regular
 
     def go_on(self) -> None:
         """Looks until the end."""
