@@ -63,7 +63,8 @@ def lines_of(hour):
         yield {"kind": "pod", "uid": f"uid-{number}", "pod": {
             "metadata": {"name": f"web-{number:03}", "namespace": "shop"}, "spec": {"containers": [container]}}}
     for second in range(begin, begin + HOUR, EVERY):
-        yield {"kind": "tick", "at": BEGIN + second, "signals": {"memory.available": 4 << 30, "nodefs.available": 60 << 30},
+        signals = {"memory.available": 4 << 30, "nodefs.available": 60 << 30}
+        yield {"kind": "tick", "at": BEGIN + second, "signals": signals,
                "pods": [entry_at(number, second, second == begin) for number in range(PODS)]}
 
 
