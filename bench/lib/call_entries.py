@@ -109,7 +109,7 @@ def promises(clauses, error):
     if len(of_both) == len(made):
         return f"{word}, of both: {', '.join(map(named, made))}."
     groups = [f"of `Ok` {', '.join(map(named, of_ok))}"] * bool(of_ok)
-    groups += [f"of a refusal {', '.join(map(of_refusal, of_error))}"] * bool(of_error)
+    groups += [f"of an error {', '.join(map(of_refusal, of_error))}"] * bool(of_error)
     groups += [f"of both {', '.join(map(named, of_both))}"] * bool(of_both)
     return f"{word}: {'; '.join(groups)}."
 
@@ -119,8 +119,9 @@ def words_of(clauses, kind):
     return list(Walk().take(tokens_of(" ".join(clause.term for clause in clauses if clause.kind == kind))))
 
 
-def place(path, line, page):
-    return f"{way(f'../{path}', page)}#L{line}"
+def place(path, page):
+    """The way from a page to a file. A line would change the page whenever the file changes above the call."""
+    return way(f"../{path}", page)
 
 
 def first_sentence(comment):
@@ -135,10 +136,10 @@ def item_line(item, page, more):
     name = item.name if indent else item.whole_name
     if " as " in item.owner:
         name = f"{item.owner.partition(' as ')[2]}::{item.name}"
-    head, parts = f"[`{name}`]({place(item.path, item.line, page)})", [comment_in(item.comment)]
+    head, parts = f"[`{name}`]({place(item.path, page)})", [comment_in(item.comment)]
     if item.kind == "fn":
         error = error_of(item.head)
-        parts += [needs(item.clauses), f"Refuses with {code(error)}." if error else "", promises(item.clauses, error)]
+        parts += [needs(item.clauses), f"Fails with {code(error)}." if error else "", promises(item.clauses, error)]
     else:
         head += f", {KINDS[item.kind]}"
     return folded(f"{head}: {' '.join(part for part in [*parts, *more] if part)}", f"{indent}- ", f"{indent}  ")
@@ -147,6 +148,6 @@ def item_line(item, page, more):
 def definition_line(made, page, citing, example):
     """A definition in the list, below its module."""
     said = [first_sentence(made.comment) if made.comment else "", f"In {citing}." if citing else "", example]
-    link = f"[`{made.key[2]}`]({place(made.path, made.line, page)})"
+    link = f"[`{made.key[2]}`]({place(made.path, page)})"
     said = " ".join(part for part in said if part)
     return folded(link + (f": {said}" if said else ""), "  - ", "    ")

@@ -16,22 +16,25 @@ FIRST, FOLDER = "calls.md", "calls/"
 # its crates have tests, and no calls for others
 OF_NO_LIBRARY = ("Tests",)
 HEAD = ("""
-`bench/calls` writes this page and those of the folder `calls`, by the contracts, the doc comments and
-[examples.tsv](examples.tsv); no line is by hand. They have the public calls of each crate, {calls} in all, and the
-{definitions} definitions that [the theorem](theorem.md) does not reach: what a value keeps, what a call needs of the
-layer above it or promises to it, and the laws.
+The public calls of each crate, with their contracts in short, for whoever calls or changes a crate. `bench/calls`
+writes this page and the pages of the folder `calls` from the contracts, the doc comments and
+[examples.tsv](examples.tsv). They have all {calls} public calls, and the {definitions} definitions that
+[the theorem](theorem.md) does not reach: what a value keeps, what a call requires of the layer above it or promises to
+it, and the laws.
 """, """
-The name of a call leads to its contract. Behind it are its doc comment; what it needs of its caller, in full where that
-is short, else by the name of the condition; the names of its clauses, of which one without a name is "one"; what it
-refuses with; and an example of a definition that it promises. A law is a call of a module `laws` with an empty body:
-its contract says what the definitions imply, and is the definition that it states.
+The name of a call links to the file with its contract. An entry has the doc comment, then what the call requires of its
+caller (the condition, or its name if it is long), the names of its clauses ("one" is a clause without a name), the type
+of its errors, and an example of a definition that it promises. A law is a call of a module `laws` with an empty body:
+its contract is the law, which follows from the definitions.
 """, """
-Of a call that may refuse some clauses speak of `Ok`, some of a refusal, and some of both: these say what stands after a
-refusal. Where all are "of `Ok` alone", it has nothing in it but why, and what was moved into the call is dropped. What
-a call borrows (`&T`) stays as it is in each case. `AllocError` says that memory was refused.
+The clauses of a call that can fail are grouped: clauses of `Ok`, clauses of an error, and clauses of both. The last two
+give what holds after an error. If all clauses are "of `Ok` alone", an error contains only its reason, and the call
+drops what the caller moved into it. Whatever a call borrows (`&T`) stays as it is. `AllocError` means that an
+allocation failed.
 """, """
-Of a definition the list says which public calls have it in their clauses. What shows an example is a case, a table or a
-folder of cases of `case_runner`, with a slash, below `crates/case_runner/data`; else a test of `calls_tests`.
+The entry of a definition lists the public calls that have it in their clauses. An example with a slash is a case, a
+table or a folder of cases of `case_runner`, below `crates/case_runner/data`; any other example is a test of
+`calls_tests`.
 """)
 
 
@@ -40,7 +43,6 @@ class Defined(NamedTuple):
     key: tuple
     comment: str
     path: str
-    line: int
 
 
 class Listed:
@@ -73,7 +75,7 @@ def modules_of(repository, crate, reached):
             continue
         module = file.removesuffix(".antt").replace("/", ".")
         read, path = repository.module(crate, module), f"crates/{crate}/specs/{file}"
-        made = [Defined((crate, bare(module), definition.name), definition.comment, path, definition.line)
+        made = [Defined((crate, bare(module), definition.name), definition.comment, path)
                 for definition in read.definitions if (crate, bare(module), definition.name) not in reached]
         if made:
             found[module] = read.comment, made
@@ -107,7 +109,7 @@ class Lists:
     def statements(self, keys, page):
         """The definitions that a law states, each with a link."""
         made = [self.defined[key] for key in keys if key in self.stated and key in self.defined]
-        links = [f"[`{one.key[2]}`]({entries.place(one.path, one.line, page)})" for one in made]
+        links = [f"[`{one.key[2]}`]({entries.place(one.path, page)})" for one in made]
         return f"It states {', '.join(links)}." if links else ""
 
     def calls(self, listed, page):
@@ -142,9 +144,9 @@ class Lists:
         lines = [f"## `{crate.name}`", "", *entries.module_lines(listed.shown.comment)]
         if listed.is_reached:
             link = entries.way(f"theorem/{crate.name}.md", page)
-            lines += [f"What the theorem reaches of it stands on [its page]({link}).", ""]
+            lines += [f"The theorem reaches the definitions on [its page]({link}).", ""]
         for other, names in listed.shown.handed_on.items():
-            lines += [wrapped(f"It hands on {entries.listed(names)} of `{other}`."), ""]
+            lines += [wrapped(f"It re-exports {entries.listed(names)} of `{other}`."), ""]
         rest = " that the theorem does not reach" if listed.is_reached else ""
         for title, items in ((f"Calls of `{crate.name}`", self.calls(listed, page)),
                              (f"Definitions of `{crate.name}`{rest}", self.definitions(listed, page))):
@@ -181,7 +183,7 @@ def faults_of(lists, reached, texts):
 
 
 def page_text(lists, name, title, part):
-    lines = [f"# Calls and definitions: {title}", "", "[calls.md](../calls.md) says how to read it.", ""]
+    lines = [f"# Calls and definitions: {title}", "", "[calls.md](../calls.md) shows how to read an entry.", ""]
     for listed in part:
         lines += lists.section(listed, name)
     return "\n".join(lines).rstrip("\n") + "\n"

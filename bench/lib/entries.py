@@ -66,9 +66,8 @@ class Entries:
             yield wrapped(moved(text, mention.page, page), "> ")
 
     def place(self, node, page):
-        """Where it stands in the sources."""
-        target = way(f"../{node.path}", page)
-        return f"[{os.path.basename(node.path)}:{node.line}]({target}#L{node.line})"
+        """A link to its file; a line would change the page whenever the file changes above the definition."""
+        return f"[{os.path.basename(node.path)}]({way(f'../{node.path}', page)})"
 
     def lines(self, node, page):
         """All lines on a page below the heading."""

@@ -10,10 +10,10 @@ from paragraphs import wrapped
 EDITS = "bench/edits.tsv"
 EDIT_COLUMNS = ("crate", "edit", "seconds", "what it alone shows")
 WORDS = """
-The promise that no other edit of the gate breaks. Behind the name of a crate are the processor seconds of its edits
-together, as [gate.md](gate.md) has them. Before the first of them the gate checks the crate once more, which is counted
-there: so one edit alone in a crate is dear, and stands there where what it shows is worth that. Behind the name of an
-edit are those of its own check, where they were measured (`bench/wrong_bodies --gate`).
+The list has the promise that no other edit of the gate breaks. After the name of a crate are the processor seconds of
+its edits together ([gate.md](gate.md)), with the check of the crate that precedes the first edit. So a single edit in a
+crate is expensive, and is in the gate only if its promise is worth that. After the name of an edit are the seconds of
+its own check, if they are known (`bench/wrong_bodies --gate`).
 """
 
 

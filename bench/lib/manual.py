@@ -17,7 +17,7 @@ EXAMPLES = (
      "The same over the traces of a recorder, around a moment."),
 )
 # what stands above the list of statuses
-STATUSES = "\nThe program ends with a status, and says on standard error:\n\n"
+STATUSES = "\nThe program ends with a status, and prints on standard error:\n\n"
 
 
 def said(program, *words):

@@ -1,4 +1,4 @@
-"""The page on how fast a replay is, docs/speed.md, from given figures."""
+"""The section of docs/PERF.md that compares a replay with a plain parser, from given figures."""
 import math
 import re
 import statistics
@@ -6,6 +6,8 @@ import textwrap
 from typing import NamedTuple
 
 MIB = 1 << 20
+# the section's place in the page
+BEGIN, END = "<!-- bench/speed --write writes the lines from here -->\n", "<!-- to here -->\n"
 TRACES = ("many_pods", "many_ticks", "long_lines", "pressed_pods")
 SLOPE = ("ticks_2000", "ticks_6000", "many_ticks")
 WORKERS = (1, 2, 4)
@@ -64,16 +66,16 @@ def paragraph(words):
 def manner(measured, machine):
     """How it was measured."""
     return [
-        "# How fast a replay is", "",
-        "`bench/speed --write` writes this page; no figure is by hand.",
+        "## Compared with a plain parser", "",
+        "`bench/speed --write` measures this section and writes it.",
         f"The machine: {machine.words}; the kit: `{machine.kit}`.", "",
         paragraph(
             f"The baseline is a plain Rust program (`bench/baseline`, {machine.compiler}, serde_json {machine.reader})"
-            " that reads each line of the same trace into a `serde_json::Value` and drops it. The program is run as"
-            " `run TRACE --workers N`, and its report goes into a file. The two take turns, round after round; of"
-            f" {measured.rounds} rounds the least seconds and the greatest peak of memory are kept. A peak below"
-            f" {measured.floor / 1e6:.1f} MB is not seen, since the script that starts them has that itself. The"
-            " reports of a trace are the same with any number of workers, byte for byte."), ""]
+            " that reads each line of the same trace into a `serde_json::Value` and drops it. The script runs the program as"
+            " `run TRACE --workers N`, with its report in a file. The two run alternately. The tables have the least"
+            f" seconds and the greatest peak of memory of {measured.rounds} rounds. The script itself has a peak of"
+            f" {measured.floor / 1e6:.1f} MB, so no lower peak shows. The reports of a trace are the same with any"
+            " number of workers, byte for byte."), ""]
 
 
 def names_of(workers):
@@ -118,7 +120,7 @@ def slope_words(measured):
     some = [f"{measured.traces[name].ticks:,} ticks {measured.seconds[name, 1]:.2f}" for name in SLOPE]
     return paragraph(
         f"With 1 worker and pods={measured.traces[SLOPE[0]].pods} the seconds are: of {', of '.join(some)}. Their"
-        f" logarithms rise {slope_of(measured):.3f} times as fast as those of the ticks.")
+        f" logarithms rise {slope_of(measured):.3f} times as fast as the logarithms of the ticks.")
 
 
 def workers_words(measured):
@@ -131,16 +133,16 @@ def workers_words(measured):
         taken = ", ".join(f"{share:.2f} with {workers}" for workers, share in shares.items())
         items.append(f"- `{name}`, pods in a tick: {measured.traces[name].pods}. Of the time with 1 worker: {taken}. "
                      + ("More workers pay." if pays else "More workers do not pay."))
-    told = f"More workers pay in {' and '.join(paying) or 'none of these traces'}"
-    told += f", and not in {' or '.join(idle)}." if paying and idle else "."
-    return [paragraph(told + " They share the lines of windows of the text, of 4 MiB behind smaller ones, and the pods"
-                      " of each round: of the ticks up to the next in which an eviction threshold is heeded, or until"
-                      " 32,768 updates wait. Their threads start anew for each. What the lines say is taken by one"
-                      " thread, line after line; so is a round of less than 2,048 updates, as each is in"
-                      " `pressed_pods`, where a threshold is heeded in each tick."), "",
-            paragraph("An update is what one pod takes of one tick. A worker is started where it has 1,024 of them: a"
-                      " sketch in Rust with pieces, updates and a lock of this size (0.23 microseconds an update,"
-                      " without JSON around it) had two threads pay from some 1,200 updates, four from some 1,600."),
+    paid = f"More workers pay in {' and '.join(paying) or 'none of these traces'}"
+    paid += f", and not in {' or '.join(idle)}." if paying and idle else "."
+    return [paragraph(paid + " They share the lines of windows of the text, the largest of 4 MiB, and the pods of each"
+                      " round. A round has the ticks up to the next in which the node acts on an eviction threshold, or"
+                      " until 32,768 updates wait. Threads start again for each. One thread takes the contents of the"
+                      " lines in order. One thread also makes a round of less than 2,048 updates, as each in"
+                      " `pressed_pods`, where the node acts on a threshold in every tick."), "",
+            paragraph("An update is what one pod takes of one tick. A worker starts if it has 1,024 updates. In a sketch in"
+                      " Rust with pieces, updates and a lock of this size (0.23 microseconds an update, without JSON)"
+                      " two threads paid from some 1,200 updates, four from some 1,600."),
             "", *items]
 
 
@@ -164,13 +166,22 @@ def aims(measured):
 
 
 def text_of(measured, machine):
-    """The whole page."""
+    """The whole section."""
     rows = [row([aim, found, "held" if held else "not held"]) for aim, found, held in aims(measured)]
     return "\n".join([
         *manner(measured, machine), *traces_table(measured.traces), "",
-        "## Seconds", "", *speed_table(measured.seconds), "", slope_words(measured), "",
-        "## When more workers pay", "", *workers_words(measured), "",
-        "## Memory", "",
+        "### Seconds", "", *speed_table(measured.seconds), "", slope_words(measured), "",
+        "### When more workers pay", "", *workers_words(measured), "",
+        "### Memory", "",
         "The limit is the input, 48 bytes for a pod and tick, 24 for a container and tick, and 32 MiB.", "",
         *memory_table(measured), "",
-        "## Aims", "", *head(("Aim", "measured", "")), *rows]) + "\n"
+        "### Aims", "", *head(("Aim", "measured", "")), *rows]) + "\n"
+
+
+def with_section(page, section):
+    """The page with this section in the place of the last one."""
+    before, begin, rest = page.partition(BEGIN)
+    _, end, after = rest.partition(END)
+    if not begin or not end:
+        raise ValueError(f"the page has no lines {BEGIN.strip()} and {END.strip()}")
+    return f"{before}{begin}{section}{end}{after}"

@@ -114,7 +114,7 @@ class Shown(Case):
         ok, err = Clause("ensures", "ok", "OnOk result a"), Clause("ensures", "err", "OnErr result (b ≡ c)")
         both = Clause("ensures", "", "d ≡ e")
         for clauses, said in (([ok], "Clause, of `Ok` alone: `ok`."), ([both], "Clause, of both: one."),
-                              ([ok, err], "Clauses: of `Ok` `ok`; of a refusal `err`: `b\0≡\0c`."),
+                              ([ok, err], "Clauses: of `Ok` `ok`; of an error `err`: `b\0≡\0c`."),
                               ([ok, both], "Clauses: of `Ok` `ok`; of both one."), ([], "No clause.")):
             self.assertEqual(call_entries.promises(clauses, "Fault"), said)
         self.assertEqual(call_entries.promises([both], None), "Clause: one.")

@@ -48,6 +48,15 @@ class Lint(Case):
             write((SHELL | PYTHON)[path], self.top, path)
         self.assertEqual(self.lint()[0], 0)
 
+    def test_pages_with_bounds(self):
+        os.mkdir(f"{self.top}/bench")
+        write("README.md\n", self.top, "bench/prose.txt")
+        write("#!/bin/sh\necho \"$@\"; exit 1\n", self.top, "bench/prose")
+        os.chmod(f"{self.top}/bench/prose", 0o755)
+        status, said, _ = self.lint()
+        self.assertEqual((status, said.splitlines()[-2:]),
+                         (1, ["--check", "12 files were looked at: 7 of shell, 5 of Python"]))
+
     def test_a_file_that_is_gone(self):
         os.remove(f"{self.top}/a")
         status, said, _ = self.lint()

@@ -59,23 +59,20 @@ class Planted(Case):
     def test_the_page(self):
         self.assertEqual(self.planted(HEAD, ROW), (0, "", ""))
         text = read(self.top, "docs/planted.md")
-        self.assertIn("| `a`, `b` | all | 3 | 1 |  | 2 |  | 2026-11-27 |\n", text)
-        self.assertIn("In all 3 were refused, 1 proved, 0 not judged, and 2 could not be written.", text)
-        self.assertIn("- `a b`, all: it is slower.\n", text)
+        self.assertIn("| `a`, `b` | 3 | 1 | 0 | 2 | 2026-11-27 |  |\n", text)
+        self.assertIn("In all, 3 were rejected, 1 proved, 0 not judged, and 2 not writable.", " ".join(text.split()))
+        self.assertIn("- `a b`: it is slower.\n", text)
         self.assertEqual(self.planted(HEAD, ROW, words=["--check"]), (0, "", ""))
         self.assertEqual(self.planted(HEAD, ROW, ROW, words=["--check"]), (
             1, "", "bench/planted: docs/planted.md is stale: run bench/planted\n"))
 
-    def test_a_row_that_is_too_long_for_a_line(self):
-        what = "all, of `b` as it was, " + "and half of what it plants in it, " * 4 + "and no more"
-        rows = ROW.replace("all", what), ROW.replace("a b\tall", f"c\t{what}")
-        self.assertEqual(self.planted(HEAD, *rows), (0, "", ""))
+    def test_the_runs_of_a_crate_are_one_line(self):
+        later = ROW.replace("2026-11-27", "2026-11-30").replace("all", "private functions")
+        later = later.replace("\t\t2026", "\tone more\t2026")
+        self.assertEqual(self.planted(HEAD, ROW, ROW.replace("a b", "c"), later), (0, "", ""))
         text = read(self.top, "docs/planted.md")
-        self.assertIn("| 2 crates | note 1 | 3 | 1 |  | 2 |  | 2026-11-27 |\n", text)
-        self.assertIn("| `c` | note 2 | 3 | 1 |  | 2 |  | 2026-11-27 |\n\nThe notes, ", text)
-        self.assertIn("\n1. `a`, `b`: all, of `b` as it was, and half ", text)
-        self.assertIn("and no more.\n2. `c`: all, of `b` as it was, ", text)
-        self.assertLessEqual(max(len(line) for line in text.splitlines()), planted_page.LONGEST_LINE)
+        self.assertIn("| `a`, `b` | 6 | 2 | 0 | 4 | 2026-11-30 | one more |\n"
+                      "| `c` | 3 | 1 | 0 | 2 | 2026-11-27 |  |\n\n", text)
 
     def test_faults(self):
         for lines, said in ((["crate"], f": the columns are not {', '.join(planted_page.COLUMNS)}"),

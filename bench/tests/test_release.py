@@ -48,7 +48,7 @@ class Files(Case):
             self.assertFalse(os.path.exists(f"{room}/tools/tests") or os.path.exists(f"{room}/tools/test"))
             self.assertTrue(os.access(f"{room}/tools/story", os.X_OK))
             # but for links the documents are those of the repository
-            for path in "docs/report.md", "docs/speed.md", "examples/README.md":
+            for path in "docs/report.md", "docs/gate.md", "examples/README.md":
                 self.assertEqual(read(room, path), read(TOP, path))
 
     def test_words(self):

@@ -1,11 +1,12 @@
-"""Tests of bench/speed: its runs, and its page, speed/speed.md, from given figures."""
+"""Tests of bench/speed: its runs, and its section of docs/PERF.md, speed/speed.md, from given
+figures."""
 import contextlib
 import io
 import os
 import tempfile
 from unittest import mock
 
-from common import COMMANDS, PATH_WITH_COMMANDS, TESTS, Case, commands_in, loaded, read, run, write
+from common import COMMANDS, PATH_WITH_COMMANDS, TESTS, TOP, Case, commands_in, loaded, read, run, write
 import script
 import speed_page
 from speed_page import Trace
@@ -70,6 +71,14 @@ class Runs(Case):
 class Page(Case):
     def test_the_page_of_given_figures(self):
         self.assertEqual(speed_page.text_of(MEASURED, MACHINE), read(TESTS, "speed/speed.md"))
+
+    def test_the_section_takes_the_place_of_the_last_one(self):
+        page = f"before\n{speed_page.BEGIN}old\n{speed_page.END}after\n"
+        self.assertEqual(speed_page.with_section(page, "new\n"), page.replace("old", "new"))
+        with self.assertRaises(ValueError):
+            speed_page.with_section("before\n", "new\n")
+        whole = read(TOP, "docs/PERF.md")
+        self.assertEqual(speed_page.with_section(whole, "")[:100], whole[:100])
 
     def test_when_workers_pay(self):
         def told(seconds):

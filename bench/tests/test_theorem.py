@@ -7,6 +7,7 @@ import tempfile
 
 from common import SMALL, TESTS, Case, lay_over, loaded, read, run, write
 import entries
+import first_page
 import links
 import pages
 import reach
@@ -94,6 +95,19 @@ class Links(Case):
                          [(1, "docs/theorem/text.md", "b"), (1, "README.md", None), (5, "docs/rules.md", "i")])
 
 
+class Reading(Case):
+    def test_files_for_one_condition(self):
+        keys = first_page.READY, ("probes", "Container", "IsInstanceReady"), ("manifest", "pod.rt", "PodSpec")
+        nodes = {key: reach.Node(kind, *key, "", "", "file", 1, list(below)) for key, kind, below in (
+            (keys[0], "definition", keys[1:]), (keys[1], "definition", keys[2:]), (keys[2], "type", ()),
+            (("probes", "Container", "Other"), "definition", ()))}
+        anchors = {f"theorem/{key[0]}.md": {key: "of-it", pages.module_of(key): "module"} for key in keys}
+        self.assertEqual(first_page.reading(nodes, anchors)[2:], [
+            "1. [pod_state, Pods](theorem/pod_state.md#module): `AreContainersReady`",
+            "1. [probes, Container](theorem/probes.md#module): `IsInstanceReady`", ""])
+        self.assertEqual(first_page.reading({}, anchors), [])
+
+
 class Theorem(Case):
     def setUp(self):
         self.top = self.enterContext(tempfile.TemporaryDirectory())
@@ -114,6 +128,12 @@ class Theorem(Case):
             write(read(self.top, "docs", page).partition("\n<!--")[0], self.top, "docs", page)
         self.assertEqual(run("theorem", "--top", self.top), (0, "", ""))
         self.has_the_pages()
+
+    def test_a_line_more_above_a_definition_changes_no_page(self):
+        for path in (GRADE, "crates/kubelet_replay/src/lib.rt"):
+            write(read(self.top, path).replace("\n\n", "\n\n\n", 1), self.top, path)
+        for script in ("theorem", "calls"):
+            self.assertEqual(run(script, "--check", "--top", self.top)[::2], (0, ""))
 
     def test_a_page_that_no_definition_has_is_removed(self):
         write("# The crate gone\n", self.top, "docs/theorem/gone.md")

@@ -138,6 +138,27 @@ class Whole(Case):
         self.assertEqual(self.found(), "crate\tedits\tclause\tproof file only\tstill proved\tseconds\n"
                                        "marks\t3\t2\t1\t0\t0\n")
 
+    def test_edits_since_a_commit(self):
+        for name in ("b_proof", "c_proved", "d_killed", "e_twice", "f_no_file"):
+            os.remove(f"{self.top}/crates/marks/wrong-bodies/{name}.edit")
+        self.assertEqual(self.tried("marks")[0], 0)
+        for words in (("init", "--quiet"), ("add", "-A"), ("-c", "user.name=a", "-c", "user.email=a@a", "commit",
+                                                           "--quiet", "--message", "edits")):
+            subprocess.run(["git", "-C", self.top, *words], check=True, timeout=LONGEST)
+        shutil.copy(f"{HERE}/edits/a_clause.edit", f"{self.top}/crates/marks/wrong-bodies/h_new.edit")
+        status, said, _ = self.tried("--since", "HEAD", "marks")
+        self.assertEqual((status, said.splitlines()[1:]), (0, [
+            f"marks/h_new: 0 s: clause: {CLAUSE}",
+            "refused by a clause: 1; only because a proof file no longer fits: 0"]))
+        self.assertIn("marks\t3\t3\t0\t0\t0\n", self.found())
+        # of a row that has not all of the others nothing is known
+        shutil.copy(f"{HERE}/edits/a_clause.edit", f"{self.top}/crates/marks/wrong-bodies/i_new.edit")
+        write(self.found().replace("marks\t3\t3", "marks\t0\t0"), self.top, "bench/wrong_bodies.tsv")
+        self.assertEqual(self.tried("--since", "HEAD")[0], 0)
+        self.assertIn("marks\t0\t0\t0\t0\t0\n", self.found())
+        self.assertEqual(self.tried("--since", "nothing")[0], 2)
+        self.assertEqual(self.tried("--since"), (2, "", "bench/wrong_bodies: --since takes a commit\n"))
+
     def test_edits_of_the_gate(self):
         self.shelf("must-fail", ["a_clause.edit"])
         status, said, _ = self.tried("--gate")

@@ -71,9 +71,10 @@ class Words(argparse.ArgumentParser):
         self.add_argument(name, **how)
 
     def names(self, with_value: bool) -> tuple[str, ...]:
-        """The options that have a value, or those that have none, but for the help."""
+        """The options that have a value, or those that have none, but for the help and those that it leaves out."""
         return tuple(name for action in self._actions if (action.nargs != 0) == with_value
-                     and not isinstance(action, ShowHelp) for name in action.option_strings)
+                     and not isinstance(action, ShowHelp) and action.help != argparse.SUPPRESS
+                     for name in action.option_strings)
 
     def taken(self, words: list[str]) -> argparse.Namespace:
         """The values of the words, in whatever order they stand. Raises Fault and Help."""
@@ -82,8 +83,14 @@ class Words(argparse.ArgumentParser):
         except argparse.ArgumentError as fault:
             raise Fault(f"{fault.argument_name} {said_of(fault.message)}") from None
         if left:
-            raise Fault(f"{left[0]} is no word of it (--help says more)")
+            raise Fault(self.unknown(left[0]))
         return found
+
+    def unknown(self, given: str, *more: str) -> str:
+        """What is said of an argument that the tool does not take: the nearest option is named."""
+        from replay_tools import nearest
+        options = [*self.names(with_value=True), *self.names(with_value=False), *more]
+        return f"{given} is no word of it{nearest.option_words(given, options)} (--help says more)"
 
 
 def said_of(message: str) -> str:

@@ -15,8 +15,10 @@ say, by which a pod is ended where no trace says what the node did.
 """
 # of what asks the recorders of a cluster; what it runs there, and what it leaves out, stands behind these
 RECORDERS = """\
---recorders NAMESPACE is where the recorders are (kubelet-replay), --context NAME the context of kubectl. It asks for
-the pods with the label app=kubelet-replay-recorder, and runs """
+--recorders NAMESPACE is where the recorders are (kubelet-replay). --context NAME, --kubeconfig FILE, --as USER and
+kubectl's other options are passed on to kubectl. --timeout (15) is for how many seconds a source may be silent. It asks
+for the pods with the label app=kubelet-replay-reader in NAMESPACE-reader, where deploy/reader.yaml runs them, and else
+for those with the label app=kubelet-replay-recorder, and runs """
 RIGHTS = """\
 It needs python3, and kubectl with the right to list and get these pods and to exec into them (pods: list, get;
 pods/exec: create, get). """

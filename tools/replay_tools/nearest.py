@@ -14,3 +14,10 @@ def words(name: str, names: list[str]) -> str:
         return f"the nearest: {', '.join(near)}"
     listed = ", ".join(names[:MOST]) + (" .." if len(names) > MOST else "")
     return f"there are {listed}" if names else "there is none"
+
+
+def option_words(given: str, options: list[str]) -> str:
+    """The option that an unknown one is most like, in words; an empty text if none is, or if it is no option."""
+    name = given.partition("=")[0]
+    near = difflib.get_close_matches(name, options, 1) if name.startswith("-") else []
+    return f"; the nearest is {near[0]}" if near else ""

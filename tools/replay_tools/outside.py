@@ -18,6 +18,8 @@ LONGEST_TEXT = 4096
 # docs/formats.md: of a node or a pod, and of a container or a namespace
 NAME = re.compile(r"[a-z0-9]([-.a-z0-9]{0,251}[a-z0-9])?")
 LABEL = re.compile(r"[a-z0-9]([-a-z0-9]{0,61}[a-z0-9])?")
+# as Python keeps a byte of a file's name that is not UTF-8
+FIRST_BYTE, LAST_BYTE = 0xDC80, 0xDCFF
 SECONDS = re.compile(r"([0-9]{1,13})(?:[.][0-9]{1,20})?")
 
 
@@ -64,10 +66,17 @@ def text_of(value: Any) -> str | None:
 
 def visible(text: str) -> str:
     """A text as one line that a terminal only shows, whatever names are in it: what can't be printed, as an escape byte
-    or the end of a line, is written as Python writes it."""
+    or the end of a line, is written as Python writes it, and a byte of a name that is not UTF-8 as \\xff."""
     if text.isprintable():
         return text
-    return "".join(each if each.isprintable() else each.encode("unicode_escape").decode("ascii") for each in text)
+    return "".join(each if each.isprintable() else escaped(each) for each in text)
+
+
+def escaped(character: str) -> str:
+    """A character that can't be printed, as it is written in place of it."""
+    if FIRST_BYTE <= ord(character) <= LAST_BYTE:
+        return f"\\x{ord(character) - FIRST_BYTE + 0x80:02x}"
+    return character.encode("unicode_escape").decode("ascii")
 
 
 def is_utf8(word: str) -> bool:

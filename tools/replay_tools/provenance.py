@@ -4,9 +4,9 @@ recorder marked pods wrongly, and which manifests are unknown."""
 from __future__ import annotations
 
 from collections.abc import Callable
-from typing import Any, TYPE_CHECKING
+from typing import TYPE_CHECKING
 
-from replay_tools import outside
+from replay_tools import entry
 
 if TYPE_CHECKING:
     from replay_tools import report as reports, traces
@@ -14,6 +14,8 @@ if TYPE_CHECKING:
 UNKNOWN_MANIFEST = "its manifest is unknown"
 UNKNOWN_CLASS = "class unknown"
 UNKNOWN_PHASE = "Succeeded or Failed"
+# what a trace was imported from where no journal was left, by the words of its member importedFrom
+SOURCES = {"events": "the Events of its pods", "audit": "the audit log of the API server"}
 # a container that runs so long after its pod was marked as being deleted is of a pod that was not deleted: longer than
 # the graces of nearly all pods
 STILL_RUNS = 120
@@ -44,20 +46,33 @@ def head_lines(trace: traces.Trace | None, show: Callable[[int], str]) -> list[s
 
 
 def imported_lines(trace: traces.Trace) -> list[str]:
-    """That a trace was imported, from what, and what that did not have."""
+    """That a trace was imported, from what, and what of it nobody knows."""
     if not trace.is_imported():
         return []
     said = trace.settings.get("importedFrom")
-    sources, lacks = (texts_in(said, name) for name in ("sources", "lacks"))
-    if not sources:
-        return ["imported from a kubelet's journal: what the journal lacks is missing here, or guessed and marked so"]
-    return [f"imported from {', '.join(sources)}", *([f"the import lacks {', '.join(lacks)}"] if lacks else [])]
+    sources = [text for text in SOURCES if text in said] if isinstance(said, list) else []
+    of_what = " and ".join(SOURCES[source] for source in sources)
+    lacks = lacking(trace)
+    return [f"imported from {of_what}: no journal was left" if sources else "imported from a kubelet's journal",
+            *([f"the import lacks {', '.join(lacks)}"] if lacks else [])]
 
 
-def texts_in(said: Any, name: str) -> list[str]:
-    found = said.get(name) if isinstance(said, dict) else None
-    texts = map(outside.text_of, found) if isinstance(found, list) else ()
-    return [text for text in texts if text is not None]
+def lacking(trace: traces.Trace) -> list[str]:
+    """What a recording would have, and this trace has not."""
+    has_probes = any(container.probes for pod in trace.pods for container in pod.containers)
+    codes = sum(end.is_guessed for end in trace.reasons.ends.values())
+    unknown = sum(pod.is_guessed for pod in trace.pods)
+    lacks = []
+    for is_lacking, what in (
+        (not any(tick.signals for tick in trace.ticks), "the node's signals"),
+        (not any(tick.may_have(b'"usage"') for tick in trace.ticks), "what pods use"),
+        (has_probes and not any(tick.may_have(b'"probes"') for tick in trace.ticks), "results of probes"),
+        (codes, f"the exit codes of {entry.counted(codes, 'instance')}"),
+        (unknown, f"the manifests of {entry.counted(unknown, 'pod')}"),
+    ):
+        if is_lacking:
+            lacks.append(what)
+    return lacks
 
 
 def wrongly_deleted(trace: traces.Trace) -> set[int]:

@@ -223,13 +223,14 @@ def test_story_of_a_cluster():
             (["story", "web", "--node", "n12"], 2, "no recorder on n12; the nearest: n2, n1"),
             (["story", "web", "--node", "n3"], 1, "n3: its recorder recorder-c is Pending"),
             (["story", "web", "--node", "n1", "--since", "1h"], 1, "n1: its recorder holds no trace of that time"),
-            (["story", "web", "--since", "1h"], 1, "the pods of default can't be listed: kubectl: not"),
+            (["story", "web", "--since", "1h"], 1, "pod/web in default: no pod of it is known, in the cluster or in"),
             (["page", "--since", "1h"], 2, "-f FILE or FOLDER for traces that are here, or --node NODE"),
             (["story", "web", "--node"], 2, "--node wants a value"),
             (["story", "web", "--node", "n1", "-f", folder.path, "--recorders", "x"], 2, "--recorders is for"),
         ):
-            answer, on_the_node = cluster.run("kubectl-replay", *words), "may still lie on" if "n12" in words else None
-            expect_refused(f"kubectl replay {' '.join(words)}", answer, status, said, on_the_node)
+            means = "may still lie on" if "n12" in words else "the pods of default: can't" if (
+                words[:3] == ["story", "web", "--since"]) else None
+            expect_refused(f"kubectl replay {' '.join(words)}", cluster.run("kubectl-replay", *words), status, said, means)
         answer = cluster.run("kubectl-replay", "story", "shop/wab", "--node", "n1")
         expect("kubectl replay of a pod that is not on the node", (answer[0], answer[1], answer[2].split("\n")[1:]),
                (2, "", ["story: the report has no pod shop/wab; the nearest: shop/web", ""]))

@@ -105,8 +105,9 @@ def test_one_tree():
             own = {*parser.names(with_value=True), *parser.names(with_value=False)}
             words = [name, *([subcommand] if subcommand else []), "--"]
             completed = set(run([COMMAND, "__complete", *words])[1].split()[:-1])
-            beside = {"--filename", "--namespace", "--recorders", "--selector"}
-            expect(f"{' '.join(words)} completes its options", completed - beside, own - beside)
+            beside = {"--filename", "--namespace", "--recorders", "--selector", "--timeout", "--output"} - own | (
+                {"--all"} if name == "story" else set())
+            expect(f"{' '.join(words)} completes its options", completed - beside, own)
             if not command.is_of_program:
                 expect(f"the help of {name} has its options", [each for each in own if each not in parser.text], [])
                 expect(f"the help of {' '.join(words[:-1])} has its defaults", defaults_left_out(parser), [])
@@ -141,6 +142,27 @@ def test_what_cannot_be_read():
     shutil.rmtree(folder)
 
 
+def test_unknown_options():
+    """An option that a command does not take is a bad word of status 2, with the nearest that it takes."""
+    for words, near in ((["run", "--workrs", "2"], "--workers"), (["check", "--extend"], "--extended"),
+                        (["story", "--sinse", "2h"], "--since"), (["why", "--nodee=n1"], "--node"),
+                        (["page", "--trases", "x"], "--traces"), (["nodes", "--recorder", "x"], "--recorders"),
+                        (["fetch", "n1", "--intoo", "x"], "--into"), (["json", "--sqlit", "x"], "--sqlite")):
+        answer = run([COMMAND, *words, *([TRACE] if words[0] in ("run", "check") else [])])
+        name = next(word for word in words if word.startswith("-")).partition("=")[0]
+        expect(f"kubelet-replay {' '.join(words)}", (answer[0], answer[1], name in answer[2], answer[2].count("\n"),
+                                                     f"the nearest is {near} " in answer[2]), (2, "", True, 1, True))
+
+
+def test_names_that_are_not_utf8():
+    """A byte of a name is written the same way by each command, whichever of them says that it can't be read."""
+    name = b"/nonexistent/\xff.trace"
+    for words in (["run"], ["check"], ["story", "-f"], ["what-if", ".", "-f"]):
+        status, _, said = run([COMMAND, *words, name])
+        expect(f"{' '.join(words)} of a name that is not UTF-8", (status != 0, "/nonexistent/\\xff.trace" in said, said),
+               (True, True, said))
+
+
 def test_words_of_the_program_are_only_shown():
     """What the program says of a word is shown, and not followed by a terminal."""
     for words in (["run", "--a\x1b[31mb"], ["check", "--a\x1b[31mb"],
@@ -148,7 +170,7 @@ def test_words_of_the_program_are_only_shown():
         status, out, said = run([COMMAND, *words])
         expect(f"kubelet-replay {words}", (status, out, "[31m" in said or "\\x9b" in said,
                                            [each for each in said if not each.isprintable() and each != "\n"]),
-               (3, "", True, []))
+               (2, "", True, []))
 
 
 def test_packed_reports():
@@ -213,7 +235,7 @@ def test_run_of_what_cannot_be_read():
     """The file and the reason are named; the program's own words have neither."""
     for words in (["run"], ["check"], ["run", "-f"]):
         answer = run([COMMAND, *words, "/nonexistent/x.trace"])
-        expect_refused(f"{' '.join(words)} of no file", answer, 1, "/nonexistent/x.trace: No such file or directory")
+        expect_refused(f"{' '.join(words)} of no file", answer, 2, "/nonexistent/x.trace: No such file or directory")
 
 
 def test_what_if_on_a_terminal():
@@ -252,9 +274,9 @@ def test_command_completion():
         ([""], [*sorted(NAMES), ":4"]),
         (["story", "-f", TRACE, "d"], ["default/a", "default/b", "default/c", ":4"]),
         (["story", "-f", TRACE, "-n", "default", ""], ["a", "b", "c", ":4"]),
-        (["story", "--"], ["--at", "--filename", "--follow", "--local", "--namespace", "--node", "--recorders",
-                           "--seconds", "--selector", "--since", "--trace", "--traces", "--utc", "--without-why",
-                           ":4"]),
+        (["story", "--"], ["--all", "--at", "--filename", "--follow", "--local", "--namespace", "--node", "--output",
+                           "--recorders", "--seconds", "--selector", "--since", "--timeout", "--trace", "--traces",
+                           "--utc", "--without-why", ":4"]),
         (["run", ""], [":0"]),
         (["record", "--e"], ["--each", "--events", "--every", "--eviction-pause", "--extended", ":4"]),
         (["record", "--curl", ""], [":0"]),

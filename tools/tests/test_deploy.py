@@ -18,6 +18,7 @@ from checks import HERE, LONGEST, TOOLS, TOP, expect, expect_refused, read, run
 from test_connections import Kubelet, Place, has_openssl
 from test_record import Recorder
 
+from replay_tools.cluster import recorders
 from replay_tools.record.observer import RUNTIME, Observer
 from replay_tools.record.sources import Failed, Sources
 from replay_tools.record.words import words_of
@@ -86,6 +87,65 @@ def test_rights():
     expect("the role before 1.33 takes the place of the other", before["ClusterRole"]["metadata"],
            parts["ClusterRole"]["metadata"])
     expect("the role before 1.33 brings nothing else", list(before), ["ClusterRole"])
+
+
+def test_reader():
+    """Who reads has no right at the recorders' pods: the readers' are of a namespace of their own, run as nobody, have
+    no token and no capability, and see the recorder's folder read-only."""
+    parts, recorder = manifest("reader.yaml"), manifest("daemonset.yaml")
+    if parts is None:
+        return
+    spec = parts["DaemonSet"]["spec"]["template"]["spec"]
+    [container] = spec["containers"]
+    expect("the reader's kinds", list(parts), ["Namespace", "Role", "DaemonSet"])
+    expect("the reader's rights", parts["Role"]["rules"], [
+        {"apiGroups": [""], "resources": ["pods"], "verbs": ["get", "list"]},
+        {"apiGroups": [""], "resources": ["pods/exec"], "verbs": ["create", "get"]}])
+    names = {part["metadata"].get("namespace", part["metadata"]["name"]) for part in parts.values()}
+    expect("the reader's namespace is none that has a recorder", names, {f"{recorders.NAMESPACE}-{recorders.READER}"})
+    expect("the reader's label and container", (
+        [f"{name}={value}" for name, value in parts["DaemonSet"]["spec"]["template"]["metadata"]["labels"].items()],
+        container["name"]), ([recorders.READER_LABEL], recorders.READER))
+    expect("the reader is nobody", (spec["securityContext"]["runAsUser"], spec["securityContext"]["runAsNonRoot"],
+                                    spec["automountServiceAccountToken"], spec.get("hostPID"), spec.get("hostNetwork")),
+           (65534, True, False, None, None))
+    expect("the reader has no privilege", container["securityContext"], {
+        "allowPrivilegeEscalation": False, "readOnlyRootFilesystem": True, "capabilities": {"drop": ["ALL"]}})
+    of_recorder = recorder["DaemonSet"]["spec"]["template"]["spec"]
+    folder = {volume["name"]: volume for volume in of_recorder["volumes"]}["traces"]["hostPath"]["path"]
+    expect("the reader sees the traces alone", ([volume["hostPath"]["path"] for volume in spec["volumes"]],
+                                                container["volumeMounts"]),
+           ([folder], [{"name": "traces", "mountPath": recorders.FOLDER, "readOnly": True}]))
+    expect("the reader's image is the recorder's", container["image"], of_recorder["containers"][0]["image"])
+
+
+def test_nobody_reads_the_traces():
+    """What the recorder writes under the entry's umask is read by nobody with the reader's group, by the commands that
+    are run in its pod, and by no other user."""
+    if os.geteuid() != 0 or shutil.which("setpriv") is None:
+        print("left out: what nobody may read, since this is not root, or setpriv is missing")
+        return
+    folder = tempfile.mkdtemp()
+    os.chmod(folder, 0o755)
+    name = "n1.2026-01-01T00-00-00Z.trace.gz"
+    line = '{"kind":"pod","pod":{"metadata":{"name":"web","namespace":"shop"},"spec":{}}}\n'
+    writes = ("#!/bin/sh\npython3 -c 'import sys\nfrom replay_tools import safe_folder as s\nimport gzip, os\n"
+              f"os.fdopen(s.made(os.open(sys.argv[1], os.O_RDONLY), \"{name}\"), \"wb\").write(gzip.compress("
+              f"sys.argv[2].encode()))' \"$TRACES\" '{line}'\n")
+    with open(f"{folder}/kubelet-replay", "w", encoding="utf-8") as file:
+        file.write(writes)
+    os.chmod(f"{folder}/kubelet-replay", 0o755)
+    done = run([f"{DEPLOY}/entry"], KUBELET="none", PYTHONPATH=TOOLS, **entry_in(folder))
+    expect("the entry records", (done[0], oct(os.stat(f"{folder}/{name}").st_mode & 0o777)), (0, "0o640"))
+    as_nobody = ["setpriv", "--reuid=65534", "--regid=65534"]
+    find = ["find", folder, "-name", "*.trace.*", "-exec", "zgrep", "-a", "-o", "-E", "-e",
+            recorders.METADATA.format(name="web"), "{}", ";"]
+    found = run([*as_nobody, "--groups=0", *find])
+    expect("the reader finds a name", (found[0], recorders.key_of(found[1].strip().encode())), (0, "shop/web"))
+    expect("the reader reads a trace", run([*as_nobody, "--groups=0", "cat", f"{folder}/{name}"])[0], 0)
+    expect("no other user does", run([*as_nobody, "--clear-groups", "cat", f"{folder}/{name}"])[0] != 0, True)
+    expect("the reader writes none", run([*as_nobody, "--groups=0", "touch", f"{folder}/x"])[0] != 0, True)
+    shutil.rmtree(folder)
 
 
 def test_daemonset():

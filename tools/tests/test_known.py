@@ -182,12 +182,18 @@ def test_an_owners_template():
 
 def test_imported():
     """Stories and pages of an import say so in their heads, with what it lacks."""
-    source = {"sources": ["the kubelet's journal at -v=2"], "lacks": ["successes of probes"]}
-    lines = [pod("web"), tick(0, entry("web", runs()))]
-    for node, wanted in (({**NODE, "imported": True, "importedFrom": source},
-                          ["imported from the kubelet's journal at -v=2", "the import lacks successes of probes"]),
-                         ({**NODE, "imported": True}, ["imported from a kubelet's journal: what the journal lacks is "
-                                                       "missing here, or guessed and marked so"]), (NODE, [])):
+    probe = {"readinessProbe": {"periodSeconds": 1}}
+    lines = [pod("web", probe), pod("calm", guessed=["manifest"]),
+             tick(0, entry("web", exited(1, guessed=["exitCode"])), entry("calm", runs()))]
+    of_events = {**NODE, "imported": True, "importedFrom": ["events"]}
+    lacks = ("the import lacks the node's signals, what pods use, results of probes, the exit codes of 1 instance, "
+             "the manifests of 1 pod")
+    for node, wanted in (
+        (of_events, ["imported from the Events of its pods: no journal was left", lacks]),
+        ({**of_events, "importedFrom": ["events", "audit"]}, [
+            "imported from the Events of its pods and the audit log of the API server: no journal was left", lacks]),
+        ({**NODE, "imported": True}, ["imported from a kubelet's journal", lacks]), (NODE, []),
+    ):
         told = Told(node, *lines)
         heads = [told.by("story", "shop/web").splitlines()[1:], told.by("story").splitlines(),
                  told.by("why", "shop/web").splitlines()[1:]]

@@ -79,17 +79,15 @@ def test_kubectl_runs_the_program():
         expect("kubectl replay says what a refusal means", len(means), 1 if status else 0)
         return status, out, "".join(said.splitlines(True)[:1])
 
-    for name, own in (("trace", []), ("extended", ["--extended"]), ("refused", []), ("none", [])):
+    for name, own in (("trace", []), ("extended", ["--extended"]), ("refused", [])):
         path = f"{folder}/{name}"
         for command in ("run", "check"):
-            status, *wanted = run([REPLAY, command, path, *own])
-            # the command has another status for what can't be read
-            wanted = (2 if name == "none" else status, *wanted)
+            wanted = run([REPLAY, command, path, *own])
             expect(f"kubectl replay {command} {name}", first_line(run([f"{TOOLS}/kubectl-replay", command, path])),
                    wanted)
-            piped = ["sh", "-c", f"cat '{path}' 2>/dev/null | '{TOOLS}/kubectl-replay' {command} /dev/stdin"]
+            piped = ["sh", "-c", f"cat '{path}' | '{TOOLS}/kubectl-replay' {command} /dev/stdin"]
             expect(f"kubectl replay {command} {name}, of a pipe", first_line(run(piped)),
-                   run([REPLAY, command, "/dev/stdin", *own], read(path) if name != "none" else ""))
+                   run([REPLAY, command, "/dev/stdin", *own], read(path)))
     shutil.rmtree(folder)
 
 

@@ -73,9 +73,21 @@ def traces():
                 "recorder-c/node-a.2026-11-27T05-04-11Z.trace.gz": file.read()}
 
 
-def pod(name, node, owner=None):
+def pod(name, node, owner=None, **status):
     owners = {"ownerReferences": [{"kind": "ReplicaSet", "name": owner, "uid": f"uid-{owner}"}]} if owner else {}
-    return {"metadata": {"name": name, "namespace": "shop", **owners}, "spec": {"nodeName": node}}
+    return {"metadata": {"name": name, "namespace": "shop", **owners},
+            "spec": {"nodeName": node, "containers": [{"name": "app"}]}, "status": {"phase": "Running", **status}}
+
+
+# of pods that no recorder has: a crash loop, and one that no node takes
+CRASHES = {"containerStatuses": [{"name": "app", "ready": False, "restartCount": 7,
+                                  "state": {"waiting": {"reason": "CrashLoopBackOff", "message": "back-off 5m0s"}},
+                                  "lastState": {"terminated": {"exitCode": 137, "reason": "OOMKilled",
+                                                               "finishedAt": "2026-01-01T03:09:00Z"}}}],
+           "conditions": [{"type": "Ready", "status": "False", "reason": "ContainersNotReady"},
+                          {"type": "Initialized", "status": "True"}]}
+PENDING = {"phase": "Pending", "conditions": [{"type": "PodScheduled", "status": "False", "reason": "Unschedulable",
+                                               "message": "0/4 nodes are\navailable"}]}
 
 
 def event(name, reason, message, at, host=None, **more):
@@ -91,8 +103,8 @@ def objects():
                           "ownerReferences": [{"kind": "Deployment", "uid": owner}]}}
             for name, owner in ((NEW, "uid-web"), (OLD, "uid-web"), ("webhook-11111", "uid-webhook"))]
     pods = [pod(f"{NEW}-aaaaa", "worker-1", NEW), pod(f"{NEW}-ccccc", "worker-2", NEW),
-            pod(f"{NEW}-ddddd", "worker-4", NEW), pod("webhook-11111-eeeee", "worker-9", "webhook-11111"),
-            pod("other", "worker-2"), pod("oom", "node-a"), pod(f"{NEW}-fffff", None, NEW)]
+            pod(f"{NEW}-ddddd", "worker-4", NEW, **CRASHES), pod("webhook-11111-eeeee", "worker-9", "webhook-11111"),
+            pod("other", "worker-2"), pod("oom", "node-a"), pod(f"{NEW}-fffff", None, NEW, **PENDING)]
     events = [event(f"{OLD}-bbbbb", "Scheduled", f"Successfully assigned shop/{OLD}-bbbbb to worker-2", -60),
               event(f"{NEW}-ccccc", "Unhealthy", "Readiness probe failed: HTTP probe failed with statuscode: 503", 720,
                     "worker-2", count=3),
@@ -116,6 +128,7 @@ class Cluster:
         for name, found in objects().items():
             self.put(f"api/shop/{name}.json", json.dumps(found))
         self.put("api/shop/deployment.names", "deployment.apps/web\ndeployment.apps/webhook\ndeployment.apps/$(x)\n")
+        self.put("api/namespaces.names", "namespace/shop\nnamespace/$(x)\n")
         self.put("pods.json", json.dumps({"items": [
             {"metadata": {"name": name}, "spec": {"nodeName": node},
              "status": {"phase": "Running", "containerStatuses": [{"ready": True}]}} for node, name in NODES]}))
@@ -145,14 +158,7 @@ class Cluster:
 
 
 STORY = """\
-deployment/web in shop, 2026-01-01 03:00:00Z to 2026-01-01 03:15:00Z: 3 pods on 2 nodes
-
-Pods, the worst first
-  pod               node      phase    restarts  in all  unready s  moment                worst event
-  web-7d4b9c-aaaaa  worker-1  Running         1       1         11  2026-01-01 03:10:00Z  app died with code 137: \
-OOMKilled, its memory limit is 64Mi, it used 64Mi 4 s before
-  web-7d4b9c-ccccc  worker-2  Running         0       0          0             03:12:00Z  app unready
-  web-5f6d8-bbbbb   worker-2  Running         0       0          0             03:05:00Z  deleted
+deployment/web in shop, 2026-01-01 03:00:00Z to 2026-01-01 03:15:00Z: 5 pods, 3 recorded, on 3 nodes
 
 What happened
   moment                node      pod               container  event
@@ -161,12 +167,26 @@ What happened
 it used 64Mi 4 s before (attempt 0)
              03:10:00Z  worker-1  web-7d4b9c-aaaaa  app        it wrote last: Out of memory
              03:10:00Z  worker-1  web-7d4b9c-aaaaa  app        unready
-             03:10:00Z  worker-1  web-7d4b9c-aaaaa  app        restart (attempt 0)
-             03:10:11Z  worker-1  web-7d4b9c-aaaaa  app        started (attempt 1)
-             03:10:11Z  worker-1  web-7d4b9c-aaaaa  app        ready
              03:12:00Z  worker-2  web-7d4b9c-ccccc  app        unready
              03:12:00Z  worker-2  web-7d4b9c-ccccc  app        the API's event Unhealthy: Readiness probe failed: HTTP \
 probe failed with statuscode: 503 (3 times, last then)
+  3 more events, which --all prints too
+
+Pods that no trace has, as the API server has them now
+  pod               node      phase    ready  restarts  why
+  web-7d4b9c-ddddd  worker-4  Running  0/1           7  app waits: CrashLoopBackOff: back-off 5m0s; app exited last \
+with code 137 at 2026-01-01T03:09:00Z: OOMKilled; Ready is False: ContainersNotReady
+  web-7d4b9c-fffff  -         Pending  0/1           0  PodScheduled is False: Unschedulable: 0/4 nodes are available
+
+Pods, the worst first
+  pod               node      phase    restarts  in all  unready s  moment                worst event
+  web-7d4b9c-aaaaa  worker-1  Running         1       1         11  2026-01-01 03:10:00Z  app died with code 137: \
+OOMKilled, its memory limit is 64Mi, it used 64Mi 4 s before
+  web-7d4b9c-ccccc  worker-2  Running         0       0          0             03:12:00Z  app unready
+  web-5f6d8-bbbbb   worker-2  Running         0       0          0             03:05:00Z  deleted
+
+Missing
+  worker-4: no recorder
 """
 
 
@@ -175,7 +195,7 @@ def test_story_of_a_deployment():
     with Cluster() as cluster:
         status, told, said = cluster.run("story", "deploy/web", *SINCE)
         expect("story deploy/web", (status, told, said),
-               (0, STORY, "kubectl-replay: no recorder on worker-4: nothing is told of it\n"))
+               (0, STORY, ""))
         expect("story deploy/web: who is asked", cluster.asked(), ["worker-1", "worker-2"])
         expect("story deploy/web leaves no folder", os.listdir(f"{cluster.path}/kept"), [])
         for words in (("story", "deployment.apps/web", "-n", "shop", *SINCE),
@@ -194,8 +214,10 @@ def test_story_of_a_label_and_a_pod():
         cluster.asked()
         status, told, said = cluster.run("story", "pod/oom", *SINCE)
         expect("story pod/oom: of a real kubelet", (status, said, told.count("OOMKilled, its memory limit is 32Mi")),
-               (0, "", 5))
+               (0, "", 2))
+        expect("story pod/oom: what comes again is counted", "(4 times, last at 05:05:29Z)" in told, True)
         expect("story pod/oom: who is asked", cluster.asked(), ["node-a"])
+        expect("story pod/oom --all", cluster.run("story", "pod/oom", "--all", *SINCE)[1].count("OOMKilled, its"), 5)
         expect("story oom --since", cluster.run("story", "oom", *SINCE)[1], told)
         expect("story shop/oom --since", cluster.run("story", "shop/oom", *SINCE)[1], told)
 
@@ -203,21 +225,22 @@ def test_story_of_a_label_and_a_pod():
 def test_worst_of_a_namespace():
     with Cluster() as cluster:
         status, told, said = cluster.run("story", "-n", "shop", *SINCE)
-        rows = [row.split()[:2] for row in told.split("\n")[4:-1]]
+        rows = [row.split()[:2] for row in told.partition("Pods, the worst first\n")[2].split("\n")[1:]]
         expect("story -n shop: the worst", (status, rows[:3], "What happened" in told, said), (0, [
-            ["live", "node-a"], ["crash", "node-a"], ["oom", "node-a"]], False,
-            "kubectl-replay: no recorder on worker-4, worker-9: nothing is told of them\n"))
+            ["live", "node-a"], ["crash", "node-a"], ["oom", "node-a"]], False, ""))
+        expect("story -n shop: what is missing", told.split("\n")[-2], "  worker-4, worker-9: no recorder")
 
 
 def test_around_a_moment():
     with Cluster() as cluster:
         status, told, _ = cluster.run("story", "deploy/web", "--at", "2026-01-01T03:12Z")
-        rows = [row.split()[-1] for row in told.partition("What happened")[2].split("\n")[2:-1]]
-        expect("story deploy/web --at", (status, "being deleted" in told, len(rows)), (0, True, 9))
+        rows = told.partition("What happened")[2].partition("\n\n")[0].split("\n")[2:]
+        expect("story deploy/web --at", (status, "being deleted" in told, len(rows)), (0, True, 7))
         status, told, said = cluster.run("story", "deploy/web", "--at", "2026-01-01T05:12Z")
-        expect("story deploy/web --at another moment", (status, told, said.split("\n")[-2]), (
-            1, "", "kubectl-replay: deployment/web in shop: nothing of it was recorded then on worker-1, worker-2, "
-            "worker-4"))
+        expect("story deploy/web --at another moment", (status, told.split("\n")[0], said), (
+            0, "deployment/web in shop: 4 pods, none recorded, on 3 nodes", ""))
+        expect("story deploy/web --at another moment: what is missing", "worker-1: nothing was recorded at 2026-01-01 05:12:00Z" in told,
+               True)
 
 
 def test_refused():
@@ -227,18 +250,24 @@ def test_refused():
             (("story", "deploy/"), 2, "deploy/ names none: deploy/NAME"),
             (("story", "deploy/web", "sts/db"), 2, "it takes one workload, pod or label"),
             (("story", "deploy/web", "-l", "a=b"), 2, "it takes one workload, pod or label"),
-            (("story", "-A", *SINCE), 2, "-A is for traces that are here: a workload is of one namespace"),
-            (("story", "deploy/web", "-n", "far"), 1, "the pods of far can't be listed: Error from server"),
-            (("story", "pod/none", *SINCE), 1, "pod/none in shop: no pod of it is known, and no event of one says a"),
+            (("story", "pod/none", *SINCE), 1, "pod/none in shop: no pod of it is known, in the cluster or in a trace"),
             (("story", "deploy/web", "--since", "soon"), 2, "--since takes a time"),
+            (("story", "deploy/--raw=/api"), 2, "'--raw=/api' is no name of a deployment"),
+            (("story", "web", "-n", "--raw=x"), 2, "-n/--namespace wants a value"),
+            (("story", "deploy/web", "-n", "a/b"), 2, "'a/b' is no name of a namespace"),
+            (("story", "deploy/web", "--timeout", "0"), 2, "--timeout takes seconds from 1 to 3600, not '0'"),
+            (("story", "deploy/web", "-o", "yaml"), 2, "-o takes json, not 'yaml'"),
         ):
             expect_refused(" ".join(words), cluster.run(*words), status, said)
+        answer = cluster.run("story", "deploy/web", "-n", "far")
+        expect("what can't be listed", (answer[0], answer[1], answer[2].count("\n"), "(NotFound)" in answer[2]),
+               (1, "", 2, True))
         answer = cluster.run("story", *SINCE, tool="kubelet-replay")
         expect_refused("kubelet-replay story of no namespace", answer, 2,
                        "for those of a node of a cluster, or -n NAMESPACE for those of a namespace")
         cluster.put("api/shop/pods.json", "[]")
-        expect_refused("pods that are none", cluster.run("story", "deploy/web"), 1,
-                       "the pods of shop can't be listed: kubectl's answer is no list")
+        expect("pods that are none", "the pods of shop: can't be listed: kubectl's answer is no list\n" in
+               cluster.run("story", "deploy/web", *SINCE)[1], True)
 
 
 def test_completion():
@@ -247,6 +276,10 @@ def test_completion():
         for words, wanted in ((("story", ""), "cj/ deploy/ ds/ job/ po/ rs/ sts/ :4"),
                               (("story", "d"), "deploy/ ds/ :4"), (("story", "deploy/"), "deploy/web deploy/webhook :4"),
                               (("story", "sts/"), ":4"), (("story", "nothing/"), ":4"),
-                              (("why", "deploy/"), ":4"), (("story", "-l", ""), ":4")):
+                              (("why", "deploy/"), "deploy/web deploy/webhook :4"), (("story", "-l", ""), ":4"),
+                              (("story", "--node", ""), "node-a worker-1 worker-2 :4"),
+                              (("fetch", "w"), "worker-1 worker-2 :4"), (("story", "-n", "s"), "shop :4"),
+                              (("nodes", "--recorders", ""), "kubelet-replay :4"),
+                              (("story", "--context", ""), "far near :4")):
             status, told, said = cluster.run(*words, tool="kubectl_complete-replay")
             expect(f"completion of {' '.join(words)}", (status, " ".join(told.split()), said), (0, wanted, ""))

@@ -6,16 +6,19 @@ import contextlib
 import os
 import re
 import secrets
+import stat
 import time
-from concurrent.futures import ThreadPoolExecutor
+from collections.abc import Iterator
+from concurrent.futures import ThreadPoolExecutor, as_completed
 from dataclasses import dataclass, field
 from typing import BinaryIO
 
 from replay_tools import amounts, entry, outside, packed, report as reports, safe_folder, traces
 from replay_tools.cluster import recorders as asking
+from replay_tools.cluster.waiting import Waiting
 from replay_tools.joined import files
 
-AT_ONCE = 8
+AT_ONCE = 16
 TRIES = 2
 # of a part, what stands ahead at its end is taken away at the next look
 MOST_OF_TRACE = traces.LONGEST_TRACE + (1 << 20)
@@ -66,6 +69,22 @@ def fetched(cluster: asking.Cluster, recorders: list[asking.Recorder], into: str
         os.close(folder)
 
 
+def coming(cluster: asking.Cluster, recorders: list[asking.Recorder], into: str, wanted: Wanted,
+           waiting: Waiting) -> Iterator[Fetched]:
+    """Copies what recorders hold of a time into a folder, and gives what came of each node once it is there."""
+    def of_one(recorder: asking.Recorder) -> Fetched:
+        with waiting.for_answer(recorder.node):
+            return of_node(cluster, recorder, folder, wanted)
+
+    folder = open_folder(into)
+    try:
+        with ThreadPoolExecutor(AT_ONCE) as threads:
+            for done in as_completed([threads.submit(of_one, recorder) for recorder in recorders]):
+                yield done.result()
+    finally:
+        os.close(folder)
+
+
 def open_folder(path: str) -> int:
     """The descriptor of the folder that is written into, which is made where it is not there. Raises Fault where it
     can't be, or may be written by others."""
@@ -92,12 +111,13 @@ def without_copy(name: str) -> str:
 
 
 def drop_left(folder: int) -> None:
-    """Takes away what a fetch that was killed has left long ago."""
+    """Takes away what a fetch that was killed has left long ago, and links of such names."""
     for name in os.listdir(folder):
-        is_copy = name.endswith(COPY) and files.parts_of(without_copy(name))[1] is not None
-        if is_copy and safe_folder.is_own(folder, name):
+        if name.endswith(COPY) and files.parts_of(without_copy(name))[1] is not None:
             with contextlib.suppress(OSError):
-                if now() - os.stat(name, dir_fd=folder, follow_symlinks=False).st_mtime > LEFT_SECONDS:
+                found = os.stat(name, dir_fd=folder, follow_symlinks=False)
+                is_left = safe_folder.is_own(folder, name) and now() - found.st_mtime > LEFT_SECONDS
+                if is_left or stat.S_ISLNK(found.st_mode):
                     safe_folder.drop(folder, name)
 
 

@@ -2,6 +2,7 @@
 
 from __future__ import annotations
 
+import math
 import os
 import selectors
 import subprocess
@@ -21,15 +22,21 @@ class NoAnswer(Exception):
     """Something was asked and not answered; the message says why."""
 
 
-def answer(words: list[str], most: int, seconds: float, take: Callable[[bytes], object], is_long: bool = False) -> None:
+class Silent(NoAnswer):
+    """Nothing came in time."""
+
+
+def answer(words: list[str], most: int, seconds: float, take: Callable[[bytes], object], is_long: bool = False,
+           silent: float | None = None) -> None:
     """Hands on what kubectl answers, which has to be whole within so many seconds, or, of a long answer, each piece of
-    it; and has so many bytes at most. Raises NoAnswer."""
+    it; and has so many bytes at most. `silent` is for how many seconds no piece may come. Raises NoAnswer."""
     process = started(words)
     try:
-        said = handed_on(process, most, time.monotonic() + seconds, take, seconds if is_long else 0.0)
+        said = handed_on(process, most, math.inf if is_long else seconds, seconds if silent is None else silent, take)
         status = process.wait(seconds)
-    except (TimeoutError, subprocess.TimeoutExpired):
-        raise NoAnswer(f"kubectl has not answered within {seconds} s") from None
+    except (TimeoutError, subprocess.TimeoutExpired) as fault:
+        waited = fault.args[0] if isinstance(fault, TimeoutError) else seconds
+        raise Silent(f"kubectl has not answered within {waited:g} s") from None
     finally:
         process.kill()
         process.wait()
@@ -51,19 +58,22 @@ def started(words: list[str]) -> subprocess.Popen:
         raise entry.Fault(f"kubectl can't be started: {fault.strerror}", 127) from None
 
 
-def handed_on(process: subprocess.Popen, most: int, until: float, take: Callable[[bytes], object],
-              more: float = 0.0) -> bytes:
-    """Hands on what a process writes, until a moment of the clock, which each piece puts off by some seconds; gives
-    what it said last on standard error."""
+def handed_on(process: subprocess.Popen, most: int, seconds: float, silent: float,
+              take: Callable[[bytes], object]) -> bytes:
+    """Hands on what a process writes for so many seconds; gives what it said last on standard error. Raises TimeoutError
+    with the seconds that it took too long."""
     size, said = 0, b""
+    begin = heard = time.monotonic()
     with selectors.DefaultSelector() as selector:
         for stream in filter(None, (process.stdout, process.stderr)):
             selector.register(stream, selectors.EVENT_READ)
         while selector.get_map():
-            left = until - time.monotonic()
+            now = time.monotonic()
+            left = min(begin + seconds, heard + silent) - now
             if left <= 0:
-                raise TimeoutError
+                raise TimeoutError(seconds if now >= begin + seconds else silent)
             for key, _ in selector.select(left):
+                heard = time.monotonic()
                 piece = os.read(key.fd, PIECE)
                 if not piece:
                     selector.unregister(key.fileobj)
@@ -74,5 +84,4 @@ def handed_on(process: subprocess.Popen, most: int, until: float, take: Callable
                     if size > most:
                         raise NoAnswer(f"more than {amounts.amount_text(1000 * most, True)} came, and no more is taken")
                     take(piece)
-                    until = max(until, time.monotonic() + more)
     return said

@@ -10,18 +10,25 @@ from dataclasses import dataclass, field
 from typing import Any
 
 from replay_tools import entry, fields, outside
-from replay_tools.cluster import kubectl
+from replay_tools.cluster import kubectl, options
 from replay_tools.cluster.kubectl import NoAnswer
 from replay_tools.joined import files
 
+# as deploy/reader.yaml has them: its namespace is named after the recorders', and its pods read their folder as nobody
+READER, READER_LABEL = "reader", "app=kubelet-replay-reader"
 # as deploy/daemonset.yaml has them
 NAMESPACE, LABEL, CONTAINER = "kubelet-replay", "app=kubelet-replay-recorder", "recorder"
 FOLDER = "/var/lib/kubelet-replay"
-SECONDS, SECONDS_OF_COPY = 60, 600
+# each source has so many seconds for its answer, a copy more of them: one for so many bytes
+SECONDS, BYTES_A_SECOND, MOST_SECONDS = 15, 256 << 10, 3600
 # a pod of the list takes some thousand bytes, a file of a listing a hundred
 MOST_OF_PODS, MOST_OF_LISTING = 512 << 20, 8 << 20
 # two days of traces, each of ten seconds
 MOST_HELD = 20_000
+
+
+# of a pod's line, as a recorder writes it; find would put a file's name in place of {} in it
+METADATA = r'"metadata":\{{[^}}{{]*"name":"{name}"[^}}{{]*\}}'
 
 
 @dataclass
@@ -64,46 +71,58 @@ class Recorder:
     pod: str
     phase: str
     is_ready: bool
+    namespace: str | None = None
+    """where its pod is, unless that is the cluster's"""
+    container: str = CONTAINER
 
 
 @dataclass
 class Cluster:
-    """What kubectl reaches, in a context and the namespace of the recorders."""
+    """What kubectl reaches with its own options, and the namespace of the recorders."""
 
-    context: str | None = None
+    options: list[str] = field(default_factory=list)
     namespace: str = NAMESPACE
+    seconds: float = SECONDS
 
-    def ask(self, *words: str, most: int, take: Callable[[bytes], object], seconds: float = SECONDS) -> None:
-        """Hands on what kubectl answers, so many bytes at most. Raises NoAnswer."""
-        context = ["--context", self.context] if self.context else []
-        kubectl.answer([*context, *words], most, seconds, take)
+    def ask(self, *words: str, most: int, take: Callable[[bytes], object], seconds: float | None = None) -> None:
+        """Hands on what kubectl answers, so many bytes at most; the cluster's seconds are those of silence, and without
+        others those for all of it. Raises NoAnswer."""
+        seconds = seconds or self.seconds
+        kubectl.answer([*self.options, *words], most, seconds, take, silent=min(self.seconds, seconds))
 
     def recorders(self) -> dict[str, Recorder]:
-        """The recorders by their nodes; of several of one node, as while they are replaced, the one that is ready."""
-        answer = bytearray()
-        try:
-            self.ask("get", "pods", "-n", self.namespace, "-l", LABEL, "-o", "json", most=MOST_OF_PODS,
-                     take=answer.extend)
-        except NoAnswer as fault:
-            raise entry.Fault(f"the recorders can't be listed: {fault}", 1) from None
-        try:
-            found = [recorder_of(item) for item in pods_in(bytes(answer))]
-        except fields.Wrong:
-            raise entry.Fault("the recorders can't be listed: kubectl's answer is no list of pods", 1) from None
-        by_node = {}
-        for recorder in sorted(found, key=lambda one: (one.is_ready, one.pod)):
-            if recorder.node:
-                by_node[recorder.node] = recorder
-        if not by_node:
+        """The pods that have the traces, by their nodes; of several of one node, as while they are replaced, the one
+        that is ready. A reader is asked in place of a recorder."""
+        from concurrent.futures import ThreadPoolExecutor
+        with ThreadPoolExecutor(2) as threads:
+            of_readers = threads.submit(self.pods_of, f"{self.namespace}-{READER}", READER_LABEL)
+            of_recorders = threads.submit(self.pods_of, self.namespace, LABEL)
+        readers, fault = by_node(of_readers.result()[0], f"{self.namespace}-{READER}", READER), of_recorders.result()[1]
+        if fault is not None and not readers:
+            raise entry.Fault(f"the recorders can't be listed: {fault}", 1)
+        found = {**by_node(of_recorders.result()[0], None, CONTAINER),
+                 **{node: one for node, one in readers.items() if one.is_ready}}
+        if not found:
             raise entry.Fault(f"no recorder in the namespace {self.namespace}: deploy/daemonset.yaml starts one on "
                               "each node, and --recorders names another namespace")
-        return dict(sorted(by_node.items()))
+        return dict(sorted(found.items()))
+
+    def pods_of(self, namespace: str, label: str) -> tuple[list[dict[str, Any]], str | None]:
+        """The pods of a label, or why they are not known."""
+        answer = bytearray()
+        try:
+            self.ask("get", "pods", "-n", namespace, "-l", label, "-o", "json", most=MOST_OF_PODS, take=answer.extend)
+            return pods_in(bytes(answer)), None
+        except NoAnswer as fault:
+            return [], str(fault)
+        except fields.Wrong:
+            return [], "kubectl's answer is no list of pods"
 
     def run(self, recorder: Recorder, *words: str, most: int, take: Callable[[bytes], object],
-            seconds: float = SECONDS) -> None:
+            seconds: float | None = None) -> None:
         """Hands on what a command answers in a recorder's pod."""
-        self.ask("exec", "-n", self.namespace, recorder.pod, "-c", CONTAINER, "--", *words, most=most, take=take,
-                 seconds=seconds)
+        self.ask("exec", "-n", recorder.namespace or self.namespace, recorder.pod, "-c", recorder.container, "--",
+                 *words, most=most, take=take, seconds=seconds)
 
     def held(self, recorder: Recorder) -> Held:
         """The traces that a recorder holds. Raises NoAnswer."""
@@ -126,7 +145,20 @@ class Cluster:
 
     def content(self, recorder: Recorder, file: File, most: int, take: Callable[[bytes], object]) -> None:
         """Hands on the bytes of a trace that a recorder holds, so many at most. Raises NoAnswer."""
-        self.run(recorder, "cat", f"{FOLDER}/{file.name}", most=most, take=take, seconds=SECONDS_OF_COPY)
+        self.run(recorder, "cat", f"{FOLDER}/{file.name}", most=most, take=take,
+                 seconds=self.seconds + file.size / BYTES_A_SECOND)
+
+    def names(self, recorder: Recorder, name: str, since: int | None) -> set[str]:
+        """The keys of the pods in a recorder's traces whose names a regular expression of grep fits. Raises
+        NoAnswer."""
+        if recorder.phase != "Running":
+            raise NoAnswer(f"its recorder {recorder.pod} is {recorder.phase}")
+        answer = bytearray()
+        newer = [] if since is None else ["-newermt", f"@{since}"]
+        self.run(recorder, "find", FOLDER, "-maxdepth", "1", "-type", "f", "-name", "*.trace.*", *newer, "-exec",
+                 "zgrep", "-a", "-o", "-E", "-e", METADATA.format(name=name), "{}", ";", most=MOST_OF_LISTING,
+                 take=answer.extend)
+        return {key for key in map(key_of, bytes(answer).split(b"\n")) if key is not None}
 
 
 def file_of(line: str, node: str) -> tuple[File | None, str | None]:
@@ -146,6 +178,16 @@ def file_of(line: str, node: str) -> tuple[File | None, str | None]:
     return File(name, bytes_of, changed), None
 
 
+def key_of(metadata: bytes) -> str | None:
+    """NAMESPACE/NAME of the metadata of a pod's line."""
+    found = outside.json_of(b"{" + metadata + b"}") if metadata else None
+    metadata_of = found.get("metadata") if isinstance(found, dict) else None
+    if not isinstance(metadata_of, dict):
+        return None
+    key = f"{metadata_of.get('namespace') or 'default'}/{metadata_of.get('name')}"
+    return key if outside.is_key(key) else None
+
+
 def pods_in(answer: bytes) -> list[dict[str, Any]]:
     """The pods of a list. Raises Wrong where it is none."""
     found = fields.object_of(answer)
@@ -154,24 +196,38 @@ def pods_in(answer: bytes) -> list[dict[str, Any]]:
     return fields.list_at(found, "items")
 
 
-def recorder_of(item: dict[str, Any]) -> Recorder:
-    """The recorder that is a pod. Raises Wrong where it has another shape."""
-    status = fields.dict_at(item, "status")
-    ready = [one.get("ready") for one in fields.list_at(status, "containerStatuses")]
-    node = fields.text_at(fields.object_at(item, "spec"), "nodeName", "")
-    pod = fields.text_at(fields.object_at(item, "metadata"), "name")
-    return Recorder(node, pod, fields.text_at(status, "phase", "Unknown"), bool(ready) and all(ready))
+def by_node(items: list[dict[str, Any]], namespace: str | None, container: str) -> dict[str, Recorder]:
+    """The pods of a list by their nodes; one that is ready in place of another."""
+    found = {}
+    for one in sorted((recorder_of(item, namespace, container) for item in items), key=lambda one: (one.is_ready, one.pod)):
+        if one.node:
+            found[one.node] = one
+    return found
+
+
+def recorder_of(item: dict[str, Any], namespace: str | None = None, container: str = CONTAINER) -> Recorder:
+    """The recorder that is a pod. Raises Fault where it has another shape."""
+    try:
+        status = fields.dict_at(item, "status")
+        ready = [one.get("ready") for one in fields.list_at(status, "containerStatuses")]
+        node = fields.text_at(fields.object_at(item, "spec"), "nodeName", "")
+        pod = fields.text_at(fields.object_at(item, "metadata"), "name")
+    except fields.Wrong:
+        raise entry.Fault("the recorders can't be listed: kubectl's answer is no list of pods", 1) from None
+    return Recorder(node, pod, fields.text_at(status, "phase", "Unknown"), bool(ready) and all(ready), namespace,
+                    container)
 
 
 def add_words(words: entry.Words) -> None:
     """Adds the words of a tool that asks them."""
-    words.valued("--context")
+    options.add_to(words)
     words.add_argument("--recorders", default=NAMESPACE)
+    words.add_argument("--timeout", type=entry.whole_number(MOST_SECONDS), default=SECONDS)
 
 
 def cluster_of(found: Namespace) -> Cluster:
     """The cluster that the words of a tool name."""
-    return Cluster(found.context, found.recorders)
+    return Cluster(found.kubectl, found.recorders, found.timeout)
 
 
 def on_nodes(recorders: dict[str, Recorder], nodes: Iterable[str]) -> list[Recorder]:

@@ -1,17 +1,26 @@
-"""One story of a workload over the nodes that its pods are and were on: its pods, the worst first, and by time what
-happened to them."""
+"""One story of a workload over the nodes that its pods are and were on: by time what happened to them, the pods that no
+trace has, and the recorded ones, the worst last on the screen to be read first."""
 
 from __future__ import annotations
 
+import json
+import re
 from collections.abc import Callable
-from dataclasses import dataclass
+from dataclasses import dataclass, field, replace
+from typing import Any
 
 from replay_tools import (asking, entry, events, kubelet as kubelets, report as reports, summary as summing, telling,
                           why_text)
+from replay_tools.cluster.layout import Layout
+from replay_tools.cluster.unrecorded import Pod
 from replay_tools.cluster.workloads import Members
 from replay_tools.joined import join
 
-Row = tuple[int, list[str]]
+# what follows from something else, or is no trouble, is left to --all
+MINOR = ("started", "ready", "restart", "phase", "startup-passed")
+MOST_EVENTS = 20
+# of two events that differ in these alone one is printed
+OWN = re.compile(r" \(attempt \d+\)|\(\d+ times, last then\)|, \d+ s before|\d+ s before| by \d+ s|; killed by .*")
 
 
 @dataclass
@@ -25,6 +34,55 @@ class OnNode:
     pods: list[reports.Pod]
 
 
+@dataclass(frozen=True)
+class Row:
+    """Something that happened: the moment of its first time, and how often it came again up to a last one."""
+
+    at: int
+    node: str
+    pod: str
+    container: str
+    what: str
+    is_minor: bool = False
+    times: int = 1
+    last: int | None = None
+
+    def words(self, show: Callable[[int], str]) -> str:
+        return self.what if self.times == 1 else f"{self.what} ({self.times} times, last at {show(self.last or self.at)})"
+
+    def record(self) -> dict[str, Any]:
+        return {"at": self.at, "node": self.node, "pod": self.pod, "container": blank(self.container),
+                "what": self.what}
+
+
+@dataclass
+class Story:
+    """All that is told of a workload."""
+
+    members: Members
+    found: list[OnNode]
+    unrecorded: list[Pod]
+    missing: dict[str, str] = field(default_factory=dict)
+    """what was asked for and did not come, and why"""
+
+    @property
+    def recorded(self) -> int:
+        return sum(len(one.pods) for one in self.found)
+
+    def head(self, show: Callable[[int], str]) -> str:
+        spans = [one.several for one in self.found]
+        of_time = f", {show(min(one.first for one in spans))} to {show(max(one.last for one in spans))}" if spans else ""
+        nodes = {one.node for one in self.found if one.pods} | {pod.node for pod in self.unrecorded if pod.node}
+        all_of_them = self.recorded + len(self.unrecorded)
+        recorded = "" if not self.unrecorded else f", {self.recorded or 'none'} recorded,"
+        return (f"{self.members.target.words()}{of_time}: {entry.counted(all_of_them, 'pod')}{recorded} on "
+                f"{entry.counted(len(nodes), 'node')}")
+
+
+def blank(cell: str) -> str | None:
+    return None if cell == "-" else cell
+
+
 def on_node(node: str, several: join.Joined, members: Members) -> OnNode:
     """Of the pods of one name all are told."""
     given = asking.Given(several.report, several.trace, several)
@@ -32,44 +90,109 @@ def on_node(node: str, several: join.Joined, members: Members) -> OnNode:
     return OnNode(node, given, several, asking.kubelet_beside(given.trace, given.report), pods)
 
 
-def text(members: Members, found: list[OnNode], show: Callable[[int], str], is_list: bool) -> str:
-    """The whole story; of a namespace the list of its pods alone."""
-    pods, first = sum(len(one.pods) for one in found), min(one.several.first for one in found)
-    last = max(one.several.last for one in found)
-    lines = [f"{members.target.words()}, {show(first)} to {show(last)}: {entry.counted(pods, 'pod')} on "
-             f"{entry.counted(sum(bool(one.pods) for one in found), 'node')}", ""]
-    lines += pods_table(found, show)
-    if not is_list:
-        lines += events_table(members, found, show)
-    return "".join(f"{entry.visible(line)}\n" for line in lines[:-1])
+def text(story: Story, show: Callable[[int], str], layout: Layout, is_all: bool) -> str:
+    """The whole story; of a namespace the list of its pods alone. The pods' table is what stays on a screen."""
+    lines = [*layout.title(story.head(show)), ""]
+    if not story.members.target.is_list or is_all:
+        lines += events_table(story, show, layout, is_all)
+    heads = ["pod", "node", "phase", "ready", "restarts", "why"]
+    if story.unrecorded:
+        lines += layout.table("Pods that no trace has, as the API server has them now", heads,
+                              [[name_of(story, pod.key), *pod.cells()] for pod in story.unrecorded])
+    if story.recorded or not story.unrecorded:
+        lines += pods_table(story, show, layout)
+    if story.missing:
+        lines += [*layout.title("Missing"), *(line for name, why in story.missing.items()
+                                              for line in layout.line(entry.visible(f"{name}: {why}"))), ""]
+    return "".join(f"{line}\n" for line in lines[:-1])
 
 
-def pods_table(found: list[OnNode], show: Callable[[int], str]) -> list[str]:
+def ranked(story: Story) -> list[tuple[OnNode, reports.Pod, summing.Summary]]:
+    """The recorded pods, the worst first."""
     rows = []
-    for one in found:
-        since = one.given.since
-        ranked = summing.summaries(one.given.report, one.given.trace, one.kubelet, since=since)
+    for one in story.found:
         own = {pod.number: pod for pod in one.pods}
-        for each in (each for each in ranked if each.number in own):
-            pod, worst = own[each.number], each.found
-            rows.append(((*each.rank[:3], pod.key, one.node),
-                         [pod.key.partition("/")[2] + reports.number_words(one.given.report, pod), one.node, pod.phase,
-                          str(each.restarts), str(each.all_restarts), str(each.unready_seconds),
-                          "-" if worst.at is None else show(worst.at), worst.words or "-"]))
-    return telling.table("Pods, the worst first", ["pod", "node", "phase", "restarts", "in all", "unready s", "moment",
-                                                   "worst event"], [row for _, row in sorted(rows)])
+        rows += [((*each.rank[:3], own[each.number].key, one.node), (one, own[each.number], each))
+                 for each in summing.summaries(one.given.report, one.given.trace, one.kubelet, since=one.given.since)
+                 if each.number in own]
+    return [row for _, row in sorted(rows, key=lambda row: row[0])]
 
 
-def events_table(members: Members, found: list[OnNode], show: Callable[[int], str]) -> list[str]:
-    """What the reports, the kubelet and the API server's events say, by time."""
-    rows = [row for one in found for pod in one.pods for row in of_pod(one, pod, show)]
-    nodes = {pod.key.partition("/")[2]: one.node for one in found for pod in one.pods}
-    for said in members.said:
-        if said.pod in nodes and any(is_of_time(one, said.at) for one in found if one.node == nodes[said.pod]):
-            rows.append((said.at, [nodes[said.pod], said.pod, said.container or "-", said.words()]))
-    rows.sort(key=lambda row: row[0])
-    return telling.table("What happened", ["moment", "node", "pod", "container", "event"],
-                         [[show(at), *cells] for at, cells in rows])
+def name_of(story: Story, key: str) -> str:
+    return key if story.members.target.namespace is None else key.partition("/")[2]
+
+
+def pods_table(story: Story, show: Callable[[int], str], layout: Layout) -> list[str]:
+    rows = [[name_of(story, pod.key) + reports.number_words(one.given.report, pod), one.node, pod.phase,
+             str(each.restarts), str(each.all_restarts), str(each.unready_seconds),
+             "-" if each.found.at is None else show(each.found.at), each.found.words or "-"]
+            for one, pod, each in ranked(story)]
+    return layout.table("Pods, the worst first", ["pod", "node", "phase", "restarts", "in all", "unready s", "moment",
+                                                  "worst event"], rows)
+
+
+def events_table(story: Story, show: Callable[[int], str], layout: Layout, is_all: bool) -> list[str]:
+    """By time what the reports, the kubelet and the API server's events have; what comes again is in one row."""
+    rows = rows_of(story, show)
+    shown = rows if is_all else grouped([row for row in rows if not row.is_minor])
+    left = 0 if is_all else sum(row.is_minor for row in rows)
+    if not is_all and len(shown) > MOST_EVENTS:
+        left += sum(row.times for row in shown[:-MOST_EVENTS])
+        shown = shown[-MOST_EVENTS:]
+    lines = layout.table("What happened", ["moment", "node", "pod", "container", "event"],
+                         [[show(row.at), row.node, name_of(story, row.pod), row.container, row.words(show)]
+                          for row in shown])
+    if left:
+        lines[-1:] = [*layout.line(f"{entry.counted(left, 'more event')}, which --all prints too"), ""]
+    return lines
+
+
+def grouped(rows: list[Row]) -> list[Row]:
+    """Rows in which what happened again to a container is counted at its first time."""
+    found: dict[tuple[str, ...], Row] = {}
+    for row in rows:
+        of = (row.node, row.pod, row.container, OWN.sub("", row.what))
+        first = found.get(of)
+        found[of] = row if first is None else replace(first, times=first.times + 1, last=row.at)
+    return sorted(found.values(), key=lambda row: row.at)
+
+
+def rows_of(story: Story, show: Callable[[int], str]) -> list[Row]:
+    """All that happened, by time; of one moment causes before effects."""
+    rows = [row for one in story.found for pod in one.pods for row in of_pod(one, pod, show)]
+    rows += [row for one in story.found for row in of_node(one, show)]
+    nodes = {pod.key: one for one in story.found for pod in one.pods}
+    unrecorded = {pod.key: pod.node or "-" for pod in story.unrecorded}
+    for said in story.members.said:
+        one = nodes.get(said.pod)
+        if said.pod in unrecorded or one is not None and is_of_time(one, said.at):
+            node = one.node if one is not None else unrecorded[said.pod]
+            rows.append(Row(said.at, node, said.pod, said.container or "-", said.words()))
+    return sorted(rows, key=lambda row: row.at)
+
+
+def of_node(one: OnNode, show: Callable[[int], str]) -> list[Row]:
+    """What happened to a node while one of the pods was there, once."""
+    trace = one.given.trace
+    found = {(at, what) for pod in one.pods for at, what, _ in (
+        telling.node_rows(trace, one.given.report, pod, show) if trace is not None else [])}
+    return [Row(at, one.node, "-", "-", what) for at, what in sorted(found) if is_of_time(one, at)]
+
+
+def record(story: Story) -> str:
+    """The whole story as one JSON object."""
+    pods = [{"pod": pod.key, "node": one.node, "phase": pod.phase, "restarts": each.restarts,
+             "allRestarts": each.all_restarts, "unreadySeconds": each.unready_seconds,
+             "worst": each.found.worst.value, "worstAt": each.found.at, "worstWords": each.found.words or None}
+            for one, pod, each in ranked(story)]
+    target, spans = story.members.target, [one.several for one in story.found]
+    found = {"namespace": target.namespace, "kind": target.kind, "name": target.name, "selector": target.selector,
+             "from": min((one.first for one in spans), default=None),
+             "until": max((one.last for one in spans), default=None), "pods": pods,
+             "unrecorded": [pod.record() for pod in story.unrecorded],
+             "events": [row.record() for row in rows_of(story, lambda at: reports.moment_text(at, True))],
+             "missing": [{"source": name, "why": why} for name, why in story.missing.items()]}
+    return f"{json.dumps(found, ensure_ascii=True)}\n"
 
 
 def is_of_time(one: OnNode, at: int) -> bool:
@@ -78,19 +201,21 @@ def is_of_time(one: OnNode, at: int) -> bool:
 
 def of_pod(one: OnNode, pod: reports.Pod, show: Callable[[int], str]) -> list[Row]:
     """The rows of a pod's events, of what the kubelet did to it, of its deletion, and of why its containers waited."""
-    trace, name = one.given.trace, pod.key.partition("/")[2]
-    rows: list[tuple[int, str | None, str]] = []
+    trace = one.given.trace
+    rows: list[tuple[int, str | None, str, bool]] = []
     for event in pod.events:
         attempt, what = telling.event_words(event, one.kubelet is not None, trace)
         rows.append((event.at, event.container,
-                     what + events.attempt_words(attempt) + telling.beside_words(pod, event, show)))
-        rows += [(event.at, event.container, wrote) for wrote in telling.last_lines(event, trace)]
+                     what + events.attempt_words(attempt) + telling.beside_words(pod, event, show, trace),
+                     event.word in MINOR))
+        rows += [(event.at, event.container, wrote, False) for wrote in telling.last_lines(event, trace)]
     fact = one.kubelet and one.kubelet.fact(pod.number)
     if fact:
-        rows.append((fact.decision.at, None, kubelets.event_words(fact.decision)))
+        rows.append((fact.decision.at, None, kubelets.event_words(fact.decision), False))
     if trace and pod.number in trace.deletions:
         deletion = trace.deletions[pod.number]
-        rows.append((deletion.at, None, why_text.DELETED.format(by=deletion.words())))
-    rows += [(wait.since, container, f"waits: {wait.words()}")
+        rows.append((deletion.at, None, why_text.DELETED.format(by=deletion.words()), False))
+    rows += [(wait.since, container, f"waits: {wait.words()}", False)
              for container, wait in (trace.reasons.waits_of(pod) if trace else ())]
-    return [(at, [one.node, name, container or "-", what]) for at, container, what in rows if is_of_time(one, at)]
+    return [Row(at, one.node, pod.key, container or "-", what, is_minor) for at, container, what, is_minor in rows
+            if is_of_time(one, at)]

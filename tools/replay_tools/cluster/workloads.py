@@ -5,25 +5,32 @@ from __future__ import annotations
 
 import re
 from collections.abc import Iterable, Iterator
-from dataclasses import dataclass, field
-from typing import Any
+from dataclasses import dataclass, field, replace
+from typing import Any, TYPE_CHECKING
 
-from replay_tools import dates, entry, outside
+from replay_tools import dates, outside
 from replay_tools.cluster.kubectl import NoAnswer
 from replay_tools.cluster.recorders import Cluster
+from replay_tools.cluster.waiting import Waiting
+
+if TYPE_CHECKING:
+    from concurrent.futures import Executor
 
 # of each kind the names by which kubectl knows it, and how the names of its pods end
 KINDS = {
-    "deployment": (("deploy", "deployment", "deployments", "deployment.apps"), ""),
-    "statefulset": (("sts", "statefulset", "statefulsets", "statefulset.apps"), r"\d+"),
-    "daemonset": (("ds", "daemonset", "daemonsets", "daemonset.apps"), r"[a-z0-9]{5}"),
-    "replicaset": (("rs", "replicaset", "replicasets", "replicaset.apps"), r"[a-z0-9]{5}"),
-    "job": (("job", "jobs", "job.batch"), r"(?:\d+-)?[a-z0-9]{5}"),
-    "cronjob": (("cj", "cronjob", "cronjobs", "cronjob.batch"), r"\d+-(?:\d+-)?[a-z0-9]{5}"),
-    "pod": (("po", "pod", "pods"), ""),
+    "deployment": (("deploy", "deployment"), r"[a-z0-9]{1,10}-[a-z0-9]{5}"),
+    "statefulset": (("sts", "statefulset"), r"\d+"),
+    "daemonset": (("ds", "daemonset"), r"[a-z0-9]{5}"),
+    "replicaset": (("rs", "replicaset"), r"[a-z0-9]{5}"),
+    "job": (("job",), r"(?:\d+-)?[a-z0-9]{5}"),
+    "cronjob": (("cj", "cronjob"), r"\d+-(?:\d+-)?[a-z0-9]{5}"),
+    "pod": (("po", "pod"), ""),
 }
-TYPES = {name: kind for kind, (names, _) in KINDS.items() for name in names}
+TYPES = {name + several: kind for kind, (names, _) in KINDS.items() for name in names for several in ("", "s")}
+# as kubectl takes a kind with its version and group: deployment.v1.apps
+QUALIFIED = re.compile(r"([a-z]+)(?:[.]v[0-9][a-z0-9]*)?(?:[.](?:apps|batch))?")
 SUFFIX = r"[a-z0-9]{5}"
+NOT_FOUND = "(NotFound)"
 MOST_OF_ANSWER = 256 << 20
 ASSIGNED = re.compile(r"Successfully assigned \S+ to (\S+)")
 STAMP = re.compile(r"(\d{4}-\d\d-\d\dT\d\d:\d\d:\d\d)(?:\.\d+)?Z", re.ASCII)
@@ -34,17 +41,29 @@ TOLD_BY_TRACE = ("Scheduled", "Pulling", "Pulled", "Created", "Started", "Succes
 
 @dataclass(frozen=True)
 class Target:
-    """What is asked for: a workload by its kind and name, the pods of a label, or without both those of a namespace."""
+    """What is asked for: a workload by its kind and name, the pods of a label, or without both those of a namespace, or
+    of all."""
 
-    namespace: str
+    namespace: str | None
     kind: str | None = None
     name: str | None = None
     selector: str | None = None
 
     def words(self) -> str:
+        if self.namespace is None:
+            return "all namespaces"
         if self.selector is not None:
             return f"-l {self.selector} in {self.namespace}"
         return f"{self.kind}/{self.name} in {self.namespace}" if self.kind else f"namespace {self.namespace}"
+
+    @property
+    def is_list(self) -> bool:
+        """Whether it is all pods of a namespace, or of all."""
+        return self.kind is None and self.selector is None
+
+    @property
+    def of_namespace(self) -> list[str]:
+        return ["--all-namespaces"] if self.namespace is None else ["-n", self.namespace]
 
 
 @dataclass
@@ -53,6 +72,7 @@ class Said:
 
     at: int
     pod: str
+    """NAMESPACE/NAME"""
     container: str | None
     reason: str
     message: str
@@ -65,74 +85,128 @@ class Said:
 
 @dataclass
 class Members:
-    """The pods of a workload, by their names or the forms of these, and the nodes that they are and were on."""
+    """The pods of a workload, by their keys or the forms of their names, and the nodes that they are and were on."""
 
     target: Target
-    names: set[str] = field(default_factory=set)
+    pods: dict[str, dict[str, Any]] = field(default_factory=dict)
+    """those that the API server has, by their keys"""
+    others: set[str] = field(default_factory=set)
+    """the names of pods and the beginnings of names that are of another workload"""
     forms: list[str] = field(default_factory=list)
     nodes: dict[str, None] = field(default_factory=dict)
     said: list[Said] = field(default_factory=list)
+    listed: dict[str, dict[str, Any]] = field(default_factory=dict)
+    """all pods of the namespace, and its events, as the API server has them"""
+    events: list[dict[str, Any]] = field(default_factory=list)
 
     def has(self, key: str) -> bool:
         """Whether a pod of a trace is one of them."""
         namespace, _, name = key.partition("/")
-        return namespace == self.target.namespace and self.has_name(name)
+        if self.target.namespace not in (None, namespace):
+            return False
+        return self.target.is_list or key in self.pods or self.has_form(name)
 
-    def has_name(self, name: str) -> bool:
-        if self.target.kind is None and self.target.selector is None:
-            return True
-        return name in self.names or any(re.fullmatch(form, name) for form in self.forms)
+    def renamed(self, key: str) -> Members:
+        """The same of a pod by its whole name."""
+        namespace, _, name = key.partition("/")
+        target = replace(self.target, namespace=namespace, name=name)
+        pods = {key: self.listed[key]} if key in self.listed else {}
+        found = replace(self, target=target, pods={}, forms=[re.escape(name)], others=self.others - {name}, nodes={})
+        for pod in pods.values():
+            found.add(pod)
+        return found
+
+    def keep_node(self, node: str) -> None:
+        """Leaves out the pods that the API server has on other nodes."""
+        self.pods = {key: pod for key, pod in self.pods.items() if text_at(pod, "spec", "nodeName") == node}
+        self.nodes = {node: None} if self.pods else {}
+
+    def add(self, pod: dict[str, Any]) -> None:
+        """Adds a pod that the API server has, and its node."""
+        self.pods[key_of(pod)] = pod
+        node = text_at(pod, "spec", "nodeName")
+        if node is not None:
+            self.nodes[node] = None
+
+    def has_form(self, name: str) -> bool:
+        if name in self.others or name.rpartition("-")[0] in self.others:
+            return False
+        return any(re.fullmatch(form, name) for form in self.forms)
+
+
+def kind_of(word: str) -> str | None:
+    """The kind that a word is: Deploy, deploys and deployment.v1.apps are deployments."""
+    found = QUALIFIED.fullmatch(word.lower())
+    return TYPES.get(found[1]) if found else None
 
 
 def kind_and_name(word: str) -> tuple[str, str] | None:
     """The kind and the name of a word as deploy/web; None of one that names no kind."""
     head, slash, name = word.partition("/")
-    return (TYPES[head], name) if slash and head in TYPES else None
+    kind = kind_of(head) if slash else None
+    return (kind, name) if kind is not None else None
 
 
-def members_of(cluster: Cluster, target: Target) -> Members:
-    """The pods of a workload, as the API server knows them now and its events of the last hour. Raises Fault."""
+def members_of(cluster: Cluster, target: Target, waiting: Waiting, threads: Executor) -> Members:
+    """The pods of a workload, as the API server knows them now and its events of the last hour. What it does not answer
+    is missing, and ends nothing."""
     found = Members(target)
-    if target.kind == "pod":
-        found.names.add(target.name or "")
-    pods = pods_of(cluster, found)
-    for pod in pods:
-        name, node = text_at(pod, "metadata", "name"), text_at(pod, "spec", "nodeName")
-        if name is not None:
-            found.names.add(name)
-        if node is not None:
-            found.nodes[node] = None
-    for event in listed(cluster, "events", target.namespace):
-        take_event(found, event)
-    found.said.sort(key=lambda said: said.at)
+    asked = {kind: threads.submit(listed, cluster, target, kind, waiting) for kind in wanted_of(target)}
+    owner = threads.submit(object_of, cluster, target, waiting) if target.kind and target.kind != "pod" else None
+    lists = {kind: answer.result() for kind, answer in asked.items()}
+    uid = owner.result() if owner else None
+    pods = lists["pods"] if target.kind != "pod" or lists["pods"] else one_pod(cluster, target, waiting)
+    chosen = pods_of(found, pods, lists, uid)
+    for pod in chosen:
+        found.add(pod)
+    found.listed, found.events = {key_of(pod): pod for pod in pods}, lists["events"]
+    if not target.is_list and target.selector is None:
+        found.others |= {text_at(pod, "metadata", "name") or "" for pod in pods} - {
+            key.partition("/")[2] for key in found.pods}
     return found
 
 
 # --- the pods ---
 
 
-def pods_of(cluster: Cluster, found: Members) -> list[dict[str, Any]]:
+def wanted_of(target: Target) -> list[str]:
+    """The kinds that are listed for a workload."""
+    return ["pods", "events", *{"deployment": ["replicasets"], "cronjob": ["jobs"]}.get(target.kind or "", [])]
+
+
+def key_of(pod: dict[str, Any]) -> str:
+    return f"{text_at(pod, 'metadata', 'namespace') or 'default'}/{text_at(pod, 'metadata', 'name') or ''}"
+
+
+def pods_of(found: Members, pods: list[dict[str, Any]], lists: dict[str, list[dict[str, Any]]],
+            uid: str | None) -> list[dict[str, Any]]:
     """The pods that are there; the forms of the names of those that were come with them."""
     target = found.target
     if target.selector is not None:
-        pods = listed(cluster, "pods", target.namespace, "-l", target.selector)
         found.forms += [form for pod in pods for form in forms_of_owners(pod)]
         return pods
-    pods = listed(cluster, "pods", target.namespace)
     if target.kind is None or target.name is None:
         return pods
     if target.kind == "pod":
+        found.forms.append(re.escape(target.name))
         return [pod for pod in pods if text_at(pod, "metadata", "name") == target.name]
-    uid = text_at(asked(cluster, target, target.kind, target.name), "metadata", "uid")
-    if target.kind == "deployment":
-        owned = owned_by(listed(cluster, "replicasets", target.namespace), {uid})
-        found.forms += [f"{re.escape(text_at(each, 'metadata', 'name') or '')}-{SUFFIX}" for each in owned]
-        return owned_by(pods, {text_at(each, "metadata", "uid") for each in owned})
     found.forms.append(f"{re.escape(target.name)}-{KINDS[target.kind][1]}")
-    if target.kind == "cronjob":
-        jobs = owned_by(listed(cluster, "jobs", target.namespace), {uid})
-        return owned_by(pods, {text_at(job, "metadata", "uid") for job in jobs})
-    return owned_by(pods, {uid})
+    between = lists.get("replicasets") or lists.get("jobs") or []
+    owned = owned_by(between, {uid}) if uid is not None else owned_by_name(between, target)
+    found.others |= {text_at(each, "metadata", "name") or "" for each in between if each not in owned}
+    found.forms += [f"{re.escape(text_at(each, 'metadata', 'name') or '')}-{SUFFIX}" for each in owned]
+    if target.kind in ("deployment", "cronjob"):
+        if between:
+            return owned_by(pods, {text_at(each, "metadata", "uid") for each in owned})
+        # what owns them may not be listed: their names are all that is known
+        return [pod for pod in pods if found.has_form(text_at(pod, "metadata", "name") or "")]
+    return owned_by(pods, {uid}) if uid is not None else owned_by_name(pods, target)
+
+
+def owned_by_name(items: Iterable[dict[str, Any]], target: Target) -> list[dict[str, Any]]:
+    """Those of a workload that is gone, or that may not be read."""
+    return [item for item in items if any(str(owner.get("kind")).lower() == target.kind
+                                          and owner.get("name") == target.name for owner in owners_of(item))]
 
 
 def owned_by(items: Iterable[dict[str, Any]], uids: set[str | None]) -> list[dict[str, Any]]:
@@ -153,14 +227,30 @@ def forms_of_owners(pod: dict[str, Any]) -> Iterator[str]:
             yield f"{re.escape(name)}-{KINDS[kind][1]}"
 
 
+def name_pattern(target: Target) -> str:
+    """A regular expression of grep that fits all names that pods of a workload may have."""
+    if target.kind is None or target.name is None:
+        return '[^"]*'
+    return target.name.replace(".", "[.]") + '[^"]*'
+
+
 # --- events ---
+
+
+def take_events(found: Members) -> None:
+    """Takes what the events say of the pods, by time."""
+    for event in found.events:
+        take_event(found, event)
+    found.said.sort(key=lambda said: said.at)
 
 
 def take_event(found: Members, event: dict[str, Any]) -> None:
     """What an event says of one of the pods: on which node it was, and what went wrong."""
     about = event.get("involvedObject")
-    name = about.get("name") if isinstance(about, dict) and about.get("kind") == "Pod" else None
-    if not isinstance(name, str) or not found.has_name(name):
+    if not isinstance(about, dict) or about.get("kind") != "Pod":
+        return
+    key = f"{text_at(about, 'namespace') or found.target.namespace}/{text_at(about, 'name') or ''}"
+    if not found.has(key) and not found.target.is_list:
         return
     message, reason = text_at(event, "message") or "", text_at(event, "reason") or ""
     assigned = ASSIGNED.match(message)
@@ -171,7 +261,7 @@ def take_event(found: Members, event: dict[str, Any]) -> None:
     if at is not None and reason and reason not in TOLD_BY_TRACE:
         container = CONTAINER.fullmatch(text_at(about, "fieldPath") or "")
         times = [outside.whole(of.get("count")) for of in (event, event.get("series")) if isinstance(of, dict)]
-        found.said.append(Said(at, name, container[1] if container else None, reason, message.strip(),
+        found.said.append(Said(at, key, container[1] if container else None, reason, message.strip(),
                                max(filter(None, times), default=1)))
 
 
@@ -187,41 +277,49 @@ def moment_of(event: dict[str, Any]) -> int | None:
 # --- kubectl ---
 
 
-def listed(cluster: Cluster, kind: str, namespace: str, *more: str) -> list[dict[str, Any]]:
-    """The objects of a kind in a namespace."""
-    found = answered(cluster, f"the {kind} of {namespace} can't be listed", "get", kind, "-n", namespace, *more)
+def listed(cluster: Cluster, target: Target, kind: str, waiting: Waiting) -> list[dict[str, Any]]:
+    """The objects of a kind in the namespace; none if they may not be listed, or do not come, which is missing."""
+    where = "all namespaces" if target.namespace is None else target.namespace
+    name = f"the {kind} of {where}"
+    label = [f"--selector={target.selector}"] if kind == "pods" and target.selector is not None else []
+    try:
+        with waiting.for_answer(name):
+            found = answered(cluster, "get", kind, *target.of_namespace, *label)
+    except NoAnswer as said:
+        waiting.miss(name, f"can't be listed: {said}")
+        return []
     items = found.get("items") if isinstance(found, dict) else None
     if not isinstance(items, list):
-        raise entry.Fault(f"the {kind} of {namespace} can't be listed: kubectl's answer is no list", 1)
+        waiting.miss(name, "can't be listed: kubectl's answer is no list")
+        return []
     return [item for item in items if isinstance(item, dict)]
 
 
-def asked(cluster: Cluster, target: Target, kind: str, name: str) -> dict[str, Any]:
-    """The object of a kind and a name that is asked for."""
-    found = answered(cluster, f"{target.words()} is not found", "get", kind, name, "-n", target.namespace)
-    if not isinstance(found, dict):
-        raise entry.Fault(f"{target.words()} is not found: kubectl's answer is no object", 1)
-    return found
-
-
-def answered(cluster: Cluster, fault: str, *words: str) -> Any:
-    answer = bytearray()
+def object_of(cluster: Cluster, target: Target, waiting: Waiting) -> str | None:
+    """The uid of the workload; None if the API server has none of that name, or does not say."""
     try:
-        cluster.ask(*words, "-o", "json", most=MOST_OF_ANSWER, take=answer.extend)
+        with waiting.for_answer(target.words()):
+            found = answered(cluster, "get", target.kind or "", target.name or "", *target.of_namespace)
     except NoAnswer as said:
-        raise entry.Fault(f"{fault}: {said}", 1) from None
-    return outside.json_of(bytes(answer))
+        what = "is not found" if NOT_FOUND in str(said) else "can't be read"
+        waiting.miss(target.words(), f"{what}: {said}")
+        return None
+    return text_at(found, "metadata", "uid")
 
 
-def names_of(cluster: Cluster, kind: str, namespace: str, seconds: float) -> list[str]:
-    """The names of the objects of a kind, for a completion; none where they are not told in time."""
-    answer = bytearray()
+def one_pod(cluster: Cluster, target: Target, waiting: Waiting) -> list[dict[str, Any]]:
+    """A pod by its name, which may be read where its namespace may not be listed."""
     try:
-        cluster.ask("get", kind, "-n", namespace, "-o", "name", most=1 << 20, take=answer.extend, seconds=seconds)
-    except (NoAnswer, entry.Fault):
+        found = answered(cluster, "get", "pod", target.name or "", *target.of_namespace)
+    except NoAnswer:
         return []
-    names = [line.rpartition("/")[2] for line in answer.decode("utf-8", "replace").split("\n")]
-    return [name for name in names if outside.is_name(name)]
+    return [found] if isinstance(found, dict) else []
+
+
+def answered(cluster: Cluster, *words: str) -> Any:
+    answer = bytearray()
+    cluster.ask(*words, "-o", "json", most=MOST_OF_ANSWER, take=answer.extend)
+    return outside.json_of(bytes(answer))
 
 
 def text_at(found: Any, *path: str) -> str | None:

@@ -12,6 +12,7 @@ from replay_tools.joined import asked
 
 HELP = """\
 usage: tools/fetch NODE .. [--since 2h | --at 2026-11-27T03:10Z] [--into FOLDER] [--most 1Gi]
+            [--timeout 15]
        tools/fetch --all [--since 2h | --at 2026-11-27T03:10Z] [--into FOLDER] [--most 1Gi]
 
 Copies the traces that the recorders of deploy/daemonset.yaml hold of some nodes, or of all, into FOLDER (traces), and

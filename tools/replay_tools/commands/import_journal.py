@@ -5,6 +5,7 @@ from __future__ import annotations
 import argparse
 
 from replay_tools import entry
+from replay_tools.cluster import options
 
 HELP = """\
 usage: tools/import [--journal FILE ..] [--pods FILE ..] [--node NAME] > TRACE
@@ -58,7 +59,8 @@ def parser() -> entry.Words:
         taken.files(name, action="append", default=[])
     taken.add_argument("named", nargs="*")
     taken.files("--into")
-    taken.valued("--node", "--zone", "--since", "--context")
+    taken.valued("--node", "--zone", "--since")
+    options.add_to(taken)
     taken.add_argument("--each", type=duration, default=3600)
     taken.add_argument("--timeout", type=seconds)
     taken.add_argument("--most", type=size)

@@ -9,7 +9,7 @@ from replay_tools import amounts, entry, helps, report as reports, telling
 from replay_tools.cluster import fetching, recorders
 
 HELP = """\
-usage: tools/nodes [--recorders NAMESPACE] [--context NAME]
+usage: tools/nodes [--recorders NAMESPACE] [--timeout 15] [--context NAME]
 
 Lists the nodes on which a recorder of deploy/daemonset.yaml runs: since when it has traces (the begin of the oldest
 that it holds), up to when (its newest was written last then), how many they are, and how many bytes they have. Where a

@@ -41,11 +41,11 @@ class NoLog(entry.Fault):
 class Cluster:
     """Asks for what concerns a node, and keeps it in a folder. What takes long is said."""
 
-    def __init__(self, folder: str, node: str, since: float, context: str | None, seconds: float) -> None:
+    def __init__(self, folder: str, node: str, since: float, options: list[str], seconds: float) -> None:
         self.folder = folder
         self.node = node
         self.since = since
-        self.context = ["--context", context] if context else []
+        self.options = options
         self.seconds = seconds
 
     def fetch(self) -> Answers:
@@ -106,7 +106,7 @@ class Cluster:
         """The file of an answer, which has to begin in time, and to go on."""
         path = os.path.join(self.folder, name)
         with open(path, "wb") as file, self.said_if_slow(what):
-            kubectl.answer([*self.context, *words], most, self.seconds, file.write, is_long=True)
+            kubectl.answer([*self.options, *words], most, self.seconds, file.write, is_long=True)
         return path
 
     @contextmanager

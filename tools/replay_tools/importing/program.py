@@ -36,8 +36,8 @@ MADE_BETWEEN_LOOKS = 100_000
 def run(words: Namespace) -> int:
     """Imports what the words name, or what the cluster answers of a node; the status."""
     if not words.named:
-        if words.since is not None or words.context is not None:
-            raise entry.Fault("--since and --context go with NODE (--help says more)")
+        if words.since is not None or words.kubectl:
+            raise entry.Fault("--since and kubectl's options go with NODE (--help says more)")
         if words.timeout is not None:
             raise entry.Fault("--timeout goes with NODE (--help says more)")
         words.optional, words.given = [], True
@@ -52,7 +52,7 @@ def run(words: Namespace) -> int:
     for number in (signal.SIGTERM, signal.SIGHUP):
         signal.signal(number, lambda number, _: sys.exit(128 + number))
     with tempfile.TemporaryDirectory(prefix="import-") as folder:
-        found = cluster.Cluster(folder, node, since, words.context, words.timeout or SECONDS).fetch()
+        found = cluster.Cluster(folder, node, since, words.kubectl, words.timeout or SECONDS).fetch()
         words.node, words.journal, words.given = node, found.journals, bool(words.pods)
         words.optional, words.pods = found.pods, [*found.pods, *words.pods]
         words.events = [*found.events, *words.events]

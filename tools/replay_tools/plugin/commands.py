@@ -9,7 +9,7 @@ from typing import IO
 
 from replay_tools import entry, outside, program as programs, tree
 from replay_tools.commands.run import FAIL_ON
-from replay_tools.plugin import files, help, several, words, workload
+from replay_tools.plugin import files, help, several, words
 from replay_tools.plugin.words import FOLLOW
 
 @dataclass(frozen=True)
@@ -52,11 +52,27 @@ def run(given: list[str], caller: Caller) -> int:
         return tree.run(name, [*([found.file] if found.file else []), *found.plain, *found.rest])
     if name == "story" and FOLLOW in found.rest:
         return tree.run(name, [*found.rest, *(words.pods_meant(command, found) or [])])
-    if name == "story" and workload.is_meant(found):
-        return workload.run(found, caller.is_of_kubectl)
+    if command.takes_several and not found.files and is_of_cluster(name, found, caller):
+        return run_of_cluster(name, found, caller)
+    if command.pods == "none" and found.namespace is not None:
+        raise entry.Fault(f"{words.NAMESPACE[0]} is for a workload, as {name} deploy/web (--help says more)")
     if command.takes_several and several.is_meant(found):
         return several.run(name, command, found)
     return run_tool(name, command, found)
+
+
+def is_of_cluster(name: str, found: words.Words, caller: Caller) -> bool:
+    """Whether a tool is asked for pods of a cluster, and not for those of files or of a report."""
+    from replay_tools.plugin import target
+    return target.is_meant(name, found, caller.is_of_kubectl)
+
+
+def run_of_cluster(name: str, found: words.Words, caller: Caller) -> int:
+    """Runs a tool on pods of a cluster; its status."""
+    from replay_tools.plugin import each_node, workload
+    if name == "story":
+        return workload.run(found, caller.is_of_kubectl)
+    return each_node.run(name, found, caller.is_of_kubectl)
 
 
 def show_help(name: str, caller: Caller) -> int:
@@ -111,7 +127,7 @@ def check_readable(path: str) -> None:
         with open(path, "rb"):
             pass
     except OSError as fault:
-        raise entry.Fault(f"{outside.visible(path)}: {fault.strerror}", 1) from None
+        raise entry.Fault(f"{outside.visible(path)}: {fault.strerror}") from None
 
 
 def without_fail_on(rest: list[str]) -> tuple[list[str], dict[str, None] | None]:

@@ -4,12 +4,11 @@ from __future__ import annotations
 
 import glob
 import os
-import tempfile
 from collections.abc import Callable
 
 from replay_tools import entry, tree
 from replay_tools.joined import asked
-from replay_tools.plugin import files, words
+from replay_tools.plugin import words
 
 
 def is_meant(found: words.Words) -> bool:
@@ -37,7 +36,7 @@ def run(name: str, command: tree.Command, found: words.Words) -> int:
     node = found.value("--node")
     if node is None:
         raise entry.Fault("it wants -f FILE or FOLDER for traces that are here, or --node NODE for those of a cluster")
-    before = [*without(rest, words.RECORDERS), *pods, asked.TRACES]
+    before = [*without(without(rest, words.RECORDERS), words.TIMEOUT), *pods, asked.TRACES]
     return run_fetched(found, node, lambda folder: tree.run(name, [*before, folder]))
 
 
@@ -50,14 +49,11 @@ def without(rest: list[str], name: str) -> list[str]:
 def run_fetched(found: words.Words, node: str, run_on: Callable[[str], int]) -> int:
     """Fetches the traces of a node into a folder that goes again, and runs a tool on it; its status."""
     from replay_tools.cluster import fetching, recorders
-    cluster = recorders.Cluster(found.context, found.value(words.RECORDERS) or recorders.NAMESPACE)
+    from replay_tools.plugin import workload
+    cluster = workload.cluster_of(found)
     first, last = asked.span_of(found.value("--since"), found.value("--at"), fetching.now())
     [recorder] = recorders.on_nodes(cluster.recorders(), [node])
-    try:
-        folder = tempfile.TemporaryDirectory(prefix="kubelet-replay-")
-    except OSError as fault:
-        raise files.no_room(fault.strerror) from None
-    with folder as path:
+    with workload.folder_for_traces() as path:
         [came] = fetching.fetched(cluster, [recorder], path, fetching.Wanted(first, last))
         if not came.copied:
             raise entry.Fault(f"{node}: {'; '.join(came.faults)}", 1)

@@ -1,135 +1,250 @@
-"""The story of a workload of a cluster: its nodes are found, their traces fetched and replayed, and it is told over all
-of them."""
+"""The story of a workload of a cluster: its pods and nodes are found, the nodes' traces fetched and replayed, and it is
+told over all of them, with what the API server has of pods that no trace has."""
 
 from __future__ import annotations
 
+import contextlib
 import sys
 import tempfile
+from collections.abc import Iterator
+from dataclasses import dataclass
 from typing import TYPE_CHECKING
 
-from replay_tools import entry
+from replay_tools import entry, naming
 from replay_tools.clock import Clock
-from replay_tools.cluster import recorders, workloads
+from replay_tools.cluster import kubectl, recorders, workloads
+from replay_tools.cluster.waiting import Waiting
 from replay_tools.joined import asked
-from replay_tools.plugin import files, words
+from replay_tools.plugin import files, target as targets, words
 
 if TYPE_CHECKING:
+    from concurrent.futures import Executor
     from replay_tools.cluster import fetching, told
 
 # where neither --since nor --at is given
 SINCE = "2h"
 SECONDS_OF_COMPLETION = 5
-MOST_NODES = 200
-MOST_NAMED = 5
+AT_ONCE = 32
+MOST_NODES, MOST_ASKED = 200, 1000
+OF_RECORDERS = "the recorders"
 
 
-def is_meant(found: words.Words) -> bool:
-    """Whether the words name a workload of the cluster, or a time of its pods, and no file and no node."""
-    if found.files or any(word in found.rest for word in ("--trace", asked.TRACES, "--node")):
-        return False
-    return any(word in found.rest for word in (*words.SELECTOR, "--since", "--at")) or any(
-        workloads.kind_and_name(word) is not None and word.partition("/")[0] not in words.POD_TYPES
-        for word in found.plain)
+@dataclass
+class Time:
+    """The values of --since and --at, and the moment from which they count."""
+
+    since: str | None
+    at: str | None
+    now: float
+
+    def words(self) -> list[str]:
+        """The same for a tool."""
+        return [*(["--since", self.since] if self.since else []), *(["--at", self.at] if self.at else [])]
+
+    @property
+    def span(self) -> tuple[int | None, int | None]:
+        return asked.span_of(self.since, self.at, self.now)
 
 
-def target_of(found: words.Words) -> workloads.Target:
-    """What the words name."""
-    selector = next(filter(None, map(found.value, words.SELECTOR)), None)
-    if len(found.plain) + (selector is not None) > 1:
-        raise entry.Fault("it takes one workload, pod or label (--help says more)")
-    if found.is_everywhere and not found.plain and selector is None:
-        raise entry.Fault("it wants -f FILE or FOLDER for traces that are here, or --node NODE for those of a node of "
-                          "a cluster, or -n NAMESPACE for those of a namespace")
-    if not found.plain:
-        return workloads.Target(found.namespace or words.current_namespace(found.context), selector=selector)
-    [word] = found.plain
-    named = workloads.kind_and_name(word)
-    if named is None:
-        key = words.key_of(word, found.namespace, lambda: words.current_namespace(found.context))
-        namespace, _, name = key.partition("/")
-        return workloads.Target(namespace, "pod", name)
-    if not named[1]:
-        raise entry.Fault(f"{word} names none: {word}NAME (--help says more)")
-    return workloads.Target(found.namespace or words.current_namespace(found.context), *named)
+@dataclass
+class Found:
+    """What is known of a workload before its traces are there: its pods, and the recorders of the nodes that have or
+    had some."""
+
+    members: workloads.Members
+    chosen: list[recorders.Recorder]
 
 
 def run(found: words.Words, is_of_kubectl: bool) -> int:
-    """Tells the story of what the words name; the status."""
-    from replay_tools.cluster import fetching, told
-    if is_of_kubectl and found.is_everywhere:
-        raise entry.Fault(f"{words.EVERYWHERE[0]} is for traces that are here: a workload is of one namespace")
-    target = target_of(found)
-    cluster = recorders.Cluster(found.context, found.value(words.RECORDERS) or recorders.NAMESPACE)
-    at, now = found.value("--at"), fetching.now()
-    since = found.value("--since") or (SINCE if at is None else None)
-    first, last = asked.span_of(since, at, now)
-    members = workloads.members_of(cluster, target)
-    if not members.nodes:
-        raise entry.Fault(f"{target.words()}: no pod of it is known, and no event of one says a node: --node NODE asks "
-                          "one", 1)
-    there = cluster.recorders()
-    without = [node for node in members.nodes if node not in there]
-    if without:
-        entry.say(f"no recorder on {named(without)}: nothing is told of {'it' if len(without) == 1 else 'them'}")
-    chosen = [there[node] for node in members.nodes if node in there]
-    if len(chosen) > MOST_NODES:
-        raise entry.Fault(f"{target.words()}: its pods are on {len(chosen)} nodes, and at most {MOST_NODES} are asked: "
-                          "a workload or a label has fewer")
-    try:
-        folder = tempfile.TemporaryDirectory(prefix="kubelet-replay-")
-    except OSError as fault:
-        raise files.no_room(fault.strerror) from None
-    with folder as path:
-        came = fetching.fetched(cluster, chosen, path, fetching.Wanted(first, last))
-        told_parts = (told_of(one, path, (since, at, now), members) for one in came)
-        parts = [part for part in told_parts if part is not None]
-        if not any(part.pods for part in parts):
-            raise entry.Fault(f"{target.words()}: nothing of it was recorded then on {named(list(members.nodes))}", 1)
-        is_list = target.kind is None and target.selector is None
-        sys.stdout.write(told.text(members, parts, clock_of(found).text, is_list))
+    """Prints the story of what the words name; the status."""
+    from replay_tools.cluster import layout, told
+    output = next(filter(None, map(found.value, words.OUTPUT)), None)
+    if output not in (None, "json"):
+        raise entry.Fault(f"{words.OUTPUT[0]} takes json, not '{output}'")
+    with gathering(found, is_of_kubectl) as (story, _, __):
+        if output == "json":
+            sys.stdout.write(told.record(story))
+        else:
+            sys.stdout.write(told.text(story, clock_of(found).text, layout.of_output(), words.ALL in found.rest))
     return 0
 
 
-def clock_of(found: words.Words) -> Clock:
-    """That which the words ask for, else UTC."""
-    return next((clock for clock in Clock if f"--{clock.value}" in found.rest), Clock.UTC)
+@contextlib.contextmanager
+def gathering(found: words.Words, is_of_kubectl: bool) -> Iterator[tuple[told.Story, str, Time]]:
+    """What is known of what the words name, with the folder of its traces, which goes again, and the time."""
+    if not is_of_kubectl and found.namespace is None and not targets.plain_of(found):
+        raise entry.Fault("it wants -f FILE or FOLDER for traces that are here, or --node NODE for those of a node of "
+                          "a cluster, or -n NAMESPACE for those of a namespace")
+    cluster, target, time = cluster_of(found), targets.target_of(found), time_of(found)
+    with Waiting(cluster.seconds) as waiting, folder_for_traces() as folder:
+        of_target = gathered(cluster, target, found.value("--node"), time, waiting)
+        story = story_of(cluster, of_target, folder, time, waiting)
+        if not story.recorded and not story.unrecorded:
+            raise nothing(story)
+        yield story, folder, time
 
 
-def named(nodes: list[str]) -> str:
-    more = f" and {len(nodes) - MOST_NAMED} more" if len(nodes) > MOST_NAMED else ""
-    return ", ".join(nodes[:MOST_NAMED]) + more
+def cluster_of(found: words.Words) -> recorders.Cluster:
+    """The cluster that the words name, and for how long a source may be silent."""
+    given = found.value(words.TIMEOUT)
+    seconds = recorders.SECONDS if given is None else seconds_of(given)
+    return recorders.Cluster(found.kubectl, found.value(words.RECORDERS) or recorders.NAMESPACE, seconds)
 
 
-def told_of(came: fetching.Fetched, folder: str, of_time: tuple[str | None, str | None, float],
-            members: workloads.Members) -> told.OnNode | None:
-    """What was recorded of a node; None where that is nothing, which is said."""
+def seconds_of(text: str) -> int:
+    """The value of --timeout: seconds, or a duration as 30s or 2m."""
+    seconds = asked.seconds_of(text if text[-1:].isalpha() else f"{text}s") if text.isascii() else 0
+    if not 1 <= seconds <= recorders.MOST_SECONDS:
+        raise entry.Fault(f"{words.TIMEOUT} takes seconds from 1 to {recorders.MOST_SECONDS}, not '{text}'")
+    return seconds
+
+
+def time_of(found: words.Words) -> Time:
+    from replay_tools.cluster import fetching
+    at = found.value("--at")
+    time = Time(found.value("--since") or (SINCE if at is None else None), at, fetching.now())
+    # what is no time is refused before anything is asked
+    asked.span_of(found.value("--since") or time.since, at, time.now)
+    return time
+
+
+def folder_for_traces() -> tempfile.TemporaryDirectory[str]:
+    try:
+        return tempfile.TemporaryDirectory(prefix="kubelet-replay-")
+    except OSError as fault:
+        raise files.no_room(fault.strerror) from None
+
+
+# --- which pods, on which nodes ---
+
+
+def gathered(cluster: recorders.Cluster, target: workloads.Target, node: str | None, time: Time,
+             waiting: Waiting) -> Found:
+    """The pods of a workload as the API server has them, and the recorders of the nodes of these and of those that are
+    gone."""
+    from concurrent.futures import ThreadPoolExecutor
+    with ThreadPoolExecutor(AT_ONCE) as threads:
+        of_members = threads.submit(workloads.members_of, cluster, target, waiting, threads)
+        there = recorders_of(cluster, waiting)
+        if node is not None:
+            there = {node: there[node]} if node in there else {}
+        # of a label without a pod no name is known
+        has_names = target.selector is None or of_members.result().forms
+        held = names_held(cluster, target, there, time, waiting, threads) if has_names else {}
+        members = with_whole_name(of_members.result(), held)
+    if node is not None:
+        members.keep_node(node)
+    workloads.take_events(members)
+    silent = {name for name, keys in held.items() if keys is None}
+    chosen = [one for name, one in there.items() if name not in silent and (
+        name in members.nodes or any(map(members.has, held.get(name) or ())))]
+    if len(chosen) > MOST_NODES:
+        waiting.miss(f"{len(chosen) - MOST_NODES} nodes", f"at most {MOST_NODES} are asked for their traces")
+    return Found(members, chosen[:MOST_NODES])
+
+
+def recorders_of(cluster: recorders.Cluster, waiting: Waiting) -> dict[str, recorders.Recorder]:
+    """The recorders by their nodes; none if there are none, or if they may not be listed."""
+    try:
+        with waiting.for_answer(OF_RECORDERS):
+            return cluster.recorders()
+    except entry.Fault as fault:
+        if fault.status == 127:
+            raise
+        waiting.miss(OF_RECORDERS, str(fault))
+        return {}
+
+
+def names_held(cluster: recorders.Cluster, target: workloads.Target, there: dict[str, recorders.Recorder], time: Time,
+               waiting: Waiting, threads: Executor) -> dict[str, set[str] | None]:
+    """The pods that each recorder's traces have of a time, of names that may fit, so that those are found which are
+    gone; None of a recorder that does not answer at all."""
+    def of_one(recorder: recorders.Recorder) -> set[str] | None:
+        try:
+            with waiting.for_answer(recorder.node):
+                return cluster.names(recorder, workloads.name_pattern(target), time.span[0])
+        except recorders.NoAnswer as fault:
+            waiting.miss(recorder.node, str(fault))
+            return None if isinstance(fault, kubectl.Silent) else set()
+
+    if len(there) > MOST_ASKED:
+        waiting.miss(f"{len(there) - MOST_ASKED} recorders", f"at most {MOST_ASKED} are asked for pods that are gone")
+    asked_for = dict(list(there.items())[:MOST_ASKED])
+    return dict(zip(asked_for, threads.map(of_one, asked_for.values())))
+
+
+def with_whole_name(members: workloads.Members, held: dict[str, set[str] | None]) -> workloads.Members:
+    """The members of a pod whose name may be cut: it has to fit one pod, of the API server's or of the traces'."""
+    target = members.target
+    if target.kind != "pod":
+        return members
+    namespace = f"{target.namespace}/"
+    keys = {key for keys in held.values() for key in keys or () if key.startswith(namespace)}
+    keys |= {f"{namespace}{name}" for name in members.others} | set(members.pods)
+    key = naming.only_key(f"{namespace}{target.name}", sorted(keys))
+    if key is None or key == f"{namespace}{target.name}":
+        return members
+    return members.renamed(key)
+
+
+# --- the story ---
+
+
+def story_of(cluster: recorders.Cluster, found: Found, folder: str, time: Time, waiting: Waiting) -> told.Story:
+    """What the traces and the API server have. Each node's traces are replayed as they come."""
+    from replay_tools.cluster import fetching, told, unrecorded
+    members, parts = found.members, []
+    if found.chosen:
+        for came in fetching.coming(cluster, found.chosen, folder, fetching.Wanted(*time.span), waiting):
+            part = part_of(came, folder, time, members, waiting)
+            parts += [] if part is None else [part]
+    parts.sort(key=lambda part: part.node)
+    recorded = {pod.key for part in parts for pod in part.pods}
+    others = unrecorded.worst_first(unrecorded.pod_of(key, pod) for key, pod in members.pods.items()
+                                    if key not in recorded)
+    without = sorted({pod.node for pod in others if pod.node} - {one.node for one in found.chosen})
+    if without and OF_RECORDERS not in waiting.missing:
+        waiting.miss(", ".join(without[:MOST_NODES]), "no recorder")
+    return told.Story(members, parts, others, waiting.missing)
+
+
+def part_of(came: fetching.Fetched, folder: str, time: Time, members: workloads.Members,
+            waiting: Waiting) -> told.OnNode | None:
+    """What was recorded of a node; None where that is nothing, which is missing."""
     from replay_tools import endings
     from replay_tools.cluster import told
     from replay_tools.joined import join
     for fault in came.faults:
-        entry.say(f"{came.node}: {fault}")
+        waiting.miss(came.node, fault)
     if not came.copied:
         return None
-    since, at, now = of_time
     try:
-        several = join.joined(asked.asked_at([folder], came.node, since, at, now))
+        several = join.joined(asked.asked_at([folder], came.node, time.since, time.at, time.now))
     except entry.Fault as fault:
         if fault.status == 127:
             raise
-        entry.say(f"{came.node}: {fault}")
+        waiting.miss(came.node, str(fault))
         return None
     if several.trace is not None:
         endings.tell_left(several.trace, several.report)
     return told.on_node(came.node, several, members)
 
 
-def candidates(found: words.Words, last: str) -> list[str]:
-    """What the last word may become where no file and no node is named: kinds, and the names of one."""
-    kind, slash, _ = last.partition("/")
-    if not slash:
-        return [f"{names[0]}/" for names, _ in workloads.KINDS.values()]
-    if kind not in workloads.TYPES:
-        return []
-    cluster, namespace = recorders.Cluster(found.context), found.namespace or words.current_namespace(found.context)
-    names = workloads.names_of(cluster, workloads.TYPES[kind], namespace, SECONDS_OF_COMPLETION)
-    return [f"{kind}/{name}" for name in names]
+def nothing(story: told.Story) -> entry.Fault:
+    """That nothing is known of a workload, with the first thing that did not come."""
+    target = story.members.target
+    why = story.missing.get(target.words())
+    said = f"{target.words()} {why}" if why else \
+        f"{target.words()}: no pod of it is known, in the cluster or in a trace of that time"
+    return entry.Fault(said, 1, missing_words(story))
+
+
+def missing_words(story: told.Story) -> str | None:
+    """What was asked for and did not come, in one line."""
+    own = story.members.target.words()
+    return "; ".join(f"{name}: {why}" for name, why in story.missing.items() if name != own) or None
+
+
+def clock_of(found: words.Words) -> Clock:
+    """That which the words ask for, else UTC."""
+    return next((clock for clock in Clock if f"--{clock.value}" in found.rest), Clock.UTC)
