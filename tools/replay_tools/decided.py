@@ -14,6 +14,7 @@ if TYPE_CHECKING:
     from replay_tools.traces import Pod, Trace
 
 EVICTED = "Evicted"
+OF_WORDS = frozenset(("deleting", "failed"))
 # docs/extended.md: the word that a tick has of a pod that the node has ended
 REASON = re.compile(r"[A-Za-z][A-Za-z0-9_./-]{0,62}", re.ASCII)
 # who deletes a pod, by the reason of its condition DisruptionTarget (Kubernetes, "Disruptions")
@@ -61,9 +62,11 @@ def take_words(trace: Trace, present: dict[str, Pod]) -> None:
     """What the newest tick says of pods that are being deleted, and of those that the node has ended: the first tick
     counts. What else is known of a deletion may come later."""
     tick = trace.ticks[-1]
-    if not trace.heeds_words() or not (tick.may_have(b"deleting") or tick.may_have(b"failed")):
+    if not trace.heeds_words():
         return
     for key, entry in tick.entries.items():
+        if OF_WORDS.isdisjoint(entry):
+            continue
         pod = present[key]
         if entry.get("deleting") is True:
             known = trace.deletions.setdefault(pod.number, Deletion(tick.at))

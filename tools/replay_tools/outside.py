@@ -67,6 +67,8 @@ def text_of(value: Any) -> str | None:
 def visible(text: str) -> str:
     """A text as one line that a terminal only shows, whatever names are in it: what can't be printed, as an escape byte
     or the end of a line, is written as Python writes it, and a byte of a name that is not UTF-8 as \\xff."""
+    if text.isprintable():
+        return text
     return "".join(each if each.isprintable() else escaped(each) for each in text)
 
 

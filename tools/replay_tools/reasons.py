@@ -3,6 +3,7 @@ alone, and 137 also for an instance that a tick just leaves out."""
 
 from __future__ import annotations
 
+from collections.abc import Iterator
 from dataclasses import dataclass, field
 from typing import Any, TYPE_CHECKING
 
@@ -18,9 +19,9 @@ PLAIN = "Error"
 HOOK_FAILED = "PostStartHookError"
 # a start that failed
 NEVER_RAN = ("StartError", "ContainerCannotRun", "CreateContainerError", "RunContainerError")
-# a tick line without one of them says no reason
-SIGNS = (b'"reason"', b'"waiting"', b'"ended"', b'"guessed"', b'"readinessGates"', b'"readyTurns"',
-         b"\\u")
+# entries and listings without one of these members say no reason; most have none of them
+OF_ENTRY = frozenset(("guessed", "readinessGates", "readyTurns", "waiting"))
+OF_LISTING = frozenset(("ended", "guessed", "reason"))
 # in the array of members that were guessed, as where a log says of an exit no code, and of a start or an exit no moment
 # but that of the kubelet's next look
 CODE, MOMENT, PHASE = "exitCode", "moment", "phase"
@@ -76,32 +77,36 @@ class Reasons:
         self.looked: set[tuple[str, int, str, int]] = set()
         """the starts and deaths that are known by a look: the event's word, the pod's number, container and attempt"""
 
-    def take(self, line: bytes, at: int, entries: dict[str, dict[str, Any]], present: dict[str, traces.Pod]) -> None:
-        """What a tick says, by its bytes and its entries."""
-        if not self.open and not self.closed and not any(sign in line for sign in SIGNS):
-            return
+    def take(self, at: int, entries: dict[str, dict[str, Any]], present: dict[str, traces.Pod]) -> None:
+        """What a tick says, by its entries."""
         waiting: dict[tuple[int, str], tuple[str, str | None]] = {}
         closed: dict[tuple[int, str], tuple[str, str | None]] = {}
         for key, found in entries.items():
-            number = present[key].number
-            for turn in dicts_at(found, "readyTurns"):
-                self.take_turn(number, turn)
-            if is_guessed_in(found, PHASE):
-                self.unknown_phases.add(number)
-            for listed in dicts_at(found, "containers"):
-                has_words = any(word in listed for word in ("reason", "guessed"))
-                if is_guessed_in(listed, MOMENT):
-                    self.take_look(number, listed)
-                for said in (listed if has_words else None, listed.get("ended")):
-                    if isinstance(said, dict) and isinstance(listed.get("name"), str):
-                        self.take_end(number, listed["name"], said)
-            for each in dicts_at(found, "waiting"):
-                reason = text_at(each, "reason")
-                if reason and isinstance(each.get("container"), str):
-                    waiting[number, each["container"]] = reason, text_at(each, "message")
-            closed.update({(number, gate): ("readiness gate", None) for gate in closed_gates(found)})
+            listed = found.get("containers")
+            for each in listed if isinstance(listed, list) else ():
+                if isinstance(each, dict) and not OF_LISTING.isdisjoint(each):
+                    self.take_listing(present[key].number, each)
+            if not OF_ENTRY.isdisjoint(found):
+                number = present[key].number
+                self.take_pod(number, found)
+                waiting.update(waits_in(number, found))
+                closed.update({(number, gate): ("readiness gate", None) for gate in closed_gates(found)})
         take_waits(self.waits, self.open, at, waiting)
         take_waits(self.gates, self.closed, at, closed)
+
+    def take_pod(self, number: int, found: dict[str, Any]) -> None:
+        for turn in dicts_at(found, "readyTurns"):
+            self.take_turn(number, turn)
+        if is_guessed_in(found, PHASE):
+            self.unknown_phases.add(number)
+
+    def take_listing(self, number: int, listed: dict[str, Any]) -> None:
+        has_words = any(word in listed for word in ("reason", "guessed"))
+        if is_guessed_in(listed, MOMENT):
+            self.take_look(number, listed)
+        for said in (listed if has_words else None, listed.get("ended")):
+            if isinstance(said, dict) and isinstance(listed.get("name"), str):
+                self.take_end(number, listed["name"], said)
 
     def take_turn(self, number: int, turn: dict[str, Any]) -> None:
         moment, status = outside.moment(turn.get("at")), text_at(turn, "status")
@@ -163,6 +168,14 @@ def take_waits(waits: dict[tuple[int, str], list[Wait]], still: dict[tuple[int, 
         if place not in still:
             still[place] = Wait(at, None, reason, message)
             waits.setdefault(place, []).append(still[place])
+
+
+def waits_in(number: int, found: dict[str, Any]) -> Iterator[tuple[tuple[int, str], tuple[str, str | None]]]:
+    """The reasons for which the containers of a pod wait, by its number and the container, with their messages."""
+    for each in dicts_at(found, "waiting"):
+        reason = text_at(each, "reason")
+        if reason and isinstance(each.get("container"), str):
+            yield (number, each["container"]), (reason, text_at(each, "message"))
 
 
 def closed_gates(found: dict[str, Any]) -> list[str]:

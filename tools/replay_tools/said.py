@@ -11,7 +11,6 @@ from replay_tools.reasons import dicts_at, text_at
 if TYPE_CHECKING:
     from replay_tools import report as reports, traces
 
-SIGN = b'"said"'
 UNHEALTHY = "Unhealthy"
 # how the message of an Event goes on behind the word of a probe, as Liveness
 FAILED = " probe failed: "
@@ -63,11 +62,11 @@ class SaidOfPods:
     def __init__(self) -> None:
         self.of_pod: dict[int, dict[Said, None]] = {}
 
-    def take(self, line: bytes, entries: dict[str, dict[str, Any]], present: dict[str, traces.Pod]) -> None:
-        """What a tick says, by its bytes and its entries."""
-        if SIGN not in line and b"\\u" not in line:
-            return
+    def take(self, entries: dict[str, dict[str, Any]], present: dict[str, traces.Pod]) -> None:
+        """What a tick says, by its entries."""
         for key, entry in entries.items():
+            if "said" not in entry:
+                continue
             for said in filter(None, map(said_of, dicts_at(entry, "said"))):
                 self.add(present[key].number, said)
 

@@ -147,6 +147,10 @@ class Tick:
     after_reclaim: dict[str, int]
     is_judged: bool = True
     """whether the node decides at it"""
+    not_ready: dict[str, Any] | None = None
+    """what it has of a node that is not Ready, as it is written"""
+    kubelet_started_at: int | None = None
+    """the second at which the kubelet was started, if it has one"""
 
     @property
     def entries(self) -> dict[str, dict[str, Any]]:
@@ -156,21 +160,6 @@ class Tick:
     def may_have(self, name: bytes) -> bool:
         """Whether a member of this name may be in its line, where it may be written with escapes."""
         return any(self.lines.text.find(sign, self.begin, self.end) >= 0 for sign in (name, b"\\u"))
-
-    @property
-    def not_ready(self) -> dict[str, Any] | None:
-        """What it says of a node that is not Ready, as it is written."""
-        line = outside.json_of(self.lines.text[self.begin : self.end]) if self.may_have(b"nodeReady") else None
-        said = line.get("nodeReady") if isinstance(line, dict) else None
-        return said if isinstance(said, dict) and said.get("status") in ("False", "Unknown") else None
-
-
-    @property
-    def kubelet_started_at(self) -> int | None:
-        """The second at which the kubelet was started, where it says so."""
-        may = self.may_have(b"kubeletStartedAt")
-        line = outside.json_of(self.lines.text[self.begin : self.end]) if may else None
-        return outside.whole(line.get("kubeletStartedAt"), 0, self.at) if isinstance(line, dict) else None
 
 
 @dataclass
@@ -400,8 +389,8 @@ def trace_with(trace: Trace | None, present: dict[str, Pod], lines: Lines, begin
         trace.ticks[-1].is_judged = not (trace.heeds_words() and found.get("judged") is False)
         take_words(trace, present)
         trace.decisions += decisions_of(trace, found)
-        trace.reasons.take(lines.text[begin:end], trace.ticks[-1].at, trace.ticks[-1].entries, present)
-        trace.said.take(lines.text[begin:end], trace.ticks[-1].entries, present)
+        trace.reasons.take(trace.ticks[-1].at, trace.ticks[-1].entries, present)
+        trace.said.take(trace.ticks[-1].entries, present)
     else:
         raise Wrong("kind")
     return trace
@@ -428,7 +417,13 @@ def tick_of(found: dict[str, Any], lines: Lines, begin: int, end: int) -> Tick:
         at = int(at)
     if not isinstance(at, int) or isinstance(at, bool):
         raise Wrong("at")
-    return Tick(at, lines, begin, end, samples(found, "signals"), samples(found, "afterReclaim"))
+    return Tick(at, lines, begin, end, samples(found, "signals"), samples(found, "afterReclaim"),
+                not_ready=not_ready_of(found), kubelet_started_at=outside.whole(found.get("kubeletStartedAt"), 0, at))
+
+
+def not_ready_of(found: dict[str, Any]) -> dict[str, Any] | None:
+    said = found.get("nodeReady")
+    return said if isinstance(said, dict) and said.get("status") in ("False", "Unknown") else None
 
 
 def entries_of(found: dict[str, Any]) -> dict[str, dict[str, Any]]:

@@ -110,6 +110,35 @@ def asked(database, query):
         connection.close()
 
 
+def found_trace(is_recorded):
+    """A trace that begins with a container that had exited twice, which then exits once more."""
+    node = {"kind": "node", "version": 3, "name": "n1", **({"recordsKubelet": True} if is_recorded else {})}
+    pod = {"metadata": {"name": "web", "namespace": "shop"}, "spec": {"containers": [{"name": "app"}]}}
+    listings = [{"attempt": 1, "state": "CONTAINER_EXITED", "exitCode": 3, "reason": "Error"},
+                {"attempt": 2, "state": "CONTAINER_RUNNING"},
+                {"attempt": 2, "state": "CONTAINER_EXITED", "exitCode": 4, "reason": "Error"}]
+    lines = [node, {"kind": "pod", "pod": pod},
+             *({"kind": "tick", "at": 1767225600 + 30 * place, "pods": [
+                 {"pod": "shop/web", "containers": [{"name": "app", **each}]}]} for place, each in enumerate(listings))]
+    return "".join(f"{json.dumps(line)}\n" for line in lines)
+
+
+def test_what_a_recorder_found():
+    """Of a trace of a recorder that follows no other, its first tick shows what the recorder found: those deaths and
+    restarts are not counted again."""
+    for is_recorded, wanted in ((True, ([("4", 1)], [(1,)])), (False, ([("3", 1), ("4", 1)], [(2,)]))):
+        with tempfile.TemporaryDirectory() as folder:
+            with open(f"{folder}/n1.trace", "w", encoding="utf-8") as file:
+                file.write(found_trace(is_recorded))
+            answer = run([FLEET, "run", f"{folder}/n1.trace", "--out", f"{folder}/db", "--processes", "1"])
+            connection = sqlite3.connect(f"{folder}/db")
+            deaths = connection.execute("SELECT code, SUM(times) FROM causes WHERE cause = 'died' GROUP BY code")
+            restarts = connection.execute("SELECT restarts_since FROM pods")
+            got = [(str(code), times) for code, times in deaths.fetchall()], restarts.fetchall()
+            connection.close()
+            expect(f"what a recorder found, recorded {is_recorded}", (answer[0], answer[2], got), (0, "", wanted))
+
+
 def test_fleet_over_borders():
     """Traces one behind the other, which gzip has packed, come to what they come to as one: no second, restart, death
     or kill counts twice, and none is lost."""

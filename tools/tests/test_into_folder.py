@@ -23,6 +23,7 @@ from test_record import Recorder
 from player import Play
 from replay_tools.record.folder import Folder
 from replay_tools.record.into import LastingRecording, Traces
+from replay_tools.record.output import Ended
 from replay_tools.record.sources import Sources
 from replay_tools.record.words import words_of
 
@@ -172,6 +173,43 @@ class LinkingClock(Clock):
         super().wait(seconds)
         if self.moment == BEGIN + 10:
             os.symlink(self.target, self.link)
+
+
+class MovingClock(Clock):
+    """One that takes a folder away as it comes to its 25th second, and makes another one of its name or none."""
+
+    def __init__(self, folder, is_made_again):
+        super().__init__(BEGIN)
+        self.folder, self.is_made_again = folder, is_made_again
+
+    def wait(self, seconds):
+        super().wait(seconds)
+        if self.moment == BEGIN + 25:
+            os.rename(self.folder, f"{self.folder}.before")
+            if self.is_made_again:
+                os.mkdir(self.folder, 0o755)
+
+
+def test_a_folder_that_is_replaced():
+    """A recorder whose folder was removed, or removed and made again, stops with status 1, says so, and writes nothing
+    into the new one, which another recorder may use."""
+    for name, is_made_again in (("removed", False), ("made again", True)):
+        into = Into(quiet_node(1, 60))
+        clock = MovingClock(into.folder, is_made_again)
+        try:
+            recorded_here(into, clock, "--for", "40", "--each", "20s")
+            ended = None
+        except Ended as raised:
+            ended = raised.status, raised.reason
+        expect(f"a folder that was {name}", ended, (1, f"--into: '{into.folder}' was removed or replaced: the recorder "
+                                                       "stops, and writes nothing into what is there now"))
+        expect(f"a folder that was {name}: when it stops", clock.moment - BEGIN, 25)
+        expect(f"a folder that was {name}: what is there", into.names() if is_made_again
+               else os.path.lexists(into.folder), [] if is_made_again else False)
+        expect(f"a folder that was {name}: what was there", os.listdir(f"{into.folder}.before") != [], True)
+        if is_made_again:
+            expect("a folder that was made again: another recorder", into.into("--for", "10"), (0, "", ""))
+        into.clean()
 
 
 def made_in(into):

@@ -273,7 +273,7 @@ def test_a_pod_that_went_before_a_gap():
     os.remove(f"{into.folder}/n1.2026-01-01T00-00-40Z.trace.gz")
     told = run([f"{TOOLS}/story", "--traces", into.folder, "shop/early"])[1]
     conditions = told.partition("Conditions\n")[2].partition("\n\n")[0]
-    expect("a pod that went before a gap", ("00:00:32Z" in conditions, "00:01:00Z" in conditions), (True, False))
+    expect("a pod that went before a gap", ("00:00:36Z" in conditions, "00:01:00Z" in conditions), (True, False))
     into.clean()
 
 

@@ -101,7 +101,8 @@ def test_readiness_gates():
         {"from": 9, "status": {"conditions": [condition("mesh.example/ready", "Unknown"),
                                               condition("target-health", "True")]}}]})
     lines, answer = recorded(play, "--extended", "--every", "5", "--for", "40")
-    expect("readiness gates", (answer, said_of(lines, "readinessGates")), ((0, ""), [
+    said = "record: 1 text of manifests is left out: Kubernetes' grammar doesn't allow them\n"
+    expect("readiness gates", (answer, said_of(lines, "readinessGates")), ((0, said), [
         (0, {"target-health": False, "mesh.example/ready": True}),
         (10, {"target-health": True, "mesh.example/ready": False})]))
     standing = Standing()
@@ -110,6 +111,22 @@ def test_readiness_gates():
     begun = [json.loads(line) for line in standing.beginning(BEGIN + 60, None)]
     expect("readiness gates, over a border", begun[-1]["pods"][0]["readinessGates"],
            {"target-health": True, "mesh.example/ready": False})
+
+
+def test_texts_of_a_manifest():
+    """What Kubernetes' grammar does not allow may be anything, as a secret: it is left out and counted."""
+    gates = ["a b", "-begins", "ends-", "Upper/x", "mesh..example/x", "mesh.example/", "x" * 64, "x/y/z"]
+    status = {"containerStatuses": [{"name": "app", "resources": {"limits": {"memory": "PLANTED one", "cpu": "1"}}}]}
+    spec = {"readinessGates": [{"conditionType": gate} for gate in [*gates, "mesh.example/Ready_1"]],
+            "resources": {"requests": {"memory": "PLANTED two"}, "limits": {"memory": "1Gi"}}}
+    play = play_of(web={"spec": spec, "says": [{"from": 0, "status": status}]})
+    lines, answer = recorded(play, "--extended", "--every", "5", "--for", "40")
+    expect("texts of a manifest", answer, (0, "record: 10 texts of manifests are left out: Kubernetes' grammar doesn't "
+                                              "allow them\n"))
+    expect("texts of a manifest: gates", said_of(lines, "readinessGates"), [(0, {"mesh.example/Ready_1": False})])
+    expect("texts of a manifest: what is planted", "PLANTED" in json.dumps(lines), False)
+    expect("texts of a manifest: what is allowed", lines["pod"][0]["pod"]["spec"]["resources"],
+           {"requests": {}, "limits": {"memory": "1Gi"}})
 
 
 def test_who_deletes():

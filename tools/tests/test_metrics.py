@@ -51,7 +51,7 @@ def series_of(text, *names):
     """What a text has of some families: {labels: value}."""
     found = {}
     for line in text.splitlines():
-        parts = re.fullmatch(r"kubelet_recorder_([a-z_]+)(?:\{(.*)\})? (\S+)", line)
+        parts = re.fullmatch(r"kubelet_recorder_([a-z_]+?)(?:_total)?(?:\{(.*)\})? (\S+)", line)
         if parts and parts[1] in names:
             labels = re.findall(r'([a-z]+)="([^"]*)"', parts[2] or "")
             kept = [value for label, value in labels if label not in ("namespace", "container")]
@@ -98,14 +98,22 @@ def test_readers():
     if "No module" not in done.stderr:
         samples = sum(not line.startswith("#") for line in text.splitlines())
         expect("metrics: the parser of OpenMetrics", (done.stdout, done.stderr), (f"{samples}\n", ""))
-    there = set(re.findall(r"# TYPE kubelet_recorder_([a-z_]+) gauge", text))
+    there = {name + ("_total" if kind == "counter" else "")
+             for name, kind in re.findall(r"# TYPE kubelet_recorder_([a-z_]+) ([a-z]+)", text)}
+    expect("metrics: what only rises is a counter", sorted(name for name in there if name.endswith("_total")), [
+        "deaths_total", "ended_total", "evictions_total", "kills_total", "restarts_total", "unready_seconds_total"])
+    expect("metrics: samples of counters", re.findall(r"(?m)^kubelet_recorder_(?:restarts|deaths|kills|evictions|ended)[ {]",
+                                                     text), [])
     for name in (RULES, DASHBOARD):
         asked = set(re.findall(r"kubelet_recorder_([a-z_]+)", read(name)))
         expect(f"metrics: what {os.path.basename(name)} asks for", (asked - there, asked != set()), (set(), True))
     expect("metrics: the panels", len(json.loads(read(DASHBOARD))["panels"]), 10)
     if shutil.which("promtool") is None:
         return
-    for name, words, given in (("metrics", ["check", "metrics"], text), ("rules", ["check", "rules", RULES], "")):
+    # promtool reads the older form, in which the type and the help of a counter have the name of its samples
+    older = re.sub(r"(?m)^# TYPE (\S+) counter\n((?:# UNIT .*\n)?)# HELP \1 ",
+                   r"# TYPE \1_total counter\n\2# HELP \1_total ", text)
+    for name, words, given in (("metrics", ["check", "metrics"], older), ("rules", ["check", "rules", RULES], "")):
         done = subprocess.run(["promtool", *words], input=given, capture_output=True, text=True, check=False)
         expect(f"metrics: promtool, {name}", (done.returncode, done.stderr), (0, ""))
 
@@ -116,32 +124,39 @@ evaluation_interval: 30s
 tests:
 - interval: 30s
   input_series:
-  - {series: 'kubelet_recorder_deaths{pod="oom",container="app",namespace="shop",reason="OOMKilled",instance="n1"}',
+  - {series: 'kubelet_recorder_deaths_total{pod="oom",container="app",namespace="shop",reason="OOMKilled",instance="n1"}',
      values: '_x60 1x80'}
-  - {series: 'kubelet_recorder_deaths{pod="old",container="app",namespace="shop",reason="OOMKilled",instance="n1"}',
+  - {series: 'kubelet_recorder_deaths_total{pod="old",container="app",namespace="shop",reason="OOMKilled",instance="n1"}',
      values: '3x200'}
-  - {series: 'kubelet_recorder_evictions{instance="n1"}', values: '0x60 1x80'}
-  - {series: 'kubelet_recorder_restarts{pod="oom",container="app",namespace="shop",instance="n1"}',
+  - {series: 'kubelet_recorder_evictions_total{instance="n1"}', values: '0x60 1x80'}
+  - {series: 'kubelet_recorder_restarts_total{pod="oom",container="app",namespace="shop",instance="n1"}',
      values: '0x60 1 2 3 4 5 6x80'}
-  - {series: 'kubelet_recorder_kills{pod="hung",container="app",namespace="shop",probe="liveness",instance="n1"}',
+  - {series: 'kubelet_recorder_kills_total{pod="hung",container="app",namespace="shop",probe="liveness",instance="n1"}',
      values: '_x60 1 1 2x80'}
   - {series: 'kubelet_recorder_last_tick_seconds{instance="n1"}', values: '0+30x200'}
   - {series: 'kubelet_recorder_last_tick_seconds{instance="n2"}', values: '0+30x50 1500x200'}
+  - {series: 'kubelet_recorder_last_tick_seconds{instance="n3"}', values: '0+30x60 _x140'}
+  - {series: 'kubelet_recorder_restarts_total{pod="loop",container="app",namespace="shop",instance="n1"}',
+     values: '0x11 1x11 2x11 3x11 4x11 5x11 6x11 7x11 8x60'}
   alert_rule_test:
 """
 # when each alert is there: minutes since the recorders began, and of which pods, or of which node
 FIRED = (
     ("ContainerOutOfMemory", 29, []), ("ContainerOutOfMemory", 32, ["oom"]), ("ContainerOutOfMemory", 50, []),
     ("NodeEvicts", 29, []), ("NodeEvicts", 32, ["n1"]), ("NodeEvicts", 50, []),
-    ("ContainerRestarts", 30, []), ("ContainerRestarts", 34, ["oom"]), ("ContainerRestarts", 60, []),
+    ("ContainerRestarts", 12, []), ("ContainerRestarts", 30, ["loop"]), ("ContainerRestarts", 34, ["oom", "loop"]),
+    ("ContainerRestarts", 47, ["loop"]), ("ContainerRestarts", 60, []),
     ("ContainerKilledByProbe", 30, []), ("ContainerKilledByProbe", 32, ["hung"]), ("RecorderSilent", 32, []),
-    ("RecorderSilent", 40, ["n2"]))
+    ("RecorderSilent", 40, ["n2"]), ("RecorderGone", 35, []), ("RecorderGone", 50, ["n3"]), ("RecorderGone", 99, []),
+    ("NoRecorder", 50, []))
 SAYS = {"ContainerOutOfMemory": "shop/{0} app ran out of memory", "NodeEvicts": "the kubelet of {0} evicts pods",
         "ContainerRestarts": "shop/{0} app is restarted again and again",
         "ContainerKilledByProbe": "the liveness probe of shop/{0} kills it",
-        "RecorderSilent": "the recorder of {0} has written nothing for five minutes"}
+        "RecorderSilent": "the recorder of {0} has written nothing for five minutes",
+        "RecorderGone": "the metrics of the recorder of {0} are gone"}
 LABELS = {"ContainerOutOfMemory": {"severity": "warning", "reason": "OOMKilled"}, "NodeEvicts": {"severity": "critical"},
           "ContainerRestarts": {"severity": "warning"}, "RecorderSilent": {"severity": "warning"},
+          "RecorderGone": {"severity": "warning"},
           "ContainerKilledByProbe": {"severity": "warning", "probe": "liveness"}}
 
 
@@ -158,7 +173,7 @@ def test_alerts():
     text = ALERTS.replace("{rules}", RULES)
     for alert, minutes, names in FIRED:
         alerts = [{"exp_annotations": {"summary": SAYS[alert].format(name)}, "exp_labels": {
-            **LABELS[alert], **({"instance": name} if name in ("n1", "n2") else {
+            **LABELS[alert], **({"instance": name} if name in ("n1", "n2", "n3") else {
                 "instance": "n1", "namespace": "shop", "container": "app", "pod": name})}} for name in names]
         text += f"  - {json.dumps({'eval_time': f'{minutes}m', 'alertname': alert, 'exp_alerts': alerts})}\n"
     text += "  promql_expr_test:\n"

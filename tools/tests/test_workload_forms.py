@@ -38,8 +38,9 @@ def test_without_a_time():
         cluster.put("api/all/pods.json", json.dumps({"items": [pod("a", "n1"), {**pod("b", "n2"), "metadata": {
             "name": "b", "namespace": "far"}}]}))
         cluster.put("api/all/events.json", '{"items":[]}')
-        for words, first in ((("pod/oom", "-n", "shop"), "pod/oom in shop: 1 pod,"), (("oom", "-n", "shop"), "pod/oom in"),
-                             (("oom",), "pod/oom in shop: 1 pod"), (("-n", "shop"), "namespace shop: 7 pods,"),
+        for words, first in ((("pod/oom", "-n", "shop"), "pod/oom in shop: 1 pod,"),
+                             (("oom", "-n", "shop"), "pod/oom in"), (("oom",), "pod/oom in shop: 1 pod"),
+                             (("-n", "shop"), "namespace shop: 7 pods,"),
                              (("-A",), "all namespaces: 2 pods, none recorded, on 2 nodes")):
             status, told, _ = cluster.run("story", *words)
             expect(f"story {' '.join(words)}", (status, told.startswith(first)), (0, True))
@@ -55,16 +56,19 @@ def test_other_tools_of_a_workload():
             0, [f"shop/{NEW}-aaaaa", "shop/web-5f6d8-bbbbb", f"shop/{NEW}-ccccc"],
             "kubectl-replay: worker-4: no recorder\n"))
         status, told, said = cluster.run("page", "deploy/web", *SINCE)
-        expect("page deploy/web", (status, "<title>worker-1" in told, said.split("\n")[1]), (
-            0, True, "kubectl-replay: the page is of worker-1, where the worst pod was; --node chooses one of worker-2"))
+        expect("page deploy/web", (status, "<title>worker-1" in told, said.split("\n")[1]), (0, True, (
+            "kubectl-replay: the page is of worker-1, where the worst pod was; --node chooses one of worker-2")))
         told = cluster.run("page", "deploy/web", "--node", "worker-2", *SINCE)[1]
         expect("page deploy/web --node", "<title>worker-2" in told, True)
+        status, told, _ = cluster.run("timeline", "deploy/web", *SINCE)
+        expect("timeline deploy/web", (status, f"{NEW}-aaaaa" in told, "<svg" in told), (0, True, True))
         status, told, _ = cluster.run("json", "deploy/web", *SINCE)
         records = [json.loads(line) for line in told.splitlines()]
         expect("json deploy/web", (status, {one["node"] for one in records}, any(one.get("pod") == "shop/other"
                                                                               for one in records)),
                (0, {"worker-1", "worker-2"}, False))
-        expect_refused("json deploy/web --sqlite", cluster.run("json", "deploy/web", "--sqlite", "x"), 2, "--sqlite is for")
+        expect_refused("json deploy/web --sqlite", cluster.run("json", "deploy/web", "--sqlite", "x"), 2,
+                       "--sqlite is for")
         expect_refused("page -n", cluster.run("page", "-n", "shop"), 2, "-n is for a workload, as page deploy/web")
         expect("no folder is left", os.listdir(f"{cluster.path}/kept"), [])
 
@@ -96,8 +100,8 @@ def test_on_a_terminal():
         wide = cluster.run("story", "deploy/web", *SINCE)[1]
         for columns in (60, 80, 132, 400):
             status, told, said = on_terminal(cluster, columns, "story", "deploy/web", *SINCE, NO_COLOR="1")
-            expect(f"story in {columns} columns", (status, said, max(map(len, told.split("\n"))) <= columns, "\x1b" in told),
-                   (0, "", True, False))
+            expect(f"story in {columns} columns", (status, said, max(map(len, told.split("\n"))) <= columns,
+                                                   "\x1b" in told), (0, "", True, False))
             expect(f"story in {columns} columns breaks no word", sorted(set(wide.split()) - set(told.split())), [])
         expect("story on a wide terminal", told, wide)
         told = on_terminal(cluster, 80, "story", "deploy/web", *SINCE)[1]
@@ -118,8 +122,8 @@ def test_most_events():
         events = [event(f"{NEW}-aaaaa", f"Odd{at}", "it is", at) for at in range(50)]
         cluster.put("api/shop/events.json", json.dumps({"items": [*events, *events[:1]]}))
         told = cluster.run("story", "deploy/web")[1]
-        expect("the last events", (told.count("the API's event"), "Odd49" in told, "  31 more events, which --all" in told),
-               (20, True, True))
+        expect("the last events", (told.count("the API's event"), "Odd49" in told,
+                                   "  31 more events, which --all" in told), (20, True, True))
         expect("all events", cluster.run("story", "deploy/web", "--all")[1].count("the API's event"), 51)
 
 

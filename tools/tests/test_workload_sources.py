@@ -37,8 +37,8 @@ def test_options_of_kubectl():
     """They are passed on to every call; an unknown option is none of them, and asks nothing."""
     given = ("--kubeconfig", "X", "--as", "bob", "--as-group=ops", "--context", "far", "--cluster", "c", "--user", "u",
              "--token", "t", "-s", "https://h:1", "--request-timeout", "5s")
-    wanted = (" --kubeconfig=X --as=bob --as-group=ops --context=far --cluster=c --user=u --token=t --server=https://h:1"
-              " --request-timeout=5s ")
+    wanted = (" --kubeconfig=X --as=bob --as-group=ops --context=far --cluster=c --user=u --token=t "
+              "--server=https://h:1 --request-timeout=5s ")
     with Bare() as cluster:
         for words in (("story", "deploy/web", "-n", "shop"), ("story", "-n", "shop"), ("nodes",),
                       ("story", "web", "-n", "shop", "--node", "worker-1"), ("fetch", "worker-1")):
@@ -171,8 +171,8 @@ def test_readers_are_asked_first():
                                      "reader-a" in kept(cluster, "listed")), (0, True, False, True))
         cluster.put("pods.fails", FORBIDDEN.format("pods", "pods"))
         status, told, _ = cluster.run("fetch", "worker-1", "--into", f"{cluster.path}/here")
-        expect("fetch by a reader, without a right at the recorders", (status, told.startswith("worker-1: 1 trace copied")),
-               (0, True))
+        expect("fetch by a reader, without a right at the recorders", (
+            status, told.startswith("worker-1: 1 trace copied")), (0, True))
         expect("nodes by a reader", cluster.run("nodes")[1].startswith("1 node with a recorder"), True)
 
 

@@ -167,9 +167,9 @@ What happened
 it used 64Mi 4 s before (attempt 0)
              03:10:00Z  worker-1  web-7d4b9c-aaaaa  app        it wrote last: Out of memory
              03:10:00Z  worker-1  web-7d4b9c-aaaaa  app        unready
-             03:12:00Z  worker-2  web-7d4b9c-ccccc  app        unready
              03:12:00Z  worker-2  web-7d4b9c-ccccc  app        the API's event Unhealthy: Readiness probe failed: HTTP \
 probe failed with statuscode: 503 (3 times, last then)
+             03:12:00Z  worker-2  web-7d4b9c-ccccc  app        unready
   3 more events, which --all prints too
 
 Pods that no trace has, as the API server has them now
@@ -239,8 +239,8 @@ def test_around_a_moment():
         status, told, said = cluster.run("story", "deploy/web", "--at", "2026-01-01T05:12Z")
         expect("story deploy/web --at another moment", (status, told.split("\n")[0], said), (
             0, "deployment/web in shop: 4 pods, none recorded, on 3 nodes", ""))
-        expect("story deploy/web --at another moment: what is missing", "worker-1: nothing was recorded at 2026-01-01 05:12:00Z" in told,
-               True)
+        expect("story deploy/web --at another moment: what is missing",
+               "worker-1: nothing was recorded at 2026-01-01 05:12:00Z" in told, True)
 
 
 def test_refused():
@@ -274,7 +274,8 @@ def test_completion():
     """Where no file is named the cluster is asked for the names of a kind; what no name may be is none."""
     with Cluster() as cluster:
         for words, wanted in ((("story", ""), "cj/ deploy/ ds/ job/ po/ rs/ sts/ :4"),
-                              (("story", "d"), "deploy/ ds/ :4"), (("story", "deploy/"), "deploy/web deploy/webhook :4"),
+                              (("story", "d"), "deploy/ ds/ :4"),
+                              (("story", "deploy/"), "deploy/web deploy/webhook :4"),
                               (("story", "sts/"), ":4"), (("story", "nothing/"), ":4"),
                               (("why", "deploy/"), "deploy/web deploy/webhook :4"), (("story", "-l", ""), ":4"),
                               (("story", "--node", ""), "node-a worker-1 worker-2 :4"),

@@ -60,13 +60,10 @@ def now() -> float:
 
 
 def fetched(cluster: asking.Cluster, recorders: list[asking.Recorder], into: str, wanted: Wanted) -> list[Fetched]:
-    """Copies what recorders hold of a time into a folder."""
-    folder = open_folder(into)
-    try:
-        with ThreadPoolExecutor(AT_ONCE) as threads:
-            return list(threads.map(lambda recorder: of_node(cluster, recorder, folder, wanted), recorders))
-    finally:
-        os.close(folder)
+    """Copies what recorders hold of a time into a folder; what came of each, in the order of the recorders."""
+    with Waiting(cluster.seconds) as waiting:
+        found = {came.node: came for came in coming(cluster, recorders, into, wanted, waiting)}
+    return [found[recorder.node] for recorder in recorders]
 
 
 def coming(cluster: asking.Cluster, recorders: list[asking.Recorder], into: str, wanted: Wanted,

@@ -60,8 +60,8 @@ def started(words: list[str]) -> subprocess.Popen:
 
 def handed_on(process: subprocess.Popen, most: int, seconds: float, silent: float,
               take: Callable[[bytes], object]) -> bytes:
-    """Hands on what a process writes for so many seconds; gives what it said last on standard error. Raises TimeoutError
-    with the seconds that it took too long."""
+    """Hands on what a process writes for so many seconds; gives what it said last on standard error. Raises
+    TimeoutError with the seconds within which it had to answer."""
     size, said = 0, b""
     begin = heard = time.monotonic()
     with selectors.DefaultSelector() as selector:

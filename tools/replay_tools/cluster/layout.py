@@ -15,7 +15,7 @@ from replay_tools import entry, telling
 LEAST_LAST = 30
 BELOW = 6
 BOLD, RED, YELLOW, PLAIN = "\x1b[1m", "\x1b[31m", "\x1b[33m", "\x1b[0m"
-BAD = re.compile(r"died|evict|OOMKilled|killed|Failed|CrashLoopBackOff|Err\w*Pull|ImagePullBackOff|code [1-9]|Unhealthy")
+BAD = re.compile(r"died|evict|OOMKilled|killed|Failed|BackOff|Err\w*Pull|code [1-9]|Unhealthy")
 WAITS = re.compile(r"unready|not ready|waits|Pending|deleted|is False")
 
 

@@ -199,7 +199,8 @@ def pods_in(answer: bytes) -> list[dict[str, Any]]:
 def by_node(items: list[dict[str, Any]], namespace: str | None, container: str) -> dict[str, Recorder]:
     """The pods of a list by their nodes; one that is ready in place of another."""
     found = {}
-    for one in sorted((recorder_of(item, namespace, container) for item in items), key=lambda one: (one.is_ready, one.pod)):
+    recorders = [recorder_of(item, namespace, container) for item in items]
+    for one in sorted(recorders, key=lambda one: (one.is_ready, one.pod)):
         if one.node:
             found[one.node] = one
     return found

@@ -44,11 +44,15 @@ class Row:
     container: str
     what: str
     is_minor: bool = False
+    rank: int = telling.OF_REPORT
+    """of what has one moment causes come before effects"""
     times: int = 1
     last: int | None = None
 
     def words(self, show: Callable[[int], str]) -> str:
-        return self.what if self.times == 1 else f"{self.what} ({self.times} times, last at {show(self.last or self.at)})"
+        if self.times == 1:
+            return self.what
+        return f"{self.what} ({self.times} times, last at {show(self.last or self.at)})"
 
     def record(self) -> dict[str, Any]:
         return {"at": self.at, "node": self.node, "pod": self.pod, "container": blank(self.container),
@@ -71,7 +75,8 @@ class Story:
 
     def head(self, show: Callable[[int], str]) -> str:
         spans = [one.several for one in self.found]
-        of_time = f", {show(min(one.first for one in spans))} to {show(max(one.last for one in spans))}" if spans else ""
+        first, last = min((one.first for one in spans), default=0), max((one.last for one in spans), default=0)
+        of_time = f", {show(first)} to {show(last)}" if spans else ""
         nodes = {one.node for one in self.found if one.pods} | {pod.node for pod in self.unrecorded if pod.node}
         all_of_them = self.recorded + len(self.unrecorded)
         recorded = "" if not self.unrecorded else f", {self.recorded or 'none'} recorded,"
@@ -154,7 +159,11 @@ def grouped(rows: list[Row]) -> list[Row]:
         of = (row.node, row.pod, row.container, OWN.sub("", row.what))
         first = found.get(of)
         found[of] = row if first is None else replace(first, times=first.times + 1, last=row.at)
-    return sorted(found.values(), key=lambda row: row.at)
+    return sorted(found.values(), key=order)
+
+
+def order(row: Row) -> tuple[int, int]:
+    return row.at, row.rank
 
 
 def rows_of(story: Story, show: Callable[[int], str]) -> list[Row]:
@@ -167,8 +176,15 @@ def rows_of(story: Story, show: Callable[[int], str]) -> list[Row]:
         one = nodes.get(said.pod)
         if said.pod in unrecorded or one is not None and is_of_time(one, said.at):
             node = one.node if one is not None else unrecorded[said.pod]
-            rows.append(Row(said.at, node, said.pod, said.container or "-", said.words()))
-    return sorted(rows, key=lambda row: row.at)
+            rows.append(Row(said.at, node, said.pod, said.container or "-", said.words(), rank=rank_of(said.reason)))
+    return sorted(rows, key=order)
+
+
+def rank_of(reason: str) -> int:
+    """Where an event of the API server's is among what has its moment."""
+    if reason in telling.OUTPUTS:
+        return telling.OUTPUT
+    return telling.ENDING if reason in telling.ENDINGS else telling.SAID_LATER
 
 
 def of_node(one: OnNode, show: Callable[[int], str]) -> list[Row]:
@@ -176,7 +192,8 @@ def of_node(one: OnNode, show: Callable[[int], str]) -> list[Row]:
     trace = one.given.trace
     found = {(at, what) for pod in one.pods for at, what, _ in (
         telling.node_rows(trace, one.given.report, pod, show) if trace is not None else [])}
-    return [Row(at, one.node, "-", "-", what) for at, what in sorted(found) if is_of_time(one, at)]
+    return [Row(at, one.node, "-", "-", what, rank=telling.OF_NODE) for at, what in sorted(found)
+            if is_of_time(one, at)]
 
 
 def record(story: Story) -> str:
@@ -202,20 +219,24 @@ def is_of_time(one: OnNode, at: int) -> bool:
 def of_pod(one: OnNode, pod: reports.Pod, show: Callable[[int], str]) -> list[Row]:
     """The rows of a pod's events, of what the kubelet did to it, of its deletion, and of why its containers waited."""
     trace = one.given.trace
-    rows: list[tuple[int, str | None, str, bool]] = []
+    rows: list[Row] = []
+
+    def add(at: int, container: str | None, what: str, rank: int, is_minor: bool = False) -> None:
+        if is_of_time(one, at):
+            rows.append(Row(at, one.node, pod.key, container or "-", what, is_minor, rank))
+
     for event in pod.events:
         attempt, what = telling.event_words(event, one.kubelet is not None, trace)
-        rows.append((event.at, event.container,
-                     what + events.attempt_words(attempt) + telling.beside_words(pod, event, show, trace),
-                     event.word in MINOR))
-        rows += [(event.at, event.container, wrote, False) for wrote in telling.last_lines(event, trace)]
+        led = events.attempt_words(attempt) + telling.beside_words(pod, event, show, trace)
+        add(event.at, event.container, what + led, telling.rank_of(event), event.word in MINOR)
+        for wrote in telling.last_lines(event, trace):
+            add(event.at, event.container, wrote, telling.rank_of(event))
     fact = one.kubelet and one.kubelet.fact(pod.number)
     if fact:
-        rows.append((fact.decision.at, None, kubelets.event_words(fact.decision), False))
+        add(fact.decision.at, None, kubelets.event_words(fact.decision), telling.DECIDED)
     if trace and pod.number in trace.deletions:
         deletion = trace.deletions[pod.number]
-        rows.append((deletion.at, None, why_text.DELETED.format(by=deletion.words()), False))
-    rows += [(wait.since, container, f"waits: {wait.words()}", False)
-             for container, wait in (trace.reasons.waits_of(pod) if trace else ())]
-    return [Row(at, one.node, pod.key, container or "-", what, is_minor) for at, container, what, is_minor in rows
-            if is_of_time(one, at)]
+        add(deletion.at, None, why_text.DELETED.format(by=deletion.words()), telling.DECIDED)
+    for container, wait in trace.reasons.waits_of(pod) if trace else ():
+        add(wait.since, container, f"waits: {wait.words()}", telling.SAID_LATER)
+    return rows

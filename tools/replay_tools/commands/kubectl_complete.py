@@ -11,7 +11,8 @@ usage: kubectl_complete-replay WORDS .. WORD
 
 Prints what WORD, the last one, may become after WORDS, those behind kubectl replay: a line for each candidate, and at
 last the directive for the shell, :4 (no files) or :0 (files too). kubectl runs it where it is on the PATH. Pods and
-namespaces are those of the file of -f or --trace, so that word comes first; the cluster is not asked.
+namespaces are those of the file of -f or --trace, so that word comes first. Without a file it asks the cluster, for 5 s
+at most, for namespaces, nodes, recorders, contexts and workloads.
 
 It needs python3, and kubectl for the namespace of its context. It leaves out words of the recorder.
 

@@ -7,6 +7,7 @@ from concurrent.futures import ThreadPoolExecutor
 
 from replay_tools import amounts, entry, helps, report as reports, telling
 from replay_tools.cluster import fetching, recorders
+from replay_tools.cluster.waiting import Waiting
 
 HELP = """\
 usage: tools/nodes [--recorders NAMESPACE] [--timeout 15] [--context NAME]
@@ -34,18 +35,19 @@ def parser() -> entry.Words:
 def main(words: list[str]) -> int:
     cluster = recorders.cluster_of(parser().taken(words))
     there = cluster.recorders()
-    with ThreadPoolExecutor(fetching.AT_ONCE) as threads:
-        rows = list(threads.map(lambda recorder: row_of(cluster, recorder), there.values()))
+    with Waiting(cluster.seconds) as waiting, ThreadPoolExecutor(fetching.AT_ONCE) as threads:
+        rows = list(threads.map(lambda recorder: row_of(cluster, recorder, waiting), there.values()))
     table = telling.table(f"{entry.counted(len(rows), 'node')} with a recorder",
                           ["node", "traces", "since", "until", "size", ""], [row for row, _ in rows])
     sys.stdout.write("".join(f"{entry.visible(line)}\n" for line in table[:-1]))
     return 0 if all(answers for _, answers in rows) else 1
 
 
-def row_of(cluster: recorders.Cluster, recorder: recorders.Recorder) -> tuple[list[str], bool]:
+def row_of(cluster: recorders.Cluster, recorder: recorders.Recorder, waiting: Waiting) -> tuple[list[str], bool]:
     """A node's row, and whether its recorder has answered."""
     try:
-        held = cluster.held(recorder)
+        with waiting.for_answer(recorder.node):
+            held = cluster.held(recorder)
     except recorders.NoAnswer as fault:
         return [recorder.node, "-", "-", "-", "-", str(fault)], False
     since, until = (reports.moment_text(at, True) if held.files else "-" for at in (

@@ -54,7 +54,7 @@ def main(words: list[str]) -> int:
     words, seconds = without_timeout(words)
     # an edit may have anything in it, and is no word of options
     if words and words[0].startswith("-"):
-        raise entry.Fault(f"{words[0]} is no word of it (--help says more)")
+        raise entry.Fault(parser().unknown(words[0]))
     if len(words) != 1:
         raise entry.Fault(f"it takes one edit, not {len(words)} (--help says more)")
     from replay_tools import edited

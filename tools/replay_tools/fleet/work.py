@@ -96,9 +96,16 @@ def beside(text: bytes, report: reports.Report) -> tuple[traces.Trace | None, ku
 
 
 def begun_of(text: bytes) -> int | None:
-    """The moment behind which a trace that follows another one says what happened; None of any other."""
-    said = traces.follows_of(outside.json_of(text.lstrip().split(b"\n", 1)[0]))
-    return said["at"] if said is not None else None
+    """The moment behind which a trace of a recorder says what happened: one that follows another says it itself, and
+    the first tick of any other shows what the recorder found. None of other traces."""
+    node_line = outside.json_of(text.lstrip().split(b"\n", 1)[0])
+    said = traces.follows_of(node_line)
+    if said is not None:
+        return said["at"]
+    is_recorded = isinstance(node_line, dict) and node_line.get("recordsKubelet") is True \
+        and node_line.get("imported") is not True
+    first = next(filter(None, map(moment_of, lines_from(text))), None) if is_recorded else None
+    return None if first is None else first["at"]
 
 
 def span_of(text: bytes) -> tuple[int, int] | None:

@@ -49,7 +49,7 @@ def take_ticks(made: traces.Trace, trace: traces.Trace, border: reports.Border |
     kept = [tick for tick in trace.ticks if tick.at > border.at]
     at = next((tick for tick in trace.ticks if tick.at == border.at), None)
     if at is not None and at.at > last:
-        kept.insert(0, Known(at.at, at.lines, at.begin, at.end, at.signals, at.after_reclaim, at.is_judged))
+        kept.insert(0, Known(**vars(at)))
     made.ticks += kept
     return len(trace.ticks) - len(kept)
 

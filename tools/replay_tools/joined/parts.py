@@ -2,6 +2,8 @@
 
 from __future__ import annotations
 
+import functools
+import io
 import os
 import re
 import subprocess
@@ -42,12 +44,12 @@ class Part:
     last: int
     """of the ticks that it has or, of a report alone, of the moments that it names"""
 
-    @property
+    @functools.cached_property
     def follows(self) -> dict[str, Any] | None:
         """What a trace of a recorder says of the one before it; None where it says nothing of its form."""
         return None if self.trace is None else self.trace.follows()
 
-    @property
+    @functools.cached_property
     def known_until(self) -> int:
         """The moment up to which it shows what was known before, as far as that can be told."""
         if self.follows:
@@ -153,7 +155,7 @@ def replayed(source: files.Source, text: bytes, program: str) -> bytes:
     """The report of a text, by the program where it is a trace."""
     if text.startswith(b"node "):
         return text
-    words = ["run", "/dev/stdin", *programs.format_words(iter(text[: 1 << 21].splitlines()))]
+    words = ["run", "/dev/stdin", *programs.format_words(io.BytesIO(text))]
     try:
         done = subprocess.run([program, *words], input=text, capture_output=True, check=False)
     except OSError as fault:

@@ -171,6 +171,8 @@ def phase_lost(pod: reports.Pod, found: reports.Pod, border: reports.Border, unt
 
 def mark_anew(pod: reports.Pod, found: reports.Pod, news: list[reports.Event], border: reports.Border) -> None:
     """Of back-offs and restarts, those whose exit has another number over the border than in the part alone."""
+    if not any(event.word in ("backoff", "restart") for event in news):
+        return
     whole, alone, died, fresh = numbers_of(pod), numbers_of(found), {}, set(map(id, news))
     for event in pod.events:
         if event.word == "died":

@@ -84,8 +84,9 @@ def show_help(name: str, caller: Caller) -> int:
 
 
 def help_of(name: str, caller: Caller) -> str:
-    """A tool's help, with its name as it is typed here."""
-    return named(tree.help_of(name), name, caller.typed)
+    """A tool's help, with its name as it is typed here, and with what it takes here of a cluster."""
+    of_cluster = help.of_cluster(name) if tree.COMMANDS[name].takes_several else ""
+    return named(tree.help_of(name), name, caller.typed) + of_cluster
 
 
 def named(text: str, name: str, typed: str) -> str:

@@ -1,5 +1,5 @@
-"""A tool over the nodes that a workload's pods are and were on: why of each pod, the page of the node with the worst
-one, the records of all."""
+"""A tool over the nodes that a workload's pods are and were on: why of each pod, the page or the picture of the node
+with the worst one, the records of all."""
 
 from __future__ import annotations
 
@@ -31,7 +31,9 @@ def run(name: str, found: words.Words, is_of_kubectl: bool) -> int:
         for missing, why in story.missing.items():
             entry.say(f"{missing}: {why}")
         of_tool = [*without_values(found.rest), asked.TRACES, folder, *time.words()]
-        return {"why": run_why, "page": run_page, "json": run_json}[name](story, of_tool)
+        if name == "why":
+            return run_why(story, of_tool)
+        return run_json(story, of_tool) if name == "json" else run_of_worst(name, story, of_tool)
 
 
 def without_values(rest: list[str]) -> list[str]:
@@ -52,14 +54,15 @@ def run_why(story: told.Story, given: list[str]) -> int:
     return status
 
 
-def run_page(story: told.Story, given: list[str]) -> int:
-    """Makes the page of the node on which the worst of the pods was."""
+def run_of_worst(name: str, story: told.Story, given: list[str]) -> int:
+    """Makes the page of the node on which the worst of the pods was, or the picture of the pods there."""
     from replay_tools.cluster import told
-    node = told.ranked(story)[0][0].node
-    others = [one.node for one in story.found if one.pods and one.node != node]
+    worst = told.ranked(story)[0][0]
+    others = [one.node for one in story.found if one.pods and one is not worst]
     if others:
-        entry.say(f"the page is of {node}, where the worst pod was; --node chooses one of {', '.join(others)}")
-    return tree.run("page", [*given, "--node", node])
+        entry.say(f"the {name} is of {worst.node}, where the worst pod was; --node chooses one of {', '.join(others)}")
+    pods = [] if name == "page" else list(dict.fromkeys(pod.key for pod in worst.pods))
+    return tree.run(name, [*pods, *given, "--node", worst.node])
 
 
 def run_json(story: told.Story, given: list[str]) -> int:

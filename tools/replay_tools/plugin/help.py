@@ -20,7 +20,7 @@ EXAMPLES = (
     ("fetch worker-3 --since 2h", None),
     ("story --node worker-3 --since 2h web", "one pod's story: fetched, replayed and told"),
     ("story deploy/web -n shop --since 2h", "a workload's, over the nodes that its pods are and were on"),
-    ("story -n shop --since 2h", "the worst pods of a namespace, over all their nodes"),
+    ("story -n shop", "the worst pods of a namespace, over all their nodes"),
     ("story -f FOLDER --at 03:10Z shop/web", "one pod over several traces, around a moment"),
     ("story --follow FOLDER", "what happens on a node, as it is recorded"),
     ("story -f worker-3.trace", "the pods, the worst first"),
@@ -47,11 +47,17 @@ its words: {typed} COMMAND --help, or help COMMAND, shows them. Beside these the
   --node NODE            of these tools: chooses a node of a folder; without -f the traces of that node, which its
                          recorder holds, are fetched for it and go again; --recorders NAMESPACE is where recorders are
                          (kubelet-replay)
-  deploy/web             of story without -f and --node: a workload, also sts/, ds/, rs/, job/, cj/, pod/, or a label as
-                         -l app=web. It finds the nodes that its pods are and were on, by the API server's pods and
-                         events, fetches these nodes' traces (since 2 h ago without --since and --at), and tells one
-                         story by time over them; it wants the rights to get and list the namespace's pods, events and
-                         workloads. A node without a recorder is named
+  deploy/web             of story, why, page, timeline and json without -f: a workload, also sts/, ds/, rs/, job/, cj/,
+                         pod/, in each form that kubectl takes (deployment web, Deployment.apps/web), or a label as
+                         -l app=web. If no report comes on standard input, story takes a namespace (-n) or all (-A) too,
+                         and story and why take a pod.
+                         They find the nodes that its pods are and were on, by the API server and by the names in all
+                         recorders' traces, and fetch these nodes' traces, of the last 2 h without --since and --at.
+                         Pods that no trace has are printed as the API server has them. What may not be listed or does
+                         not answer is named at the end. SECURITY.md has the rights
+  --timeout SECONDS      for how long a source may be silent (15); one that is slow is named after 5 s
+  --all, -o json         of a story from a cluster: each event, and the whole as one JSON object. On a terminal a story
+                         fits its width and has colours unless NO_COLOR is set
   --fail-on KINDS        of run: status 4 where a pod was evicted, restarted or is unready at the end; KINDS are one or
                          more of these three, with a comma between them
 {of_caller}
@@ -67,7 +73,7 @@ Status: that of the tool; 1: a recorder did not answer; 2: a bad word, a file th
 OF_KUBECTL = """\
   -n, --namespace NAME   the namespace of the pods; without it that of kubectl's context, else default
   -A, --all-namespaces   pods of all namespaces
-  --context NAME         the context of kubectl whose namespace it is
+  --context, --kubeconfig, --as, --user, --token, --server, .. kubectl's own options: each call of kubectl is given them
 A pod is web, pod/web or shop/web, and may be cut behind where that fits one; story without a pod lists those of the
 namespace of -n, or all. The word replay comes before all others, since kubectl takes no word of its own before a
 plugin's name."""
@@ -77,11 +83,32 @@ A pod is web, pod/web or shop/web, and may be cut behind where that fits one. ku
 namespace of kubectl's context."""
 NEEDS_OF_KUBECTL = """\
 kubectl finds it on the PATH under the name
-kubectl-replay, and for completion kubectl_complete-replay. It leaves out kubectl's other words, as --kubeconfig."""
+kubectl-replay, and for completion kubectl_complete-replay."""
 NEEDS_ALONE = """\
 Without python3 the program alone,
 kubelet_replay, writes reports. With __complete before other words it writes what the last of them may become, for the
 completion of shells."""
+
+TARGETS = {"story": "a workload, a pod, -l LABEL, a namespace alone, or -A", "why": "a workload, a pod, or -l LABEL"}
+OF_CLUSTER = """
+From a cluster, without -f, --trace and --traces:
+  {name} deploy/web -n shop
+                         {target}
+  --node NODE            only what was on this node
+  --recorders NAMESPACE  where the recorders are (kubelet-replay)
+  --timeout SECONDS      for how long a source may be silent (15)
+{of_story}kubectl's own options, as --context, --kubeconfig and --as, are passed on to kubectl.
+"""
+OF_STORY = """\
+  --all                  each event; without it those that matter, the last 20 of them
+  -o, --output json      the story as one JSON object
+"""
+
+
+def of_cluster(name: str) -> str:
+    """What a tool takes of a cluster, behind its help."""
+    return OF_CLUSTER.format(name=name, target=TARGETS.get(name, "a workload, or -l LABEL"),
+                             of_story=OF_STORY if name == "story" else "")
 
 
 def text_of(caller: Caller) -> str:

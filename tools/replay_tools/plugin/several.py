@@ -49,12 +49,14 @@ def without(rest: list[str], name: str) -> list[str]:
 def run_fetched(found: words.Words, node: str, run_on: Callable[[str], int]) -> int:
     """Fetches the traces of a node into a folder that goes again, and runs a tool on it; its status."""
     from replay_tools.cluster import fetching, recorders
+    from replay_tools.cluster.waiting import Waiting
     from replay_tools.plugin import workload
     cluster = workload.cluster_of(found)
     first, last = asked.span_of(found.value("--since"), found.value("--at"), fetching.now())
     [recorder] = recorders.on_nodes(cluster.recorders(), [node])
     with workload.folder_for_traces() as path:
-        [came] = fetching.fetched(cluster, [recorder], path, fetching.Wanted(first, last))
+        with Waiting(cluster.seconds) as waiting:
+            [came] = fetching.coming(cluster, [recorder], path, fetching.Wanted(first, last), waiting)
         if not came.copied:
             raise entry.Fault(f"{node}: {'; '.join(came.faults)}", 1)
         for said in came.faults:

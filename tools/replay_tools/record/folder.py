@@ -112,6 +112,18 @@ class Folder:
                 if os.lstat(os.path.join(self.path, entry)).st_uid != own:
                     raise Refused(f"--into: other users may write into '{self.path}', and {entry} there is another's")
 
+    def is_there(self) -> bool:
+        """Whether the path still leads to the folder that is locked, and neither to nothing nor to one that was made
+        since. A path that can't be looked at for another reason is taken as it was."""
+        own = os.fstat(self.descriptor)
+        try:
+            found = os.stat(self.path)
+        except (FileNotFoundError, NotADirectoryError):
+            return False
+        except OSError:
+            return True
+        return (found.st_dev, found.st_ino) == (own.st_dev, own.st_ino)
+
     def place(self, name: str, kind: str) -> str:
         return os.path.join(self.path, f"{name}.{kind}")
 

@@ -46,15 +46,23 @@ class LastingRecording(Recording):
         super().begin()
         self.output.probed = self.recorder.probed()
 
+    def check_output(self) -> None:
+        """Ends the recording if the folder was removed or replaced: what is there now may be another recorder's."""
+        if not self.output.folder.is_there():
+            raise Ended(1, f"--into: '{self.output.folder.path}' was removed or replaced: the recorder stops, and "
+                           "writes nothing into what is there now")
+
     def go_on(self) -> None:
         moment = self.begun
         while not self.output.is_stopped and not self.is_over(moment):
             self.wait_for_next(moment)
             before, moment = moment, self.clock.now()
             with self.output.undisturbed():
+                self.check_output()
                 self.see_clock(before, moment)
             seen = self.observer.look(moment)
             with self.output.undisturbed():
+                self.check_output()
                 self.recorder.take(seen)
                 due = list(self.recorder.due(moment))
                 self.output.take_look(due, int(self.recorder.timeline.next_second), self.recorder.foreseen(moment))
@@ -95,13 +103,20 @@ class LastingRecording(Recording):
             super().run()
         finally:
             with self.output.undisturbed():
-                self.output.end()
-                self.output.pack()
-                self.output.folder.ahead.drop()
-                if self.shipping is not None:
-                    self.shipping.end()
+                if self.output.folder.is_there():
+                    self.end()
+                elif self.shipping is not None:
+                    self.shipping.stop()
         if self.output.is_lost and self.output.last is None:
             raise Ended(1)
+
+    def end(self) -> None:
+        """Ends the trace that is written, and ships what has ended."""
+        self.output.end()
+        self.output.pack()
+        self.output.folder.ahead.drop()
+        if self.shipping is not None:
+            self.shipping.end()
 
 
 def recorded_into(words: Words, into: Into, sources: Sources, clock: Any, say: Callable[..., None]) -> int:

@@ -47,6 +47,8 @@ class Lifecycles:
         self.says_gone = timeline.format.says_gone
         self.recorded: dict[str, Recorded] = {}
         self.left_out: set[str] = set()
+        # how many texts of manifests were left out
+        self.texts_left_out = 0
         # those that are left out as long as there is no room for them
         self.waiting: set[str] = set()
         # the pods that their source listed last, and when
@@ -121,6 +123,7 @@ class Lifecycles:
             self.see_end(recorded, pod, seen)
             self.see_beside(recorded, pod, seen)
             self.see_ready(recorded, pod, seen)
+            self.texts_left_out += pod.beside.left_out
             for name in pod.ruled:
                 self.say(f"{pod.key} {name}: its own rules of restarts are left out, and it restarts as its pod does")
 

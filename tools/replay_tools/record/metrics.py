@@ -1,6 +1,6 @@
 """What a recorder has seen of its node since it began, as OpenMetrics text in a file that a node exporter reads. It is
-made of the lines that are written, by what is known at a border between traces. All are gauges, as those of tools/fleet
-are."""
+made of the lines that are written, by what is known at a border between traces. What only rises is a counter, which
+begins at 0 again with the recorder; all else is a gauge."""
 
 from __future__ import annotations
 
@@ -36,6 +36,9 @@ FAMILIES = (
     ("pressure", "", "whether a signal of the condition is below a threshold in the newest sample"),
     ("available", "", "the newest sample of a signal"),
 )
+
+# these only rise while a recorder runs
+COUNTERS = ("restarts", "deaths", "kills", "unready_seconds", "evictions", "ended")
 
 Labels = tuple[tuple[str, str], ...]
 
@@ -148,13 +151,14 @@ class Metrics:
     def lines(self) -> Iterator[str]:
         now = self.now()
         for name, unit, says in FAMILIES:
-            whole = PREFIX + name
-            yield f"# TYPE {whole} gauge"
+            whole, is_counter = PREFIX + name, name in COUNTERS
+            sample = f"{whole}_total" if is_counter else whole
+            yield f"# TYPE {whole} {'counter' if is_counter else 'gauge'}"
             yield from [f"# UNIT {whole} {unit}"] if unit else []
             yield f"# HELP {whole} {says}"
             for labels, value in sorted(now.get(name, self.counts[name]).items()):
                 told = ",".join(f'{label}="{escaped(of)}"' for label, of in labels)
-                yield f"{whole}{{{told}}} {value}" if told else f"{whole} {value}"
+                yield f"{sample}{{{told}}} {value}" if told else f"{sample} {value}"
 
     def write(self) -> None:
         """Replaces the file as a whole, since it may be read at any time."""

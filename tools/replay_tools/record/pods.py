@@ -15,7 +15,7 @@ from .formats import (at_place, first_fault, is_whole, label_fault, name_fault, 
 from .reasons import reason_of, waits_in
 from .runtime import End, code_fault, moment_of
 from .sources import Failed, reads
-from .statuses import Beside, ReadyTurn, beside_in, deletion_in, picked, ready_turn_in, resources_of
+from .statuses import Beside, ReadyTurn, beside_in, deletion_in, picked, ready_turn_in, resources_of, with_quantities
 
 if TYPE_CHECKING:
     from .answers import Answer
@@ -220,9 +220,15 @@ def manifest_of(item: Any) -> dict[str, dict[str, Any]]:
             "spec": without_nones({
                 "restartPolicy": spec.get("restartPolicy"), "priority": spec.get("priority"),
                 "terminationGracePeriodSeconds": spec.get("terminationGracePeriodSeconds"),
-                "resources": resources_of(spec.get("resources"), RESOURCES),
+                "resources": pod_resources(spec),
                 "initContainers": None if inits is None else [container_of(each, True) for each in inits],
                 "containers": [container_of(each, False) for each in spec["containers"]]})}
+
+
+def pod_resources(spec: dict[str, Any]) -> dict[str, Any] | None:
+    """The requests and limits of all containers together, which the formats do not read."""
+    found = resources_of(spec.get("resources"), RESOURCES)
+    return None if found is None else with_quantities(found)
 
 
 def with_own_rules(item: Any) -> list[str]:

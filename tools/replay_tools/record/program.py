@@ -57,6 +57,7 @@ class Recording:
         self.sources = sources
         self.clock = clock
         self.output = output
+        self.say = say
         self.observer = Observer(sources, words.every, say, clock.now, words.log_lines,
                                  words.throttled and words.format.says_gone)
         self.recorder = Recorder(words.format, words.every, say)
@@ -120,6 +121,14 @@ class Recording:
         regular = self.regular + self.words.look
         return min(moment + SOON_SECONDS, regular) if self.observer.looks_soon(moment) else regular
 
+    def check_output(self) -> None:
+        """Raises Ended where nothing may be written any more."""
+
+    def say_left_out(self, count: int) -> None:
+        if count:
+            texts, verb = ("1 text", "is") if count == 1 else (f"{count} texts", "are")
+            self.say(f"{texts} of manifests {verb} left out: Kubernetes' grammar doesn't allow them")
+
     def go_on(self) -> None:
         """Looks until the end."""
         moment = self.begun
@@ -142,9 +151,11 @@ class Recording:
             pass
         if self.has_begun:
             with self.output.undisturbed():
+                self.check_output()
                 due = list(self.recorder.rest(self.clock.now()))
                 self.output.write_due(iter(due))
                 self.count(due)
+                self.say_left_out(self.recorder.pods.texts_left_out)
 
 
 def recorded(words: Words, sources: Sources, clock: Any, say: Callable[..., None]) -> int:

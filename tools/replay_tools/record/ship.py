@@ -96,13 +96,17 @@ class Shipping:
         while self.shipment is not None and self.now() < until:
             self.see_end(self.shipment)
             time.sleep(0.05)
-        if self.shipment is not None:
-            self.shipment.kill()
-            self.shipment.close()
+        self.stop()
         left = self.left()
         if left:
             count = "1 trace is" if len(left) == 1 else f"{len(left)} traces are"
             self.say(f"{count} not taken away yet, from {left[0].name} on: the next start does that")
+
+    def stop(self) -> None:
+        """Ends the command that runs, if one does."""
+        if self.shipment is not None:
+            self.shipment.kill()
+            self.shipment.close()
 
     def left(self) -> list[Trace]:
         """The traces that were not taken away, in their order."""

@@ -9,7 +9,7 @@ from typing import Any, Optional
 
 from replay_tools import amounts
 
-from .formats import without_nones, whole_fault
+from .formats import quantity_fault, without_nones, whole_fault
 from .runtime import moment_of
 
 MOST_GRACE = 2 ** 40 - 1
@@ -18,8 +18,9 @@ STATUSES = (TRUE, FALSE, "Unknown")
 # the condition of a pod that is to end for the sake of others, and its reasons
 DISRUPTED = "DisruptionTarget"
 WORD = re.compile(r"[A-Za-z][A-Za-z0-9]{0,63}")
-# a condition's type, as the API takes it
-TYPE = re.compile(r"([a-z0-9.-]{1,253}/)?[A-Za-z0-9][-A-Za-z0-9_.]{0,62}")
+# a condition's type, as the API takes it: a qualified name, whose prefix is a DNS subdomain
+SUBDOMAIN = r"(?=.{1,253}/)[a-z0-9]([-a-z0-9]*[a-z0-9])?([.][a-z0-9]([-a-z0-9]*[a-z0-9])?)*"
+TYPE = re.compile(rf"({SUBDOMAIN}/)?[A-Za-z0-9]([-A-Za-z0-9_.]{{0,61}}[A-Za-z0-9])?")
 
 
 @dataclass(frozen=True)
@@ -28,6 +29,8 @@ class Beside:
     status says, where it does."""
     gates: dict = field(default_factory=dict)
     resources: dict = field(default_factory=dict)
+    left_out: int = 0
+    """how many texts Kubernetes' grammar does not allow there, which are left out since they may be anything"""
 
 
 @dataclass(frozen=True)
@@ -66,9 +69,12 @@ def beside_in(item: Any, resources: tuple[str, ...]) -> Beside:
     values = {each.get("type"): each.get("status") for each in status.get("conditions") or []}
     types = [each.get("conditionType") for each in gates]
     known = [name for name in types if isinstance(name, str) and TYPE.fullmatch(name)]
+    amounts_of = {each.get("name"): resources_of(each["resources"], resources) or {}
+                  for each in container_statuses(status) if each.get("resources")}
+    of_pod = resources_of((item.get("spec") or {}).get("resources"), resources) or {}
+    left_out = len(types) - len(known) + sum(map(faulty_amounts, [*amounts_of.values(), of_pod]))
     return Beside({name: values.get(name) == "True" for name in known},
-                  {each.get("name"): resources_of(each["resources"], resources) for each in container_statuses(status)
-                   if each.get("resources")})
+                  {name: with_quantities(found) for name, found in amounts_of.items()}, left_out)
 
 
 def container_statuses(status: dict[str, Any]) -> list[dict[str, Any]]:
@@ -94,6 +100,17 @@ def resources_of(amounts_of: dict[str, Any] | None, resources: tuple[str, ...]) 
     if amounts_of is None:
         return None
     return without_nones({side: picked(amounts_of.get(side), resources) for side in ("requests", "limits")})
+
+
+def with_quantities(found: dict[str, Any]) -> dict[str, Any]:
+    """Requests and limits without those that are no quantities."""
+    return {side: {name: amount for name, amount in amounts_of.items() if quantity_fault(amount) is None}
+            for side, amounts_of in found.items()}
+
+
+def faulty_amounts(found: dict[str, Any]) -> int:
+    """How many requests and limits are no quantities."""
+    return sum(quantity_fault(amount) is not None for amounts_of in found.values() for amount in amounts_of.values())
 
 
 def changed(said: dict[str, Any], declared: dict[str, Any]) -> bool:

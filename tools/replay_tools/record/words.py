@@ -177,7 +177,8 @@ def split(arguments: list[str]) -> dict[str, Any]:
         if word in SWITCHES:
             given[word] = True
         elif word not in TEXTS:
-            raise BadWord(f"{word} is no word of it")
+            from replay_tools import nearest
+            raise BadWord(f"{word} is no word of it{nearest.option_words(word, [*SWITCHES, *TEXTS])}")
         elif not rest:
             raise BadWord(f"{word} wants a value")
         else:
