@@ -41,6 +41,10 @@ class Layout:
         head, *lines = plain
         return [*self.title(head), *(self.coloured(line, colour_of(line)) for line in lines)]
 
+    def fits(self, heads: list[str], rows: list[list[str]]) -> bool:
+        """Whether a table needs no more columns than there are."""
+        return self.width is None or max(map(len, telling.table("", heads, rows))) <= self.width
+
     def narrow(self, heads: list[str], rows: list[list[str]]) -> list[str]:
         assert self.width is not None
         rows = telling.dated_once(rows)

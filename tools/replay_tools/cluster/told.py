@@ -132,8 +132,12 @@ def pods_table(story: Story, show: Callable[[int], str], layout: Layout) -> list
              str(each.restarts), str(each.all_restarts), str(each.unready_seconds),
              "-" if each.found.at is None else show(each.found.at), each.found.words or "-"]
             for one, pod, each in ranked(story)]
-    return layout.table("Pods, the worst first", ["pod", "node", "phase", "restarts", "in all", "unready s", "moment",
-                                                  "worst event"], rows)
+    heads = ["pod", "node", "phase", "restarts", "in all", "unready s", "moment", "worst event"]
+    if not layout.fits(heads, rows):
+        # the moment goes below with what happened then
+        heads = [*heads[:-2], heads[-1]]
+        rows = [[*row[:-2], row[-1] if row[-2] == "-" else f"{row[-2]} {row[-1]}"] for row in rows]
+    return layout.table("Pods, the worst first", heads, rows)
 
 
 def events_table(story: Story, show: Callable[[int], str], layout: Layout, is_all: bool) -> list[str]:
