@@ -227,7 +227,7 @@ def test_names_of_other_bytes():
                (0, True, ""))
         answer = run([f"{TOOLS}/explain", *words, folder + b"/\xfe.trace"])
         expect(f"explain {words} of no file of such a name", (answer[0], "there is no such file" in answer[1],
-                                                               answer[2]), (0, True, ""))
+                                                               answer[2]), (2, True, ""))
     shutil.rmtree(folder)
 
 
