@@ -54,7 +54,7 @@ def test_moments_of_ends():
     """It stands with the first exit that no start followed, though it was seen seconds later; where a container was
     said to wait behind its exit, or runs, with the look that saw it; where no exit wants a start, with the last one."""
     expect("ended: when, by a play", words_of(read(f"{RECORDED}/trace"), "failed"), [
-        ("shop/deadline", 5, "DeadlineExceeded"), ("shop/shut", 24, "Shutdown"), ("shop/once", 33, "DeadlineExceeded"),
+        ("shop/deadline", 5, "DeadlineExceeded"), ("shop/shut", 26, "Shutdown"), ("shop/once", 33, "DeadlineExceeded"),
         ("shop/loop", 34, "Other")])
 
 
