@@ -1,5 +1,7 @@
 """The tests of the lanes of a pod, which timeline and page draw."""
 
+import re
+
 import cases
 from checks import HERE, expect, read
 
@@ -42,7 +44,8 @@ def drawn():
     report, trace = beside(REASONS)
     text = picture.draw(report, report.pods, Clock.SECONDS, None, trace)
     pods = data.data_of(report, trace, why.Ticks(), Clock.SECONDS)["podList"]
-    return (text.count("running,") + text.count(" waiting,") + text.count(" terminated "),
+    # a code or a reason in a bar has a title of its own, without the container's name
+    return (len(re.findall(r": (?:waiting,|attempt \d+ (?:running,|terminated ))", text)),
             sum(len(container["states"]) // 4 for pod in pods for container in pod["containers"]))
 
 

@@ -97,7 +97,7 @@ def test_page_of_pods_of_one_name():
     """From the report alone a pod is gone by the first tick of the next one of its name; with the trace by the first
     tick without it, and it is known whether it had a tick at all."""
     again = f"{HERE}/recordings/names_come_again_extended"
-    for words, gone in (([f"{again}/trace"], [7, 12, 14, 15, None]), ([], [7, None, None, 15, None])):
+    for words, gone in (([f"{again}/trace"], [7, 14, 14, 15, None]), ([], [7, None, None, 15, None])):
         found = data_in(page_of(read(f"{again}/report"), *words)[1])["podList"]
         expect(f"page: when pods were gone, with {len(words)} traces", [pod["gone"] for pod in found], gone)
     expect("page: unready seconds of pods of one name", [pod["unready"] for pod in found if pod["key"] == "shop/db-0"],
