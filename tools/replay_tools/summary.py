@@ -152,7 +152,7 @@ def killed(pod: reports.Pod, events: list[reports.Event], trace: traces.Trace | 
     kill = next(event for event in events if event.word == "kill")
     died = telling.death_of(pod, kill)
     output, probe = telling.more_words(kill, trace), kill.rest[1]
-    if died is None:
+    if died is None or telling.is_of_reboot(died, trace):
         return found
     code = reasons.code_words(died.rest[1], trace.reasons.end_of(died) if trace else None)
     what = (f"{kill.container} killed by its {probe} probe{output}, exited {code} "

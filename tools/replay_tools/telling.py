@@ -117,6 +117,12 @@ def death_of(pod: reports.Pod, kill: reports.Event) -> reports.Event | None:
                  and event.rest[0] == kill.rest[0] and event.at >= kill.at), None)
 
 
+def is_of_reboot(died: reports.Event, trace: traces.Trace | None) -> bool:
+    """Whether an instance ended with its node, and no kill ended it: the runtime then knows no code of it."""
+    end = None if trace is None else trace.reasons.end_of(died)
+    return end is not None and end.reason == "Unknown" and died.rest[1] == "255"
+
+
 def grace_words(kill: reports.Event, died: reports.Event, trace: traces.Trace | None) -> str:
     """How long an instance took to exit: its whole grace period, or so many seconds."""
     seconds, grace = died.at - kill.at, grace_of(kill, trace)
@@ -139,7 +145,7 @@ def killed_words(pod: reports.Pod, died: reports.Event, show: Callable[[int], st
                  trace: traces.Trace | None) -> str:
     """Of a death that a probe's kill led to, that it did."""
     kill = kill_of(pod, died) if died.word == "died" else None
-    if kill is None:
+    if kill is None or is_of_reboot(died, trace):
         return ""
     return (f"; killed by its {kill.rest[1]} probe{more_words(kill, trace)} at {show(kill.at)}, "
             f"{grace_words(kill, died, trace)}")
