@@ -60,7 +60,9 @@ class Follower:
         if self.since is not None:
             return self.since
         sources = files.sources_of(asking_for.Asked([self.folder], self.node))
-        return max((source.begun for source in sources if source.begun is not None), default=None)
+        # a link that leads nowhere has no trace to begin with
+        return max((source.begun for source in sources if source.begun is not None and os.path.exists(source.path)),
+                   default=None)
 
     def rows(self, trace: traces.Trace, report: reports.Report, certain: int) -> Iterator[Row]:
         least = self.until if self.until is not None else -1 if self.since is None else self.since
