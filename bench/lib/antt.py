@@ -7,7 +7,7 @@ from typing import NamedTuple
 from terms import Walk, tokens_of
 
 HEAD = re.compile(r"(?:unfoldable |abbrev |pub )+(record |data )?(?:pub )?(\S+)")
-# definitions that stand below a line of their own
+# definitions that are below a line of their own
 GROUP = re.compile(r"(?:abbrev )?mutual$|module _\b.*\bwhere$")
 IMPORT = re.compile(r"(?:pub )?(?:ghost )?use ([\w.]+)(?:\.\{([^}]*)\}| as (\w+))?;?$")
 
@@ -100,7 +100,7 @@ def names_in(lines, name, is_constructor):
 
 
 def read_module(text, is_constructor):
-    """A module. What it imports is looked up by is_constructor(scope, word), which says whether the word is one."""
+    """A module. What it imports is looked up by is_constructor(scope, word), which shows whether the word is one."""
     scope, raw, unread, comment = {}, [], [], ""
     for number, block in blocks_of(text.split("\n")):
         number, comment, notes, block = without_head(number, block, scope, comment)

@@ -83,7 +83,7 @@ def needs(clauses):
 
 
 def of_refusal(clause):
-    """The name of a clause on a refusal, with what it says where that is short."""
+    """The name of a clause on a refusal, with what it shows where that is short."""
     found = re.fullmatch(r"OnErr result \((.*)\)", clause.term)
     term = found[1] if found else clause.term
     return named(clause) + (f": {code(term)}" if len(term) <= SHORT else "")
@@ -130,7 +130,7 @@ def first_sentence(comment):
 
 
 def item_line(item, page, more):
-    """A call, a type, a trait or a number in the list, with what is to be said besides. A call of a type stands below
+    """A call, a type, a trait or a number in the list, with what is to be said besides. A call of a type is below
     it."""
     indent = "  " * (bool(item.owner) and item.owner != "laws")
     name = item.name if indent else item.whole_name

@@ -14,7 +14,7 @@ class Case(NamedTuple):
     trace: bytes
     report: bytes | None   # none where it is refused, or accepted
     refusal: str           # its status and its line; '' where there is none
-    words: tuple = ()      # of the program, beside those of a run
+    words: tuple = ()      # of the program, next to those of a run
 
     def fault(self, command, status, written, said):
         """What is wrong with a run, if anything is."""
@@ -38,7 +38,7 @@ EXTENDED = ("extended", "stretches")
 
 
 def bytes_of(*path):
-    """The bytes of a file, or those that are packed in the one whose name has .xz behind it."""
+    """The bytes of a file, or those that are packed in the one whose name has .xz after it."""
     file = os.path.join(*path)
     with open(file, "rb") if os.path.exists(file) else lzma.open(f"{file}.xz") as opened:
         return opened.read()
@@ -69,7 +69,7 @@ def traces_in(data, family):
 
 
 def lines_in(data, name):
-    """The rows of a table; a line that begins with '# ' says what the rows below it show."""
+    """The rows of a table; a line that begins with '# ' shows what the rows below it show."""
     before = bytes_of(data, "lines", f"{name}.before")
     rows = bytes_of(data, "lines", f"{name}.table").removesuffix(b"\n").split(b"\n")
     for number, row in enumerate(rows, 1):

@@ -55,7 +55,7 @@ class Runs:
             return "no end", b""
         status, written, said = done
         if case.report is None and not case.refusal and status == 0:
-            # what the first way writes of an accepted trace is wanted of the others
+            # what the first way writes of an accepted trace is needed of the others
             return "", written
         return case.fault(words[0], status, written, said), written
 

@@ -11,8 +11,8 @@ from typing import NamedTuple
 import script
 
 STOREYS = ("Base", "Format", "Rules", "Threads", "Node", "Program", "Tests")
-# the crates that move pods between threads, and the ones above them that know of no thread: what these define and promise
-# of a node holds for one thread
+# the crates that move pods between threads, and the ones above them that know of no thread: what these define and
+# promise of a node holds for one thread
 POOL = ("piece_deques", "worker_results", "pool_workers", "pod_pool")
 WITHOUT_POOL = ("node_pods", "event_list", "node_rounds", "node_report")
 
@@ -51,7 +51,7 @@ def crates_in(text):
 
 
 def faults_of_order(crates):
-    """What is wrong with their order: a crate stands on those before it alone, storeys stand in theirs, and nothing
+    """What is wrong with their order: a crate stands on those before it alone, storeys are in theirs, and nothing
     stands on a crate of tests but these."""
     faults, before = [], {}
     for crate in crates:

@@ -23,7 +23,7 @@ class Text(NamedTuple):
     parts: tuple        # lines with their ends; the last one may have none
     said: str = ""
     report: str = ""
-    words: tuple = ()   # of the program, beside the number of workers
+    words: tuple = ()   # of the program, next to the number of workers
     workers: tuple = BY_ALL
 
 
@@ -70,7 +70,7 @@ def running(ticks, size):
             for at in range(ticks)]
 
 
-# wherever they stand behind the lines of a node and of the pod `a`
+# wherever they are after the lines of a node and of the pod `a`
 FAULTS = (
     ("{", "32 NotJson"),
     ("[]", "33 UnknownKind"),
@@ -88,7 +88,7 @@ FAULTS = (
     ('{"kind":"tick","at":10000,"signals":{"memory.available":"x"}}', "46 Usage"),
 )
 PLACES = (0, 1, 2, 43, 44, 45, 111, 112, 113, 114, 130, 131, 225, 226, 227, 452, 499)
-"""how many of 500 tick lines stand before a fault"""
+"""how many of 500 tick lines are before a fault"""
 
 
 def faults_in_windows():
@@ -173,7 +173,7 @@ def passing_pods():
 
 
 def names_of_no_signal():
-    """They are walked once: where each was looked for among those behind it, such a line took seconds."""
+    """They are walked once: where each was looked for among those after it, such a line took seconds."""
     names = "".join(f'"a{name}":{value},' for value in ("1", "null") for name in range(36_000))
     ticks = tuple(f'{{"kind":"tick","at":{at},"signals":{{{names}"pid.available":9}}}}\n' for at in range(1, 21))
     yield Text("72,000 names of no signal in each of 20 ticks", (NODE, *ticks), report=node_report(0, 20, 1),

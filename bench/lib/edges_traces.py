@@ -3,7 +3,7 @@ the reports can be written down without the program."""
 from typing import NamedTuple
 
 STEP = 10
-"""seconds from tick to tick, and those for which a restart is backed off: it comes at the tick behind the exit"""
+"""seconds from tick to tick, and those for which a restart is backed off: it comes at the tick after the exit"""
 NODE = '{"kind":"node","name":"n1","maxRestartDelay":%d}' % STEP
 POD = '{"kind":"pod","pod":{"metadata":{"name":"p%d","namespace":"n"},"spec":{"containers":[%s]}}}'
 CONTAINER = '{"name":"c%d"}'
@@ -35,7 +35,7 @@ class Edge(NamedTuple):
 
     def restarts(self, pod):
         """How many restarts come. That after the first exit is not backed off; any other comes only where the tick
-        behind the exit still lists it."""
+        after the exit still lists it."""
         return self.instances(pod) if self.exited > 1 else min(self.instances(pod), 1)
 
     def events(self):

@@ -36,7 +36,7 @@ def exampled_twice(repository):
 
 def examples_in(repository, of=""):
     """Of each definition by its whole name its example, with the cases that show it. With a word the definition is
-    named, behind that word."""
+    named, after that word."""
     found = {}
     for name, _, rest in example_lines(repository):
         example, _, cases = rest.partition("\t")

@@ -143,8 +143,8 @@ def stopped_run(fleet, traces, python, work):
 
 
 def measure(fleet, traces, python=sys.executable):
-    """Runs it in each way, and says what each costs. The status is 1 where a database is another. A signal that ends it
-    ends what it has started too."""
+    """Runs it in each way, and shows what each costs. The status is 1 where a database is another. A signal that ends
+    it ends what it has started too."""
     work = tempfile.mkdtemp()
     before = signal.signal(signal.SIGTERM, lambda number, frame: sys.exit(128 + number))
     try:

@@ -21,7 +21,7 @@ def faults_in(repository, crate, file, places):
     """What is wrong with the place of a file, or of its definitions. What is reached has its place among these."""
     path, module = f"crates/{crate}/specs/{file}", file.removesuffix(".antt").replace("/", ".")
     read = repository.module(crate, module)
-    # a definition without a word before its name can be named by those beside it
+    # a definition without a word before its name can be named by those next to it
     faults = [f"{path}:{line}: {text} is no definition that is read: it begins with pub, abbrev or unfoldable"
               for line, text in read.unread]
     if file in NAMING:
@@ -38,7 +38,7 @@ def faults_in(repository, crate, file, places):
 
 
 def misplaced(repository, nodes):
-    """What stands in the wrong folder, crate by crate; the nodes are what the contracts of a replay reach."""
+    """What is in the wrong folder, crate by crate; the nodes are what the contracts of a replay reach."""
     places = {(node.key, node.path) for node in nodes.values()}
     return [fault for crate in repository.crates for file in files_in(repository, crate)
             for fault in faults_in(repository, crate, file, places)]

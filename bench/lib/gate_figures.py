@@ -143,7 +143,7 @@ def keep(top, crates, name, figure):
 
 def gate_seconds(found, below):
     """The processor seconds of ./test from nothing, by those of all commands without what each of them ran again, which
-    ./test behind them ran once; None where something of it was not measured."""
+    ./test after them ran once; None where something of it was not measured."""
     rows = [found[name] for name in below if name in found]
     if WHOLE not in found or len(rows) < len(below) or any(it.again is None for it in rows):
         return None
@@ -152,7 +152,7 @@ def gate_seconds(found, below):
 
 def longest_chain(found, below):
     """The crates that wait for one another longest, by the processor seconds of each without its edits and without what
-    ran again. The crates stand in the order of crates.txt."""
+    ran again. The crates are in the order of crates.txt."""
     chains = {}
     for name in below:
         spent, names = max((chains[it] for it in below[name]), default=(0, []))

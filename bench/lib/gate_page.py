@@ -178,6 +178,6 @@ def replays_in(page):
 
 
 def with_costs(page, top, ticks):
-    """The page with what it says of mutants outside of the gate, and of a replay's costs, anew."""
+    """The page with what it says of mutants outside of the gate, and of a replay's costs, again."""
     begin = OUTSIDE if OUTSIDE in page else REPLAYS
     return page.partition(begin)[0] + "\n".join([*shelf(top), *replays(ticks)]) + "\n"

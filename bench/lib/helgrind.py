@@ -16,7 +16,7 @@ def read_log(lines):
     """The summary, None where there is none, and how often each kind of report came."""
     kinds, count, summary = collections.Counter(), 0, None
     for line in lines:
-        # the list behind the run has each report once more, with how often it came
+        # the list after the run has each report once more, with how often it came
         if said := re.match(r"==\d+== (\d+) errors? in context", line):
             count = int(said[1])
         elif count and (kind := kind_of(line)):

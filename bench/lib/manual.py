@@ -16,7 +16,7 @@ EXAMPLES = (
     ("kubelet-replay story -f /var/lib/kubelet-replay --at 03:10Z shop/web",
      "The same over the traces of a recorder, around a moment."),
 )
-# what stands above the list of statuses
+# what is above the list of statuses
 STATUSES = "\nThe program ends with a status, and prints on standard error:\n\n"
 
 
@@ -43,7 +43,7 @@ def parts_of(text):
 
 
 def items_of(lines):
-    """The names of a list with what stands beside each; a line that is indented further goes on with the last."""
+    """The names of a list with what is next to each; a line that is indented further goes on with the last."""
     items = []
     for line in lines:
         head = re.match(r"  (\S.*?)(?:  +(.*))?$", line) or re.match(r"  (?:    )?(-.*?)(?:  +(.*))?$", line)

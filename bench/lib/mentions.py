@@ -17,7 +17,7 @@ class Mention(NamedTuple):
 
 
 def slug(heading):
-    """The anchor of a heading, as GitHub makes it, but for the number of one that stands there twice."""
+    """The anchor of a heading, as GitHub makes it, but for the number of one that is there twice."""
     bare = re.sub(r"\[([^\]]*)\]\([^)]*\)", r"\1", heading)
     return re.sub(r"[^\w\- ]", "", bare.strip().lower()).replace(" ", "-")
 

@@ -126,7 +126,7 @@ def other_value(chance, data, seeds):
 
 
 def doubled_key(chance, data, _):
-    """The key a second time in its object, before or behind the first, with another value."""
+    """The key a second time in its object, before or after the first, with another value."""
     found, other = pick(chance, data, PAIR), pick(chance, data, PAIR)
     if not found:
         return data
@@ -135,7 +135,7 @@ def doubled_key(chance, data, _):
     return put(data, found.start(), found.start(), b"".join(copies))
 
 
-# those that leave most texts JSON come more often: they reach the checks behind it
+# those that leave most texts JSON come more often: they reach the checks after it
 MUTATIONS = [flip, cut, double, strange_bytes, blank_lines, nested, long_text] + 2 * [
     moved_lines, moved_lines, line_of_another, huge_number, another_text, other_value, doubled_key]
 

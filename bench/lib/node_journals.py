@@ -1,6 +1,7 @@
 """Makes journals of a node by chance: of a kubelet of some version at some verbosity and of a runtime. Pods come,
 crash, are killed, evicted, refused and deleted, and come again under their names. A seed settles each. The messages
 have the forms that tools/import reads; those from 1.21 on and of CRI-O are from knowledge."""
+import bisect
 import json
 import random
 import time
@@ -13,6 +14,7 @@ CONTAINERS = "app", "side", "log"
 INITS = "schema", "copy"
 CODES = 0, 0, 1, 2, 137, 143, 128
 NODE, STATIC = "n1", "fixed-n1"
+FIRST_PROCESS = 4000
 BACK_OFFS = 0, 10, 20, 40, 80, 160, 300
 # a message of a kubelet: whether it is an error, its level of verbosity, and its words
 SEVERITY = {True: "E", False: "I"}
@@ -63,7 +65,9 @@ class Play:
         self.era, self.runtime = chance.choice(ERAS), chance.choice(RUNTIMES)
         self.verbosity = chance.randrange(5)
         self.until = chance.choice((300, 900, 2400, 5000))
-        self.process, self.turns = 4000, 0
+        self.turns = 0
+        # when a process of the kubelet begins behind another one
+        self.restarts = []
         self.of_kubelet, self.of_runtime = [], []
         self.pods, self.made, self.due = [], [], []
 
@@ -74,8 +78,13 @@ class Play:
         if level > self.verbosity:
             return
         stamp = time.strftime("%m%d %H:%M:%S", time.gmtime(BEGIN + at)) + f".{int(at % 1 * 1e6):06d}"
-        said = printed if self.era == ERAS[0] else keyed
-        self.of_kubelet.append((at, self.process, f"{SEVERITY[is_error]}{stamp} {self.process:7d} a.go:1] {said}"))
+        self.of_kubelet.append((at, f"{SEVERITY[is_error]}{stamp}", printed if self.era == ERAS[0] else keyed))
+
+    def lines_of_kubelet(self):
+        """The messages, each of the process that runs then: one that has ended says nothing more."""
+        for at, head, said in self.of_kubelet:
+            process = FIRST_PROCESS + bisect.bisect_right(self.restarts, at)
+            yield at, process, f"{head} {process:7d} a.go:1] {said}"
 
     def tell(self, at, containerd, crio):
         """A line of the runtime."""
@@ -321,7 +330,7 @@ class Play:
 
     def restart(self, at, _):
         """Another process of the kubelet begins, and finds what runs."""
-        self.process += 1
+        bisect.insort(self.restarts, at)
         self.say(at, 0, "Started kubelet", '"Started kubelet"')
         for pod in self.pods:
             self.loop(at + 0.5, "ADD", pod, "file" if pod.is_static else "api")
@@ -362,7 +371,7 @@ def journals_of(seed, number):
     chance = play.chance
     is_json = chance.random() < 0.6
     found = {}
-    for name, unit, lines in (("kubelet", "kubelet", play.of_kubelet),
+    for name, unit, lines in (("kubelet", "kubelet", play.lines_of_kubelet()),
                               ("runtime", "crio" if play.runtime == "crio" else "containerd", play.of_runtime)):
         kept = worn(lines, chance)
         text = as_json(kept, unit) if is_json else "".join(f"{said}\n" for _, _, said in kept)

@@ -51,12 +51,12 @@ def grouped(keys, below, group_of):
 
 
 def module_of(key):
-    """The crate and the module that a key stands with."""
+    """The crate and the module that a key is with."""
     return key[0], TYPES if key[1].endswith(".rt") else key[1]
 
 
 def modules_of(keys, below):
-    """The modules of a crate's keys, each before those that it names, and the types behind them."""
+    """The modules of a crate's keys, each before those that it names, and the types after them."""
     found = grouped(keys, below, module_of)
     return {module: found[module] for module in sorted(found, key=lambda module: module[1] == TYPES)}
 

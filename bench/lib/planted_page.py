@@ -19,8 +19,9 @@ prover rejects it, proves it, or can't judge it; some mistakes `rt plant` can't 
 laws, or inside a loop. A proved mistake needs a reason why it changes no answer. In all, {refused} were rejected,
 {proved} proved, {not judged} not judged, and {not writable} not writable. `bench/planted.tsv` has what each run
 covered.
-If a function has changed since its run, nobody planted it again: `words added` is the code of the words `failed`,
-`judged`, `spared` and `waiting`, which came later. A crate without a row has no run in its present form.
+If a function has changed since its run, nobody planted it again. `words added` is the code of the words `failed`,
+`judged`, `spared` and `waiting`, which came later; `gates added` is the code of readiness gates, of pod resources
+and of `crashLoopBackOff`. A crate without a row has no run in its present form.
 """, """
 A rejection shows less if the search for a proof reached a limit: it found no counterexample, and a longer search might
 find a proof. By the gate's log this holds for 16 of its 60 edits. A rejection shows nothing about the contract if a

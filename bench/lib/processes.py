@@ -55,7 +55,7 @@ def run(words, given=subprocess.DEVNULL, written=subprocess.DEVNULL, said=None, 
     try:
         child.returncode, peak = wait(child.pid)
     except KeyboardInterrupt:
-        # it stands in a group of its own, which an interrupt does not reach
+        # it is in a group of its own, which an interrupt does not reach
         end_group(child.pid)
         raise
     finally:

@@ -106,8 +106,8 @@ def items_in(text, path):
 
 class Shown(NamedTuple):
     comment: str     # of the crate, line by line
-    items: list      # those of lib.rt, and in its order those of its modules; behind each type its calls
-    handed_on: dict  # of other crates: what is handed on of them
+    items: list      # those of lib.rt, and in its order those of its modules; after each type its calls
+    handed_on: dict  # of other crates: what is passed on of them
 
 
 def module_comment(text):

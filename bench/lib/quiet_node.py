@@ -132,6 +132,10 @@ class Node:
         return json.dumps({"node": {"nodeName": "worker-1", "memory": memory, "fs": disk, "runtime": {"imageFs": disk},
                                     "rlimit": {"time": sampled, "maxpid": 4194304, "curproc": 900}}, "pods": pods})
 
+    def metrics(self, _):
+        """Of the kubelet's own metrics when it was started, among other ones."""
+        return f"go_threads 20\nprocess_start_time_seconds {self.begun - 3600:.11e}\n"
+
     @staticmethod
     def configuration(_):
         return json.dumps({"kubeletconfig": {"evictionHard": {"memory.available": "100Mi", "nodefs.available": "10%",
@@ -149,7 +153,7 @@ class Handler(BaseHTTPRequestHandler):
     def do_GET(self):
         node = self.server.node
         answers = {"/pods": node.pods_answer, "/metrics/probes": node.probes, "/stats/summary": node.summary,
-                   "/metrics/cadvisor": node.cadvisor, "/configz": node.configuration}
+                   "/metrics": node.metrics, "/metrics/cadvisor": node.cadvisor, "/configz": node.configuration}
         body = answers[self.path](time.time()).encode()
         self.send_response(200)
         self.send_header("Content-Length", str(len(body)))

@@ -14,7 +14,7 @@ RULE, STATE = "rule", "state"
 
 
 def bare(module):
-    """The name of a module, as `Order` of `rule.Order`: pages and keys leave out which folder it stands in."""
+    """The name of a module, as `Order` of `rule.Order`: pages and keys leave out which folder it is in."""
     folder, _, name = module.partition(".")
     return name if name and folder in (RULE, STATE) else module
 
@@ -26,7 +26,7 @@ def whole_names(module):
 
 class Node(NamedTuple):
     """Something reached. Its place is its crate with its module, as `ranking`, `Order`, or a file of src/; the folder
-    of specs/ that the module stands in is no part of it."""
+    of specs/ that the module is in is no part of it."""
     kind: str      # contract, trait, type or definition
     crate: str
     module: str
@@ -201,7 +201,7 @@ class Repository:
 
 
 def reached(repository, crate, functions):
-    """The contracts, and all that they reach, each with its key; behind them the words of the library, by module."""
+    """The contracts, and all that they reach, each with its key; after them the words of the library, by module."""
     contracts = [repository.contract(crate, name) for name in functions]
     nodes, library = {}, {}
     left = [key for node in reversed(contracts) for key in reversed(node.below)]

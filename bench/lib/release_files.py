@@ -1,4 +1,4 @@
-"""Puts into a folder what a release has beside its program: the tools without their tests, the examples, the documents
+"""Puts into a folder what a release has next to its program: the tools without their tests, the examples, the documents
 and what starts the recorder on nodes. A link of a document to what the release has not becomes its words.
 
     release_files.py TOP FOLDER

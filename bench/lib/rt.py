@@ -75,7 +75,7 @@ def braced_at(text, at):
 
 
 def braced(text, before):
-    """What stands in the braces behind each match of a pattern."""
+    """What is in the braces after each match of a pattern."""
     for found in re.finditer(before + r"(?=\{)", text):
         yield braced_at(text, found.end())
 

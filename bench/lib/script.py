@@ -10,7 +10,7 @@ BUILT = os.path.join(TOP, "crates/replay_program/out/replay_program")
 
 
 class Fault(Exception):
-    """What is said in one line on standard error, behind the script's name, and the status with it."""
+    """What is said in one line on standard error, after the script's name, and the status with it."""
 
     def __init__(self, said, status=1):
         super().__init__(said)
@@ -42,7 +42,7 @@ def run(name, main, text):
 
 
 def need(**commands):
-    """Refuses where one of these commands is missing; what it is wanted for stands beside its name."""
+    """Refuses where one of these commands is missing; what it is needed for is next to its name."""
     for command, why in commands.items():
         if not shutil.which(command):
             raise Fault(why, 127)

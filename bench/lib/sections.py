@@ -15,7 +15,7 @@ class Section(NamedTuple):
     title: str
     lines: list = ()
     key: tuple = None   # of the module or the definition that it is of
-    node: Node = None   # what is shown behind the lines
+    node: Node = None   # what is shown after the lines
 
 
 def anchors_of(sections):

@@ -24,7 +24,7 @@ def telescope(tokens, at):
 
 
 def lambda_names(tokens, at):
-    """The names behind a λ, up to the one that ends with a point; none where a bracket follows."""
+    """The names after a λ, up to the one that ends with a point; none where a bracket follows."""
     names = []
     for token in tokens[at + 1:]:
         if not re.fullmatch(r"([^\W\d][\w']*|_)\.?", token):
@@ -37,7 +37,7 @@ def lambda_names(tokens, at):
 
 class Walk:
     """Goes through tokens and keeps the words that are bound nowhere around them. A binder reaches to the end of the
-    bracket that it stands in."""
+    bracket that it is in."""
 
     def __init__(self, bound=()):
         self.frames = [set(bound)]

@@ -36,7 +36,7 @@ def unseen_pods(pods, containers, ticks):
 
 def ranked_pods(pods, ticks):
     """Pods whose usage changes in every tick, on a node with thresholds and signals, so that each tick ranks them
-    anew."""
+    again."""
     yield THRESHOLDS
     yield from (POD % (f"p{pod}", ONE) for pod in range(pods))
     for tick in range(ticks):

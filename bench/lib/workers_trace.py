@@ -24,7 +24,7 @@ def entry(pod, tick):
 
 
 def lines(pods, ticks, calm):
-    """Each `calm`-th tick is below a hard threshold, so that a pod is evicted; a soft one is active beside it."""
+    """Each `calm`-th tick is below a hard threshold, so that a pod is evicted; a soft one is active next to it."""
     yield NODE
     yield from (POD % (pod, pod % 7 - 3) for pod in range(pods))
     for tick in range(ticks):

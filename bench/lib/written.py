@@ -1,5 +1,5 @@
-"""Pages below docs/ that a script writes: they are written anew, or it is said which are not as they would be. Some fill
-a folder of their own, which has no others then."""
+"""Pages below docs/ that a script writes: they are written again, or it is said which are not as they would be. Some
+fill a folder of their own, which has no others then."""
 import glob
 import os
 
@@ -34,7 +34,7 @@ def write_anew(top, texts, folder=None):
 
 
 def differences(top, texts, command, folder=None, what=None):
-    """What writing anew by the command would change. Each page of the folder has some of what it is for."""
+    """What writing again by the command would change. Each page of the folder has some of what it is for."""
     there = {name: text_at(os.path.join(top, "docs", name)) for name in texts}
     return [*(f"docs/{name} is {'missing' if there[name] is None else 'stale'}: run {command}"
               for name, text in texts.items() if there[name] != text),

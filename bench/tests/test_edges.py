@@ -62,7 +62,7 @@ nodecondition PIDPressure False 10
 totals updates=2 events=0 orders=0
 """
 LONGEST_INPUT, LONGEST_LINE, LONG_RUN = 64 << 20, 1 << 20, 600
-# a stand-in finds the report beside the trace
+# a stand-in finds the report next to the trace
 KNOWN = '#!/bin/sh\n[ "$1 $3" = "run --workers" ] && cat "${2%trace}report"\n'
 EDGES = loaded("edges").EDGES
 SIZES = [f"pods=1 ticks=8 containers=1: {len(TRACE)} bytes, 8 updates, 12 events",

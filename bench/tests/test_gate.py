@@ -97,7 +97,7 @@ def small(top):
 
 
 def settings_of(top, settings):
-    """The stand-ins of the kit come first; temporary folders stand in one that is looked at."""
+    """The stand-ins of the kit come first; temporary folders are in one that is looked at."""
     os.makedirs(f"{top}/out/room", exist_ok=True)
     return {**os.environ, "PATH": f"{top}/kit:{os.environ['PATH']}", "TMPDIR": f"{top}/out/room", **settings}
 

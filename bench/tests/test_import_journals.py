@@ -40,6 +40,15 @@ class Journals(Case):
             if "pods" in files:
                 self.assertEqual(json.loads(files["pods"])["kind"], "PodList")
 
+    def test_a_process_that_ended_says_nothing_more(self):
+        made = 0
+        for number in range(100):
+            files, _ = node_journals.journals_of(6, number)
+            found = re.findall(r'(?:^|")[IE][0-9]{4} \S+ +([0-9]+) ', files.get("kubelet", ""), re.M)
+            self.assertEqual(found, sorted(found))
+            made += len(set(found)) > 1
+        self.assertGreater(made, 20)
+
     def test_a_level_leaves_out_what_is_above_it(self):
         for number in range(100):
             files, what = node_journals.journals_of(5, number)

@@ -39,10 +39,26 @@ class Manual(Case):
 
 
 HELP = """\
-usage: tool [--one] POD < REPORT
-       tool --two FILE
+Print a pod.
 
-Tells of a pod. There are
+Usage:
+  tool [--one] POD
+  tool --two FILE
+
+Without POD it prints all.
+
+Examples:
+  # One pod
+  tool web
+
+Options:
+      --one      .only one
+
+Exit status: 0 done, 2 bad input.
+More: man tool
+"""
+DETAILS = """\
+There are
   one(f)   the first
   two(f)   .the second
 where f is a filter.
@@ -52,19 +68,23 @@ It leaves out
     is over;
   - the rest.
 
-Status 0: done; 2: a bad word, a report; that is none; 127: python3 is missing.
+Status 0: done; 2: a wrong argument, a report; that is none; 127: python3 is missing.
 """
 PAGE = """\
 .TH KUBELET-REPLAY-TOOL 1 "2026-01-31" "kubelet\\-replay 1.2.3"
 .SH NAME
-kubelet\\-replay\\-tool \\- tells of a pod
+kubelet\\-replay\\-tool \\- prints a pod
 .SH SYNOPSIS
 .nf
-tool [\\-\\-one] POD < REPORT
+tool [\\-\\-one] POD
 tool \\-\\-two FILE
 .fi
 .SH DESCRIPTION
-Tells of a pod. There are
+Print a pod.
+.PP
+Without POD it prints all.
+.PP
+There are
 .PP
 .nf
   one(f)   the first
@@ -79,13 +99,22 @@ all that
 is over;
 .IP \\(bu 2
 the rest.
+.SH OPTIONS
+.nf
+    \\-\\-one      .only one
+.fi
+.SH EXAMPLES
+.nf
+# One pod
+tool web
+.fi
 .SH EXIT STATUS
 .TP
 \\fB0\\fR
 done
 .TP
 \\fB2\\fR
-a bad word, a report; that is none
+a wrong argument, a report; that is none
 .TP
 \\fB127\\fR
 python3 is missing.
@@ -96,13 +125,14 @@ python3 is missing.
 
 class ToolManual(Case):
     def test_a_page(self):
-        self.assertEqual(tool_manual.page("kubelet-replay-tool", "tells of a pod", HELP, "1.2.3", "2026-01-31"), PAGE)
+        self.assertEqual(tool_manual.page("kubelet-replay-tool", "prints a pod", HELP, DETAILS, "1.2.3", "2026-01-31"), PAGE)
 
     def test_the_commands(self):
         """Each tool has a page, with the help as it is typed, and so have the two commands that have them all."""
         helps = tool_manual.helps_of(TOP)
-        self.assertEqual(helps["kubelet-replay-why"][0], "what the trace holds around each event of one pod")
-        self.assertTrue(helps["kubelet-replay-why"][1].startswith("usage: kubelet-replay why POD "))
+        self.assertEqual(helps["kubelet-replay-why"][0], "show what led to each event of a pod")
+        self.assertIn("\n\nUsage:\n  kubelet-replay why POD ", helps["kubelet-replay-why"][1])
+        self.assertIn("It needs python3", helps["kubelet-replay-why"][2])
         self.assertEqual({"kubelet-replay", "kubectl-replay", "kubelet-replay-run"} & set(helps),
                          {"kubelet-replay", "kubectl-replay"})
 

@@ -1,4 +1,4 @@
-"""Tests of bench/real_node --api: what its kubelet did is found in what it leaves, counted beside a small report, and
+"""Tests of bench/real_node --api: what its kubelet did is found in what it leaves, counted next to a small report, and
 shown; what is done to its pods, and when. Its run is tried on a throw-away machine alone."""
 import json
 import os
@@ -166,7 +166,7 @@ class Counted(Case):
             self.assertEqual((row.real, row.missing, row.false), (0, 0, 0))
 
     def test_an_exit_before_an_eviction_of_the_same_name(self):
-        """What is said of the pod before is not taken for the exit behind the eviction of the next one."""
+        """What is said of the pod before is not taken for the exit after the eviction of the next one."""
         real = [Fact("shop/a", "app", "died 0 137", 50), Fact("shop/a", "app", "ends 0 137", 71)]
         row = counted.row_of("exits", "died", real, [Fact("shop/a", "app", "died 0 137", 50)])
         self.assertEqual((row.real, row.near, row.missing, row.false), (1, 1, 0, 0))
@@ -267,7 +267,7 @@ class Chained(Case):
 
     def test_ends(self):
         """What happened in the second of the last look is lost where no trace has it, and what a trace has of the time
-        behind the last that the kubelet showed is not counted."""
+        after the last that the kubelet showed is not counted."""
         real = [Fact("shop/a", "app", "started 0", 20), Fact("shop/a", "app", "died 0 1", 66)]
         parts = [*self.parts[:1], chained.Part("second", True, 60, 66, []), self.parts[2]]
         rows, lost, _ = chained.counts_of(real, parts, until=98)
@@ -275,7 +275,7 @@ class Chained(Case):
         self.assertEqual([(row.real, row.near, row.false) for row in rows[:2]], [(1, 1, 0), (0, 0, 0)])
 
     def test_told_twice(self):
-        """What a trace says once more behind its begin is false."""
+        """What a trace says once more after its begin is false."""
         twice = [*self.parts[:1], chained.Part("second", True, 60, 66, [Fact("shop/a", "app", "started 0", 61)])]
         rows, lost, _ = chained.counts_of([Fact("shop/a", "app", "started 0", 20)], twice)
         self.assertEqual((rows[0].near, rows[0].false, lost), (1, 1, []))
@@ -348,8 +348,8 @@ class Scenarios(Case):
             recorders = evictions.Recorders(SimpleNamespace(folder=folder), None, scenario.RUNS["hard"])
             for name in scenario.BOTH:
                 done = subprocess.run([*recorders.words(name), "--help"], capture_output=True, text=True, check=False)
-                said = done.returncode, done.stdout[:20], done.stderr
-                self.assertEqual(said, (0, "usage: tools/record ", ""), name)
+                said = done.returncode, done.stdout.partition("\n")[0], done.stderr
+                self.assertEqual(said, (0, "Record a node as a trace.", ""), name)
 
     def test_words(self):
         for words in ((), ("--api",), ("--api", "folder", "hard", "other"), ("folder", "some"), ("a", "1", "2"),

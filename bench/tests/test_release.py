@@ -1,4 +1,4 @@
-"""Tests of a release: the documents that it has beside its program, made of this repository, and its signature."""
+"""Tests of a release: the documents that it has next to its program, made of this repository, and its signature."""
 import glob
 import importlib.util
 import os
@@ -56,7 +56,7 @@ class Files(Case):
         self.assertEqual((done.returncode, done.stderr), (3, "usage: release_files.py TOP FOLDER\n"))
 
 
-# stands in for the program, which is asked for its help alone
+# replaces the program, which is asked for its help alone
 PROGRAM = os.path.join(TOP, "bench/tests/manual/program")
 KEYS = {
     "openssl": (["openssl", "genpkey", "-algorithm", "ed25519", "-out", "KEY.sec"],

@@ -29,7 +29,7 @@ class Some(unittest.TestCase):
 
 
 class Test(Case):
-    """A copy of bench/test beside a folder with these tests."""
+    """A copy of bench/test next to a folder with these tests."""
 
     def setUp(self):
         self.top = self.enterContext(tempfile.TemporaryDirectory())

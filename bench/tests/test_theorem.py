@@ -154,7 +154,7 @@ class Theorem(Case):
         self.assertEqual(run("theorem", "--check", "--top", self.top)[::2], (0, ""))
 
     def test_a_long_module_has_pages_with_parts(self):
-        """Eighty definitions, which one names, in a module beside that which is there."""
+        """Eighty definitions, which one names, in a module next to that which is there."""
         names = [f"mark_{number}" for number in range(80)]
         write("".join(["-- Many.\n", "use Rattle.std.specs.Prelude.{ℕ, List, ◌∷◌, []}\n\n",
                        *(f"abbrev pub {name} : ℕ\n{name} = 0\n\n" for name in names),

@@ -1,4 +1,4 @@
-"""Tests of ./test, over a kit and scripts that only say what they were asked."""
+"""Tests of ./test, over a kit and scripts that only show what they were asked."""
 import os
 import shutil
 import subprocess
@@ -13,7 +13,7 @@ PART = """\
 echo "ran ${0##*/} $*"
 [ "${0##*/}" != "$FAILS" ]
 """
-# it says what the kit says, and waits until the program was tried where that is to come before its end
+# it shows what the kit says, and waits until the program was tried where that is to come before its end
 KIT = """\
 #!/bin/sh
 mkdir -p crates/replay_program/out
@@ -31,7 +31,7 @@ exit "$FAULTS"
 
 
 class Whole(Case):
-    """A copy of ./test beside scripts that say that they ran."""
+    """A copy of ./test next to scripts that show that they ran."""
 
     def setUp(self):
         self.top = self.enterContext(tempfile.TemporaryDirectory())
@@ -73,7 +73,7 @@ class Whole(Case):
         self.assertEqual(self.ran(said), [*(name for name in PARTS[:-2] if name != "theorem"), "try_release", "test"])
 
     def test_a_program_that_is_kept(self):
-        """Nothing says when it is there, so it is tried behind the proofs."""
+        """Nothing shows when it is there, so it is tried after the proofs."""
         status, said, _ = self.run_copy("is kept", waits=0)
         self.assertEqual((status, said[-1]), (0, "47 passed, 0 failed"))
         self.assertNotIn("rt: the program was tried by then", said)

@@ -1,4 +1,4 @@
-"""What a kubelet showed beside what a report says: each start, exit, code, kill and change of Ready, pod by pod."""
+"""What a kubelet showed next to what a report says: each start, exit, code, kill and change of Ready, pod by pod."""
 
 import calendar
 import json
@@ -145,7 +145,7 @@ def app_containers(report):
     return {key: {name for name in all_names if (key, name) in ran_once} or {"-"} for key, all_names in apps.items()}
 
 
-# --- beside each other ---
+# --- next to each other ---
 
 
 def paired(shown, said):
@@ -171,7 +171,7 @@ def kind_of(fact):
 
 
 def show_pod(key, pairs, left, show):
-    """A pod's facts in the order of their moments, the kubelet's beside the report's."""
+    """A pod's facts in the order of their moments, the kubelet's next to the report's."""
     show(f"\n{key}\n  {'':32} kubelet   report   apart")
     lines = [(fact.moment, f"{fact.container} {fact.what}", at(fact.moment),
               at(found.moment) if found else "-", f"{found.moment - fact.moment:+d} s" if found else "missing")
@@ -194,7 +194,7 @@ def show_kind(kind, pairs, left, show):
 
 
 def show_beside(facts, report, show):
-    """Shows what the kubelet showed beside what a report says; whether each fact is in it within two seconds."""
+    """Shows what the kubelet showed next to what a report says; whether each fact is in it within two seconds."""
     pairs, left = paired(facts, report_facts(report))
     for key in sorted({fact.pod for fact in facts} | {fact.pod for fact in left}):
         show_pod(key, pairs, left, show)

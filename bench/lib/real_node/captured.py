@@ -48,6 +48,22 @@ class KeptAnswers:
     def run(self, command, seconds):
         return self.keep(command, lambda: sources.run_command(command, seconds))
 
+    def read(self, command, seconds, take):
+        self.stream(command, take, lambda taken: sources.read_command(command, seconds, taken))
+
+    def stream(self, command, take, ask):
+        """Gives an answer to `take`, part by part. The one that has when the kubelet was started is kept."""
+        if not any(word.endswith("/metrics") for word in command):
+            ask(take)
+            return
+
+        def whole():
+            parts = []
+            ask(lambda part: (parts.append(part), take(part)))
+            return b"".join(parts)
+
+        self.keep(command, whole)
+
 
 class KeptKubelet(connections.Kubelet):
     """A kubelet at its address, asked by one connection."""
@@ -59,13 +75,17 @@ class KeptKubelet(connections.Kubelet):
     def endpoint(self, path):
         return self.answers.keep(self.asked.endpoint_words(path), lambda: super(KeptKubelet, self).endpoint(path))
 
+    def read(self, path, take):
+        words = self.asked.endpoint_words(path)
+        self.answers.stream(words, take, lambda taken: super(KeptKubelet, self).read(path, taken))
+
 
 def main(path, words):
     with open(path, "w", encoding="utf-8") as file:
         kept = KeptAnswers(file)
 
         def made(*asked):
-            found = sources.Sources(*asked, run=kept.run)
+            found = sources.Sources(*asked, run=kept.run, read=kept.read)
             return found if found.kubelet is None else replace(found, keeps=KeptKubelet(found, kept))
 
         return program.main(words, KeptClock(file), made)

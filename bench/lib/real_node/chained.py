@@ -1,4 +1,4 @@
-"""What a kubelet did beside what several traces of its node say, one behind the other: each alone, of what ticks behind
+"""What a kubelet did next to what several traces of its node say, one after the other: each alone, of what ticks behind
 its begin, and all of them as the tools join them."""
 
 import glob
@@ -20,7 +20,7 @@ LEFT_OUT = ("evictions by the rules", "evictions told as a fact", "pods ended as
 
 @dataclass
 class Part:
-    """One of the traces: up to `begun` its ticks say what was known before, and `ended` is its last one."""
+    """One of the traces: up to `begun` its ticks show what was known before, and `ended` is its last one."""
     name: str
     follows: bool
     begun: int
@@ -90,7 +90,7 @@ def counts_of(real, parts, said=None, until=float("inf")):
 
 
 def show_chain(real, folder, replay, show):
-    """Replays each trace of a folder and shows their counts; whether each thing that is wanted was found once."""
+    """Replays each trace of a folder and shows their counts; whether each thing that is needed was found once."""
     paths = sorted(glob.glob(f"{folder}/traces/*.trace.*"))
     os.makedirs(f"{folder}/parts", exist_ok=True)
     parts = [part_of(path, f"{folder}/parts", replay) for path in paths]
@@ -111,7 +111,7 @@ def show_chain(real, folder, replay, show):
 
 
 def show_counts(counts, path, show):
-    """Shows rows, what was lost in gaps and false codes; whether each thing that is wanted was found once."""
+    """Shows rows, what was lost in gaps and false codes; whether each thing that is needed was found once."""
     rows, lost, codes = counts
     show(f"\n  {os.path.basename(path)}")
     for line in [*table_of(rows), f"exits with a false code: {len(codes)}", *codes]:

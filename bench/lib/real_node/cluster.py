@@ -1,4 +1,4 @@
-"""The API server that bench/real_node --api runs beside a kubelet, with one user who may just record."""
+"""The API server that bench/real_node --api runs next to a kubelet, with one user who may just record."""
 
 import json
 import os
@@ -146,7 +146,7 @@ class Cluster:
 
 
 class Changes:
-    """What is done to pods over time: they are created, deleted, or made anew under their names once they are gone, as
+    """What is done to pods over time: they are created, deleted, or made again under their names once they are gone, as
     a StatefulSet does."""
 
     def __init__(self, cluster, changes):

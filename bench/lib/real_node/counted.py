@@ -1,5 +1,5 @@
-"""What a kubelet with an API server did beside what a report says, counted: starts, exits, kills, changes of Ready,
-evictions and pods that went; what it evicted beside what a recording of it tells."""
+"""What a kubelet with an API server did next to what a report says, counted: starts, exits, kills, changes of Ready,
+evictions and pods that went; what it evicted next to what a recording of it tells."""
 
 import calendar
 import json
@@ -113,7 +113,7 @@ def unready_by_eviction(statuses, evicted):
 
 
 def ends_of(statuses, exits, evicted):
-    """The exits of evicted pods behind their evictions, of which the report of an evicted pod says nothing."""
+    """The exits of evicted pods after their evictions, of which the report of an evicted pod shows nothing."""
     for uid, fact in evicted.items():
         of_pod = instance_facts([each for each in statuses if each[1] == uid], exits)
         yield from (each for each in of_pod if each.what.startswith("died") and each.moment >= fact.moment - 1)
@@ -144,13 +144,13 @@ def unnumbered(fact):
 
 
 def said_facts(report, trace):
-    """What a report and its trace say of each pod, and whom the trace says that the kubelet evicted."""
+    """What a report and its trace say of each pod, and whom the trace shows that the kubelet evicted."""
     facts = []
     for pod in report.pods:
         facts += pod_facts(pod)
         gone = trace.pods[pod.number].gone
         if gone is not None:
-            # the last tick with it: its line stands behind that
+            # the last tick with it: its line is after that
             facts.append(Fact(pod.key, "-", "gone", trace.ticks[gone - 1].at))
         end = reports.end_of(pod)
         if end is not None and end[1] == "Evicted":
@@ -206,7 +206,7 @@ def pod_facts(pod):
         was_ready = span.value == "True"
 
 
-# --- beside each other ---
+# --- next to each other ---
 
 
 def matched(real, said):
@@ -227,8 +227,8 @@ def of_kind(facts, kind):
 
 
 def row_of(name, kind, real, said, edge=()):
-    """A kind's counts. An exit behind an eviction, and what happened at an edge of the recording, before its first tick
-    or behind its last one, may be said, and need not be."""
+    """A kind's counts. An exit after an eviction, and what happened at an edge of the recording, before its first tick
+    or after its last one, may be said, and need not be."""
     may_be = [Fact(fact.pod, fact.container, fact.what.replace(END, "died"), fact.moment)
               for fact in of_kind(real, END)] + of_kind(edge, kind)
     real, said = of_kind(real, kind), of_kind(said, kind)
@@ -277,7 +277,7 @@ def read_run(trace_path, report_text):
 
 
 def counts_of(real, trace_path, report_text):
-    """The rows of a recording beside what the kubelet did, and its false codes."""
+    """The rows of a recording next to what the kubelet did, and its false codes."""
     report, trace = read_run(trace_path, report_text)
     said = with_turns(said_facts(report, trace), trace_path)
     return counts_of_facts(real, said, trace.ticks[0].at, trace.ticks[-1].at), list(false_codes(real, said))

@@ -30,7 +30,8 @@ NETWORK = {"cniVersion": "0.4.0", "name": "pods", "plugins": [{"type": "ptp", "i
 
 
 def made_image(folder):
-    """The archive of the image, of a release of this checkout; it is made anew where what it is made of has changed."""
+    """The archive of the image, of a release of this checkout; it is made again where what it is made of has
+    changed."""
     given = os.environ.get("KUBELET_REPLAY")
     call([f"{TOP}/bench/release", *(["--program", given] if given else []), f"{folder}/release"],
          stdout=subprocess.DEVNULL)
@@ -78,7 +79,7 @@ def pod_of(daemonset):
 
 
 class Deployed:
-    """The recorder's pod beside a run; the folder keeps the traces as they were fetched, and what it said."""
+    """The recorder's pod next to a run; the folder keeps the traces as they were fetched, and what it said."""
 
     def __init__(self, machine, cluster, scenario):
         self.machine, self.cluster = machine, cluster
@@ -137,7 +138,7 @@ class Deployed:
         return int(told[told.index(container) + 1])
 
     def costs(self):
-        """What the pod took since it was started anew: processor seconds in a minute, by the kubelet's summary."""
+        """What the pod took since it was started again: processor seconds in a minute, by the kubelet's summary."""
         pods = self.machine.asked("stats/summary")["pods"]
         container = next(pod for pod in pods if pod["podRef"]["name"] == self.pod)["containers"][0]
         write(f"{self.folder}/usage", json.dumps(container, indent=1))

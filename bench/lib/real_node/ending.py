@@ -45,12 +45,12 @@ def adopt_orphans():
 
 def numbers_since(own, last, most):
     """The ids that processes may have which began after the one with its own id. They are given out in order, and
-    behind the greatest from the least on."""
+    after the greatest from the least on."""
     return range(own + 1, last + 1) if last >= own else (*range(own + 1, most + 1), *range(2, last + 1))
 
 
 def is_child(identity):
-    """Whether the id is a child's, which may have ended. The system says nothing of another process."""
+    """Whether the id is a child's, which may have ended. The system shows nothing of another process."""
     try:
         os.waitid(os.P_PID, identity, os.WEXITED | os.WNOHANG | os.WNOWAIT)
     except ChildProcessError:

@@ -58,7 +58,7 @@ def make_small_disk(folder):
 
 
 class Recorders:
-    """The recorders beside a run: what each wrote, and what it cost."""
+    """The recorders next to a run: what each wrote, and what it cost."""
 
     def __init__(self, machine, cluster, scenario):
         self.machine, self.cluster, self.scenario = machine, cluster, scenario
@@ -144,7 +144,7 @@ def run_once(kit, scenario):
 
 
 def measured(folder, names, replay, show):
-    """Builds, and runs, records and counts each; whether all was found that is wanted of the extended format. Without a
+    """Builds, and runs, records and counts each; whether all was found that is needed of the extended format. Without a
     program that replays they are recorded, and counted another time."""
     os.makedirs(folder, exist_ok=True)
     kit = Kit(folder, has_api=True)

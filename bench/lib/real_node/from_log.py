@@ -1,4 +1,4 @@
-"""What tools/import makes of a kubelet's log, cut to a verbosity, beside what that kubelet did."""
+"""What tools/import makes of a kubelet's log, cut to a verbosity, next to what that kubelet did."""
 
 import json
 import re
@@ -71,7 +71,7 @@ def import_log(log, pods, year, path, replay):
 
 
 def compared(real, path):
-    """What the kubelet did beside what was made of its log."""
+    """What the kubelet did next to what was made of its log."""
     report, trace = read_run(f"{path}.trace", read(f"{path}.report"))
     begun, ended = trace.ticks[0].at, trace.ticks[-1].at - TAIL_SECONDS
     said = [fact for fact in said_facts(report, trace) if fact.moment <= ended]
@@ -89,7 +89,7 @@ def without_codes(facts):
 
 
 def guessed_codes(trace):
-    """The exits of which a trace says that their code is guessed: (pod, container, attempt)."""
+    """The exits of which a trace shows that their code is guessed: (pod, container, attempt)."""
     found = set()
     for line in trace.splitlines():
         for entry in json.loads(line).get("pods") or []:

@@ -151,6 +151,7 @@ class Kubelet:
         self.shown, self.shown_at = shown, [each["at"] for each in shown]
         self.year = time.gmtime(shown[0]["at"]).tm_year
         self.watch = [json.loads(line) for line in lines_of(folder, "watch.jsonl")]
+        self.watch_at = [each["at"] for each in self.watch]
         self.summaries = [json.loads(line) for line in lines_of(folder, "summary.jsonl")]
         self.summary_at = [each["at"] for each in self.summaries]
         self.specs = self.specs_of(self.watch)
@@ -229,6 +230,14 @@ class Kubelet:
         return {name: newest[-1][name] for name in ("deletionTimestamp", "deletionGracePeriodSeconds")
                 if newest and newest[-1].get(name) is not None}
 
+    def of_api_server(self, moment):
+        """The pods that the API server has, which a restart of the kubelet does not change."""
+        newest = {}
+        for each in self.watch[:bisect.bisect(self.watch_at, moment)]:
+            newest[each["object"]["metadata"]["uid"]] = each
+        return json.dumps({"kind": "PodList", "items": [each["object"] for each in newest.values()
+                                                        if each["type"] != "DELETED"]})
+
     def summary(self, moment):
         kept = self.summaries[self.at(self.summary_at, moment)]
         uids = {pod["metadata"]["name"]: pod["metadata"]["uid"]
@@ -251,6 +260,7 @@ class KeptRun:
         shown = [{**each, "pods": each["pods"] or []} for each in shown]
         self.runtime, self.kubelet = Runtime(folder, shown), Kubelet(folder, shown)
         self.events = [json.loads(line) for line in lines_of(folder, "events.jsonl")]
+        self.nodes = [json.loads(line) for line in lines_of(folder, "nodes.jsonl")]
         self.begin, self.end = shown[0]["at"], shown[-1]["at"]
         self.asked = {}
 
@@ -258,11 +268,25 @@ class KeptRun:
         text = " ".join(words)
         if words[0] == "crictl":
             return self.runtime.ps(moment) if words[1] == "ps" else self.runtime.inspect(words[-1], moment)
+        if words[:3] == ["kubectl", "get", "pods"]:
+            return self.kubelet.of_api_server(moment)
+        if "/events?" in text:
+            return self.events_of(re.search("%3D([-0-9a-f]+)", text)[1], moment)
+        if re.search("/api/v1/nodes/[^/ ]+( |$)", text):
+            found = [each["object"] for each in self.nodes if each["at"] <= moment] or [self.nodes[0]["object"]]
+            return json.dumps(found[-1])
         kind = next(kind for kind in ("configz", "summary", "metrics/probes", "metrics", "pods") if kind in text)
         self.asked[kind] = self.asked.get(kind, 0) + 1
         self.kubelet.check(moment)
         answer = getattr(self.kubelet, kind.rpartition("/")[2])
         return answer if isinstance(answer, str) else answer(moment)
+
+
+    def events_of(self, uid, moment):
+        """The Events of a pod, each as the watch had it last."""
+        newest = {each["object"]["metadata"]["uid"]: each["object"] for each in self.events
+                  if each["at"] <= moment and each["object"]["involvedObject"].get("uid") == uid}
+        return json.dumps({"kind": "EventList", "items": list(newest.values())})
 
 
 class Clock:

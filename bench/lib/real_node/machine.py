@@ -1,4 +1,4 @@
-"""What a run starts: the runtime, the kubelet and what is beside them; and how all of it ends."""
+"""What a run starts: the runtime, the kubelet and what is next to them; and how all of it ends."""
 
 import json
 import os
@@ -15,7 +15,7 @@ from kit import PARTS, call, read, write
 CTR_SECONDS = 30
 # until its first round of samples is done a kubelet has no summary of its pods
 FIRST_ROUND_SECONDS = 12
-# where a runtime mounts beside its root; the first is its state, as containerd.toml says
+# where a runtime mounts next to its root; the first is its state, as containerd.toml says
 RUNTIME_FOLDERS = ("/run/real_node-containerd", "/run/containerd", "/run/netns")
 KUBELET = "https://127.0.0.1:10250"
 NODE = "node-a"
@@ -91,7 +91,7 @@ class Machine:
 
     def watch(self, seconds, act):
         """Keeps twice a second what /pods shows, and lets `act` do what is due, by the seconds that have passed. The
-        manifest of each pod is kept beside that."""
+        manifest of each pod is kept next to that."""
         begun, manifests = time.time(), {}
         with open(f"{self.folder}/shown.jsonl", "w", encoding="utf-8") as file:
             while time.time() - begun < seconds:

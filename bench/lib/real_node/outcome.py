@@ -33,7 +33,7 @@ def is_ready(replay):
 
 
 def keep_about(folder, name, costs):
-    """What a kept run is, beside what it has."""
+    """What a kept run is, next to what it has."""
     write(f"{folder}/about.json", json.dumps({"run": name, "costs": costs}, indent=1) + "\n")
 
 
@@ -45,7 +45,7 @@ def facts_of(folder):
 
 
 def show_recording(real, folder, name, replay, show):
-    """Replays a recording and shows its counts; its rows, and whether all that is wanted was found."""
+    """Replays a recording and shows its counts; its rows, and whether all that is needed was found."""
     trace = f"{folder}/{name}.trace"
     words = [] if name == "standard" else ["--extended"]
     with open(f"{folder}/{name}.report", "wb") as file:
@@ -64,8 +64,8 @@ def show_recording(real, folder, name, replay, show):
 
 
 def show_import(real, folder, level, replay, show):
-    """Imports the log of a run, cut to a verbosity, and shows its counts; its rows, and whether it says nothing that is
-    false."""
+    """Imports the log of a run, cut to a verbosity, and shows its counts; its rows, and whether it shows nothing that
+    is false."""
     log, path = read(f"{folder}/kubelet.log"), f"{folder}/imported-{level}"
     year = time.gmtime(json.loads(read(f"{folder}/shown.jsonl").partition("\n")[0])["at"]).tm_year
     import_log(at_level(log, level), read(f"{folder}/pods.json"), year, path, replay)
@@ -89,7 +89,7 @@ def write_differences(path, rows):
 
 
 class Outcome:
-    """The rows of all runs that were shown, by what they were counted in, and whether all that is wanted was found."""
+    """The rows of all runs that were shown, by what they were counted in, and whether all that is needed was found."""
 
     def __init__(self, replay, show):
         self.replay, self.show = replay, show
@@ -115,7 +115,7 @@ class Outcome:
         self.works = self.works and works
 
     def end(self):
-        """Shows the sources beside each other; whether all that is wanted was found."""
+        """Shows the sources next to each other; whether all that is needed was found."""
         if self.rows:
             self.show(f"\n{self.runs} run{'s' if self.runs > 1 else ''}: within 2 s, of how many; in the report alone")
             for line in side_by_side({source: added(row for rows in of_runs for row in rows)
@@ -125,7 +125,7 @@ class Outcome:
 
 
 def show_runs(folders, replay, show):
-    """Shows kept runs; whether all was found that is wanted of the extended format and of their logs."""
+    """Shows kept runs; whether all was found that is needed of the extended format and of their logs."""
     outcome = Outcome(replay, show)
     for folder in folders:
         outcome.add(folder)

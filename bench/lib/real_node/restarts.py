@@ -5,7 +5,7 @@ from dataclasses import dataclass
 from beside import NEAR, at
 from counted import FAR
 
-# what comes so soon behind a restart may have kept the kubelet from it, in seconds
+# what comes so soon after a restart may have kept the kubelet from it, in seconds
 SOON = 15
 
 
@@ -35,7 +35,7 @@ def starts_of(real):
 
 
 def leaves_soon(trace, number, moment):
-    """Whether a trace says that a pod was deleted, ended by the node or gone within seconds of a moment."""
+    """Whether a trace shows that a pod was deleted, ended by the node or gone within seconds of a moment."""
     pod, ends = trace.pods[number], []
     if number in trace.deletions:
         ends.append(trace.deletions[number].at)
@@ -46,7 +46,7 @@ def leaves_soon(trace, number, moment):
 
 
 def restarts_of(real, report, trace):
-    """Each restart with the first start behind it that no other one has."""
+    """Each restart with the first start after it that no other one has."""
     starts, found = starts_of(real), Restarts(0, 0, 0, 0, [])
     for event in report.events:
         if event.word != "restart":

@@ -15,7 +15,7 @@ UNTIL_TERM = "trap 'exit {0}' TERM; while :; do sleep 1 & wait $!; done"
 
 @dataclass
 class Scenario:
-    """A run: its seconds, the recorders beside it, its changes (the second, what is done, the pod, its grace), whether
+    """A run: its seconds, the recorders next to it, its changes (the second, what is done, the pod, its grace), whether
     its kubelet has a small file system, whether the answers that the recorder was given are kept, which costs, and
     whether the recorder is a pod of the node. `configuration` makes the kubelet's settings of the bytes of memory that
     are available."""

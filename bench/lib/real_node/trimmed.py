@@ -1,5 +1,5 @@
 """Makes the answers that captured.py kept into a recording of tools/tests: trimmed.py FILE OUT.jsonl.gz. It has for
-each look those answers that differ from the look before, with the fields that tools/record reads and a few beside
+each look those answers that differ from the look before, with the fields that tools/record reads and a few next to
 them."""
 
 import gzip

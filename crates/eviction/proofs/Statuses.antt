@@ -8,7 +8,7 @@ use Rattle.histories.specs.rule.Histories.{HoldsAt}
 use Rattle.histories.proofs.Decide.{test_of}
 use Rattle.histories.proofs.Found.{first_or_none}
 use Rattle.manifest.specs.declared.pod.PodSpec.{PodSpec}
-use Rattle.qos.proofs.ClassLemmas.{some_class}
+use Rattle.qos.proofs.ClassLemmas.{some_pod_class}
 use Rattle.containers.specs.declared.status.ContainerStatus.{ContainerStatus}
 use Rattle.pod_state.specs.rule.Pods.{PodTick, EndsPod}
 use Rattle.pod_state.specs.rule.Containers.{AreStatusesOf}
@@ -62,7 +62,7 @@ some_status number pod eviction h few =
     let statuses = found.some_status.of_containers pod evicted h in
     let many : length statuses.0 ≡ length pod.containers = statuses.1.as_many in
     let vector = some_vector statuses.0 (omega arith) in
-    let class = some_class pod.containers in
+    let class = some_pod_class pod in
     let usage = some_usage pod evicted h in
     let failure = some_failure pod eviction h in
     let Shown : List ContainerStatus → Type 0 = AreStatusesOf pod evicted h in (

@@ -4,3 +4,4 @@ pub mod Resources
 pub mod Containers
 pub mod ProbeKinds
 pub mod RestartDelay
+pub mod Gates

@@ -1,6 +1,7 @@
 //! What a manifest says of a pod.
 #![tactic(auto)]
 
+mod gates;
 mod grace;
 mod names;
 mod outcome;
@@ -11,6 +12,7 @@ mod resources;
 mod restart_delay;
 mod text;
 
+pub use gates::{MOST_GATES, ReadinessGates, is_condition_type};
 pub use grace::GracePeriod;
 pub use names::{is_label, is_name};
 pub use outcome::{Outcome, ProbeKind};

@@ -3,6 +3,7 @@
 ghost use Rattle.std.specs.Prelude.{◌≡◌, ◌<◌, List};
 ghost use Rattle.lists.specs.rule.Names.{place_of};
 
+use crate::gates::ReadinessGates;
 use crate::grace::GracePeriod;
 use crate::policy::Policy;
 use crate::probe::Probes;
@@ -169,6 +170,13 @@ pub struct PodSpec {
     pub grace_period_seconds: GracePeriod,
     /// `spec.initContainers`, then `spec.containers`, in their order.
     pub containers: ContainerList,
+    /// `spec.resources`: what the pod requests of cpu and memory as a whole, and its limits of these; nothing where
+    /// none is written. (Kubernetes, "Resource Management for Pods and Containers", "Pod-level resource specification";
+    /// read in this project's extended format alone.)
+    pub resources: Resources,
+    /// `spec.readinessGates`; none where none is written. (Kubernetes, "Pod Lifecycle", "Pod readiness"; read in this
+    /// project's extended format alone.)
+    pub gates: ReadinessGates,
     /// Whether the node spares the pod, so that it never evicts it, as a static or a critical one. No manifest says
     /// so; a pod line may. (This project's extended format.)
     pub spared: bool,

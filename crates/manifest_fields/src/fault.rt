@@ -31,10 +31,12 @@ pub enum Field {
     Containers,
     /// A container's `name`.
     ContainerName,
-    /// A container's `resources`.
+    /// `resources` of a container or, in this project's extended format, of the pod's `spec`.
     Resources,
     /// A container's `startupProbe`, `livenessProbe` or `readinessProbe`.
     Probe,
+    /// `spec.readinessGates`, an item of it, and an item's `conditionType`. (This project's extended format.)
+    ReadinessGates,
     /// Whether the node spares the pod, which stands beside the manifest. (This project's extended format.)
     Spared,
 }
@@ -58,7 +60,7 @@ pub enum ManifestFault {
     DuplicateContainer,
     #[error("a container has a restart policy of its own that doesn't make it a sidecar")]
     Sidecar,
-    #[error("more than 16 containers")]
+    #[error("more than 16 containers or readiness gates")]
     TooMany,
     #[error("out of memory")]
     OutOfMemory,

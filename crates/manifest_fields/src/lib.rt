@@ -12,4 +12,4 @@ pub use fields::{
     Grammar, absent, array, array_or_none, object, required_text, some_items, text_or,
 };
 pub use probe_fields::probes_of;
-pub use resource_fields::resources_of;
+pub use resource_fields::{pod_resources_of, resources_of};

@@ -5,7 +5,8 @@ ghost use Rattle.serde_json.specs.View.{view};
 ghost use Rattle.json_fields.specs.state.Reading.{GivesExactly};
 ghost use Rattle.manifest.specs.rule.Resources.{some_above};
 ghost use Rattle.manifest_fields.specs.rule.ResourceFields.{quantity_at, amounts_in, amounts_of, none_above};
-ghost use Rattle.manifest_fields.specs.rule.ResourceFields.{resources_in, resources_of};
+ghost use Rattle.manifest_fields.specs.rule.ResourceFields.{resources_in, resources_of, pod_amounts_in};
+ghost use Rattle.manifest_fields.specs.rule.ResourceFields.{pod_amounts_of, pod_resources_in, pod_resources_of};
 
 use crate::fault::{Field, ManifestFault};
 use crate::fields::object;
@@ -73,5 +74,49 @@ pub fn resources_of(found: Option<&Value>) -> Result<Resources, ManifestFault>
     match found {
         None => Ok(Resources::none()),
         Some(value) => resources_in(value),
+    }
+}
+
+#[tactic(auto, unfolding(crate::specs::rule::ResourceFields::pod_amounts_in))]
+fn pod_amounts_in(value: &Value) -> Result<Amounts, ManifestFault>
+    ensures { GivesExactly (λ a. a) result (pod_amounts_in (view value.now)) }
+{
+    let amounts = object(Field::Resources, Some(value))?;
+    Ok(Amounts {
+        cpu: quantity_at(field(amounts, "cpu"))?,
+        memory: quantity_at(field(amounts, "memory"))?,
+        ephemeral_storage: None,
+    })
+}
+
+fn pod_amounts_of(found: Option<&Value>) -> Result<Amounts, ManifestFault>
+    ensures { GivesExactly (λ a. a) result (pod_amounts_of (option_map (λ v. view v.now) found.entry)) }
+{
+    match found {
+        None => Ok(Amounts::nothing()),
+        Some(value) => pod_amounts_in(value),
+    }
+}
+
+#[tactic(auto, unfolding(crate::specs::rule::ResourceFields::pod_resources_in))]
+fn pod_resources_in(value: &Value) -> Result<Resources, ManifestFault>
+    ensures { GivesExactly (λ r. r) result (pod_resources_in (view value.now)) }
+{
+    let resources = object(Field::Resources, Some(value))?;
+    let requests = pod_amounts_of(field(resources, "requests"))?;
+    let limits = pod_amounts_of(field(resources, "limits"))?;
+    none_above(&requests, &limits)?;
+    Ok(Resources::new(requests, limits))
+}
+
+/// The resources of a pod as a whole: those of a container, but of cpu and memory alone. Returns `RequestAboveLimit` if
+/// a request is above its limit. (Kubernetes, "Resource Management for Pods and Containers", "Pod-level resource
+/// specification".)
+pub fn pod_resources_of(found: Option<&Value>) -> Result<Resources, ManifestFault>
+    ensures { GivesExactly (λ r. r) result (pod_resources_of (option_map (λ v. view v.now) found.entry)) }
+{
+    match found {
+        None => Ok(Resources::none()),
+        Some(value) => pod_resources_in(value),
     }
 }

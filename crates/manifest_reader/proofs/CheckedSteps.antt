@@ -1,5 +1,5 @@
 -- The steps of reading a manifest, of which only the first fault is looked for.
-use Rattle.std.proofs.Common.{◌≡◌, ◌∙◌, Bool, true, false, List, ◌++◌, Result, Ok, Err, refl, ap}
+use Rattle.std.proofs.Common.{◌≡◌, ◌∙◌, Bool, true, false, List, [], ◌++◌, Result, Ok, Err, refl, ap}
 use Rattle.std.specs.Prelude.{⊤, Option, Some, codes}
 use Rattle.serde_json.specs.Data.{Data}
 use Rattle.json_fields.specs.rule.Fields.{field_at}
@@ -8,6 +8,7 @@ use Rattle.manifest.specs.declared.pod.ContainerSpec.{ContainerSpec}
 use Rattle.manifest.specs.declared.pod.PodSpec.{PodSpec}
 use Rattle.manifest.specs.declared.pod.Place.TheVariants.{InitContainers, Containers}
 use Rattle.manifest.specs.rule.Containers.{has_twice}
+use Rattle.manifest.specs.rule.Resources.{no_resources}
 use Rattle.manifest_fields.specs.rule.Fields.{object_of}
 use Rattle.manifest_fields.specs.declared.fault.Field.TheVariants as fields
 use Rattle.manifest_fields.specs.declared.fault.ManifestFault.{ManifestFault}
@@ -59,6 +60,8 @@ pod_with metadata spec = record {
   priority = spec.settings.priority;
   grace_period_seconds = spec.settings.grace_period_seconds;
   containers = spec.containers;
+  resources = no_resources;
+  gates = [];
   spared = false;
 }
 

@@ -46,7 +46,7 @@ missing field is = absurd (cc)
 pub wrong : (field : Field) → IsFound (WrongKind field)
 wrong field is = absurd (cc)
 
-object_only : (field : Field) (found : Option Data) → Only IsFound (object_of field found)
+pub object_only : (field : Field) (found : Option Data) → Only IsFound (object_of field found)
 object_only field None = only_err IsFound (Missing field) (missing field)
 object_only field (Some d) = only_if IsFound (is_some (as_object d)) (Ok d) (Err (WrongKind field))
     (only_ok IsFound d) (only_err IsFound (WrongKind field) (wrong field))
@@ -57,7 +57,7 @@ tested_only test field None = only_err IsFound (WrongKind field) (wrong field)
 tested_only test field (Some s) = only_if IsFound (test s) (Ok s) (Err (WrongKind field)) (only_ok IsFound s)
     (only_err IsFound (WrongKind field) (wrong field))
 
-required_only : (test : List ℕ → Bool) (field : Field) (found : Option Data)
+pub required_only : (test : List ℕ → Bool) (field : Field) (found : Option Data)
     → Only IsFound (required_text test field found)
 required_only test field None = only_err IsFound (Missing field) (missing field)
 required_only test field (Some d) = tested_only test field (as_str d)
@@ -75,7 +75,7 @@ array_only : (field : Field) (found : Option Data) → Only IsFound (array_of fi
 array_only field None = only_err IsFound (Missing field) (missing field)
 array_only field (Some d) = items_or_only field (as_array d)
 
-array_or_none_only : (field : Field) (found : Option Data) → Only IsFound (array_or_none field found)
+pub array_or_none_only : (field : Field) (found : Option Data) → Only IsFound (array_or_none field found)
 array_or_none_only field None = only_ok IsFound []
 array_or_none_only field (Some d) = array_only field (Some d)
 
@@ -130,7 +130,7 @@ quantity_read_only (Ok n) = only_ok IsFound n
 quantity_read_only (Err OtherKind) = only_err IsFound (WrongKind fields.Resources) (wrong fields.Resources)
 quantity_read_only (Err (Faulty fault)) = only_err IsFound (Quantity fault) (λ is. absurd (cc))
 
-quantity_only : (found : Option Data) → Only IsFound (quantity_at found)
+pub quantity_only : (found : Option Data) → Only IsFound (quantity_at found)
 quantity_only None = only_ok IsFound None
 quantity_only (Some d) = only_bind IsFound (quantity_read (quantity_in d)) _ (quantity_read_only (quantity_in d))
     (λ n. only_ok IsFound (Some n))

@@ -19,7 +19,8 @@ ghost use Rattle.manifest_reader.specs.rule.Manifest.{settings_in, pod_at};
 use crate::checks::check_pod;
 use json_fields::field;
 use manifest::{
-    ContainerList, ContainerSpec, GracePeriod, MOST_CONTAINERS, Place, PodSpec, Policy, Role, Text,
+    ContainerList, ContainerSpec, GracePeriod, MOST_CONTAINERS, Place, PodSpec, Policy,
+    ReadinessGates, Resources, Role, Text,
 };
 use manifest_fields::{
     Field, Grammar, ManifestFault, array, array_or_none, object, probes_of, required_text,
@@ -296,6 +297,8 @@ fn pod_of(alloc: Global, value: &Value) -> Result<PodSpec, ManifestFault>
         priority: settings.priority,
         grace_period_seconds: settings.grace_period_seconds,
         containers,
+        resources: Resources::none(),
+        gates: ReadinessGates::none(alloc),
         spared: false,
     })
 }

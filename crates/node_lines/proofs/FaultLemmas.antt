@@ -1,8 +1,8 @@
 -- Which fault a node line answers.
-use Rattle.std.proofs.Common.{◌≡◌, ◌⊎◌, inl, inr, ℕ, false, List, Option, Some, None, Result, Ok, Err, refl, ap, ◌∙◌}
+use Rattle.std.proofs.Common.{◌≡◌, ◌⊎◌, inl, inr, ℕ, false, List, Option, Some, None, is_some, Result, Ok, Err, refl, ap, ◌∙◌}
 use Rattle.std.specs.Prelude.{option_and_then, codes}
 use Rattle.serde_json.specs.Data.{Data}
-use Rattle.serde_json.specs.Find.{as_bool, as_str}
+use Rattle.serde_json.specs.Find.{as_bool, as_object, as_str}
 use Rattle.json_fields.specs.rule.Fields.{field_at, text_at}
 use Rattle.json_fields.specs.rule.Reading.{◌>>=◌, some_or}
 use Rattle.json_fields.proofs.Only.{Only, only_ok, only_err, only_bind, only_if, only_some}
@@ -29,6 +29,7 @@ use Rattle.node_lines.specs.rule.Maps.{map_of, or_config, duration_from, duratio
 use Rattle.json_fields.specs.declared.scope.Scope.TheVariants.{Node}
 use Rattle.json_fields.proofs.SignalMapRefused.{each_only, map_only, each_err}
 use Rattle.node_lines.specs.rule.Node.{whole_number, version_named, version_of, name_from, restart_delay_of, flag_of}
+use Rattle.node_lines.specs.rule.Node.{delay_from, crash_loop_delay_of, delay_by, delay_in}
 use Rattle.node_lines.specs.rule.Node.{few_seconds, seconds_of, pause_of, flag_of_three, settings_in, node_of}
 use Rattle.node_lines.specs.rule.Thresholds.{soft_threshold, written_over, written_in, soft_thresholds, eviction_from}
 use Rattle.node_lines.proofs.LawLemmas.{IsWritten, limit_read, in_read, soft_limit_of, grace_of}
@@ -118,6 +119,26 @@ delay_only : (found : Option Data) → Only IsConfig (restart_delay_of found)
 delay_only None = only_ok IsConfig most_max_delay
 delay_only (Some d) = some_only (option_and_then max_delay_of (whole_number d))
 
+delay_from_only : (seconds : Option ℕ) → Only IsConfig (delay_from seconds)
+delay_from_only None = only_ok IsConfig most_max_delay
+delay_from_only (Some seconds) = some_only (max_delay_of seconds)
+
+crash_loop_only : (d : Data) → Only IsConfig (crash_loop_delay_of d)
+crash_loop_only d =
+    only_if IsConfig (is_some (as_object d)) _ (Err Config)
+    (only_bind IsConfig _ _ (duration_only (field_at (codes "maxContainerRestartPeriod") d)) (λ s. delay_from_only s))
+    (only_err IsConfig Config refl)
+
+delay_by_only : (found crash_loop : Option Data) → Only IsConfig (delay_by found crash_loop)
+delay_by_only found None = delay_only found
+delay_by_only None (Some d) = crash_loop_only d
+delay_by_only (Some seconds) (Some d) = only_err IsConfig Config refl
+
+delay_in_only : (version : Version) (found crash_loop : Option Data) → Only IsConfig (delay_in version found crash_loop)
+delay_in_only One found crash_loop = delay_only found
+delay_in_only Two found crash_loop = delay_only found
+delay_in_only Three found crash_loop = delay_by_only found crash_loop
+
 flag_only : (found : Option Data) → Only IsConfig (flag_of found)
 flag_only None = only_ok IsConfig false
 flag_only (Some d) = some_only (as_bool d)
@@ -141,7 +162,7 @@ unfolding settings_in
 settings_only d =
     let P = IsConfig in
     only_bind P _ _ (version_only (field_at (codes "version") d)) (λ a.
-    only_bind P _ _ (delay_only (field_at (codes "maxRestartDelay") d)) (λ b.
+    only_bind P _ _ (delay_in_only a (field_at (codes "maxRestartDelay") d) (field_at (codes "crashLoopBackOff") d)) (λ b.
     only_bind P _ _ (flag_only (field_at (codes "dedicatedImagefs") d)) (λ c.
     only_bind P _ _ (seconds_only (field_at (codes "evictionMaxPodGracePeriod") d)) (λ f.
     only_bind P _ _ (duration_only (field_at (codes "evictionPressureTransitionPeriod") d)) (λ g.

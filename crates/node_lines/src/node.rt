@@ -5,6 +5,7 @@ ghost use Rattle.serde_json.specs.View.{view};
 ghost use Rattle.json_fields.specs.state.Reading.{GivesExactly, GivesUnless};
 ghost use Rattle.node_lines.specs.state.Memory.{is_memory};
 ghost use Rattle.node_lines.specs.rule.Node.{version_of, name_from, restart_delay_of, flag_of, seconds_of};
+ghost use Rattle.node_lines.specs.rule.Node.{delay_from, crash_loop_delay_of, delay_by, delay_in};
 ghost use Rattle.node_lines.specs.rule.Node.{or_default, pause_of, flag_of_three, settings_in, node_of};
 
 use crate::eviction::{eviction_from, written_in};
@@ -63,6 +64,54 @@ fn restart_delay(found: Option<&Value>) -> Result<MaxRestartDelay, NodeFault>
     };
     let seconds = value.as_u64().ok_or(NodeFault::Config)?;
     MaxRestartDelay::new(seconds).ok_or(NodeFault::Config)
+}
+
+/// The greatest restart delay by a period, which has to be in its range.
+fn delay_from(seconds: Option<u64>) -> Result<MaxRestartDelay, NodeFault>
+    ensures { result ≡ delay_from seconds }
+{
+    match seconds {
+        None => Ok(MaxRestartDelay::unset()),
+        Some(seconds) => MaxRestartDelay::new(seconds).ok_or(NodeFault::Config),
+    }
+}
+
+/// The greatest restart delay that a kubelet's configuration gives in its own field. (Kubernetes, "Configurable
+/// container restart delay".)
+fn crash_loop_delay(value: &Value) -> Result<MaxRestartDelay, NodeFault>
+    ensures { result ≡ crash_loop_delay_of (view value.now) }
+{
+    if !value.is_object() {
+        return Err(NodeFault::Config);
+    }
+    delay_from(duration_at(field(value, "maxContainerRestartPeriod"))?)
+}
+
+/// The same, by the field of this project's own or by the kubelet's, of which a line has one.
+fn delay_by(found: Option<&Value>, crash_loop: Option<&Value>) -> Result<MaxRestartDelay, NodeFault>
+    ensures { result ≡ delay_by (option_map (λ v. view v.now) found.entry)
+        (option_map (λ v. view v.now) crash_loop.entry) }
+{
+    match (found, crash_loop) {
+        (found, None) => restart_delay(found),
+        (None, Some(value)) => crash_loop_delay(value),
+        (Some(_), Some(_)) => Err(NodeFault::Config),
+    }
+}
+
+/// The greatest restart delay. Version 3 alone has the kubelet's own field.
+fn delay_in(
+    version: Version,
+    found: Option<&Value>,
+    crash_loop: Option<&Value>,
+) -> Result<MaxRestartDelay, NodeFault>
+    ensures { result ≡ delay_in version (option_map (λ v. view v.now) found.entry)
+        (option_map (λ v. view v.now) crash_loop.entry) }
+{
+    match version {
+        Version::One | Version::Two => restart_delay(found),
+        Version::Three => delay_by(found, crash_loop),
+    }
 }
 
 /// True or false, and false where none is written.
@@ -124,7 +173,11 @@ fn settings_in(node: &Value) -> Result<Settings, NodeFault>
     ensures { result ≡ settings_in (view node.now) }
 {
     let version = version(field(node, "version"))?;
-    let max_restart_delay = restart_delay(field(node, "maxRestartDelay"))?;
+    let max_restart_delay = delay_in(
+        version,
+        field(node, "maxRestartDelay"),
+        field(node, "crashLoopBackOff"),
+    )?;
     let has_dedicated_imagefs = flag(field(node, "dedicatedImagefs"))?;
     let max_pod_grace_period = seconds(field(node, "evictionMaxPodGracePeriod"))?;
     let transition_period = duration_at(field(node, "evictionPressureTransitionPeriod"))?;

@@ -9,7 +9,7 @@ use Rattle.histories.proofs.Lists.{given_at}
 use Rattle.manifest.specs.declared.pod.PodSpec.{PodSpec}
 use Rattle.node_config.specs.declared.node.NodeConfig.{NodeConfig}
 use Rattle.observations.specs.declared.tick.TickObs.{TickObs}
-use Rattle.qos.proofs.ClassLemmas.{some_class}
+use Rattle.qos.proofs.ClassLemmas.{some_pod_class}
 use Rattle.node_signals.specs.declared.condition.NodeCondition.{NodeCondition}
 use Rattle.node_signals.specs.rule.Conditions.{conditions}
 use Rattle.node_signals.proofs.Exists.{some_condition}
@@ -35,7 +35,7 @@ some_pod_lines ticks evictions n pod =
     let order = evicting_order n ticks evictions in
     let (l, l') = some_status.of_pod pod evicted (pod_ticks ticks n) in
     let (c, c') = some_status.of_containers pod evicted (pod_ticks ticks n) in
-    let (q, q') = some_class pod.containers in
+    let (q, q') = some_pod_class pod in
     let (f, f') = some_failure pod (own_eviction n ticks evictions) (pod_ticks ticks n) in (
       pod_text n pod q l.phase l.conditions (reason_in order f) (disrupted_at order f) c,
       record {

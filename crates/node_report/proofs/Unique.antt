@@ -9,7 +9,7 @@ use Rattle.manifest.specs.declared.pod.PodSpec.{PodSpec}
 use Rattle.node_config.specs.declared.node.NodeConfig.{NodeConfig}
 use Rattle.observations.specs.declared.tick.TickObs.{TickObs}
 use Rattle.qos.specs.declared.class.Qos.{Qos}
-use Rattle.qos.proofs.ClassLemmas.{one_class}
+use Rattle.qos.proofs.ClassLemmas.{one_pod_class}
 use Rattle.pressure.specs.rule.Pressures.{Observation, IsSince}
 use Rattle.pressure.proofs.LawLemmas.{one_since}
 use Rattle.observations.specs.rule.Observations.{judged_of}
@@ -48,7 +48,7 @@ lines_one ticks evictions n pod a b x y =
     (λ c d lt. container_one pod evicted h c (slice_index_or x.containers c d) (slice_index_or y.containers c d)
     (x.are_statuses.each c d (omega (arith, x.are_statuses.as_many)))
     (y.are_statuses.each c d (omega (arith, x.are_statuses.as_many)))) in
-    let classes : x.qos ≡ y.qos = one_class pod.containers x.qos y.qos x.is_qos y.is_qos in
+    let classes : x.qos ≡ y.qos = one_pod_class pod x.qos y.qos x.is_qos y.is_qos in
     let failures : x.failure ≡ y.failure = one_failure pod (own_eviction n ticks evictions) h x.failure y.failure
     x.is_failure y.is_failure in
     let Text : Qos → Lifecycle → Option PodFailure → List ContainerStatus → List ℕ =

@@ -125,12 +125,12 @@ fn add_condition(
     add(text, "\n")
 }
 
-/// Adds the line of `Ready`, which is as `ContainersReady`.
+/// Adds the line of `Ready`.
 fn add_ready(text: &mut String, number: usize, conditions: Conditions) -> Result<(), AllocError>
     ensures { OnOk result (string_bytes text.new
-        ≡ string_bytes text.old ++ condition_line number (codes "Ready") conditions.containers_ready) }
+        ≡ string_bytes text.old ++ condition_line number (codes "Ready") conditions.ready) }
 {
-    add_condition(text, number, "Ready", conditions.containers_ready)
+    add_condition(text, number, "Ready", conditions.ready)
 }
 
 /// Adds the four condition lines.

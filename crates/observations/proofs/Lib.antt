@@ -1,3 +1,4 @@
 pub mod KeptAs
 pub mod OwnTicks
 mod Reasons
+pub mod Gates

@@ -19,4 +19,4 @@ pub use pod::PodObs;
 pub use reason::EndReason;
 pub use tick::{TickObs, seen_of};
 pub use usage::{Sampling, Usage};
-pub use words::{NO_WORDS, PodWords};
+pub use words::{NO_GATES, NO_WORDS, PodWords};

@@ -1,8 +1,12 @@
 //! What a tick shows of a pod's containers and of its use of the node, as it is kept.
 
-ghost use Rattle.std.specs.Prelude.{◌≡◌, length, map, IfOk, IfSome, slice_get, option_map};
+ghost use Rattle.std.specs.Prelude.{◌≡◌, length, map, IfOk, IfSome, IsTrue, is_none, slice_get};
+ghost use Rattle.std.specs.Prelude.{option_map};
+ghost use Rattle.std.specs.List.{list_all};
+ghost use Rattle.std.specs.Option.{option_flatten};
 ghost use Rattle.observations.specs.state.PackedContainer.{shown_as};
-ghost use Rattle.observations.specs.state.Pods.{kept_in, sampling_in, words_in, no_words};
+ghost use Rattle.observations.specs.rule.Pods.{no_gates, no_words};
+ghost use Rattle.observations.specs.state.Pods.{kept_in, sampling_in, words_in};
 ghost use Rattle.observations.specs.state.Whole.{memory_as, usage_as};
 ghost use Rattle.observations.specs.declared.usage.Sampling.TheVariants.{Unsaid, Sampled};
 
@@ -13,6 +17,7 @@ use crate::reason::EndReason;
 use crate::usage::{Sampling, Usage};
 use crate::whole::{WholeUsage, usage_of_memory};
 use crate::words::PodWords;
+use manifest::MOST_GATES;
 use std::alloc::{AllocError, Global};
 
 /// What a tick shows of a pod whose sample is in whole units.
@@ -127,6 +132,20 @@ fn sampled(
     Ok(PackedContainers::Used(Box::new(alloc, used)?))
 }
 
+fn are_none(gates: &[Option<bool>]) -> bool
+    ensures { result ≡ list_all is_none gates.now }
+{
+    gates.iter().all(|gate| gate.is_none())
+}
+
+/// Whether no status of any condition is said.
+#[tactic(auto, using(crate::proofs::Gates::none_said))]
+fn says_no_gate(gates: &[Option<bool>; MOST_GATES]) -> bool
+    ensures { IsTrue result → gates.now ≡ no_gates }
+{
+    are_none(gates)
+}
+
 impl PackedContainers {
     pub(crate) fn new(
         alloc: Global,
@@ -158,7 +177,7 @@ impl PackedContainers {
         ensures sampling { IfOk result (λ s. sampling_in s ≡ sampling) }
         ensures words { IfOk result (λ s. words_in s ≡ words) }
     {
-        if !words.deleting && words.failed.is_none() {
+        if !words.deleting && words.failed.is_none() && says_no_gate(&words.gates) {
             return PackedContainers::new(alloc, containers, sampling);
         }
         let containers = Containers::new(alloc, containers)?;
@@ -221,6 +240,16 @@ impl PackedContainers {
             PackedContainers::Unsampled(_) => Sampling::Unsampled,
             PackedContainers::One(_) | PackedContainers::Two(..) | PackedContainers::Unused(_) =>
                 Sampling::Unsaid,
+        }
+    }
+
+    /// What the tick says of the condition that the pod's readiness gate with the number names, if it says something.
+    pub(crate) fn gate(&self, number: usize) -> Option<bool>
+        ensures { result ≡ option_flatten (slice_get (words_in self.now).gates number) }
+    {
+        match self {
+            PackedContainers::Told(told) => told.words.gates.get(number).copied().flatten(),
+            _ => None,
         }
     }
 

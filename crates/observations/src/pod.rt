@@ -1,6 +1,7 @@
 //! What a tick shows of one pod.
 
 ghost use Rattle.std.specs.Prelude.{◌≡◌, length, IfOk, slice_get, option_map};
+ghost use Rattle.std.specs.Option.{option_flatten};
 ghost use Rattle.observations.specs.state.Pods.{pod_obs, told_obs, sample_in};
 
 use crate::container::ContainerObs;
@@ -101,6 +102,14 @@ impl PodObs {
         ensures { option_map (λ r. r.now) result ≡ self.now.words.failed }
     {
         self.shown.failed()
+    }
+
+    /// What the tick says of the condition that the pod's readiness gate with the number names, if it says something.
+    /// (Kubernetes, "Pod Lifecycle", "Pod readiness".)
+    pub fn gate(&self, number: usize) -> Option<bool>
+        ensures { result ≡ option_flatten (slice_get self.now.words.gates number) }
+    {
+        self.shown.gate(number)
     }
 
     /// What the pod used, where the tick has a sample of it.

@@ -1,6 +1,7 @@
 //! What a tick says of a pod beside its listings and samples.
 
 use crate::reason::EndReason;
+use manifest::MOST_GATES;
 
 /// The words of a tick on a pod. (This project's extended format.)
 #[derive(Drop)]
@@ -9,10 +10,17 @@ pub struct PodWords {
     pub deleting: bool,
     /// With this tick the node has ended the pod, for this reason. (Kubernetes, "Pod Lifecycle", "Pod phase".)
     pub failed: Option<EndReason>,
+    /// The statuses, from this tick on, of the conditions that the pod's readiness gates name, by the gates' numbers,
+    /// where the tick has them. (Kubernetes, "Pod Lifecycle", "Pod readiness".)
+    pub gates: [Option<bool>; MOST_GATES],
 }
+
+/// No status of any condition.
+pub const NO_GATES: [Option<bool>; MOST_GATES] = [None; MOST_GATES];
 
 /// The words of a tick that says none of the pod.
 pub const NO_WORDS: PodWords = PodWords {
     deleting: false,
     failed: None,
+    gates: NO_GATES,
 };

@@ -22,9 +22,11 @@ pub struct Values {
     pub initialized: bool,
     /// Whether the pod has not ended, and every app container and sidecar is ready.
     pub containers_ready: bool,
+    /// Whether that is so, and the condition that each of the pod's readiness gates names is True.
+    pub ready: bool,
 }
 
-/// A pod's conditions. The condition Ready is the same as `containers_ready`.
+/// A pod's conditions.
 #[derive(Clone, Copy, Debug, PartialEq, Eq)]
 pub struct Conditions {
     /// The pod is placed on a node, which is always true here.
@@ -33,6 +35,9 @@ pub struct Conditions {
     pub initialized: Condition,
     /// The pod has not ended, and every app container and sidecar is ready.
     pub containers_ready: Condition,
+    /// ContainersReady is True, and so is the condition that each of the pod's readiness gates names. (Kubernetes, "Pod
+    /// Lifecycle", "Pod readiness".)
+    pub ready: Condition,
 }
 
 impl Condition {
@@ -72,6 +77,7 @@ impl Conditions {
             pod_scheduled: Condition::new(true),
             initialized: Condition::new(!has_init),
             containers_ready: Condition::new(false),
+            ready: Condition::new(false),
         }
     }
 
@@ -84,5 +90,6 @@ impl Conditions {
         self.pod_scheduled.advance(at, true);
         self.initialized.advance(at, values.initialized);
         self.containers_ready.advance(at, values.containers_ready);
+        self.ready.advance(at, values.ready);
     }
 }

@@ -26,7 +26,7 @@ use manifest::{MaxRestartDelay, PodSpec};
 use observations::PodObs;
 use phase::ContainerState;
 use pod_state::{PodEvent, PodState};
-use qos::qos_class;
+use qos::pod_class;
 use state_diff::Differ;
 use std::alloc::{AllocError, Global};
 use std::marker::Model;
@@ -112,7 +112,7 @@ fn first_status(
         phase: lifecycle.phase,
         conditions: lifecycle.conditions,
         containers,
-        class: qos_class(pod),
+        class: pod_class(alloc, pod),
         requests: EffectiveRequests::of(pod),
         usage: nothing(),
         priority: pod.priority,

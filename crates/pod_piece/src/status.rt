@@ -10,7 +10,7 @@ use containers::ContainerStatus;
 use manifest::{PodSpec, Resource};
 use observations::{EndReason, Usage};
 use phase::{Conditions, Phase};
-use qos::{Qos, effective_request};
+use qos::{Qos, pod_request};
 
 /// How the node has ended a pod, but for an eviction, as a tick says. (Kubernetes, "Pod Lifecycle"; that a trace can
 /// say it is this project's extended format.)
@@ -29,8 +29,9 @@ fn disrupts(reason: &str) -> bool
     reason == "Evicted" || reason == "Preempting" || reason == "Terminated"
 }
 
-/// The effective requests of a pod, in thousandths. (Kubernetes, "Init Containers" and "Sidecar
-/// Containers", "Resource sharing within containers".)
+/// The requests of a pod, in thousandths: those of the pod as a whole, if it has them, else the effective requests of
+/// its containers. (Kubernetes, "Init Containers" and "Sidecar Containers", "Resource sharing within containers";
+/// "Resource Management for Pods and Containers", "Pod-level resource specification".)
 #[derive(Clone, Copy, Debug, PartialEq, Eq)]
 pub struct EffectiveRequests {
     /// The CPUs, in thousandths of one.
@@ -47,9 +48,9 @@ impl EffectiveRequests {
         ensures { result ≡ requests_of pod.now }
     {
         EffectiveRequests {
-            cpu: effective_request(pod, Resource::Cpu),
-            memory: effective_request(pod, Resource::Memory),
-            ephemeral_storage: effective_request(pod, Resource::EphemeralStorage),
+            cpu: pod_request(pod, Resource::Cpu),
+            memory: pod_request(pod, Resource::Memory),
+            ephemeral_storage: pod_request(pod, Resource::EphemeralStorage),
         }
     }
 }

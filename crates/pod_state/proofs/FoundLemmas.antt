@@ -6,7 +6,7 @@ use Rattle.std.specs.Prelude.{IsTrue, slice_get}
 use Rattle.std.proofs.lemmas.Bool.{cases_eq}
 use Rattle.std.proofs.lemmas.Option.{same_Some}
 use Rattle.histories.specs.rule.Histories.{HoldsAt}
-use Rattle.histories.proofs.Decide.{OrNot, negated, either, all_three, implied, test_of, given_or_not}
+use Rattle.histories.proofs.Decide.{OrNot, negated, both, either, all_three, implied, test_of, given_or_not}
 use Rattle.histories.proofs.Found.{all_below, first_so, so_or_not, transition_of, list_of}
 use Rattle.histories.proofs.Lists.{given_at}
 use Rattle.manifest.specs.declared.pod.PodSpec.{PodSpec}
@@ -27,6 +27,8 @@ use Rattle.pod_state.specs.rule.Pods.{PodTick, ticks_of, Serves, IsReadyInPod, f
 use Rattle.pod_state.specs.state.Pods.{IsViewOf, AreViewsOf}
 use Rattle.pod_state.specs.rule.Pods.{IsRawPhaseAfter, EndsPod, IsEnd, counted, EndsByNode, IsPhaseBy, IsPhase}
 use Rattle.pod_state.specs.rule.Pods.{IsInitialized, AllReady, AreContainersReady, says_failed, IsEndedByNode}
+use Rattle.pod_state.specs.rule.Gates.{IsReady}
+use Rattle.pod_state.proofs.GateLemmas.{gates_true_or_not}
 use Rattle.pod_state.specs.rule.Lifecycles.{IsConditionAfter, IsLifecycleOf}
 use Rattle.pod_state.specs.rule.Containers.{IsContainerStatus, AreStatusesOf}
 use Rattle.pod_state.specs.state.Laws.{SomeStatus}
@@ -157,6 +159,9 @@ containers_ready_or_not pod evicted h =
     let end = some_end pod evicted h in
     all_three (negated (empty_or_not h)) (lives_or_not pod evicted h end.0 end.1) (all_ready_or_not pod h)
 
+pod_ready_or_not : (pod : PodSpec) (evicted : Option ℕ) (h : List PodTick) → OrNot (IsReady pod evicted h)
+pod_ready_or_not pod evicted h = both (containers_ready_or_not pod evicted h) (gates_true_or_not pod h)
+
 condition_of : (C : List PodTick → Type 0) → ((h : List PodTick) → OrNot (C h)) → (h : List PodTick)
     → (c : Condition) × IsConditionAfter C h c
 condition_of C each h =
@@ -170,12 +175,24 @@ some_lifecycle pod evicted h =
     let phase = some_phase pod evicted h in
     let scheduled = condition_of (λ _. Unit {0}) (λ _. inl tt) h in
     let initialized = condition_of (IsInitialized pod evicted) (initialized_or_not pod evicted) h in
-    let ready = condition_of (AreContainersReady pod evicted) (containers_ready_or_not pod evicted) h in (
+    let containers = condition_of (AreContainersReady pod evicted) (containers_ready_or_not pod evicted) h in
+    let ready = condition_of (IsReady pod evicted) (pod_ready_or_not pod evicted) h in (
       record {
         phase = phase.0;
-        conditions = record { pod_scheduled = scheduled.0; initialized = initialized.0; containers_ready = ready.0 };
+        conditions = record {
+          pod_scheduled = scheduled.0;
+          initialized = initialized.0;
+          containers_ready = containers.0;
+          ready = ready.0;
+        };
       },
-      record { phase = phase.1; pod_scheduled = scheduled.1; initialized = initialized.1; containers_ready = ready.1 },
+      record {
+        phase = phase.1;
+        pod_scheduled = scheduled.1;
+        initialized = initialized.1;
+        containers_ready = containers.1;
+        ready = ready.1;
+      },
     )
 
 -- the statuses of the containers

@@ -82,4 +82,5 @@ transitions_are_changes = record {
   pod_scheduled = λ pod evicted h status m is e. changes _ h m _ is.pod_scheduled.since e;
   initialized = λ pod evicted h status m is e. changes _ h m _ is.initialized.since e;
   containers_ready = λ pod evicted h status m is e. changes _ h m _ is.containers_ready.since e;
+  ready = λ pod evicted h status m is e. changes _ h m _ is.ready.since e;
 }

@@ -12,3 +12,4 @@ pub mod EventFoundLemmas
 pub mod FewLemmas
 pub mod Left
 pub mod NodeEnds
+pub mod GateLemmas

@@ -20,6 +20,7 @@ use Rattle.phase.specs.rule.RawPhase.{IsTerminal, AreInitialized}
 use Rattle.phase.specs.state.Conditions.{last_or, IsConditionOf, IsStateOf}
 use Rattle.pod_state.specs.rule.Pods.{PodTick, facts, numbers, counted, AllReady, IsPhase, IsInitialized}
 use Rattle.pod_state.specs.rule.Pods.{AreContainersReady}
+use Rattle.pod_state.specs.rule.Gates.{AreGatesTrue, IsReady}
 use Rattle.pod_state.specs.state.Pods.{AreViewsOf}
 use Rattle.pod_state.specs.rule.Lifecycles.{IsConditionAfter, IsLifecycleOf}
 use Rattle.pod_state.specs.state.Lifecycles.{AreValuesOf, IsProgressOf}
@@ -90,6 +91,9 @@ no_values C = record { count = refl; moments = λ t. refl; same = λ t lt. absur
 no_ready : (pod : PodSpec) (evicted : Option ℕ) → (IsTrue false ↔ AreContainersReady pod evicted [])
 no_ready pod evicted = ((λ e. absurd (let e : IsTrue false = e in cc)), (λ w. absurd (w.0 refl)))
 
+not_ready : (pod : PodSpec) (evicted : Option ℕ) → (IsTrue false ↔ IsReady pod evicted [])
+not_ready pod evicted = ((λ e. absurd (let e : IsTrue false = e in cc)), (λ w. absurd (w.0.0 refl)))
+
 counted-none : (o : Option ℕ) → counted [] o ≡ []
 counted-none None = refl
 counted-none (Some t) = refl
@@ -122,6 +126,8 @@ progress_new pod evicted views initialized conditions are tested is = record {
         (no_values _) (no_initialized pod evicted views initialized are tested) is.initialized;
     containers_ready = condition_after (AreContainersReady pod evicted) [] [] false conditions.containers_ready
         (no_values _) (no_ready pod evicted) is.containers_ready;
+    ready = condition_after (IsReady pod evicted) [] [] false conditions.ready (no_values _) (not_ready pod evicted)
+        is.ready;
   };
   values = [];
   has_init = not initialized;
@@ -129,6 +135,7 @@ progress_new pod evicted views initialized conditions are tested is = record {
   pod_scheduled = no_values _;
   initialized = no_values _;
   containers_ready = no_values _;
+  ready = no_values _;
 }
 
 -- after one more tick
@@ -137,22 +144,26 @@ pub progress_more : (pod : PodSpec) (evicted : Option ℕ) (h : List PodTick) (x
     → IsProgressOf pod evicted h status → IsPhase pod evicted (h ++ x ∷ []) phase
     → (IsTrue values.initialized ↔ IsInitialized pod evicted (h ++ x ∷ []))
     → (IsTrue values.containers_ready ↔ AreContainersReady pod evicted (h ++ x ∷ []))
+    → (IsTrue values.ready ↔ IsReady pod evicted (h ++ x ∷ []))
     → ((has_init : Bool) (vs : List (Recorded Values)) → IsStateOf has_init vs status.conditions
     → IsStateOf has_init (vs ++ recorded x.moment values ∷ []) conditions)
     → IsProgressOf pod evicted (h ++ x ∷ []) (record { phase = phase; conditions = conditions })
-progress_more pod evicted h x status phase conditions values is next initialized ready advanced =
+progress_more pod evicted h x status phase conditions values is next initialized containers ready advanced =
     let vs : List (Recorded Values) = is.values in
     let v : Recorded Values = recorded x.moment values in
     let state : IsStateOf (is.has_init) (vs ++ v ∷ []) conditions = advanced (is.has_init) vs is.conditions in
     let zero' = project-append (λ (w : Values). true) vs v in
     let one = project-append (λ (w : Values). w.initialized) vs v in
     let two = project-append (λ (w : Values). w.containers_ready) vs v in
+    let three = project-append (λ (w : Values). w.ready) vs v in
     let O : List (Recorded Bool) → Type 0 = λ l. IsConditionOf true l conditions.pod_scheduled in
     let N : List (Recorded Bool) → Type 0 = λ l. AreValuesOf (λ _. Unit {0}) (h ++ x ∷ []) l in
     let P : List (Recorded Bool) → Type 0 = λ l. IsConditionOf (not (is.has_init)) l conditions.initialized in
     let Q : List (Recorded Bool) → Type 0 = λ l. IsConditionOf false l conditions.containers_ready in
+    let Y : List (Recorded Bool) → Type 0 = λ l. IsConditionOf false l conditions.ready in
     let R : List (Recorded Bool) → Type 0 = λ l. AreValuesOf (IsInitialized pod evicted) (h ++ x ∷ []) l in
     let S : List (Recorded Bool) → Type 0 = λ l. AreValuesOf (AreContainersReady pod evicted) (h ++ x ∷ []) l in
+    let Z : List (Recorded Bool) → Type 0 = λ l. AreValuesOf (IsReady pod evicted) (h ++ x ∷ []) l in
     record {
       so_far = record {
         phase = next;
@@ -161,7 +172,9 @@ progress_more pod evicted h x status phase conditions values is next initialized
         initialized = more_after (IsInitialized pod evicted) h x _ values.initialized _ conditions.initialized
             is.initialized initialized (subst P one state.initialized);
         containers_ready = more_after (AreContainersReady pod evicted) h x _ values.containers_ready _
-            conditions.containers_ready is.containers_ready ready (subst Q two state.containers_ready);
+            conditions.containers_ready is.containers_ready containers (subst Q two state.containers_ready);
+        ready = more_after (IsReady pod evicted) h x _ values.ready _ conditions.ready is.ready ready
+            (subst Y three state.ready);
       };
       values = vs ++ v ∷ [];
       has_init = is.has_init;
@@ -171,7 +184,8 @@ progress_more pod evicted h x status phase conditions values is next initialized
       initialized = subst R (sym one) (values_more (IsInitialized pod evicted) h x _ values.initialized is.initialized
           initialized);
       containers_ready = subst S (sym two) (values_more (AreContainersReady pod evicted) h x _ values.containers_ready
-          is.containers_ready ready);
+          is.containers_ready containers);
+      ready = subst Z (sym three) (values_more (IsReady pod evicted) h x _ values.ready is.ready ready);
     }
 
 -- whether the pod is initialized
@@ -219,6 +233,30 @@ ready_more pod evicted h x ready phase next b are now then is =
           )
     ]
 
+-- whether it is ready, by whether its containers are and by whether the conditions of its gates are True
+pub both_more : (pod : PodSpec) (evicted : Option ℕ) (h : List PodTick) (x : PodTick) (gates : Bool)
+    (phase next : Phase) (b r : Bool)
+    → ((IsTerminal phase → ⊥) → (IsTrue gates ↔ AreGatesTrue pod (h ++ x ∷ []))) → IsPhase pod evicted h phase
+    → IsPhase pod evicted (h ++ x ∷ []) next
+    → (IsTrue b ↔ AreContainersReady pod evicted (h ++ x ∷ [])) → (IsTrue r ↔ (IsTrue b × IsTrue gates))
+    → (IsTrue r ↔ IsReady pod evicted (h ++ x ∷ []))
+both_more pod evicted h x gates phase next b r are now then containers is =
+    let ready = ready_is pod evicted h x next then in
+    elim (terminal_cases phase) [
+      | inl term ↦
+          let stays : IsPhase pod evicted (h ++ x ∷ []) phase = phase_ended pod evicted h x phase now term in
+          let ended : IsTerminal next =
+          subst IsTerminal (IsPhase-unique pod evicted (h ++ x ∷ []) phase next stays then) term in (
+            (λ t. absurd ((ready.0 (containers.0 (is.0 t).0)).0 ended)),
+            (λ w. absurd ((ready.0 w.0).0 ended)),
+          )
+      | inr not ↦
+          let g = are not in (
+            (λ t. let w = is.0 t in (containers.0 w.0, g.0 w.1)),
+            (λ w. is.1 (containers.1 w.0, g.1 w.1)),
+          )
+    ]
+
 -- of a pod that had not ended before, and that this tick evicts
 pub progress_evicted : (pod : PodSpec) (h : List PodTick) (x : PodTick) (before updated : Lifecycle)
     (conditions : Conditions) → (IsTerminal before.phase → ⊥)
@@ -226,7 +264,8 @@ pub progress_evicted : (pod : PodSpec) (h : List PodTick) (x : PodTick) (before 
     → IsProgressOf pod (Some (length h)) h before
     → ((has_init : Bool) (vs : List (Recorded Values)) → IsStateOf has_init vs before.conditions
     → IsStateOf has_init (vs ++ recorded x.moment
-    (record { initialized = updated.conditions.initialized.value; containers_ready = false }) ∷ []) conditions)
+    (record { initialized = updated.conditions.initialized.value; containers_ready = false; ready = false }) ∷ [])
+    conditions)
     → IsProgressOf pod (Some (length h)) (h ++ x ∷ []) (record { phase = Failed; conditions = conditions })
 progress_evicted pod h x before updated conditions lives was after progress advanced =
     let at : Option ℕ = Some (length h) in
@@ -236,7 +275,9 @@ progress_evicted pod h x before updated conditions lives was after progress adva
     let other = initialized_lives pod at h x before.phase Failed progress.so_far.phase lives failed in
     let ready = ready_is pod at h x Failed failed in
     progress_more pod at h x before Failed conditions
-    (record { initialized = updated.conditions.initialized.value; containers_ready = false }) progress failed
+    (record { initialized = updated.conditions.initialized.value; containers_ready = false; ready = false }) progress
+    failed
     ((λ t. other.1 (one.0 (after.initialized.value.0 t))), (λ i. after.initialized.value.1 (one.1 (other.0 i))))
     ((λ t. absurd (let t' : IsTrue false = t in cc)), (λ r. absurd ((ready.0 r).0 (inr refl))))
+    ((λ t. absurd (let t' : IsTrue false = t in cc)), (λ r. absurd ((ready.0 r.0).0 (inr refl))))
     advanced

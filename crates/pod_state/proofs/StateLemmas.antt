@@ -20,6 +20,7 @@ use Rattle.pod_state.specs.rule.Pods.{PodTick, ticks_of, unseen, IsPhase, IsEnd,
 use Rattle.pod_state.specs.rule.Lifecycles.{IsLifecycleOf}
 use Rattle.pod_state.specs.state.Lifecycles.{IsProgressOf}
 use Rattle.pod_state.specs.state.Containers.{AreContainersOf, AreKept}
+use Rattle.pod_state.specs.state.Gates.{AreStatusesOf}
 use Rattle.pod_state.specs.state.States.{IsStateOf, MayFollow}
 use Rattle.pod_state.specs.rule.Events.{AreMade, AreEventsOf, events_at, events_from}
 use Rattle.pod_state.specs.declared.events.PodEvent.{PodEvent}
@@ -50,9 +51,10 @@ deleting_more h x old new is next =
 pub after_end : (pod : PodSpec) (max_restart_delay : ℕ) (evicted : Option ℕ) (h : List PodTick) (x : PodTick)
     (old new : PodState) → IsStateOf pod max_restart_delay evicted h old → IsTerminal old.lifecycle.phase
     → new.containers ≡ old.containers → new.deleting ≡ (old.deleting || x.entry.words.deleting)
+    → (AreStatusesOf (length pod.gates) h old.gates → AreStatusesOf (length pod.gates) (h ++ x ∷ []) new.gates)
     → IsProgressOf pod evicted (h ++ x ∷ []) new.lifecycle
     → IsStateOf pod max_restart_delay evicted (h ++ x ∷ []) new
-after_end pod max_restart_delay evicted h x old new is ended same deleting progress =
+after_end pod max_restart_delay evicted h x old new is ended same deleting gates progress =
     let kept =
     kept_ended pod max_restart_delay evicted h x old.lifecycle.phase old.containers.items is.progress.so_far.phase
     ended is.containers in
@@ -60,6 +62,7 @@ after_end pod max_restart_delay evicted h x old new is ended same deleting progr
       progress = progress;
       containers = subst (λ cs. AreKept pod max_restart_delay evicted (h ++ x ∷ []) cs.items) (sym same) kept;
       deleting = deleting_more h x old.deleting new.deleting is.deleting deleting;
+      gates = gates is.gates;
     }
 
 -- until then, where its containers are these after the tick
@@ -67,12 +70,13 @@ pub before_end : (pod : PodSpec) (max_restart_delay : ℕ) (evicted : Option ℕ
     (old new : PodState) (containers : List Container) → IsStateOf pod max_restart_delay evicted h old
     → (IsTerminal old.lifecycle.phase → ⊥) → new.containers.items ≡ containers
     → new.deleting ≡ (old.deleting || x.entry.words.deleting)
+    → (AreStatusesOf (length pod.gates) h old.gates → AreStatusesOf (length pod.gates) (h ++ x ∷ []) new.gates)
     → (AreContainersOf pod max_restart_delay h old.containers.items
     → AreContainersOf pod max_restart_delay (h ++ x ∷ []) containers)
     → (AreContainersOf pod max_restart_delay (h ++ x ∷ []) containers
     → IsProgressOf pod evicted (h ++ x ∷ []) new.lifecycle)
     → IsStateOf pod max_restart_delay evicted (h ++ x ∷ []) new
-before_end pod max_restart_delay evicted h x old new containers is lives same deleting step advance =
+before_end pod max_restart_delay evicted h x old new containers is lives same deleting gates step advance =
     let phase = is.progress.so_far.phase in
     let before =
     kept_all pod max_restart_delay evicted h old.lifecycle.phase old.containers.items phase lives is.containers in
@@ -86,6 +90,7 @@ before_end pod max_restart_delay evicted h x old new containers is lives same de
       containers =
           subst (λ (cs : List Container). AreKept pod max_restart_delay evicted (h ++ x ∷ []) cs) (sym same) kept;
       deleting = deleting_more h x old.deleting new.deleting is.deleting deleting;
+      gates = gates is.gates;
     }
 
 -- what comes next may come, where each listing may and each container's last tick is before it
@@ -179,11 +184,12 @@ ends_evicted pod h x old lives before =
 -- where the last tick evicts the pod
 pub when_evicted : (pod : PodSpec) (max_restart_delay : ℕ) (h : List PodTick) (x : PodTick) (old new : PodState)
     → (IsTerminal old.before.phase → ⊥) → new.containers ≡ old.containers → new.deleting ≡ old.deleting
+    → new.gates ≡ old.gates
     → IsLifecycleOf pod None h old.before → IsStateOf pod max_restart_delay None (h ++ x ∷ []) old
     → IsProgressOf pod (Some (length h)) h old.before
     → IsProgressOf pod (Some (length h)) (h ++ x ∷ []) new.lifecycle → IsStateOf pod max_restart_delay (Some (length h))
     (h ++ x ∷ []) new
-when_evicted pod max_restart_delay h x old new lives same deleting was is before progress =
+when_evicted pod max_restart_delay h x old new lives same deleting gates was is before progress =
     let containers = kept_last pod max_restart_delay None h x old.before.phase old.containers.items was.phase lives
     is.containers in
     let kept =
@@ -193,4 +199,5 @@ when_evicted pod max_restart_delay h x old new lives same deleting was is before
       progress = progress;
       containers = subst (λ cs. AreKept pod max_restart_delay (Some (length h)) (h ++ x ∷ []) cs.items) (sym same) kept;
       deleting = deleting ∙ is.deleting;
+      gates = subst (λ g. AreStatusesOf (length pod.gates) (h ++ x ∷ []) g) (sym gates) is.gates;
     }

@@ -36,24 +36,33 @@ condition_one C h c d is is' =
     (IsFirstMoment-unique h _ c.since d.since is.since is'.since)
 
 conditions_same : (c d : Conditions) → c.pod_scheduled ≡ d.pod_scheduled → c.initialized ≡ d.initialized
-    → c.containers_ready ≡ d.containers_ready → c ≡ d
-conditions_same c d e f g =
+    → c.containers_ready ≡ d.containers_ready → c.ready ≡ d.ready → c ≡ d
+conditions_same c d e f g r =
+    let O : Condition → Type 0 = λ x. c ≡ record {
+      pod_scheduled = c.pod_scheduled;
+      initialized = c.initialized;
+      containers_ready = c.containers_ready;
+      ready = x;
+    } in
     let P : Condition → Type 0 = λ x. c ≡ record {
       pod_scheduled = c.pod_scheduled;
       initialized = c.initialized;
       containers_ready = x;
+      ready = d.ready;
     } in
     let Q : Condition → Type 0 = λ x. c ≡ record {
       pod_scheduled = c.pod_scheduled;
       initialized = x;
       containers_ready = d.containers_ready;
+      ready = d.ready;
     } in
     let R : Condition → Type 0 = λ x. c ≡ record {
       pod_scheduled = x;
       initialized = d.initialized;
       containers_ready = d.containers_ready;
+      ready = d.ready;
     } in
-    subst R e (subst Q f (subst P g refl))
+    subst R e (subst Q f (subst P g (subst O r refl)))
 
 status_same : (s t : Lifecycle) → s.phase ≡ t.phase → s.conditions ≡ t.conditions → s ≡ t
 status_same s t e f =
@@ -68,7 +77,8 @@ status_one pod evicted h s t is is' =
     (conditions_same s.conditions t.conditions
     (condition_one _ h _ _ is.pod_scheduled is'.pod_scheduled)
     (condition_one _ h _ _ is.initialized is'.initialized)
-    (condition_one _ h _ _ is.containers_ready is'.containers_ready))
+    (condition_one _ h _ _ is.containers_ready is'.containers_ready)
+    (condition_one _ h _ _ is.ready is'.ready))
 
 -- the state behind what is shown says what is shown
 behind : (s t : ContainerState) → state_behind s ≡ state_behind t → s ≡ t

@@ -1,4 +1,5 @@
 pub mod Pods
+pub mod Gates
 pub mod Containers
 pub mod Lifecycles
 pub mod Events

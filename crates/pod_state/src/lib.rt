@@ -4,6 +4,7 @@
 
 mod events;
 mod following;
+mod gates;
 pub mod laws;
 mod lifecycle;
 mod state;

@@ -72,23 +72,27 @@ impl Lifecycle {
     }
 
     /// A tick comes, at the moment, in seconds, after which the containers are as these views show
-    /// them; `ready` says whether all app containers and sidecars are ready after it, and `ends` whether
-    /// the node ends the pod with it: it evicts the pod, or says that it has failed. Once the pod has
-    /// ended, neither these nor the containers are looked at.
+    /// them; `ready` says whether all app containers and sidecars are ready after it, `gates` whether each
+    /// condition that the pod's readiness gates name is True after it, and `ends` whether the node ends
+    /// the pod with it: it evicts the pod, or says that it has failed. Once the pod has ended, neither
+    /// these nor the containers are looked at.
     pub fn advance(
         &mut self,
         policy: Policy,
         at: u64,
         containers: &[ContainerView],
         ready: bool,
+        gates: bool,
         ends: bool,
     )
-        ensures { IsNext policy at containers.now ready ends self.old self.new }
+        ensures { IsNext policy at containers.now ready gates ends self.old self.new }
     {
         let phase = self.next_phase(policy, containers, ends);
+        let containers_ready = are_ready(phase, ready);
         let values = Values {
             initialized: self.next_initialized(containers),
-            containers_ready: are_ready(phase, ready),
+            containers_ready,
+            ready: are_both(containers_ready, gates),
         };
         self.phase = phase;
         self.conditions.advance(at, values);
@@ -111,6 +115,7 @@ impl Lifecycle {
         let values = Values {
             initialized: updated.conditions.initialized.value,
             containers_ready: false,
+            ready: false,
         };
         let mut conditions = self.conditions;
         conditions.advance(at, values);
@@ -119,6 +124,12 @@ impl Lifecycle {
             conditions,
         }
     }
+}
+
+fn are_both(containers_ready: bool, gates: bool) -> bool
+    ensures { IsTrue result ↔ (IsTrue containers_ready × IsTrue gates) }
+{
+    containers_ready && gates
 }
 
 /// Whether the containers of a pod of this phase are ready, where the flag says that all app

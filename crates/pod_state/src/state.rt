@@ -20,6 +20,7 @@ use crate::events::{PodEvent, events_of, phase_event};
 use crate::following::{
     all_ready, are_acceptable, first_containers, list, next_containers, show, step, views_of,
 };
+use crate::gates::GateStatuses;
 use crate::lifecycle::Lifecycle;
 use containers::{Container, ContainerEvents, ContainerStatus};
 use manifest::{MaxRestartDelay, PodSpec, Policy};
@@ -38,6 +39,8 @@ pub struct PodState {
     before: Lifecycle,
     /// Whether it is being deleted.
     deleting: bool,
+    /// The statuses of the conditions that its readiness gates name.
+    gates: GateStatuses,
 }
 
 /// Whether a pod is being deleted after a tick, that was before it or was not.
@@ -82,6 +85,7 @@ impl PodState {
             lifecycle,
             before: lifecycle,
             deleting: false,
+            gates: GateStatuses::new(&spec.gates),
         })
     }
 
@@ -110,10 +114,11 @@ impl PodState {
     {
         let mut lifecycle = self.lifecycle;
         if lifecycle.has_ended() {
-            lifecycle.advance(policy, observed.at(), &[], false, false);
+            lifecycle.advance(policy, observed.at(), &[], false, false, false);
             self.before = self.lifecycle;
             self.lifecycle = lifecycle;
             self.deleting = deleting_with(self.deleting, observed);
+            self.gates = self.gates.next(observed);
             return Ok(Vec::new(alloc));
         }
         // Most pods have one or two containers: these take their steps on the stack, and only events take memory.
@@ -166,8 +171,16 @@ impl PodState {
     {
         let ready = all_ready(next);
         let mut lifecycle = self.lifecycle;
+        let gates = self.gates.next(observed);
         let failed = says_failed(observed);
-        lifecycle.advance(policy, observed.at(), views, ready, failed);
+        lifecycle.advance(
+            policy,
+            observed.at(),
+            views,
+            ready,
+            gates.are_true(),
+            failed,
+        );
         let change = phase_event(self.lifecycle.phase, lifecycle.phase);
         let deleting = deleting_with(self.deleting, observed);
         let leaving = is_leaving(deleting, failed);
@@ -176,6 +189,7 @@ impl PodState {
         self.containers.copy_from_slice(next);
         self.lifecycle = lifecycle;
         self.deleting = deleting;
+        self.gates = gates;
         Ok(events)
     }
 

@@ -1,9 +1,10 @@
 -- Every list of containers is of a class.
-use Rattle.std.proofs.Common.{◌≡◌, inl, inr, ℕ, List, ◌∷◌, Option, Some, None, refl, ap, subst, sym, ◌∙◌, arith}
+use Rattle.std.proofs.Common.{◌≡◌, inl, inr, ℕ, List, [], ◌∷◌, Option, Some, None, refl, ap, subst, sym, ◌∙◌, arith}
 use Rattle.std.specs.Prelude.{All, IsSome}
 use Rattle.std.proofs.lemmas.Bool.Decides.{eqb_tells}
 use Rattle.histories.proofs.Decide.{OrNot, both, either, all_or_not, any_or_not}
 use Rattle.manifest.specs.declared.pod.ContainerSpec.{ContainerSpec}
+use Rattle.manifest.specs.declared.pod.PodSpec.{PodSpec}
 use Rattle.manifest.specs.declared.resources.Resource.{Resource}
 use Rattle.manifest.specs.declared.resources.Resource.TheVariants.{Cpu, Memory}
 use Rattle.qos.specs.declared.class.Qos.{Qos}
@@ -11,6 +12,7 @@ use Rattle.qos.specs.declared.class.Qos.TheVariants.{Guaranteed, Burstable, Best
 use Rattle.qos.specs.rule.Container.{own_request_of, limit_of, request_of, RequestEqualsLimit, IsGuaranteed}
 use Rattle.qos.specs.rule.Container.{HasRequestOrLimit, HasSomeRequestOrLimit}
 use Rattle.qos.specs.rule.Class.{IsOfClass}
+use Rattle.qos.specs.rule.Pod.{as_one, IsPodClass}
 
 equals_or_not : (resource : Resource) (container : ContainerSpec) → OrNot (RequestEqualsLimit resource container)
 equals_or_not resource container = there (limit_of container resource) (request_of container resource)
@@ -75,3 +77,15 @@ nothing_asked container others none = (
   (λ all. none 0 container (omega arith) (guaranteed_has_some container (all 0 container (omega arith)))),
   (λ any. none any.0 any.1 any.2 (subst HasSomeRequestOrLimit (sym any.3) any.4)),
 )
+
+pub some_pod_class : (pod : PodSpec) → (class : Qos) × IsPodClass pod class
+some_pod_class pod = elim (has_some_or_not (as_one pod.resources)) [
+  | inl own ↦ let s = some_class (as_one pod.resources ∷ []) in (s.0, inl (own, s.1))
+  | inr none ↦ let s = some_class pod.containers in (s.0, inr (none, s.1))
+]
+
+pub one_pod_class : (pod : PodSpec) (class other : Qos) → IsPodClass pod class → IsPodClass pod other → class ≡ other
+one_pod_class pod class other (inl p) (inl q) = one_class (as_one pod.resources ∷ []) class other p.1 q.1
+one_pod_class pod class other (inl p) (inr q) = absurd (q.0 p.0)
+one_pod_class pod class other (inr p) (inl q) = absurd (p.0 q.0)
+one_pod_class pod class other (inr p) (inr q) = one_class pod.containers class other p.1 q.1

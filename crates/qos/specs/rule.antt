@@ -1,3 +1,4 @@
 pub mod Container
 pub mod Class
 pub mod Requests
+pub mod Pod

@@ -32,7 +32,7 @@ fn some_has_request_or_limit(containers: &[ContainerSpec]) -> bool
         .any(|container| has_some_request_or_limit(container))
 }
 
-fn class_of(containers: &[ContainerSpec]) -> Qos
+pub(crate) fn class_of(containers: &[ContainerSpec]) -> Qos
     ensures { IsOfClass containers.now result }
 {
     if all_guaranteed(containers) {

@@ -10,7 +10,7 @@ use manifest::{ContainerSpec, Resource};
 use quantity::Quantity;
 
 /// An amount in thousandths, where it is set: a zero counts as unset.
-fn set_amount(amount: Option<Quantity>) -> Option<u128>
+pub(crate) fn set_amount(amount: Option<Quantity>) -> Option<u128>
     ensures value { result ≡ set_amount amount }
     ensures bound { IfSome result (λ n. n ≤ greatest_quantity) }
 {

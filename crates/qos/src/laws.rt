@@ -8,6 +8,12 @@ pub fn one_class()
     ensures one { laws.OneClass }
 {}
 
+/// Every pod, with resources as a whole or without, is of exactly one class.
+pub fn one_pod_class()
+    ensures some { laws.SomePodClass }
+    ensures one { laws.OnePodClass }
+{}
+
 /// A pod that has containers, none of them with a request or a limit of cpu or memory, is
 /// BestEffort.
 pub fn nothing_asked_for()

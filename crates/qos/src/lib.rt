@@ -4,7 +4,9 @@
 mod class;
 mod container;
 pub mod laws;
+mod pod;
 mod requests;
 
 pub use class::{Qos, qos_class};
+pub use pod::{pod_class, pod_request};
 pub use requests::effective_request;

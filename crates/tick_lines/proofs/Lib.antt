@@ -10,3 +10,4 @@ pub mod Alike
 pub mod Nulls
 mod Members
 pub mod Reasons
+pub mod Statuses

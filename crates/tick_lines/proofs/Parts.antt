@@ -11,6 +11,7 @@ use Rattle.tick_lines.specs.declared.entry.TickEntry.{TickEntry}
 use Rattle.tick_lines.specs.declared.fault.TickLineFault.TheVariants as faults
 use Rattle.tick_lines.specs.declared.line.TickLine.{TickLine}
 use Rattle.json_fields.specs.declared.scope.Scope.TheVariants.{Node, FileSystems}
+use Rattle.tick_lines.specs.rule.Conditions.{conditions_of}
 use Rattle.tick_lines.specs.rule.Fields.{only_object, quantity_at}
 use Rattle.tick_lines.specs.rule.Listings.{listings_of}
 use Rattle.tick_lines.specs.rule.Results.{results_of}
@@ -49,6 +50,7 @@ pub record IsEntry (d : Data) (entry : TickEntry) : Type 0 where
   pub unsampled : truth_of (field_at (codes "unsampled") d) ≡ entry.unsampled
   pub deleting : truth_of (field_at (codes "deleting") d) ≡ entry.deleting
   pub failed : reason_member_of (field_at (codes "failed") d) ≡ entry.failed
+  pub conditions : conditions_of (field_at (codes "conditions") d) ≡ entry.conditions
 
 pub entry_parts : (d : Data) (entry : TickEntry) → entry_of d ≡ Ok entry → IsEntry d entry
 unfolding entry_of
@@ -66,6 +68,7 @@ entry_parts d entry e =
       unsampled = ap (λ (x : TickEntry). x.unsampled) same;
       deleting = ap (λ (x : TickEntry). x.deleting) same;
       failed = ap (λ (x : TickEntry). x.failed) same;
+      conditions = ap (λ (x : TickEntry). x.conditions) same;
     }
 
 pub record HasUsage (d : Data) (usage : Usage) : Type 0 where

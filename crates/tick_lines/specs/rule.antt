@@ -7,3 +7,5 @@ pub mod Samples
 pub mod Line
 pub mod Truths
 pub mod Reasons
+pub mod Statuses
+pub mod Conditions

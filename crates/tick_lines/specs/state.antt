@@ -3,3 +3,4 @@ pub mod Entries
 pub mod Samples
 pub mod Laws
 pub mod Tape
+pub mod Conditions

@@ -5,6 +5,7 @@ ghost use Rattle.tick_lines.specs.state.Memory.{is_memory};
 ghost use Rattle.std.specs.Prelude.{◌≡◌};
 ghost use Rattle.tick_lines.specs.rule.Entries.{entry_of};
 
+use crate::conditions::{ConditionsMember, conditions_of};
 use crate::fault::TickLineFault;
 use crate::fields::{text_of, written_text};
 use crate::items::{ReadItem, check_items, read_items};
@@ -37,6 +38,8 @@ pub struct TickEntry {
     pub deleting: TruthMember,
     /// Whether it says that the node has ended the pod, and why. (This project's extended format.)
     pub failed: ReasonMember,
+    /// The statuses of the pod's conditions that it has. (This project's extended format.)
+    pub conditions: ConditionsMember,
 }
 
 #[tactic(auto, unfolding(crate::specs::rule::Entries::entry_of))]
@@ -51,6 +54,7 @@ fn entry_of<V: TickValue>(alloc: Global, value: &V) -> Result<TickEntry, TickLin
         unsampled: truth_of(field(value, "unsampled")),
         deleting: truth_of(field(value, "deleting")),
         failed: reason_member_of(field(value, "failed")),
+        conditions: conditions_of(alloc, field(value, "conditions"))?,
     })
 }
 

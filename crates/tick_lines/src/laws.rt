@@ -42,6 +42,12 @@ pub fn failed_said()
     ensures { laws.FailedSaid }
 {}
 
+/// An entry says the statuses of conditions exactly where its member `conditions` is an object of true, false and null,
+/// and nothing of them exactly where the member is missing or null.
+pub fn conditions_said()
+    ensures { laws.ConditionsSaid }
+{}
+
 /// A line says that the node does not judge the tick exactly where its member `judged` is false, and nothing of it
 /// exactly where the member is missing, null or true.
 pub fn judged_said()

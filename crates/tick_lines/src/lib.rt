@@ -1,6 +1,7 @@
 //! What a tick line of a trace says, as it is written: the pods' entries and the node's signals.
 #![tactic(auto)]
 
+mod conditions;
 mod entry;
 mod fault;
 mod fields;
@@ -17,6 +18,7 @@ mod truth;
 mod usage;
 mod value;
 
+pub use conditions::{ConditionStatuses, ConditionsMember};
 pub use entry::TickEntry;
 pub use fault::TickLineFault;
 pub use line::{TickLine, entries_of, tick_line_of};

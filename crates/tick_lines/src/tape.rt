@@ -12,8 +12,9 @@ ghost use Rattle.tick_lines.specs.rule.Fields.{items_of, quantity_at};
 ghost use Rattle.tick_lines.specs.rule.Listings.{attempt_of, state_of, listing_of};
 ghost use Rattle.tick_lines.specs.rule.Results.{result_of};
 ghost use Rattle.tick_lines.specs.state.Tape.{text_in, code_in, probe_in, outcome_in, left_in, listing_as, result_as};
-ghost use Rattle.tick_lines.specs.state.Tape.{truth_in, reason_in};
+ghost use Rattle.tick_lines.specs.state.Tape.{truth_in, reason_in, conditions_in};
 ghost use Rattle.tick_lines.specs.declared.reason.ReasonMember.TheVariants.{Missing};
+ghost use Rattle.tick_lines.specs.declared.conditions.ConditionsMember.TheVariants.{Missing as NoConditions};
 ghost use Rattle.tick_lines.specs.declared.truth.TruthMember.TheVariants.{No};
 ghost use Rattle.tick_lines.specs.state.Tape.{ListingRead, ResultRead, UsageRead, EntryRead, IsEntry};
 ghost use Rattle.tick_lines.specs.rule.Usages.{usage_in, usage_of};
@@ -346,6 +347,13 @@ fn is_missing(value: &TapeValue<'_, '_>) -> bool
     value.is_null()
 }
 
+/// Whether a member that may have statuses of conditions says nothing: it is null.
+fn has_no_conditions(value: &TapeValue<'_, '_>) -> bool
+    ensures { IsTrue result → conditions_in (present (Some (data_at value.now))) ≡ Ok NoConditions }
+{
+    value.is_null()
+}
+
 /// What was read of an entry, and of one member more: none where it has a word, which is rare.
 fn entry_with<'t, 'a>(
     entry: EntryMembers<'t, 'a>,
@@ -374,12 +382,17 @@ fn entry_with<'t, 'a>(
         }),
         "unsampled" | "deleting" => if is_silent(value) { Some(entry) } else { None },
         "failed" => if is_missing(value) { Some(entry) } else { None },
+        "conditions" => if has_no_conditions(value) {
+            Some(entry)
+        } else {
+            None
+        },
         _ => Some(entry),
     }
 }
 
 /// What an item of a tick line says of a pod, all but its listings and results; none where it says that the pod has no
-/// sample, that it is being deleted, or that the node has ended it.
+/// sample, that it is being deleted, that the node has ended it, or the statuses of its conditions.
 pub fn entry_text<'t, 'a>(value: &TapeValue<'t, 'a>) -> Option<EntryText<'t, 'a>>
     ensures { IfSome result (IsEntry (data_at value.now)) }
 {

@@ -38,7 +38,8 @@ use Rattle.trace.specs.state.Laws.{Says, says_node, says_pod, says_gone, says_ti
 use Rattle.trace.specs.rule.TraceSoFar.{TraceSoFar, heeds}
 use Rattle.trace.specs.rule.Placing.{says_so}
 use Rattle.trace.specs.rule.Written.{is_of_other_kind}
-use Rattle.trace.specs.rule.Pod.{of_manifest, manifest_of, pod_from, spared_by}
+use Rattle.trace.specs.rule.Pod.{of_manifest, manifest_of, manifest_read, pod_from, spared_by}
+use Rattle.extended_manifest.proofs.NeverMemory.{extended_of}
 use Rattle.trace.specs.rule.Trace.{trace_of}
 use Rattle.trace.proofs.Said.{IsKept, of_trace}
 
@@ -209,6 +210,14 @@ pod_given d pod e =
     subst (λ (p : PodSpec). All HasProbesInRange p.containers) (same_value _ _ spec.2)
     (spec_given (field_at (codes "spec") object.0) spec.0 spec.1)
 
+-- what the extended format reads besides says nothing of its containers
+given_by : (heeds : Bool) (d : Data) (pod : PodSpec) → manifest_read heeds d ≡ Ok pod
+    → All HasProbesInRange pod.containers
+given_by true d pod e =
+    let standard = extended_of d pod e in
+    subst (λ (cs : List ContainerSpec). All HasProbesInRange cs) standard.2 (pod_given d standard.0 standard.1)
+given_by false d pod e = pod_given d pod e
+
 -- the pods of a trace
 read : (r : Result PodSpec ManifestFault) (pod : PodSpec) → of_manifest r ≡ Ok pod → r ≡ Ok pod
 read (Ok p) pod e = ap Ok (same_value _ _ e)
@@ -230,12 +239,12 @@ line_keeps past line _ all (says_node d node is e) = all
 line_keeps past line _ all (says_pod d pod is new) =
     let found = field_at (codes "pod") d in
     let spared = truth_of (field_at (codes "spared") d) in
-    let whole = bind_ok (pod_from found) (spared_by (heeds past) spared) pod is.pod_is in
-    let given = bind_ok (manifest_of found) (λ m. of_manifest (pod_at m)) whole.0 whole.1 in
+    let whole = bind_ok (pod_from (heeds past) found) (spared_by (heeds past) spared) pod is.pod_is in
+    let given = bind_ok (manifest_of found) (λ m. of_manifest (manifest_read (heeds past) m)) whole.0 whole.1 in
     let same = spared_alone (heeds past) spared whole.0 pod whole.2 in
     All-push (λ (p : PodSpec). All HasProbesInRange p.containers) past.roll.pods pod all
     (subst (λ (cs : List ContainerSpec). All HasProbesInRange cs) same
-    (pod_given given.0 whole.0 (read (pod_at given.0) whole.0 given.2)))
+    (given_by (heeds past) given.0 whole.0 (read (manifest_read (heeds past) given.0) whole.0 given.2)))
 line_keeps past line _ all (says_gone d number is named) = all
 line_keeps past line _ all (says_tick d at written placed is coded) = all
 

@@ -17,8 +17,8 @@ use Rattle.json_lines.specs.state.Lines.{Tick}
 use Rattle.manifest.specs.declared.pod.PodSpec.{PodSpec}
 use Rattle.observations.specs.declared.tick.TickObs.{TickObs}
 use Rattle.observations.specs.declared.container.ContainerObs.{ContainerObs}
-use Rattle.observations.specs.rule.Pods.{PodObs}
-use Rattle.observations.specs.state.Pods.{pod_obs, no_words}
+use Rattle.observations.specs.rule.Pods.{PodObs, no_words}
+use Rattle.observations.specs.state.Pods.{pod_obs}
 use Rattle.observations.specs.declared.usage.Sampling.TheVariants.{Unsaid}
 use Rattle.observations.specs.declared.usage.Usage.{Usage}
 use Rattle.roster.specs.rule.Roll.{Roll, number_of, is_present}
@@ -31,6 +31,7 @@ use Rattle.tick_lines.specs.declared.probing.ProbeResult.{ProbeResult}
 use Rattle.tick_lines.specs.declared.tape.EntryText.{EntryText}
 use Rattle.tick_lines.specs.declared.tape_line.LineSamples.{LineSamples}
 use Rattle.tick_lines.specs.declared.tape_line.LineText.{LineText}
+use Rattle.tick_lines.specs.declared.conditions.ConditionsMember.TheVariants.{Missing as NoConditions}
 use Rattle.tick_lines.specs.declared.reason.ReasonMember.TheVariants.{Missing}
 use Rattle.tick_lines.specs.declared.truth.TruthMember.TheVariants.{No}
 use Rattle.tick_lines.specs.rule.Entries.{entry_of, entries_of}
@@ -47,7 +48,7 @@ use Rattle.trace.specs.declared.placing.PlacedResult.{PlacedResult}
 use Rattle.trace.specs.rule.Observed.{containers_from, pod_observed, pods_from, is_judged, lacks_code}
 use Rattle.trace.specs.rule.Placing.{number_in, pod_numbered, placed_listing, placed_result, entry_of_pod}
 use Rattle.trace.specs.rule.Placing.{placed_entry, placed_of, repeats, sampled_or, sampling_of, words_of, said_in}
-use Rattle.trace.specs.rule.Written.{is_of_other_kind, is_no_reason, has_other_kind, heeded}
+use Rattle.trace.specs.rule.Written.{is_of_other_kind, is_no_reason, are_no_statuses, has_other_kind, heeded}
 use Rattle.trace.specs.state.Noted.{ListingsNoted, ResultsNoted}
 use Rattle.trace.specs.state.Slots.{slots_from, has_entry}
 use Rattle.trace.specs.state.Tape.{of_item, listing_read, result_read, entry_read, item_has_other_kind, EntriesNoted}
@@ -85,12 +86,16 @@ abbrev pub said_silent : Option Usage → EntrySaid
 said_silent usage = record { sampling = sampled_or Unsaid usage; words = no_words }
 
 -- what such an entry says, where words are heeded or not
-abbrev said_heeding : Bool → Option Usage → EntrySaid
-said_heeding heeds usage = record { sampling = sampling_of heeds usage No; words = words_of heeds No Missing }
+abbrev said_heeding : Bool → List (List ℕ) → Option Usage → EntrySaid
+said_heeding heeds gates usage = record {
+  sampling = sampling_of heeds usage No;
+  words = words_of heeds gates No Missing NoConditions;
+}
 
-silent_said : (heeds : Bool) (usage : Option Usage) → said_heeding heeds usage ≡ said_silent usage
-silent_said true usage = refl
-silent_said false usage = refl
+silent_said : (heeds : Bool) (gates : List (List ℕ)) (usage : Option Usage)
+    → said_heeding heeds gates usage ≡ said_silent usage
+silent_said true gates usage = refl
+silent_said false gates usage = refl
 
 abbrev placed_with : ℕ → List PlacedListing → List PlacedResult → EntrySaid → Result PlacedEntry FaultKind
 placed_with n ls rs said = Ok (record { pod = n; listings = ls; results = rs; said = said })
@@ -98,7 +103,7 @@ placed_with n ls rs said = Ok (record { pod = n; listings = ls; results = rs; sa
 entry_by_parts : (heeds : Bool) (roll : Roll) (entry : TickEntry) (n : ℕ) (pod : PodSpec) (ls : List PlacedListing)
     (rs : List PlacedResult) → number_of roll entry.key ≡ Some n → slice_get roll.pods n ≡ Some pod
     → each (placed_listing pod) entry.listings ≡ Ok ls → each (placed_result pod) entry.results ≡ Ok rs
-    → placed_entry heeds roll entry ≡ placed_with n ls rs (said_in heeds entry)
+    → placed_entry heeds roll entry ≡ placed_with n ls rs (said_in heeds pod entry)
 unfolding placed_entry entry_of_pod
 entry_by_parts heeds roll entry n pod ls rs number there listings results = rw (number, there, listings, results) refl
 
@@ -112,6 +117,7 @@ silent_entry key listings results usage = record {
   unsampled = No;
   deleting = No;
   failed = Missing;
+  conditions = NoConditions;
 }
 
 entry_spoken : (d : Data) (key : List ℕ) (ws : List Listing) (ps : List ProbeResult) (text : EntryText)
@@ -120,7 +126,7 @@ entry_spoken : (d : Data) (key : List ℕ) (ws : List Listing) (ps : List ProbeR
     → entry_of d ≡ Ok (silent_entry key ws ps text.usage)
 unfolding entry_of
 entry_spoken d key ws ps text named listings results is =
-    rw (named, listings, results, is.usage, is.unsampled, is.deleting, is.failed) refl
+    rw (named, listings, results, is.usage, is.unsampled, is.deleting, is.failed, is.conditions) refl
 
 -- an entry that was read in parts and placed is what its item says, placed
 entry_placed : (heeds : Bool) (roll : Roll) (d : Data) (text : EntryText) (n : ℕ) (pod : PodSpec)
@@ -136,7 +142,7 @@ entry_placed heeds roll d text n pod ls rs is number there read_listings read_re
     let probed : results_of (field_at (codes "probes") d) ≡ Ok results.0 = rw is.results results.1 in
     rw (entry_spoken d text.key.now listings.0 results.0 text is.key listed probed is)
     (entry_by_parts heeds roll written n pod ls rs number there listings.2 results.2
-    ∙ ap (placed_with n ls rs) (silent_said heeds text.usage))
+    ∙ ap (placed_with n ls rs) (silent_said heeds pod.gates text.usage))
 
 -- ---- all entries
 
@@ -238,8 +244,8 @@ one_more_noted heeds roll at ds d old new text n pod listed all ls rs before is 
       coded = none_more (λ (e : PlacedEntry). list_any (λ l. lacks_code l.instance) e.listings) before.entries entry
           before.coded ls.coded;
       known = none_more item_has_other_kind ds d before.known
-          (or_from _ _ (or_from _ _ (ap is_of_other_kind is.unsampled) (ap is_of_other_kind is.deleting))
-          (ap is_no_reason is.failed));
+          (or_from _ _ (or_from _ _ (or_from _ _ (ap is_of_other_kind is.unsampled) (ap is_of_other_kind is.deleting))
+          (ap is_no_reason is.failed)) (ap are_no_statuses is.conditions));
       present = All-push (λ (e : PlacedEntry). is_present roll.departures e.pod ≡ true) before.entries entry
           before.present (found_present roll text.key.now n number).0;
       noted = noted;

@@ -30,11 +30,11 @@ abbrev pub with_listings : EntrySaid → TickEntry → ℕ → PodSpec → List 
 with_listings said entry number pod listings =
     each (placed_result pod) entry.results >>= placed said number listings
 
-abbrev pub with_pod : EntrySaid → TickEntry → ℕ → PodSpec → Result PlacedEntry FaultKind
+abbrev pub with_pod : (PodSpec → EntrySaid) → TickEntry → ℕ → PodSpec → Result PlacedEntry FaultKind
 with_pod said entry number pod =
-    each (placed_listing pod) entry.listings >>= with_listings said entry number pod
+    each (placed_listing pod) entry.listings >>= with_listings (said pod) entry number pod
 
-abbrev pub with_number : EntrySaid → List PodSpec → TickEntry → ℕ → Result PlacedEntry FaultKind
+abbrev pub with_number : (PodSpec → EntrySaid) → List PodSpec → TickEntry → ℕ → Result PlacedEntry FaultKind
 with_number said pods entry number = pod_numbered pods number >>= with_pod said entry number
 
 -- what stands before the rest of a list, once its first step is known to go well
@@ -79,11 +79,11 @@ as_many {B = B} {E = E} f (x ∷ xs) ys e =
 -- the pod of an entry that could be placed is there, and the entry says what was written of it
 pub entry_says : (heeds : Bool) (pods : List PodSpec) (n : ℕ) (entry : TickEntry) (e : PlacedEntry)
     → entry_of_pod heeds pods n entry ≡ Ok e
-    → (n < length pods) × (n ≡ e.pod) × (said_in heeds entry ≡ e.said)
+    → (n < length pods) × (n ≡ e.pod) × (pod : PodSpec) × (said_in heeds pod entry ≡ e.said)
 unfolding entry_of_pod
 entry_says heeds pods n entry e is =
-    let says = said_in heeds entry in
-    let pod = bind_ok (pod_numbered pods n) (with_pod says entry n) e is in
+    let pod = bind_ok (pod_numbered pods n) (with_pod (λ pod. said_in heeds pod entry) entry n) e is in
+    let says = said_in heeds pod.0 entry in
     let listings = bind_ok (each (placed_listing pod.0) entry.listings) (with_listings says entry n pod.0) e pod.2 in
     let results = bind_ok (each (placed_result pod.0) entry.results) (placed says n listings.0) e listings.2 in
     let same = same_value {E = FaultKind} (record {
@@ -94,6 +94,7 @@ entry_says heeds pods n entry e is =
     }) e results.2 in (
       slice_get_within pods n pod.0 (there_is _ (slice_get pods n) pod.0 pod.1),
       ap (λ (p : PlacedEntry). p.pod) same,
+      pod.0,
       ap (λ (p : PlacedEntry). p.said) same,
     )
 

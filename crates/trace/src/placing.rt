@@ -1,6 +1,10 @@
 //! The entries of a tick line, with numbers in the place of names.
 
-ghost use Rattle.std.specs.Prelude.{◌≡◌, ◌==◌, length, None, if◌then◌else◌};
+ghost use Rattle.std.specs.Prelude.{◌≡◌, ◌==◌, length, map, None, if◌then◌else◌};
+ghost use Rattle.std.specs.List.{range_with_len};
+ghost use Rattle.manifest.specs.rule.Gates.{most_gates};
+ghost use Rattle.observations.specs.rule.Pods.{no_gates};
+ghost use Rattle.trace.specs.rule.Placing.{gate_given, gates_given};
 ghost use Rattle.json_fields.specs.rule.Reading.{each};
 ghost use Rattle.json_fields.specs.state.Reading.{GivesExactly, GivesUnless, checked};
 ghost use Rattle.trace.specs.state.Memory.{is_memory};
@@ -14,11 +18,14 @@ ghost use Rattle.std.specs.List.{list_any};
 use crate::words::says_so;
 use line_faults::FaultKind;
 use lists::Sequence;
-use manifest::{Outcome, PodSpec, ProbeKind};
-use observations::{EndReason, PodWords, Sampling, Usage};
+use manifest::{MOST_GATES, Outcome, PodSpec, ProbeKind, ReadinessGates};
+use observations::{EndReason, NO_GATES, PodWords, Sampling, Usage};
 use roster::Roster;
 use std::alloc::Global;
-use tick_lines::{ListedInstance, Listing, ProbeResult, ReasonMember, TickEntry, TruthMember};
+use tick_lines::{
+    ConditionStatuses, ConditionsMember, ListedInstance, Listing, ProbeResult, ReasonMember,
+    TickEntry, TruthMember,
+};
 
 /// A listing of the container with the number.
 #[derive(Clone, Copy)]
@@ -166,23 +173,59 @@ fn reason_given(heeds: bool, failed: &ReasonMember) -> Option<EndReason>
     }
 }
 
-/// The words of an entry, where the version heeds them.
-fn words_of(heeds: bool, deleting: TruthMember, failed: &ReasonMember) -> PodWords
-    ensures { result ≡ words_of heeds deleting failed.now }
+/// The status that an entry gives of the condition that one of these gates names, by number.
+fn gate_given(gates: &ReadinessGates, statuses: &ConditionStatuses, number: usize) -> Option<bool>
+    ensures { result ≡ gate_given gates.now statuses.now number }
+{
+    statuses.status(gates.get(number)?)
+}
+
+/// The statuses that it gives of the conditions that these gates name.
+fn statuses_given(
+    gates: &ReadinessGates,
+    statuses: &ConditionStatuses,
+) -> [Option<bool>; MOST_GATES]
+    ensures { result ≡ map (gate_given gates.now statuses.now) (range_with_len 0 most_gates) }
+{
+    let mut given = NO_GATES;
+    for number in 0..MOST_GATES {
+        given[number] = gate_given(gates, statuses, number);
+    }
+    given
+}
+
+/// The same, by what its member says, where the version heeds that.
+fn gates_given(
+    heeds: bool,
+    gates: &ReadinessGates,
+    conditions: &ConditionsMember,
+) -> [Option<bool>; MOST_GATES]
+    ensures { result ≡ (if heeds then gates_given gates.now conditions.now else no_gates) }
+{
+    match conditions {
+        ConditionsMember::Statuses(statuses) if heeds => statuses_given(gates, statuses),
+        _ => NO_GATES,
+    }
+}
+
+/// The words of an entry, where the version heeds them, on a pod with these gates.
+fn words_of(heeds: bool, gates: &ReadinessGates, entry: &TickEntry) -> PodWords
+    ensures { result ≡ words_of heeds gates.now entry.now.deleting entry.now.failed entry.now.conditions }
 {
     PodWords {
-        deleting: heeds && says_so(deleting),
-        failed: reason_given(heeds, failed),
+        deleting: heeds && says_so(entry.deleting),
+        failed: reason_given(heeds, &entry.failed),
+        gates: gates_given(heeds, gates, &entry.conditions),
     }
 }
 
 /// What an entry says of its pod beside its listings and results.
-fn said_in(heeds: bool, entry: &TickEntry) -> EntrySaid
-    ensures { result ≡ said_in heeds entry.now }
+fn said_in(heeds: bool, pod: &PodSpec, entry: &TickEntry) -> EntrySaid
+    ensures { result ≡ said_in heeds pod.now entry.now }
 {
     EntrySaid {
         sampling: sampling_of(heeds, entry.usage, entry.unsampled),
-        words: words_of(heeds, entry.deleting, &entry.failed),
+        words: words_of(heeds, &pod.gates, entry),
     }
 }
 
@@ -208,7 +251,7 @@ fn entry_of_pod(
         pod: number,
         listings: place_each(alloc, pod, entry.listings.as_slice())?,
         results: place_each(alloc, pod, entry.results.as_slice())?,
-        said: said_in(heeds, entry),
+        said: said_in(heeds, pod, entry),
     })
 }
 

@@ -10,10 +10,13 @@ ghost use Rattle.manifest_fields.specs.declared.fault.Field.TheVariants as field
 ghost use Rattle.manifest_fields.specs.declared.fault.ManifestFault.TheVariants.{WrongKind};
 ghost use Rattle.line_faults.specs.declared.fault.FaultKind.TheVariants.{DuplicatePod, Manifest};
 ghost use Rattle.trace.specs.rule.Written.{is_of_other_kind};
-ghost use Rattle.trace.specs.rule.Pod.{has_key, new_key, room_for_pod, manifest_of, pod_from, pod_of_line};
+ghost use Rattle.trace.specs.rule.Pod.{has_key, new_key, room_for_pod, manifest_of, manifest_read};
+ghost use Rattle.trace.specs.rule.Pod.{pod_from, pod_of_line};
+ghost use Rattle.manifest_fields.specs.state.Memory.{is_memory as is_manifest_memory};
 
 use crate::trace_so_far::TraceSoFar;
 use crate::words::{is_of_other_kind, says_so};
+use extended_manifest::read_extended_pod;
 use json_fields::field;
 use line_faults::{FaultKind, refused_if};
 use manifest::PodSpec;
@@ -31,15 +34,27 @@ fn manifest_of(found: Option<&Value>) -> Result<&Value, FaultKind>
     found.ok_or(FaultKind::Manifest(ManifestFault::Missing(Field::Pod)))
 }
 
+/// The pod that a manifest describes, by whether the version reads the extended format's fields.
+fn manifest_read(alloc: Global, heeds: bool, manifest: &Value) -> Result<PodSpec, ManifestFault>
+    ensures gives { GivesUnless is_manifest_memory (λ p. p) result (manifest_read heeds (view manifest.now)) }
+    ensures faults { IfErr (manifest_read heeds (view manifest.now)) (IsErrOf result) }
+{
+    if heeds {
+        read_extended_pod(alloc, manifest)
+    } else {
+        read_pod(alloc, manifest)
+    }
+}
+
 /// The pod that a pod line's manifest describes, which says nothing of whether the node spares it. Out of memory only
 /// where the manifest has no fault.
 #[tactic(auto, using(crate::proofs::Manifests::manifest_fault))]
-fn pod_from(alloc: Global, found: Option<&Value>) -> Result<PodSpec, FaultKind>
-    ensures gives { GivesUnless is_memory (λ p. p) result (pod_from (option_map (λ v. view v.now) found.entry)) }
-    ensures faults { IfErr (pod_from (option_map (λ v. view v.now) found.entry)) (IsErrOf result) }
+fn pod_from(alloc: Global, heeds: bool, found: Option<&Value>) -> Result<PodSpec, FaultKind>
+    ensures gives { GivesUnless is_memory (λ p. p) result (pod_from heeds (option_map (λ v. view v.now) found.entry)) }
+    ensures faults { IfErr (pod_from heeds (option_map (λ v. view v.now) found.entry)) (IsErrOf result) }
 {
     let manifest = manifest_of(found)?;
-    Ok(read_pod(alloc, manifest)?)
+    Ok(manifest_read(alloc, heeds, manifest)?)
 }
 
 /// Nothing, unless a member that says whether the node spares the pod is of another kind than a truth value, where the
@@ -55,12 +70,13 @@ fn known_spared(heeds: bool, spared: TruthMember) -> Result<(), FaultKind>
 }
 
 /// The pod that a pod line says. Out of memory only where the line has no other fault.
+#[tactic(auto, using(crate::proofs::Manifests::first_besides))]
 pub(crate) fn pod_of_line(alloc: Global, heeds: bool, line: &Value) -> Result<PodSpec, FaultKind>
     ensures gives { GivesUnless is_memory (λ p. p) result (pod_of_line heeds (view line.now)) }
     ensures faults { IfErr (pod_of_line heeds (view line.now)) (IsErrOf result) }
 {
     let spared = truth_of(field(line, "spared"));
-    match pod_from(alloc, field(line, "pod")) {
+    match pod_from(alloc, heeds, field(line, "pod")) {
         Ok(pod) => {
             known_spared(heeds, spared)?;
             Ok(PodSpec {

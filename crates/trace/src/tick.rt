@@ -146,6 +146,7 @@ fn words_again(words: &PodWords) -> PodWords
     PodWords {
         deleting: words.deleting,
         failed,
+        gates: words.gates,
     }
 }
 

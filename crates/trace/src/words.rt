@@ -1,15 +1,15 @@
 //! The words of a tick line, which version 3 alone heeds: members that say something by true, by false or by a reason.
 //! (This project's extended format.)
 
-ghost use Rattle.std.specs.Prelude.{◌≡◌, ◌||◌};
+ghost use Rattle.std.specs.Prelude.{◌≡◌};
 ghost use Rattle.json_fields.specs.state.Reading.{GivesExactly};
 ghost use Rattle.trace.specs.rule.Observed.{is_judged};
 ghost use Rattle.trace.specs.rule.Placing.{says_so};
 ghost use Rattle.trace.specs.rule.Written.{is_of_other_kind, is_no_reason, has_other_kind, line_has_other_kind};
-ghost use Rattle.trace.specs.rule.Written.{heeded, written_in};
+ghost use Rattle.trace.specs.rule.Written.{are_no_statuses, is_of_no_kind, heeded, written_in};
 
 use line_faults::{FaultKind, refused_if};
-use tick_lines::{ReasonMember, TickEntry, TickLine, TickLineFault, TruthMember};
+use tick_lines::{ConditionsMember, ReasonMember, TickEntry, TickLine, TickLineFault, TruthMember};
 
 pub(crate) fn says_so(member: TruthMember) -> bool
     ensures { result ≡ says_so member }
@@ -36,15 +36,21 @@ fn is_no_reason(member: &ReasonMember) -> bool
     matches!(member, ReasonMember::OfOtherKind)
 }
 
-/// Whether a member `unsampled` or `deleting` of the entry is of another kind than a truth value, or its member
-/// `failed` is neither null nor a reason.
+fn are_no_statuses(member: &ConditionsMember) -> bool
+    ensures { result ≡ are_no_statuses member.now }
+{
+    matches!(member, ConditionsMember::OfOtherKind)
+}
+
+/// Whether a member `unsampled` or `deleting` of the entry is of another kind than a truth value, its member `failed`
+/// is neither null nor a reason, or its member `conditions` is neither null nor an object of true, false and null.
 fn is_of_no_kind(entry: &TickEntry) -> bool
-    ensures { result ≡ ((is_of_other_kind entry.now.unsampled || is_of_other_kind entry.now.deleting)
-        || is_no_reason entry.now.failed) }
+    ensures { result ≡ is_of_no_kind entry.now }
 {
     is_of_other_kind(entry.unsampled)
         || is_of_other_kind(entry.deleting)
         || is_no_reason(&entry.failed)
+        || are_no_statuses(&entry.conditions)
 }
 
 /// Whether one of the entries has such a member.

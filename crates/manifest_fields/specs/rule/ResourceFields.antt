@@ -50,3 +50,29 @@ resources_in d = do
 abbrev pub resources_of : Option Data → Result Resources ManifestFault
 resources_of None = Ok no_resources
 resources_of (Some d) = resources_in d
+
+-- the requests or the limits of a pod as a whole, which may have other resources: only these two are read
+unfoldable pub pod_amounts_in : Data → Result Amounts ManifestFault
+pod_amounts_in d = do
+  amounts ← object_of fields.Resources (Some d)
+  cpu ← quantity_at (field_at (codes "cpu") amounts)
+  memory ← quantity_at (field_at (codes "memory") amounts)
+  Ok (record { cpu = cpu; memory = memory; ephemeral_storage = None })
+
+abbrev pub pod_amounts_of : Option Data → Result Amounts ManifestFault
+pod_amounts_of None = Ok nothing
+pod_amounts_of (Some d) = pod_amounts_in d
+
+unfoldable pub pod_resources_in : Data → Result Resources ManifestFault
+pod_resources_in d = do
+  resources ← object_of fields.Resources (Some d)
+  requests ← pod_amounts_of (field_at (codes "requests") resources)
+  limits ← pod_amounts_of (field_at (codes "limits") resources)
+  low ← none_above requests limits
+  Ok (record { requests = requests; limits = limits })
+
+-- a pod's resources as a whole, which may be left out (Kubernetes, "Resource Management for Pods and Containers",
+-- "Pod-level resource specification")
+abbrev pub pod_resources_of : Option Data → Result Resources ManifestFault
+pod_resources_of None = Ok no_resources
+pod_resources_of (Some d) = pod_resources_in d

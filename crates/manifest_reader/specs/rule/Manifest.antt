@@ -1,7 +1,7 @@
 -- What a manifest says of a pod, or its first fault: one line for each field, in the order in which
 -- they are read (Kubernetes API, `Pod`; "Pod Lifecycle", "Container restart policy"; "Pod Priority
 -- and Preemption").
-use Rattle.std.specs.Prelude.{ℕ, ℤ, pos, ⊤, ◌+◌, List, ◌++◌, length, nat_lt, Option, Some, false}
+use Rattle.std.specs.Prelude.{ℕ, ℤ, pos, ⊤, ◌+◌, List, [], ◌++◌, length, nat_lt, Option, Some, false}
 use Rattle.std.specs.Prelude.{None, option_and_then, if◌then◌else◌, Result, Ok, Err, bytes_eq, codes}
 use Rattle.quantity.specs.rule.Duration.{end_of_time}
 use Rattle.serde_json.specs.Data.{Data}
@@ -29,6 +29,7 @@ use Rattle.manifest_fields.specs.rule.Fields.{object_of, array_of, array_or_none
 use Rattle.manifest_fields.specs.rule.ProbeFields.{probes_of}
 use Rattle.manifest_fields.specs.rule.ResourceFields.{resources_of}
 use Rattle.manifest.specs.rule.Containers.{has_twice, most_containers}
+use Rattle.manifest.specs.rule.Resources.{no_resources}
 
 abbrev pub policy_from : Option (List ℕ) → Result Policy ManifestFault
 policy_from None = Err (WrongKind fields.RestartPolicy)
@@ -144,6 +145,7 @@ spec_of found = do
   containers ← containers_in spec
   Ok (record { settings = settings; containers = containers })
 
+-- of the pod as a whole neither resources nor readiness gates are read
 unfoldable pub pod_at : Data → Result PodSpec ManifestFault
 pod_at d = do
   pod ← object_of fields.Pod (Some d)
@@ -156,5 +158,7 @@ pod_at d = do
     priority = spec.settings.priority;
     grace_period_seconds = spec.settings.grace_period_seconds;
     containers = spec.containers;
+    resources = no_resources;
+    gates = [];
     spared = false;
   })

@@ -1,8 +1,8 @@
 -- What a node line says.
 use Rattle.std.specs.Prelude.{ℕ, ◌==◌, ◌^◌, Bool, false, nat_lt, List, Option, Some, None, option_and_then}
-use Rattle.std.specs.Prelude.{if◌then◌else◌, Result, Ok, Err, codes}
+use Rattle.std.specs.Prelude.{is_some, if◌then◌else◌, Result, Ok, Err, codes}
 use Rattle.serde_json.specs.Data.{Data}
-use Rattle.serde_json.specs.Find.{as_bool, as_number, as_u64}
+use Rattle.serde_json.specs.Find.{as_bool, as_number, as_object, as_u64}
 use Rattle.json_fields.specs.rule.Fields.{field_at, text_at}
 use Rattle.json_fields.specs.rule.Reading.{◌>>=◌, some_or}
 use Rattle.manifest.specs.rule.Names.{is_name}
@@ -41,6 +41,30 @@ name_from (Some s) = if is_name s then Ok s else Err Config
 abbrev pub restart_delay_of : Option Data → Result ℕ NodeFault
 restart_delay_of None = Ok most_max_delay
 restart_delay_of (Some d) = some_or Config (option_and_then max_delay_of (whole_number d))
+
+-- the greatest delay by a period in seconds, which has to be in its range, and the most of it without one
+abbrev pub delay_from : Option ℕ → Result ℕ NodeFault
+delay_from None = Ok most_max_delay
+delay_from (Some seconds) = some_or Config (max_delay_of seconds)
+
+-- the greatest restart delay that a kubelet's configuration gives in its own field (Kubernetes, "Configurable container
+-- restart delay")
+abbrev pub crash_loop_delay_of : Data → Result ℕ NodeFault
+crash_loop_delay_of d =
+    if is_some (as_object d) then (duration_at (field_at (codes "maxContainerRestartPeriod") d) >>= delay_from)
+    else Err Config
+
+-- a line has one of the two fields
+abbrev pub delay_by : Option Data → Option Data → Result ℕ NodeFault
+delay_by found None = restart_delay_of found
+delay_by None (Some d) = crash_loop_delay_of d
+delay_by (Some seconds) (Some d) = Err Config
+
+-- the greatest restart delay; versions 1 and 2 don't have the kubelet's own field
+abbrev pub delay_in : Version → Option Data → Option Data → Result ℕ NodeFault
+delay_in One found crash_loop = restart_delay_of found
+delay_in Two found crash_loop = restart_delay_of found
+delay_in Three found crash_loop = delay_by found crash_loop
 
 -- true or false, and false where none is written
 abbrev pub flag_of : Option Data → Result Bool NodeFault
@@ -83,7 +107,7 @@ flag_of_three Three found = flag_of found
 unfoldable pub settings_in : Data → Result Settings NodeFault
 settings_in d = do
   version ← version_of (field_at (codes "version") d)
-  max_restart_delay ← restart_delay_of (field_at (codes "maxRestartDelay") d)
+  max_restart_delay ← delay_in version (field_at (codes "maxRestartDelay") d) (field_at (codes "crashLoopBackOff") d)
   has_dedicated_imagefs ← flag_of (field_at (codes "dedicatedImagefs") d)
   max_pod_grace_period ← seconds_of (field_at (codes "evictionMaxPodGracePeriod") d)
   transition_period ← duration_at (field_at (codes "evictionPressureTransitionPeriod") d)

@@ -77,13 +77,13 @@ unfoldable pub container_line : ℕ → List ℕ → ContainerStatus → List �
 container_line n name s =
     flag_words (container_words n name (state_word s.state) (code_text s.code)) s.restarts s.ready s.started
 
--- the four condition lines of a pod; Ready is the same as ContainersReady
+-- the four condition lines of a pod
 abbrev pub conditions_text : ℕ → Conditions → List ℕ
 conditions_text n c =
     condition_line n (codes "PodScheduled") c.pod_scheduled
     ++ (condition_line n (codes "Initialized") c.initialized
     ++ (condition_line n (codes "ContainersReady") c.containers_ready
-    ++ condition_line n (codes "Ready") c.containers_ready))
+    ++ condition_line n (codes "Ready") c.ready))
 
 -- the line of the condition that only a pod has that the node disrupts, with the moment since when
 abbrev pub disruption_text : ℕ → Option ℕ → List ℕ

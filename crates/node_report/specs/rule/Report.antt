@@ -5,7 +5,7 @@ use Rattle.manifest.specs.declared.pod.PodSpec.{PodSpec}
 use Rattle.node_config.specs.declared.node.NodeConfig.{NodeConfig}
 use Rattle.observations.specs.declared.tick.TickObs.{TickObs}
 use Rattle.qos.specs.declared.class.Qos.{Qos}
-use Rattle.qos.specs.rule.Class.{IsOfClass}
+use Rattle.qos.specs.rule.Pod.{IsPodClass}
 use Rattle.containers.specs.declared.status.ContainerStatus.{ContainerStatus}
 use Rattle.pod_state.specs.declared.lifecycle.Lifecycle.{Lifecycle}
 use Rattle.pod_state.specs.rule.Containers.{AreStatusesOf}
@@ -40,7 +40,7 @@ pub record ArePodLines (ticks : List TickObs) (evictions : List (Option Eviction
   pub containers : List ContainerStatus
   pub are_statuses : AreStatusesOf pod (evicting_tick n ticks evictions) (pod_ticks ticks n) containers
   pub qos : Qos
-  pub is_qos : IsOfClass pod.containers qos
+  pub is_qos : IsPodClass pod qos
   pub failure : Option PodFailure
   pub is_failure : IsFailure pod (own_eviction n ticks evictions) (pod_ticks ticks n) failure
   pub text : bytes ≡ pod_text n pod qos lifecycle.phase lifecycle.conditions

@@ -1,5 +1,5 @@
 -- What a tick shows of one pod, as it is kept in a block.
-use Rattle.std.specs.Prelude.{ℕ, List, [], ◌∷◌, Option, Some, None, false}
+use Rattle.std.specs.Prelude.{ℕ, List, [], ◌∷◌, Option, Some, None}
 use Rattle.observations.specs.declared.container.ContainerObs.{ContainerObs}
 use Rattle.observations.specs.declared.containers.Containers.{Containers}
 use Rattle.observations.specs.declared.containers.Containers.TheVariants as containers
@@ -11,10 +11,7 @@ use Rattle.observations.specs.declared.usage.Sampling.TheVariants.{Unsaid, Unsam
 use Rattle.observations.specs.declared.usage.Usage.{Usage}
 use Rattle.observations.specs.declared.words.PodWords.{PodWords}
 use Rattle.observations.specs.state.Whole.{memory_as, usage_as}
-use Rattle.observations.specs.rule.Pods.{PodObs}
-
-abbrev pub no_words : PodWords
-no_words = record { deleting = false; failed = None }
+use Rattle.observations.specs.rule.Pods.{PodObs, no_words}
 
 abbrev pub told_obs : ℕ → List ContainerObs → Sampling → PodWords → PodObs
 told_obs at containers sampling words = record {

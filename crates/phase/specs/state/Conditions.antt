@@ -22,3 +22,4 @@ pub record IsStateOf (has_init : Bool) (h : List (Recorded Values)) (conditions 
   pub pod_scheduled : IsConditionOf true (project (λ values. true) h) conditions.pod_scheduled
   pub initialized : IsConditionOf (not has_init) (project (λ values. values.initialized) h) conditions.initialized
   pub containers_ready : IsConditionOf false (project (λ values. values.containers_ready) h) conditions.containers_ready
+  pub ready : IsConditionOf false (project (λ values. values.ready) h) conditions.ready

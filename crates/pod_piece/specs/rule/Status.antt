@@ -5,8 +5,7 @@ use Rattle.std.specs.Prelude.{if◌then◌else◌, false, codes}
 use Rattle.std.specs.Str.{bytes_eq}
 use Rattle.manifest.specs.declared.pod.PodSpec.{PodSpec}
 use Rattle.manifest.specs.declared.resources.Resource.TheVariants.{Cpu, Memory, EphemeralStorage}
-use Rattle.qos.specs.rule.Class.{IsOfClass}
-use Rattle.qos.specs.rule.Requests.{effective_request_of}
+use Rattle.qos.specs.rule.Pod.{IsPodClass, pod_request_of}
 use Rattle.phase.specs.rule.RawPhase.{IsTerminal}
 use Rattle.pod_state.specs.rule.Pods.{PodTick, IsEnd}
 use Rattle.pod_state.specs.rule.Containers.{AreStatusesOf}
@@ -19,12 +18,12 @@ use Rattle.pod_piece.specs.declared.status.PodStatus.{PodStatus}
 use Rattle.pod_piece.specs.rule.Piece.{place_of}
 use Rattle.pod_piece.specs.rule.Usage.{IsUsageOf}
 
--- a pod's effective requests
+-- a pod's requests, by which it is ranked
 abbrev pub requests_of : PodSpec → EffectiveRequests
 requests_of pod = record {
-  cpu = effective_request_of Cpu pod.containers;
-  memory = effective_request_of Memory pod.containers;
-  ephemeral_storage = effective_request_of EphemeralStorage pod.containers;
+  cpu = pod_request_of Cpu pod;
+  memory = pod_request_of Memory pod;
+  ephemeral_storage = pod_request_of EphemeralStorage pod;
 }
 
 -- how the node has ended the pod with this tick, as the tick says
@@ -71,7 +70,7 @@ pub record IsStatusAfter (number : ℕ) (pod : PodSpec) (eviction : Option Evict
   pub lifecycle : IsLifecycleOf pod (place_of eviction) h
       (record { phase = status.phase; conditions = status.conditions })
   pub containers : AreStatusesOf pod (place_of eviction) h status.containers.items
-  pub class : IsOfClass pod.containers status.class
+  pub class : IsPodClass pod status.class
   pub requests : status.requests ≡ requests_of pod
   pub usage : IsUsageOf pod (place_of eviction) h status.usage
   pub priority : status.priority ≡ pod.priority

@@ -7,6 +7,7 @@ use Rattle.phase.specs.declared.conditions.Condition.{Condition}
 use Rattle.manifest.specs.declared.pod.PodSpec.{PodSpec}
 use Rattle.pod_state.specs.declared.lifecycle.Lifecycle.{Lifecycle}
 use Rattle.pod_state.specs.rule.Pods.{PodTick, IsPhase, IsInitialized, AreContainersReady}
+use Rattle.pod_state.specs.rule.Gates.{IsReady}
 
 -- the condition is true exactly where C holds after these ticks, and its moment is that of C's last
 -- transition
@@ -20,3 +21,4 @@ pub record IsLifecycleOf (pod : PodSpec) (evicted : Option ℕ) (h : List PodTic
   pub pod_scheduled : IsConditionAfter (λ _. Unit {0}) h status.conditions.pod_scheduled
   pub initialized : IsConditionAfter (IsInitialized pod evicted) h status.conditions.initialized
   pub containers_ready : IsConditionAfter (AreContainersReady pod evicted) h status.conditions.containers_ready
+  pub ready : IsConditionAfter (IsReady pod evicted) h status.conditions.ready

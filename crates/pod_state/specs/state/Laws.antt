@@ -14,6 +14,7 @@ use Rattle.pod_state.specs.rule.Events.{AreEventsOf}
 use Rattle.pod_state.specs.rule.Pods.{PodTick, IsEnd, HasEnded, IsRawPhaseAfter, IsPhase, IsInitialized}
 use Rattle.pod_state.specs.state.Pods.{AreViewsOf}
 use Rattle.pod_state.specs.rule.Pods.{AreContainersReady}
+use Rattle.pod_state.specs.rule.Gates.{IsReady}
 use Rattle.pod_state.specs.rule.Lifecycles.{IsLifecycleOf}
 use Rattle.pod_state.specs.rule.Containers.{IsContainerStatus, AreStatusesOf}
 
@@ -55,6 +56,9 @@ pub record TransitionsAreChanges : Type 0 where
   pub containers_ready : (pod : PodSpec) (evicted : Option ℕ) (h : List PodTick) (status : Lifecycle) (m : ℕ)
       → IsLifecycleOf pod evicted h status
       → status.conditions.containers_ready.since ≡ Some m → ChangesAt h (AreContainersReady pod evicted) m
+  pub ready : (pod : PodSpec) (evicted : Option ℕ) (h : List PodTick) (status : Lifecycle) (m : ℕ)
+      → IsLifecycleOf pod evicted h status
+      → status.conditions.ready.since ≡ Some m → ChangesAt h (IsReady pod evicted) m
 
 -- every pod, whenever it is evicted and whatever its ticks are, has a raw phase, an end or none, a phase,
 -- a lifecycle, and statuses of its containers

@@ -12,6 +12,7 @@ use Rattle.phase.specs.rule.RawPhase.{IsTerminal}
 use Rattle.phase.specs.state.Conditions.{IsStateOf}
 use Rattle.pod_state.specs.rule.Pods.{PodEntry, PodTick, AllReady, IsPhase, IsInitialized, AreContainersReady}
 use Rattle.pod_state.specs.rule.Pods.{says_failed}
+use Rattle.pod_state.specs.rule.Gates.{AreGatesTrue, IsReady}
 use Rattle.pod_state.specs.state.Pods.{AreViewsOf}
 use Rattle.pod_state.specs.rule.Lifecycles.{IsLifecycleOf}
 
@@ -30,6 +31,7 @@ pub record IsProgressOf (pod : PodSpec) (evicted : Option ℕ) (h : List PodTick
   pub pod_scheduled : AreValuesOf (λ _. Unit {0}) h (project (λ v. true) values)
   pub initialized : AreValuesOf (IsInitialized pod evicted) h (project (λ v. v.initialized) values)
   pub containers_ready : AreValuesOf (AreContainersReady pod evicted) h (project (λ v. v.containers_ready) values)
+  pub ready : AreValuesOf (IsReady pod evicted) h (project (λ v. v.ready) values)
 
 -- the node ends the pod with this tick, which comes after these: it evicts the pod, or says that it has failed
 abbrev pub EndsWith : Option ℕ → List PodTick → PodTick → Type 0
@@ -48,13 +50,15 @@ IsNextPhase policy views ends p q =
 
 -- A pod of this policy and lifecycle, whatever its history, has the new lifecycle after one more tick, at this moment.
 -- Unless the pod had ended before, the views show its containers after that tick, the first flag says whether all its
--- app containers and sidecars are ready then, and the second whether the node ends it with that tick.
-abbrev pub IsNext : Policy → ℕ → List ContainerView → Bool → Bool → Lifecycle → Lifecycle → Type 0
-IsNext policy at views ready ends old new =
+-- app containers and sidecars are ready then, the second whether each condition that its readiness gates name is True
+-- then, and the third whether the node ends it with that tick.
+abbrev pub IsNext : Policy → ℕ → List ContainerView → Bool → Bool → Bool → Lifecycle → Lifecycle → Type 0
+IsNext policy at views ready gates ends old new =
     (pod : PodSpec) (evicted : Option ℕ) (h : List PodTick) (entry : PodEntry)
     → pod.policy ≡ policy
     → ((IsTerminal old.phase → ⊥) → AreViewsOf pod (h ++ recorded at entry ∷ []) views)
     → ((IsTerminal old.phase → ⊥) → (IsTrue ready ↔ AllReady pod (h ++ recorded at entry ∷ [])))
+    → ((IsTerminal old.phase → ⊥) → (IsTrue gates ↔ AreGatesTrue pod (h ++ recorded at entry ∷ [])))
     → ((IsTerminal old.phase → ⊥) → (IsTrue ends ↔ EndsWith evicted h (recorded at entry)))
     → IsProgressOf pod evicted h old
     → IsProgressOf pod evicted (h ++ recorded at entry ∷ []) new

@@ -12,16 +12,18 @@ use Rattle.pod_state.specs.declared.lifecycle.Lifecycle.{Lifecycle}
 use Rattle.pod_state.specs.declared.state.PodState.{PodState}
 use Rattle.pod_state.specs.rule.Pods.{PodTick, unseen, is_being_deleted}
 use Rattle.pod_state.specs.state.Containers.{AreKept}
+use Rattle.pod_state.specs.state.Gates.{AreStatusesOf}
 use Rattle.pod_state.specs.state.Lifecycles.{IsProgressOf}
 use Rattle.pod_state.specs.rule.Events.{AreEventsOf}
 
 -- the pod's phase and conditions after these ticks, its containers after those that count, on a node with a maximum
--- restart delay, and whether it is being deleted
+-- restart delay, whether it is being deleted, and the statuses of the conditions that its readiness gates name
 pub record IsStateOf (pod : PodSpec) (max_restart_delay : ℕ) (evicted : Option ℕ) (h : List PodTick)
     (state : PodState) : Type 0 where
   pub progress : IsProgressOf pod evicted h state.lifecycle
   pub containers : AreKept pod max_restart_delay evicted h state.containers.items
   pub deleting : state.deleting ≡ is_being_deleted h
+  pub gates : AreStatusesOf (length pod.gates) h state.gates
 
 -- a tick with this policy, which does not evict the pod, leads from one state to another
 abbrev pub LeadsTo : Policy → PodTick → PodState → PodState → Type 0

@@ -6,6 +6,7 @@ use Rattle.json_fields.specs.rule.Reading.{◌>>=◌, some_or}
 use Rattle.tick_lines.specs.declared.entry.TickEntry.{TickEntry}
 use Rattle.tick_lines.specs.declared.fault.TickLineFault.{TickLineFault}
 use Rattle.tick_lines.specs.declared.fault.TickLineFault.TheVariants.{Usage}
+use Rattle.tick_lines.specs.rule.Conditions.{conditions_of}
 use Rattle.tick_lines.specs.rule.Fields.{each_item}
 use Rattle.tick_lines.specs.rule.Listings.{listings_of}
 use Rattle.tick_lines.specs.rule.Results.{results_of}
@@ -27,6 +28,7 @@ entry_of d = do
     unsampled = truth_of (field_at (codes "unsampled") d);
     deleting = truth_of (field_at (codes "deleting") d);
     failed = reason_member_of (field_at (codes "failed") d);
+    conditions = conditions_of (field_at (codes "conditions") d);
   })
 
 -- the entries of a tick line, in order

@@ -19,9 +19,12 @@ use Rattle.tick_lines.specs.declared.listing.Listing.{Listing}
 use Rattle.tick_lines.specs.declared.probing.ProbeResult.{ProbeResult}
 use Rattle.tick_lines.specs.declared.reason.ReasonMember.{ReasonMember}
 use Rattle.tick_lines.specs.declared.reason.ReasonMember.TheVariants as members
+use Rattle.tick_lines.specs.declared.conditions.ConditionsMember.{ConditionsMember}
+use Rattle.tick_lines.specs.declared.conditions.ConditionsMember.TheVariants as statuses
 use Rattle.tick_lines.specs.declared.truth.TruthMember.{TruthMember}
 use Rattle.tick_lines.specs.declared.truth.TruthMember.TheVariants.{No, Yes}
 use Rattle.json_fields.specs.declared.scope.Scope.{Scope}
+use Rattle.tick_lines.specs.rule.Statuses.{are_statuses, are_all_statuses, statuses_in}
 use Rattle.tick_lines.specs.rule.Listings.{listing_of}
 use Rattle.tick_lines.specs.rule.Results.{result_of}
 use Rattle.tick_lines.specs.rule.Usages.{usage_in}
@@ -123,6 +126,19 @@ abbrev pub FailedSaid : Type 0
 FailedSaid = (d : Data) (entry : TickEntry) → entry_of d ≡ Ok entry
     → SaysReason (field_at (codes "failed") d) entry.failed
 
+-- the member gives the statuses of an object of true, false and null, and nothing by null and by no value; each other
+-- value is told apart
+pub record SaysStatuses (found : Option Data) (said : ConditionsMember) : Type 0 where
+  pub given : (members : Members) → found ≡ Some (object members) → IsTrue (are_all_statuses members)
+      → said ≡ statuses.Statuses (statuses_in members)
+  pub missing : said ≡ statuses.Missing ↔ found ≡ None
+  pub other : (d : Data) → found ≡ Some d → are_statuses d ≡ false → said ≡ statuses.OfOtherKind
+
+-- an entry says the statuses of conditions that its member has; each other value is left to be refused
+abbrev pub ConditionsSaid : Type 0
+ConditionsSaid = (d : Data) (entry : TickEntry) → entry_of d ≡ Ok entry
+    → SaysStatuses (field_at (codes "conditions") d) entry.conditions
+
 -- it is the name of no signal of the file systems
 abbrev pub NamesNoFileSystem : List ℕ → Type 0
 NamesNoFileSystem name = (signal : Signal) → named name ≡ Some signal → is_of_file_system signal ≡ false
@@ -153,7 +169,7 @@ line_fields = codes "pods" ∷ codes "signals" ∷ codes "afterReclaim" ∷ code
 abbrev pub entry_fields : List (List ℕ)
 entry_fields =
     codes "pod" ∷ codes "containers" ∷ codes "probes" ∷ codes "usage" ∷ codes "unsampled" ∷ codes "deleting"
-    ∷ codes "failed" ∷ []
+    ∷ codes "failed" ∷ codes "conditions" ∷ []
 
 abbrev pub listing_fields : List (List ℕ)
 listing_fields = codes "name" ∷ codes "attempt" ∷ codes "state" ∷ codes "exitCode" ∷ []

@@ -26,6 +26,9 @@ use Rattle.tick_lines.specs.declared.tape.ResultMembers.{ResultMembers}
 use Rattle.tick_lines.specs.declared.tape.ResultText.{ResultText}
 use Rattle.tick_lines.specs.declared.truth.TruthMember.{TruthMember}
 use Rattle.tick_lines.specs.declared.truth.TruthMember.TheVariants.{No}
+use Rattle.tick_lines.specs.declared.conditions.ConditionsMember.{ConditionsMember}
+use Rattle.tick_lines.specs.declared.conditions.ConditionsMember.TheVariants.{Missing as NoConditions}
+use Rattle.tick_lines.specs.rule.Conditions.{conditions_of}
 use Rattle.tick_lines.specs.rule.Fields.{items_of, quantity_at}
 use Rattle.tick_lines.specs.rule.Listings.{attempt_of, state_of, code_of}
 use Rattle.tick_lines.specs.rule.Results.{probe_named, outcome_named}
@@ -56,7 +59,7 @@ abbrev pub denial_in : Option Data → Result TruthMember TickLineFault
 denial_in found = Ok (denial_of found)
 
 -- what is read of an entry before its listings and results; it says neither that its pod has no sample nor that
--- it is being deleted, nor that the node has ended it
+-- it is being deleted, nor that the node has ended it, and no status of a condition
 pub record IsEntry (d : Data) (e : EntryText) : Type 0 where
   pub key : text_at (codes "pod") d ≡ Some e.key.now
   pub listings : items_of (field_at (codes "containers") d) ≡ Ok (left_in e.listings)
@@ -65,6 +68,7 @@ pub record IsEntry (d : Data) (e : EntryText) : Type 0 where
   pub unsampled : truth_of (field_at (codes "unsampled") d) ≡ No
   pub deleting : truth_of (field_at (codes "deleting") d) ≡ No
   pub failed : reason_member_of (field_at (codes "failed") d) ≡ Missing
+  pub conditions : conditions_of (field_at (codes "conditions") d) ≡ NoConditions
 
 -- what is read of a line before its entries and its samples
 pub record IsLine (d : Data) (l : LineText) : Type 0 where
@@ -93,6 +97,10 @@ truth_in found = Ok (truth_of found)
 -- why the node has ended the pod; no value is a fault here
 abbrev pub reason_in : Option Data → Result ReasonMember TickLineFault
 reason_in found = Ok (reason_member_of found)
+
+-- the statuses of conditions; no value is a fault here
+abbrev pub conditions_in : Option Data → Result ConditionsMember TickLineFault
+conditions_in found = Ok (conditions_of found)
 
 abbrev pub probe_in : Option Data → Result ProbeKind TickLineFault
 probe_in found = probe_named (option_and_then as_str found)
@@ -136,6 +144,7 @@ pub record EntryRead (d : Data) (left : List Token) (e : EntryMembers) : Type 0 
   pub unsampled : IsRead truth_in (codes "unsampled") d left No
   pub deleting : IsRead truth_in (codes "deleting") d left No
   pub failed : IsRead reason_in (codes "failed") d left Missing
+  pub conditions : IsRead conditions_in (codes "conditions") d left NoConditions
 
 -- what was read of a line before the members that are left
 pub record LineRead (d : Data) (left : List Token) (l : LineMembers) : Type 0 where

@@ -24,8 +24,7 @@ use Rattle.manifest.specs.rule.Containers.{names_of}
 use Rattle.lists.specs.rule.Names.{place_of}
 use Rattle.tick_lines.specs.declared.listing.Listing.{Listing}
 use Rattle.roster.specs.rule.Roll.{Roll, number_of}
-use Rattle.trace.specs.rule.Pod.{of_manifest, pod_from, spared_by, pod_of_line}
-use Rattle.manifest_reader.specs.rule.Manifest.{pod_at}
+use Rattle.trace.specs.rule.Pod.{of_manifest, manifest_read, pod_from, spared_by, pod_of_line}
 use Rattle.tick_lines.specs.declared.truth.TruthMember.{TruthMember}
 use Rattle.tick_lines.specs.rule.Truths.{truth_of}
 use Rattle.trace.specs.rule.Placing.{says_so, number_in, container_number, placed_listing, placed_result, entry_of_pod}
@@ -52,7 +51,8 @@ use Rattle.line_faults.specs.rule.Faults.{kind_of_node_fault, kind_of_tick_fault
 use Rattle.trace.specs.rule.Written.{is_foreign, of_node_line, of_tick_line, node_in, is_of_other_kind}
 use Rattle.trace.specs.rule.Written.{line_has_other_kind, heeded}
 use Rattle.trace.specs.rule.Written.{tick_line_in}
-use Rattle.manifest_reader.proofs.NeverMemory.{IsFound, missing, wrong, pod_at_only}
+use Rattle.manifest_reader.proofs.NeverMemory.{IsFound, missing, wrong}
+use Rattle.trace.proofs.Manifests.{read_only}
 
 abbrev Is : FaultKind → FaultKind → Type 0
 Is given kind = kind ≡ given
@@ -87,9 +87,9 @@ manifest_only : {A : Type 0} (r : Result A ManifestFault) → Only IsFound r →
 manifest_only (Ok x) only = only_ok IsManifest x
 manifest_only (Err fault) only = only_err IsManifest (Manifest fault) (fault, refl, only.has fault refl)
 
-pod_only : (found : Option Data) → Only IsManifest (pod_from found)
-pod_only None = only_err IsManifest (Manifest (Missing fields.Pod)) (Missing fields.Pod, refl, missing fields.Pod)
-pod_only (Some d) = manifest_only (pod_at d) (pod_at_only d)
+pod_only : (heeds : Bool) (found : Option Data) → Only IsManifest (pod_from heeds found)
+pod_only heeds None = only_err IsManifest (Manifest (Missing fields.Pod)) (Missing fields.Pod, refl, missing fields.Pod)
+pod_only heeds (Some d) = manifest_only (manifest_read heeds d) (read_only heeds d)
 
 spared_only : (heeds : Bool) (spared : TruthMember) (pod : PodSpec) → Only IsManifest (spared_by heeds spared pod)
 spared_only heeds spared pod =
@@ -100,7 +100,7 @@ spared_only heeds spared pod =
 
 pod_line_only : (heeds : Bool) (d : Data) → Only IsManifest (pod_of_line heeds d)
 pod_line_only heeds d =
-    only_bind IsManifest _ _ (pod_only (field_at (codes "pod") d))
+    only_bind IsManifest _ _ (pod_only heeds (field_at (codes "pod") d))
     (spared_only heeds (truth_of (field_at (codes "spared") d)))
 
 moment_only : (ticks : List TickObs) (found : Option ℕ) → Only (Is Moment) (moment_from ticks found)

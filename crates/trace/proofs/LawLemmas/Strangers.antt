@@ -87,15 +87,15 @@ result_fault pod r kind e =
     ]
 
 -- a fault of an entry of a known pod: it names a container that isn't the pod's
-known_fault : (says : EntrySaid) (entry : TickEntry) (number : ℕ) (pod : PodSpec) (kind : FaultKind)
+known_fault : (says : PodSpec → EntrySaid) (entry : TickEntry) (number : ℕ) (pod : PodSpec) (kind : FaultKind)
     → with_pod says entry number pod ≡ Err kind → (kind ≡ StrangerContainer) × NamesOther pod entry
 known_fault says entry number pod kind e =
-    elim (bind_err (each (placed_listing pod) entry.listings) (with_listings says entry number pod) kind e) [
+    elim (bind_err (each (placed_listing pod) entry.listings) (with_listings (says pod) entry number pod) kind e) [
       | inl faulty ↦
           let at = each_at (placed_listing pod) entry.listings kind faulty in
           let why = listing_fault pod at.1 kind at.3 in
           (why.1, inl (at.0, at.1, at.2, why.0))
-      | inr listings ↦ elim (bind_err (each (placed_result pod) entry.results) (placed says number listings.0) kind
+      | inr listings ↦ elim (bind_err (each (placed_result pod) entry.results) (placed (says pod) number listings.0) kind
           listings.2) [
             | inl faulty ↦
                 let at = each_at (placed_result pod) entry.results kind faulty in
@@ -105,13 +105,13 @@ known_fault says entry number pod kind e =
               pod = number;
               listings = listings.0;
               results = done.0;
-              said = says;
+              said = says pod;
             }) kind done.2)
           ]
     ]
 
 -- and where it names one, that is its fault
-known_is : (says : EntrySaid) (entry : TickEntry) (number : ℕ) (pod : PodSpec) → NamesOther pod entry
+known_is : (says : PodSpec → EntrySaid) (entry : TickEntry) (number : ℕ) (pod : PodSpec) → NamesOther pod entry
     → (r : Result (List PlacedListing) FaultKind) → each (placed_listing pod) entry.listings ≡ r
     → with_pod says entry number pod ≡ Err StrangerContainer
 known_is says entry number pod (inl (m, listing, here, unknown)) r e =
@@ -120,7 +120,7 @@ known_is says entry number pod (inl (m, listing, here, unknown)) r e =
     let one : placed_listing pod listing ≡ Err StrangerContainer =
     then_err (container_number pod listing.name) last StrangerContainer
     (ap (λ (found : Option ℕ). some_or StrangerContainer found) unknown) in
-    then_err (each (placed_listing pod) entry.listings) (with_listings says entry number pod) StrangerContainer
+    then_err (each (placed_listing pod) entry.listings) (with_listings (says pod) entry number pod) StrangerContainer
     (each_meets (placed_listing pod) StrangerContainer entry.listings m listing here one
     (λ m z other at e. (listing_fault pod z other e).1))
 known_is says entry number pod (inr (m, result, here, unknown)) (Ok listings) e =
@@ -129,13 +129,13 @@ known_is says entry number pod (inr (m, result, here, unknown)) (Ok listings) e 
     let one : placed_result pod result ≡ Err StrangerContainer =
     then_err (container_number pod result.container) last StrangerContainer
     (ap (λ (found : Option ℕ). some_or StrangerContainer found) unknown) in
-    then_ok (each (placed_listing pod) entry.listings) (with_listings says entry number pod) listings e
-    ∙ then_err (each (placed_result pod) entry.results) (placed says number listings) StrangerContainer
+    then_ok (each (placed_listing pod) entry.listings) (with_listings (says pod) entry number pod) listings e
+    ∙ then_err (each (placed_result pod) entry.results) (placed (says pod) number listings) StrangerContainer
     (each_meets (placed_result pod) StrangerContainer entry.results m result here one
     (λ m z other at e. (result_fault pod z other e).1))
 known_is says entry number pod (inr other) (Err kind) e =
     let at = each_at (placed_listing pod) entry.listings kind e in
-    then_err (each (placed_listing pod) entry.listings) (with_listings says entry number pod) StrangerContainer
+    then_err (each (placed_listing pod) entry.listings) (with_listings (says pod) entry number pod) StrangerContainer
     (e ∙ ap Err (listing_fault pod at.1 kind at.3).1)
 
 -- a fault of one entry: its pod isn't known, or a container isn't its pod's
@@ -144,7 +144,7 @@ entry_fault : (heeds : Bool) (roll : Roll) (es : List TickEntry) (n : ℕ) (entr
     → NamesStranger roll es ⊎ ((kind ≡ StrangerContainer) × NamesStrangerContainer roll es)
 unfolding placed_entry entry_of_pod
 entry_fault heeds roll es n entry kind here e =
-    let says = said_in heeds entry in
+    let says : PodSpec → EntrySaid = λ pod. said_in heeds pod entry in
     elim (bind_err (number_in roll entry) (with_number says roll.pods entry) kind e) [
       | inl unknown ↦ inl (record {
         n = n;
@@ -222,7 +222,7 @@ one_entry : (heeds : Bool) (roll : Roll) (es : List TickEntry) → (is : NamesSt
     → placed_entry heeds roll is.entry ≡ Err StrangerContainer
 unfolding placed_entry entry_of_pod
 one_entry heeds roll es is =
-    let says = said_in heeds is.entry in
+    let says : PodSpec → EntrySaid = λ pod. said_in heeds pod is.entry in
     then_ok (number_in roll is.entry) (with_number says roll.pods is.entry) is.number
     (ap (λ (found : Option ℕ). some_or StrangerPod found) is.known)
     ∙ then_ok (pod_numbered roll.pods is.number) (with_pod says is.entry is.number) is.pod

@@ -15,7 +15,7 @@ use Rattle.node_config.specs.declared.node.Version.TheVariants.{One, Two, Three}
 use Rattle.observations.specs.rule.Pods.{PodObs}
 use Rattle.observations.specs.rule.Observations.{shown_of}
 use Rattle.observations.specs.declared.words.PodWords.{PodWords}
-use Rattle.observations.specs.state.Pods.{no_words}
+use Rattle.observations.specs.rule.Pods.{no_words}
 use Rattle.roster.specs.rule.Roll.{Roll, number_of, is_present}
 use Rattle.observations.specs.declared.usage.Sampling.{Sampling}
 use Rattle.observations.specs.declared.usage.Sampling.TheVariants.{Unsaid, Unsampled, Sampled}
@@ -38,6 +38,7 @@ use Rattle.trace.specs.declared.placing.EntrySaid.{EntrySaid}
 use Rattle.trace.specs.declared.placing.PlacedEntry.{PlacedEntry}
 use Rattle.trace.specs.rule.Observed.{said_from, entry_for, observed}
 use Rattle.trace.specs.rule.Placing.{has_twice, are_of_one_pod, number_in, sampling_of, entry_of_pod, placed_entry}
+use Rattle.tick_lines.specs.declared.conditions.ConditionsMember.{ConditionsMember}
 use Rattle.trace.specs.rule.Placing.{placed_of, said_in, words_of, says_so}
 use Rattle.trace.specs.rule.Pod.{pod_from, spared_by}
 use Rattle.trace.specs.rule.TraceSoFar.{heeds_words}
@@ -126,12 +127,12 @@ all_read heeds roll entries es e =
 
 -- an entry is placed by the number of its pod, and says what was written
 placed_says : (heeds : Bool) (roll : Roll) (entry : TickEntry) (e : PlacedEntry) → placed_entry heeds roll entry ≡ Ok e
-    → (number_of roll entry.key ≡ Some e.pod) × (said_in heeds entry ≡ e.said)
+    → (number_of roll entry.key ≡ Some e.pod) × (pod : PodSpec) × (said_in heeds pod entry ≡ e.said)
 unfolding placed_entry
 placed_says heeds roll entry e is =
     let number = bind_ok (number_in roll entry) (λ n. entry_of_pod heeds roll.pods n entry) e is in
     let says = entry_says heeds roll.pods number.0 entry e number.2 in
-    (there_is StrangerPod (number_of roll entry.key) number.0 number.1 ∙ ap Some says.1, says.2)
+    (there_is StrangerPod (number_of roll entry.key) number.0 number.1 ∙ ap Some says.1, says.2, says.3)
 
 says_none : (heeds : Bool) (usage : Option Usage) (unsampled : TruthMember)
     → sampling_of heeds usage unsampled ≡ Unsampled → (heeds ≡ true) × (usage ≡ None) × (unsampled ≡ Yes)
@@ -147,10 +148,10 @@ in_three (Some One) e = absurd (cc)
 in_three (Some Two) e = absurd (cc)
 in_three (Some Three) e = refl
 
-none_said : (version : Option Version) (entry : TickEntry) → version ≡ Some Three → entry.unsampled ≡ Yes
-    → entry.usage ≡ None → (said_in (heeds_words version) entry).sampling ≡ Unsampled
-none_said version entry three says alone =
-    ap (λ (v : Option Version). (said_in (heeds_words v) entry).sampling) three
+none_said : (version : Option Version) (pod : PodSpec) (entry : TickEntry) → version ≡ Some Three
+    → entry.unsampled ≡ Yes → entry.usage ≡ None → (said_in (heeds_words version) pod entry).sampling ≡ Unsampled
+none_said version pod entry three says alone =
+    ap (λ (v : Option Version). (said_in (heeds_words v) pod entry).sampling) three
     ∙ ap (λ (usage : Option Usage). sampling_of true usage entry.unsampled) alone
     ∙ ap (λ (unsampled : TruthMember). sampling_of true None unsampled) says
 
@@ -161,7 +162,7 @@ told_by version roll entries es n all (k, entry, there, is, given) =
     let heeds = heeds_words version in
     let w = item_of (placed_entry heeds roll) entries es k entry all there in
     let says = placed_says heeds roll w.0 entry w.2 in
-    let none = says_none heeds w.0.usage w.0.unsampled (ap (λ (s : EntrySaid). s.sampling) says.1 ∙ given) in (
+    let none = says_none heeds w.0.usage w.0.unsampled (ap (λ (s : EntrySaid). s.sampling) says.2 ∙ given) in (
       in_three version none.0,
       record {
         k = k;
@@ -184,7 +185,7 @@ tells_it version roll entries es n all three w =
       placed.0,
       placed.1,
       same_Some placed.0.pod n (sym says.0 ∙ w.known),
-      ap (λ (s : EntrySaid). s.sampling) (sym says.1) ∙ none_said version w.entry three w.says w.alone,
+      ap (λ (s : EntrySaid). s.sampling) (sym says.2) ∙ none_said version says.1 w.entry three w.says w.alone,
     )
 
 pub unsampled_shown : UnsampledShown
@@ -203,10 +204,17 @@ abbrev Words : {X : Type 0} → (PodWords → X) → List PlacedEntry → ℕ �
 Words word es n x = (k : ℕ) × (entry : PlacedEntry) × (slice_get es k ≡ Some entry) × (entry.pod ≡ n)
     × (word entry.said.words ≡ x)
 
+-- the word does not depend on the pod's gates
+abbrev SaysAlone : {X : Type 0} → (PodWords → X) → Type 0
+SaysAlone word = (heeds : Bool) (gates others : List (List ℕ)) (deleting : TruthMember) (failed : ReasonMember)
+    (conditions : ConditionsMember)
+    → word (words_of heeds gates deleting failed conditions) ≡ word (words_of heeds others deleting failed conditions)
+
 -- an entry of a line, of the pod with this number, says it
 abbrev Written : {X : Type 0} → (PodWords → X) → Bool → Roll → List TickEntry → ℕ → X → Type 0
 Written word heeds roll entries n x = (k : ℕ) × (entry : TickEntry) × (slice_get entries k ≡ Some entry)
-    × (number_of roll entry.key ≡ Some n) × (word (words_of heeds entry.deleting entry.failed) ≡ x)
+    × (number_of roll entry.key ≡ Some n)
+    × (word (words_of heeds [] entry.deleting entry.failed entry.conditions) ≡ x)
 
 word_found : {X : Type 0} (word : PodWords → X) (x : X) (es : List PlacedEntry) (n : ℕ) (entry : Option PlacedEntry)
     → (word no_words ≡ x → ⊥) → entry_for es n ≡ entry → word (said_from entry).words ≡ x → Words word es n x
@@ -215,100 +223,108 @@ word_found word x es n (Some entry) some is e =
     let found = entry_found es n entry is in
     (found.0, entry, found.1, found.2, e)
 
-word_written : {X : Type 0} (word : PodWords → X) (x : X) (heeds : Bool) (roll : Roll) (entries : List TickEntry)
+word_written : {X : Type 0} (word : PodWords → X) → SaysAlone word → (x : X) (heeds : Bool) (roll : Roll) (entries : List TickEntry)
     (es : List PlacedEntry) (n : ℕ) → each (placed_entry heeds roll) entries ≡ Ok es → Words word es n x
     → Written word heeds roll entries n x
-word_written word x heeds roll entries es n all (k, entry, there, is, given) =
+word_written word alone x heeds roll entries es n all (k, entry, there, is, given) =
     let w = item_of (placed_entry heeds roll) entries es k entry all there in
-    let says = placed_says heeds roll w.0 entry w.2 in
-    (k, w.0, w.1, says.0 ∙ ap Some is, ap (λ (s : EntrySaid). word s.words) says.1 ∙ given)
+    let says = placed_says heeds roll w.0 entry w.2 in (
+      k,
+      w.0,
+      w.1,
+      says.0 ∙ ap Some is,
+      alone heeds [] says.1.gates w.0.deleting w.0.failed w.0.conditions
+          ∙ ap (λ (s : EntrySaid). word s.words) says.2 ∙ given,
+    )
 
-word_placed : {X : Type 0} (word : PodWords → X) (x : X) (heeds : Bool) (roll : Roll) (entries : List TickEntry)
+word_placed : {X : Type 0} (word : PodWords → X) → SaysAlone word → (x : X) (heeds : Bool) (roll : Roll) (entries : List TickEntry)
     (es : List PlacedEntry) (n : ℕ) → each (placed_entry heeds roll) entries ≡ Ok es
     → Written word heeds roll entries n x → Words word es n x
-word_placed word x heeds roll entries es n all (k, entry, here, known, given) =
+word_placed word alone x heeds roll entries es n all (k, entry, here, known, given) =
     let placed = read_of (placed_entry heeds roll) entries es k entry all here in
     let says = placed_says heeds roll entry placed.0 placed.2 in (
       k,
       placed.0,
       placed.1,
       same_Some placed.0.pod n (sym says.0 ∙ known),
-      ap (λ (s : EntrySaid). word s.words) (sym says.1) ∙ given,
+      ap (λ (s : EntrySaid). word s.words) (sym says.2)
+          ∙ alone heeds says.1.gates [] entry.deleting entry.failed entry.conditions ∙ given,
     )
 
 -- what is shown of a word, where something is, is what an entry of the pod says in it
-word_shown : {X : Type 0} (word : PodWords → X) (x : X) (heeds : Bool) (at : ℕ) (written : TickLine)
+word_shown : {X : Type 0} (word : PodWords → X) → SaysAlone word → (x : X) (heeds : Bool) (at : ℕ) (written : TickLine)
     (es : List PlacedEntry) (roll : Roll) (n : ℕ) (pod : PodSpec) → (word no_words ≡ x → ⊥)
     → placed_of heeds roll written.entries ≡ Ok es → has_twice are_of_one_pod es ≡ false
     → slice_get roll.pods n ≡ Some pod → is_present roll.departures n ≡ true
     → (option_map (λ (p : PodObs). word p.words) (shown_of (observed heeds at written es roll) n) ≡ Some x
     ↔ Written word heeds roll written.entries n x)
-word_shown {X} word x heeds at written es roll n pod some places once here present =
+word_shown {X} word alone x heeds at written es roll n pod some places once here present =
     let all = all_read heeds roll written.entries es places in
     let is : option_map (λ (p : PodObs). word p.words) (shown_of (observed heeds at written es roll) n)
     ≡ Some (word (said_from (entry_for es n)).words) =
     ap (λ (o : Option PodObs). option_map (λ (p : PodObs). word p.words) o)
     (pod_shown heeds at written es roll n pod here present) in (
-      λ e. word_written word x heeds roll written.entries es n all
+      λ e. word_written word alone x heeds roll written.entries es n all
           (word_found word x es n (entry_for es n) some refl
           (same_Some (word (said_from (entry_for es n)).words) x (sym is ∙ e))),
-      λ says. let w = word_placed word x heeds roll written.entries es n all says in
+      λ says. let w = word_placed word alone x heeds roll written.entries es n all says in
           is ∙ ap (λ (o : Option PlacedEntry). Some (word (said_from o).words))
           (entry_given es n w.1 once w.0 w.2 w.3) ∙ ap Some w.4,
     )
 
 -- that a pod is being deleted
-deleting_said : (heeds : Bool) (deleting : TruthMember) (failed : ReasonMember)
-    → (words_of heeds deleting failed).deleting ≡ true → (heeds ≡ true) × (deleting ≡ Yes)
-deleting_said true No failed e = absurd (cc)
-deleting_said true Yes failed e = (refl, refl)
-deleting_said true OfOtherKind failed e = absurd (cc)
-deleting_said false deleting failed e = absurd (cc)
+deleting_said : (heeds : Bool) (deleting : TruthMember) (failed : ReasonMember) (conditions : ConditionsMember)
+    → (words_of heeds [] deleting failed conditions).deleting ≡ true → (heeds ≡ true) × (deleting ≡ Yes)
+deleting_said true No failed conditions e = absurd (cc)
+deleting_said true Yes failed conditions e = (refl, refl)
+deleting_said true OfOtherKind failed conditions e = absurd (cc)
+deleting_said false deleting failed conditions e = absurd (cc)
 
 pub deleting_shown : DeletingShown
 deleting_shown version at written es roll n pod places once here present =
     let heeds = heeds_words version in
-    let shown = word_shown (λ (w : PodWords). w.deleting) true heeds at written es roll n pod (λ e. absurd (cc)) places
+    let shown = word_shown (λ (w : PodWords). w.deleting) (λ h g o d f c. refl) true heeds at written es roll n pod (λ e. absurd (cc)) places
     once here present in (
       (λ e.
           let w = shown.0 e in
-          let said = deleting_said heeds (w.1).deleting (w.1).failed w.4 in
+          let said = deleting_said heeds (w.1).deleting (w.1).failed (w.1).conditions w.4 in
           (in_three version said.0, record { k = w.0; entry = w.1; here = w.2; known = w.3; says = said.1 })),
       (λ (three, w). shown.1 (
         w.k,
         w.entry,
         w.here,
         w.known,
-        ap (λ (v : Option Version). (words_of (heeds_words v) w.entry.deleting w.entry.failed).deleting) three
-            ∙ ap (λ (member : TruthMember). (words_of true member w.entry.failed).deleting) w.says,
+        ap (λ (v : Option Version). (words_of (heeds_words v) [] w.entry.deleting w.entry.failed w.entry.conditions).deleting) three
+            ∙ ap (λ (member : TruthMember). (words_of true [] member w.entry.failed w.entry.conditions).deleting) w.says,
       )),
     )
 
 -- that the node has ended it
-failed_said : (heeds : Bool) (deleting : TruthMember) (failed : ReasonMember) (reason : List ℕ)
-    → (words_of heeds deleting failed).failed ≡ Some reason → (heeds ≡ true) × (failed ≡ reasons.Reason reason)
-failed_said true deleting reasons.Missing reason e = absurd (cc)
-failed_said true deleting (reasons.Reason other) reason e =
+failed_said : (heeds : Bool) (deleting : TruthMember) (failed : ReasonMember) (conditions : ConditionsMember)
+    (reason : List ℕ) → (words_of heeds [] deleting failed conditions).failed ≡ Some reason
+    → (heeds ≡ true) × (failed ≡ reasons.Reason reason)
+failed_said true deleting reasons.Missing conditions reason e = absurd (cc)
+failed_said true deleting (reasons.Reason other) conditions reason e =
     (refl, ap (λ (r : List ℕ). reasons.Reason r) (same_Some other reason e))
-failed_said true deleting reasons.OfOtherKind reason e = absurd (cc)
-failed_said false deleting failed reason e = absurd (cc)
+failed_said true deleting reasons.OfOtherKind conditions reason e = absurd (cc)
+failed_said false deleting failed conditions reason e = absurd (cc)
 
 pub failed_shown : FailedShown
 failed_shown version at written es roll n pod reason places once here present =
     let heeds = heeds_words version in
-    let shown = word_shown (λ (w : PodWords). w.failed) (Some reason) heeds at written es roll n pod
+    let shown = word_shown (λ (w : PodWords). w.failed) (λ h g o d f c. refl) (Some reason) heeds at written es roll n pod
     (λ e. absurd (cc)) places once here present in (
       (λ e.
           let w = shown.0 e in
-          let said = failed_said heeds (w.1).deleting (w.1).failed reason w.4 in
+          let said = failed_said heeds (w.1).deleting (w.1).failed (w.1).conditions reason w.4 in
           (in_three version said.0, record { k = w.0; entry = w.1; here = w.2; known = w.3; says = said.1 })),
       (λ (three, w). shown.1 (
         w.k,
         w.entry,
         w.here,
         w.known,
-        ap (λ (v : Option Version). (words_of (heeds_words v) w.entry.deleting w.entry.failed).failed) three
-            ∙ ap (λ (member : ReasonMember). (words_of true w.entry.deleting member).failed) w.says,
+        ap (λ (v : Option Version). (words_of (heeds_words v) [] w.entry.deleting w.entry.failed w.entry.conditions).failed) three
+            ∙ ap (λ (member : ReasonMember). (words_of true [] w.entry.deleting member w.entry.conditions).failed) w.says,
       )),
     )
 
@@ -364,7 +380,7 @@ pub spared_said : SparedSaid
 spared_said version d pod e =
     let heeds = heeds_words version in
     let member = field_at (codes "spared") d in
-    let read = bind_ok (pod_from (field_at (codes "pod") d)) (spared_by heeds (truth_of member)) pod e in
+    let read = bind_ok (pod_from heeds (field_at (codes "pod") d)) (spared_by heeds (truth_of member)) pod e in
     let is = spared_as heeds (truth_of member) read.0 pod read.2 in (
       (λ so.
           let said = both_so heeds (truth_of member) (sym is ∙ so) in

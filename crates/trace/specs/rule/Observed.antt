@@ -17,7 +17,7 @@ use Rattle.trace.specs.declared.placing.PlacedResult.{PlacedResult}
 use Rattle.trace.specs.declared.placing.EntrySaid.{EntrySaid}
 use Rattle.trace.specs.declared.placing.PlacedEntry.{PlacedEntry}
 use Rattle.observations.specs.declared.container.ContainerObs.{ContainerObs}
-use Rattle.observations.specs.rule.Pods.{PodObs}
+use Rattle.observations.specs.rule.Pods.{PodObs, no_words}
 use Rattle.observations.specs.declared.tick.TickObs.{TickObs}
 use Rattle.observations.specs.declared.usage.Sampling.TheVariants.{Unsaid}
 use Rattle.tick_lines.specs.declared.line.TickLine.{TickLine}
@@ -77,7 +77,7 @@ results_of None = []
 results_of (Some e) = e.results
 
 abbrev pub said_from : Option PlacedEntry → EntrySaid
-said_from None = record { sampling = Unsaid; words = record { deleting = false; failed = None } }
+said_from None = record { sampling = Unsaid; words = no_words }
 said_from (Some e) = e.said
 
 -- what its entry says of a pod

@@ -1,7 +1,7 @@
 -- The entries of a tick line, with numbers in the place of names.
 use Rattle.std.specs.Prelude.{ℕ, ◌==◌, ◌&&◌, ◌||◌, Bool, true, false, List, [], ◌∷◌, slice_get, Option, Some, None}
-use Rattle.std.specs.Prelude.{if◌then◌else◌, Result, Ok}
-use Rattle.std.specs.List.{list_any}
+use Rattle.std.specs.Prelude.{if◌then◌else◌, map, option_and_then, Result, Ok}
+use Rattle.std.specs.List.{list_any, range_with_len}
 use Rattle.lists.specs.rule.Names.{place_of}
 use Rattle.json_fields.specs.rule.Reading.{◌>>=◌, some_or, each}
 use Rattle.manifest.specs.declared.pod.PodSpec.{PodSpec}
@@ -12,6 +12,11 @@ use Rattle.observations.specs.declared.usage.Usage.{Usage}
 use Rattle.observations.specs.declared.words.PodWords.{PodWords}
 use Rattle.line_faults.specs.declared.fault.FaultKind.{FaultKind}
 use Rattle.line_faults.specs.declared.fault.FaultKind.TheVariants.{StrangerPod, StrangerContainer}
+use Rattle.manifest.specs.rule.Gates.{most_gates}
+use Rattle.observations.specs.rule.Pods.{no_gates}
+use Rattle.tick_lines.specs.declared.conditions.ConditionsMember.{ConditionsMember}
+use Rattle.tick_lines.specs.declared.conditions.ConditionsMember.TheVariants as conditions
+use Rattle.tick_lines.specs.rule.Statuses.{status_of}
 use Rattle.tick_lines.specs.declared.listing.Listing.{Listing}
 use Rattle.tick_lines.specs.declared.entry.TickEntry.{TickEntry}
 use Rattle.tick_lines.specs.declared.probing.ProbeResult.{ProbeResult}
@@ -72,16 +77,29 @@ reason_given reasons.Missing = None
 reason_given (reasons.Reason reason) = Some reason
 reason_given reasons.OfOtherKind = None
 
+-- the status that it gives of the condition that one of these gates names, by number
+abbrev pub gate_given : List (List ℕ) → List (List ℕ × Option Bool) → ℕ → Option Bool
+gate_given gates statuses number = option_and_then (status_of statuses) (slice_get gates number)
+
+-- the statuses that it gives of the conditions that these gates name
+abbrev pub gates_given : List (List ℕ) → ConditionsMember → List (Option Bool)
+gates_given gates conditions.Missing = no_gates
+gates_given gates (conditions.Statuses statuses) = map (gate_given gates statuses) (range_with_len 0 most_gates)
+gates_given gates conditions.OfOtherKind = no_gates
+
 -- its words, where the version heeds them
-abbrev pub words_of : Bool → TruthMember → ReasonMember → PodWords
-words_of heeds deleting failed =
-    record { deleting = heeds && says_so deleting; failed = if heeds then reason_given failed else None }
+abbrev pub words_of : Bool → List (List ℕ) → TruthMember → ReasonMember → ConditionsMember → PodWords
+words_of heeds gates deleting failed conditions = record {
+  deleting = heeds && says_so deleting;
+  failed = if heeds then reason_given failed else None;
+  gates = if heeds then gates_given gates conditions else no_gates;
+}
 
 -- what it says of the pod beside its listings and results
-abbrev pub said_in : Bool → TickEntry → EntrySaid
-said_in heeds entry = record {
+abbrev pub said_in : Bool → PodSpec → TickEntry → EntrySaid
+said_in heeds pod entry = record {
   sampling = sampling_of heeds entry.usage entry.unsampled;
-  words = words_of heeds entry.deleting entry.failed;
+  words = words_of heeds pod.gates entry.deleting entry.failed entry.conditions;
 }
 
 -- an entry of the pod with this number
@@ -94,7 +112,7 @@ entry_of_pod heeds pods number entry = do
     pod = number;
     listings = listings;
     results = results;
-    said = said_in heeds entry;
+    said = said_in heeds pod entry;
   })
 
 unfoldable pub placed_entry : Bool → Roll → TickEntry → Result PlacedEntry FaultKind

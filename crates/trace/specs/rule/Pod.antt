@@ -1,5 +1,5 @@
 -- What a pod line says.
-use Rattle.std.specs.Prelude.{ℕ, ⊤, nat_le, Bool, List, length, Option, option_and_then, is_some, Result}
+use Rattle.std.specs.Prelude.{ℕ, ⊤, nat_le, Bool, true, false, List, length, Option, option_and_then, is_some, Result}
 use Rattle.std.specs.Prelude.{Ok, Err, ◌&&◌, codes}
 use Rattle.observations.specs.rule.Limits.{most_pods}
 use Rattle.serde_json.specs.Data.{Data}
@@ -8,6 +8,7 @@ use Rattle.manifest_fields.specs.declared.fault.ManifestFault.TheVariants.{Missi
 use Rattle.manifest_fields.specs.declared.fault.Field.TheVariants as fields
 use Rattle.manifest.specs.declared.pod.PodSpec.{PodSpec}
 use Rattle.manifest_reader.specs.rule.Manifest.{pod_at}
+use Rattle.extended_manifest.specs.rule.Extended.{extended_pod_at}
 use Rattle.json_fields.specs.rule.Fields.{field_at}
 use Rattle.json_fields.specs.rule.Reading.{◌>>=◌, refused_if, some_or}
 use Rattle.roster.specs.rule.Roll.{Roll, key_of_pod, number_of}
@@ -42,9 +43,14 @@ of_manifest (Err fault) = Err (Manifest fault)
 abbrev pub manifest_of : Option Data → Result Data FaultKind
 manifest_of found = some_or (Manifest (Missing fields.Pod)) found
 
--- the pod that it describes
-abbrev pub pod_from : Option Data → Result PodSpec FaultKind
-pod_from found = manifest_of found >>= λ d. of_manifest (pod_at d)
+-- the pod that a manifest describes, by whether the version reads the extended format's fields
+abbrev pub manifest_read : Bool → Data → Result PodSpec ManifestFault
+manifest_read true d = extended_pod_at d
+manifest_read false d = pod_at d
+
+-- the pod that the line's manifest describes
+abbrev pub pod_from : Bool → Option Data → Result PodSpec FaultKind
+pod_from heeds found = manifest_of found >>= λ d. of_manifest (manifest_read heeds d)
 
 -- the pod, once it is said whether the node spares it, where the version heeds that
 abbrev pub spared_by : Bool → TruthMember → PodSpec → Result PodSpec FaultKind
@@ -54,4 +60,5 @@ spared_by heeds spared pod =
 
 -- the pod that a pod line says: that of its manifest, which the node spares or doesn't
 abbrev pub pod_of_line : Bool → Data → Result PodSpec FaultKind
-pod_of_line heeds d = pod_from (field_at (codes "pod") d) >>= spared_by heeds (truth_of (field_at (codes "spared") d))
+pod_of_line heeds d =
+    pod_from heeds (field_at (codes "pod") d) >>= spared_by heeds (truth_of (field_at (codes "spared") d))

@@ -11,6 +11,8 @@ use Rattle.node_config.specs.declared.node.Format.TheVariants.{Standard, Extende
 use Rattle.node_config.specs.declared.node.NodeConfig.{NodeConfig}
 use Rattle.node_lines.specs.declared.fault.NodeFault.{NodeFault}
 use Rattle.node_lines.specs.rule.Node.{whole_number, node_of}
+use Rattle.tick_lines.specs.declared.conditions.ConditionsMember.{ConditionsMember}
+use Rattle.tick_lines.specs.declared.conditions.ConditionsMember.TheVariants as conditions
 use Rattle.tick_lines.specs.declared.entry.TickEntry.{TickEntry}
 use Rattle.tick_lines.specs.declared.fault.TickLineFault.{TickLineFault}
 use Rattle.tick_lines.specs.declared.line.TickLine.{TickLine}
@@ -54,11 +56,20 @@ is_no_reason reasons.Missing = false
 is_no_reason (reasons.Reason reason) = false
 is_no_reason reasons.OfOtherKind = true
 
--- an entry has a member `unsampled` or `deleting` of another kind than a truth value, or a member `failed` that is
--- neither null nor a reason
+abbrev pub are_no_statuses : ConditionsMember → Bool
+are_no_statuses conditions.Missing = false
+are_no_statuses (conditions.Statuses statuses) = false
+are_no_statuses conditions.OfOtherKind = true
+
+-- an entry has a member `unsampled` or `deleting` of another kind than a truth value, a member `failed` that is neither
+-- null nor a reason, or a member `conditions` that is neither null nor an object of true, false and null
+abbrev pub is_of_no_kind : TickEntry → Bool
+is_of_no_kind e =
+    ((is_of_other_kind e.unsampled || is_of_other_kind e.deleting) || is_no_reason e.failed)
+    || are_no_statuses e.conditions
+
 abbrev pub has_other_kind : List TickEntry → Bool
-has_other_kind entries =
-    list_any (λ e. (is_of_other_kind e.unsampled || is_of_other_kind e.deleting) || is_no_reason e.failed) entries
+has_other_kind entries = list_any is_of_no_kind entries
 
 -- one of these, or the line's member `judged`, is of another kind
 abbrev pub line_has_other_kind : TickLine → Bool

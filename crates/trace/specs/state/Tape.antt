@@ -11,6 +11,7 @@ use Rattle.tick_lines.specs.declared.fault.TickLineFault.{TickLineFault}
 use Rattle.tick_lines.specs.rule.Entries.{entry_of}
 use Rattle.tick_lines.specs.rule.Listings.{listing_of}
 use Rattle.tick_lines.specs.rule.Results.{result_of}
+use Rattle.tick_lines.specs.rule.Conditions.{conditions_of}
 use Rattle.tick_lines.specs.rule.Reasons.{reason_member_of}
 use Rattle.tick_lines.specs.rule.Truths.{truth_of}
 use Rattle.line_faults.specs.declared.fault.FaultKind.{FaultKind}
@@ -20,7 +21,7 @@ use Rattle.trace.specs.declared.placing.PlacedListing.{PlacedListing}
 use Rattle.trace.specs.declared.placing.PlacedResult.{PlacedResult}
 use Rattle.trace.specs.rule.Observed.{some_code_missing}
 use Rattle.trace.specs.rule.Placing.{placed_entry, placed_listing, placed_result, has_twice, are_of_one_pod, repeats}
-use Rattle.trace.specs.rule.Written.{is_of_other_kind, is_no_reason}
+use Rattle.trace.specs.rule.Written.{is_of_other_kind, is_no_reason, are_no_statuses}
 use Rattle.trace.specs.state.Slots.{slots_from}
 
 abbrev pub of_item : {A : Type 0} → Result A TickLineFault → Result A FaultKind
@@ -36,12 +37,13 @@ result_read pod d = of_item (result_of d) >>= placed_result pod
 abbrev pub entry_read : Bool → Roll → Data → Result PlacedEntry FaultKind
 entry_read heeds roll d = of_item (entry_of d) >>= placed_entry heeds roll
 
--- an item has a member `unsampled`, `deleting` or `failed` of another kind
+-- an item has a member `unsampled`, `deleting`, `failed` or `conditions` of another kind
 abbrev pub item_has_other_kind : Data → Bool
 item_has_other_kind d =
-    (is_of_other_kind (truth_of (field_at (codes "unsampled") d))
+    ((is_of_other_kind (truth_of (field_at (codes "unsampled") d))
     || is_of_other_kind (truth_of (field_at (codes "deleting") d)))
-    || is_no_reason (reason_member_of (field_at (codes "failed") d))
+    || is_no_reason (reason_member_of (field_at (codes "failed") d)))
+    || are_no_statuses (conditions_of (field_at (codes "conditions") d))
 
 -- these items were read as entries, each of another pod that is present and none at fault, and this is shown of the
 -- pods, where words are heeded or not

@@ -12,6 +12,6 @@ returns c =
     (line (codes "PodScheduled") c.args.conditions.pod_scheduled)
     (line (codes "Initialized") c.args.conditions.initialized)
     (line (codes "ContainersReady") c.args.conditions.containers_ready)
-    (line (codes "Ready") c.args.conditions.containers_ready)
+    (line (codes "Ready") c.args.conditions.ready)
     c.in_ok-add_condition.ensures c.in_ok-add_condition-2.ensures c.in_ok-add_condition-3.ensures
     c.in_ok-add_ready.ensures

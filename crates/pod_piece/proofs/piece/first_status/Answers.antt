@@ -25,7 +25,7 @@ returns c =
           is.progress.so_far;
       containers = c.show.ensures pod c.args.max_restart_delay None phase.0 [] phase.1
           (by_node pod None [] phase.0 None false refl tt phase.1 (no_failure pod)) is;
-      class = c.qos_class.ensures;
+      class = c.pod_class.ensures;
       requests = c.of.ensures;
       usage = subst (λ (u : NewestUsage). IsUsageOf pod None [] u) (sym c.nothing.ensures) (no_usage pod None);
       priority = let fits : SFits w32 c.args.pod.now.priority = search rules in omega (arith, ints);

@@ -11,4 +11,6 @@ returns c = λ has_init h st. record {
       (c.advance-2.ensures _ _ st.initialized);
   containers_ready = rw (project-append (λ values. values.containers_ready) h (recorded c.args.at c.args.values))
       (c.advance-3.ensures _ _ st.containers_ready);
+  ready = rw (project-append (λ values. values.ready) h (recorded c.args.at c.args.values))
+      (c.advance-4.ensures _ _ st.ready);
 }

@@ -27,6 +27,7 @@ returns-clause-state c = λ evicted. record {
   progress = progress c evicted;
   containers = kept_none c.args.spec.now c.args.max_restart_delay evicted c.in_ok-containers.containers.items (are c);
   deleting = refl;
+  gates = c.new.ensures;
 }
 
 pub returns-clause-before : goal.returns-clause-before

@@ -10,21 +10,22 @@ use Rattle.pod_state.proofs.StateLemmas.{before_end, events_lives}
 use Rattle.pod_state.proofs.state.PodState.settle.Goals as goal
 
 -- the lifecycle after the tick
-progress : (c : goal.After-self-4-1) (pod : PodSpec) (max_restart_delay : ℕ) (evicted : Option ℕ) (h : List PodTick)
+progress : (c : goal.After-self-5-1) (pod : PodSpec) (max_restart_delay : ℕ) (evicted : Option ℕ) (h : List PodTick)
     → pod.policy ≡ c.args.policy → (evicted ≡ Some (length h) → ⊥)
     → IsStateOf pod max_restart_delay evicted h c.args.self.now
     → AreContainersOf pod max_restart_delay (h ++ pod_tick c.args.observed.now ∷ []) c.args.next.now
     → IsProgressOf pod evicted (h ++ pod_tick c.args.observed.now ∷ []) c.advance.new.self
 progress c pod max_restart_delay evicted h policy stays st after =
     let x = pod_tick c.args.observed.now in
-    subst (λ (m : ℕ). IsNext c.args.policy m c.args.views.now c.all_ready-ready.result c.says_failed-failed.result
-    c.args.self.now.lifecycle c.advance.new.self) c.at.ensures c.advance.ensures pod evicted h x.entry policy
+    subst (λ (m : ℕ). IsNext c.args.policy m c.args.views.now c.all_ready-ready.result c.are_true.result
+    c.says_failed-failed.result c.args.self.now.lifecycle c.advance.new.self) c.at.ensures c.advance.ensures pod evicted h x.entry policy
     (λ lives. c.requires.views pod max_restart_delay (h ++ x ∷ []) after)
     (λ lives. c.all_ready-ready.ensures pod max_restart_delay (h ++ x ∷ []) after)
+    (λ lives. c.are_true.ensures pod (h ++ x ∷ []) (c.next-gates.ensures (length pod.gates) h st.gates))
     (λ lives. ends_said evicted h x c.says_failed-failed.result stays c.says_failed-failed.ensures) st.progress
 
 -- whether it is leaving with it
-leaves : (c : goal.After-self-4-1) → c.is_leaving-leaving.result
+leaves : (c : goal.After-self-5-1) → c.is_leaving-leaving.result
     ≡ ((c.args.self.now.deleting || (pod_tick c.args.observed.now).entry.words.deleting)
     || says_failed (pod_tick c.args.observed.now))
 leaves c =
@@ -37,7 +38,7 @@ pub returns-clause-ok : goal.returns-clause-ok
 returns-clause-ok c = λ pod max_restart_delay evicted h policy stays st.
     before_end pod max_restart_delay evicted h (pod_tick c.args.observed.now) c.args.self.now _ c.args.next.now st
     c.requires.lives c.copy_from_slice.ensures.items c.deleting_with-deleting.ensures
-    (c.requires.containers pod max_restart_delay h)
+    (c.next-gates.ensures (length pod.gates) h) (c.requires.containers pod max_restart_delay h)
     (progress c pod max_restart_delay evicted h policy stays st)
 
 pub returns-clause-events : goal.returns-clause-events

@@ -19,10 +19,10 @@ returns-then-has_ended-clause-ok c = λ pod max_restart_delay evicted h policy s
     let ended = c.has_ended.ensures.terminal.0 c.if-has_ended.true in
     let x = pod_tick c.args.observed.now in
     after_end pod max_restart_delay evicted h x c.args.self.now _ st ended refl
-    c.deleting_with-self.ensures
-    (subst (λ (m : ℕ). IsNext c.args.policy m [] false false c.args.self.now.lifecycle c.advance.new.self)
+    c.deleting_with-self.ensures (c.next-self.ensures (length pod.gates) h)
+    (subst (λ (m : ℕ). IsNext c.args.policy m [] false false false c.args.self.now.lifecycle c.advance.new.self)
     c.at.ensures c.advance.ensures pod evicted h x.entry policy (λ lives. absurd (lives ended))
-    (λ lives. absurd (lives ended)) (λ lives. absurd (lives ended)) st.progress)
+    (λ lives. absurd (lives ended)) (λ lives. absurd (lives ended)) (λ lives. absurd (lives ended)) st.progress)
 
 pub returns-then-has_ended-clause-events : goal.returns-then-has_ended-clause-events
 returns-then-has_ended-clause-events c = λ pod max_restart_delay evicted h policy stays st.

@@ -1,0 +1,3 @@
+pub mod Additions
+pub mod Names
+pub mod NeverMemory

@@ -1,0 +1,270 @@
+//! The member that says the statuses of a pod's conditions.
+
+ghost use Rattle.std.specs.Prelude.{◌≡◌, option_map, IfOk, OnOk, string_bytes};
+ghost use Rattle.serde_json.specs.View.{view, members_view};
+ghost use Rattle.serde_json.specs.Data.{no_members, put};
+ghost use Rattle.json.specs.Json as borrowed;
+ghost use Rattle.json.specs.Value.{value_view, members_view as borrowed_members_view};
+ghost use Rattle.json_fields.specs.state.Borrowed.{data_of};
+ghost use Rattle.serde_json.specs.Find.{as_object};
+ghost use Rattle.tick_lines.specs.rule.Statuses.{is_status, are_all_statuses, are_statuses};
+ghost use Rattle.tick_lines.specs.rule.Conditions.{conditions_of};
+ghost use Rattle.tick_lines.specs.rule.Statuses.{status_of, statuses_in, statuses_from};
+ghost use Rattle.tick_lines.specs.state.Conditions.{status_data, members_statuses, if_statuses};
+
+use crate::value::TickValue;
+use json::Value as BorrowedValue;
+use serde_json::{Map, Value};
+use std::alloc::{AllocError, Allocator, Global};
+use std::marker::Model;
+
+/// A condition's type and its status, if it has one. Contracts see the type's bytes and the status.
+#[derive(Drop)]
+struct ConditionStatus {
+    name: String,
+    status: Option<bool>,
+}
+
+impl Model for ConditionStatus {
+    ghost use Rattle.std.specs.Prelude.{ℕ, Bool, List, Option, string_bytes};
+
+    ghost Value = { List ℕ × Option Bool };
+
+    ghost view = { λ s. (string_bytes s.name, s.status) };
+}
+
+impl ConditionStatus {
+    ghost use Rattle.std.specs.Prelude.{◌≡◌, bytes_eq, IfOk};
+    ghost use Rattle.serde_json.specs.Find.{as_bool};
+    ghost use Rattle.serde_json.specs.View.{view};
+
+    fn new(alloc: Global, name: &str, value: &Value) -> Result<ConditionStatus, AllocError>
+        ensures { IfOk result (λ s. s ≡ (name.now, as_bool (view value.now))) }
+    {
+        Ok(ConditionStatus {
+            name: String::from_str(alloc, name)?,
+            status: value.as_bool(),
+        })
+    }
+
+    fn is_of(&self, name: &str) -> bool
+        ensures { result ≡ bytes_eq name.now self.now.0 }
+    {
+        name == self.name.as_str()
+    }
+
+    fn status(&self) -> Option<bool>
+        ensures { result ≡ self.now.1 }
+    {
+        self.status
+    }
+}
+
+/// The statuses of conditions, by their types. Contracts see a list of types, each with its status, if it has one.
+#[derive(Drop)]
+pub struct ConditionStatuses {
+    list: Vec<ConditionStatus>,
+}
+
+impl Model for ConditionStatuses {
+    ghost use Rattle.std.specs.Prelude.{ℕ, Bool, List, Option};
+
+    ghost Value = { List (List ℕ × Option Bool) };
+
+    ghost view = { λ s. s.list.items };
+}
+
+impl ConditionStatuses {
+    ghost use Rattle.std.specs.Prelude.{◌≡◌, IfOk};
+    ghost use Rattle.serde_json.specs.Find.{as_object};
+    ghost use Rattle.serde_json.specs.View.{view};
+    ghost use Rattle.tick_lines.specs.rule.Statuses.{status_of, statuses_from};
+
+    pub(crate) fn new(alloc: Global, object: &Value) -> Result<ConditionStatuses, AllocError>
+        ensures { IfOk result (λ s. s ≡ statuses_from (as_object (view object.now))) }
+    {
+        Ok(ConditionStatuses {
+            list: statuses_from(alloc, object.as_object())?,
+        })
+    }
+
+    /// The status of the condition of this type, if there is one.
+    pub fn status(&self, name: &str) -> Option<bool>
+        ensures { result ≡ status_of self.now name.now }
+    {
+        status_of(self.list.as_slice(), name)
+    }
+}
+
+/// The statuses that the members give, in the members' order.
+fn statuses_of_members(
+    alloc: Global,
+    members: &Map<String, Value>,
+) -> Result<Vec<ConditionStatus>, AllocError>
+    ensures { IfOk result (λ list. list.items ≡ statuses_in (members_view members.now.entries)) }
+{
+    let mut list = Vec::new(alloc);
+    for (name, value) in members.iter() {
+        list.push(ConditionStatus::new(alloc, name.as_str(), value)?)?;
+    }
+    Ok(list)
+}
+
+/// The statuses that an object's members give, if there is an object.
+fn statuses_from(
+    alloc: Global,
+    object: Option<&Map<String, Value>>,
+) -> Result<Vec<ConditionStatus>, AllocError>
+    ensures { IfOk result (λ list. list.items
+        ≡ statuses_from (option_map (λ m. members_view m.now.entries) object.entry)) }
+{
+    match object {
+        Some(members) => statuses_of_members(alloc, members),
+        None => Ok(Vec::new(alloc)),
+    }
+}
+
+fn status_of(statuses: &[ConditionStatus], name: &str) -> Option<bool>
+    ensures { result ≡ status_of statuses.now name.now }
+{
+    for status in statuses {
+        if status.is_of(name) {
+            return status.status();
+        }
+    }
+    None
+}
+
+/// What an entry says in the member `conditions`. (This project's extended format.)
+#[derive(Drop)]
+pub enum ConditionsMember {
+    /// Nothing: it is missing or null.
+    Missing,
+    /// It is an object of true, false and null.
+    Statuses(ConditionStatuses),
+    /// It is an object with another value, or a value of another kind.
+    OfOtherKind,
+}
+
+/// Whether a value is true, false or null.
+fn is_status(value: &Value) -> bool
+    ensures { result ≡ is_status (view value.now) }
+{
+    value.is_null() || value.as_bool().is_some()
+}
+
+fn are_all_statuses(members: &Map<String, Value>) -> bool
+    ensures { result ≡ are_all_statuses (members_view members.now.entries) }
+{
+    for (name, value) in members.iter() {
+        if !is_status(value) {
+            return false;
+        }
+    }
+    true
+}
+
+/// Whether a value is an object of true, false and null.
+fn are_statuses(value: &Value) -> bool
+    ensures { result ≡ are_statuses (view value.now) }
+{
+    match value.as_object() {
+        Some(members) => are_all_statuses(members),
+        None => false,
+    }
+}
+
+/// A copy of the value, if it is an object of true, false and null.
+pub(crate) fn statuses_in(value: &Value) -> Result<Option<Value>, AllocError>
+    ensures { IfOk result (λ found. option_map view found ≡ if_statuses (view value.now)) }
+{
+    if !are_statuses(value) {
+        return Ok(None);
+    }
+    Ok(Some(value.clone()?))
+}
+
+/// True, false and null as they are, and a text for any other value.
+fn status_here<A: Allocator>(alloc: Global, value: &BorrowedValue<'_, A>) -> Value
+    ensures { view result ≡ status_data (data_of (value_view value.now)) }
+{
+    match value {
+        BorrowedValue::Null => Value::Null,
+        BorrowedValue::Bool(truth) => Value::Bool(*truth),
+        _ => Value::String(String::new(alloc)),
+    }
+}
+
+/// Sets the status of a name.
+fn note_status(
+    statuses: &mut Map<String, Value>,
+    name: String,
+    status: Value,
+) -> Result<(), AllocError>
+    ensures { OnOk result (members_view statuses.new.entries
+        ≡ put (string_bytes name) (view status) (members_view statuses.old.entries)) }
+{
+    drop(statuses.insert(name, status)?);
+    Ok(())
+}
+
+/// The members, each with its status. The last one of a name counts.
+fn statuses_of<A: Allocator>(
+    alloc: Global,
+    members: &[(&str, BorrowedValue<'_, A>)],
+) -> Result<Map<String, Value>, AllocError>
+    ensures { IfOk result (λ m. members_view m.entries
+        ≡ members_statuses (borrowed_members_view members.now) no_members) }
+{
+    let mut statuses = Map::new(alloc);
+    for member in members {
+        let name = String::from_str(alloc, member.0)?;
+        note_status(&mut statuses, name, status_here(alloc, &member.1))?;
+    }
+    Ok(statuses)
+}
+
+/// A copy of an object whose texts are those of the line, if it is one of true, false and null.
+#[tactic(auto, using(crate::proofs::Statuses::borrowed_found, crate::proofs::Statuses::borrowed_other))]
+fn object_of<A: Allocator>(
+    alloc: Global,
+    members: &[(&str, BorrowedValue<'_, A>)],
+) -> Result<Option<Value>, AllocError>
+    ensures { IfOk result (λ found. option_map view found ≡ if_statuses
+        (data_of (borrowed.object (borrowed_members_view members.now)))) }
+{
+    let statuses = statuses_of(alloc, members)?;
+    if !are_all_statuses(&statuses) {
+        return Ok(None);
+    }
+    Ok(Some(Value::Object(statuses)))
+}
+
+/// A copy of a value whose texts are those of the line, if it is an object of true, false and null.
+pub(crate) fn borrowed_statuses_in<A: Allocator>(
+    alloc: Global,
+    value: &BorrowedValue<'_, A>,
+) -> Result<Option<Value>, AllocError>
+    ensures { IfOk result (λ found. option_map view found ≡ if_statuses (data_of (value_view value.now))) }
+{
+    match value {
+        BorrowedValue::Object(members) => object_of(alloc, members),
+        _ => Ok(None),
+    }
+}
+
+/// What such a member says.
+pub(crate) fn conditions_of<V: TickValue>(
+    alloc: Global,
+    found: Option<&V>,
+) -> Result<ConditionsMember, AllocError>
+    ensures { IfOk result (λ c. c ≡ conditions_of (option_map (λ v. V.data v.now) found.entry)) }
+{
+    let Some(value) = found else {
+        return Ok(ConditionsMember::Missing);
+    };
+    match value.statuses(alloc)? {
+        Some(object) => Ok(ConditionsMember::Statuses(ConditionStatuses::new(alloc, &object)?)),
+        None => Ok(ConditionsMember::OfOtherKind),
+    }
+}
