@@ -1,1 +1,1 @@
-"""What the tools beside the program are made of. Their entries stand in the folder above, and Python finds it there."""
+"""What the tools next to the program are made of. Their entries are in the folder above, and Python finds it there."""

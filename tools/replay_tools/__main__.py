@@ -8,7 +8,7 @@ if sys.version_info < (3, 9):
     sys.exit("%s: needs Python 3.9 or later, and python3 is %d.%d" % (
         os.path.basename(sys.argv[1]) if len(sys.argv) > 1 else "kubelet-replay", sys.version_info[0],
         sys.version_info[1]))
-# by its path Python would look beside this file, and with -m where it was started
+# by its path Python would look next to this file, and with -m where it was started
 sys.path[0] = os.path.dirname(os.path.dirname(os.path.realpath(__file__)))
 from replay_tools import tree  # noqa: E402
 

@@ -62,7 +62,7 @@ def duration(value: str) -> int:
 
 
 def amount_text(thousandths: int | None, of_bytes: bool) -> str:
-    """An amount as a person reads it: bytes with a binary suffix and at most two digits behind the point."""
+    """An amount as a person reads it: bytes with a binary suffix and at most two digits after the point."""
     if thousandths is None:
         return "-"
     if not of_bytes:

@@ -27,7 +27,7 @@ class Given:
 
     @property
     def since(self) -> int:
-        """The moment behind which it is counted: that which was asked for, or up to which the trace shows what was so
+        """The moment after which it is counted: that which was asked for, or up to which the trace shows what was so
         in one that is not there."""
         if self.several is not None:
             asked_for = self.several.asked.since
@@ -36,11 +36,11 @@ class Given:
         return follows["at"] if follows else summary.NEVER
 
     def is_near(self, at: int) -> bool:
-        """Whether a moment is told, where one was asked for."""
+        """Whether a moment is printed, where one was asked for."""
         return self.several is None or self.several.is_near(at)
 
     def is_span_near(self, span: reports.Span) -> bool:
-        """Whether some moment of a span is told."""
+        """Whether some moment of a span is printed."""
         return self.several is None or self.several.is_span_near(span)
 
 
@@ -68,15 +68,15 @@ def joined(wanted: asked.Asked) -> join.Joined:
 
 
 def clock_of(found: Namespace, given_to: Given) -> clock.Clock:
-    """How moments are written: as the words say, else by what they are."""
+    """How moments are written: as the words show, else by what they are."""
     is_dated = given_to.several is not None and given_to.several.is_utc
     return clock.clock_of(found, summary.last_moment(given_to.report, given_to.trace), is_dated)
 
 
 def key_named(report: reports.Report, name: str, kubelet: kubelets.Kubelet | None = None) -> str:
-    """The key of a name that may be cut behind, as that of a Deployment's pod is known before its hashes, and may be
-    without its namespace; then it has to fit one pod, of the report or of what the kubelet did to pods without a line.
-    A name that fits none stays as it is."""
+    """The key of a name that may be cut at its end, as that of a Deployment's pod is known before its hashes, and may
+    be without its namespace; then it has to fit one pod, of the report or of what the kubelet did to pods without a
+    line. A name that fits none stays as it is."""
     of_no_line = [] if kubelet is None else [each.pod for each, _ in kubelet.decisions() if each.number is None]
     return naming.only_key(name, list(dict.fromkeys([*keys_of(report), *of_no_line]))) or name
 
@@ -92,7 +92,7 @@ def keys_named(report: reports.Report, name: str) -> list[str]:
 
 
 def pods_named(report: reports.Report, name: str, others: str = "") -> list[reports.Pod]:
-    """The pods of a key, more than one where a pod came again under its name; none where something else is told."""
+    """The pods of a key, more than one where a pod came again under its name; none where something else is printed."""
     key = name if others else key_named(report, name)
     found = [pod for pod in report.pods if pod.key == key]
     if not found and not others:
@@ -128,12 +128,12 @@ def trace_of(report: reports.Report, path: str, watch: Callable[..., Any] | None
     except traces.TraceFault as fault:
         raise entry.Fault(str(fault)) from None
     except amounts.Wrong:
-        raise entry.Fault(f"{path} has a tick line that is none (kubelet-replay explain says which)") from None
+        raise entry.Fault(f"{path} has a tick line that is none (kubelet-replay explain shows which)") from None
     return trace
 
 
 def kubelet_beside(trace: traces.Trace | None, report: reports.Report) -> kubelets.Kubelet | None:
-    """What the kubelet did, beside the report; None without a trace that says so."""
+    """What the kubelet did, next to the report; None without a trace that shows it."""
     return None if trace is None else of_whole_ticks(functools.partial(kubelets.beside, trace, report))
 
 
@@ -145,7 +145,7 @@ def without_line(kubelet: kubelets.Kubelet | None, key: str, show: Callable[[int
 def why(given_to: Given, trace: traces.Trace, pods: list[reports.Pod], show: Callable[[int], str],
         kubelet: kubelets.Kubelet | None, with_worst: bool = False) -> str:
     """What the trace holds around the events of some pods, those of moments that are near, and what the kubelet did to
-    them, as text; with the worst of each, where no story stands before it."""
+    them, as text; with the worst of each, where no story is before it."""
     report = given_to.report
 
     def head(pod: reports.Pod) -> str:
@@ -161,7 +161,7 @@ def why(given_to: Given, trace: traces.Trace, pods: list[reports.Pod], show: Cal
 
 def worst_line(given_to: Given, pod: reports.Pod, show: Callable[[int], str],
                kubelet: kubelets.Kubelet | None) -> str:
-    """What a pod came to, in one line, as it stands in the list of pods."""
+    """What a pod came to, in one line, as it is in the list of pods."""
     return overview.line_of(given_to.report, pod, show, given_to.trace, kubelet, given_to.since)
 
 
@@ -175,4 +175,4 @@ def of_whole_ticks(gather: Callable[..., Any]) -> Any:
     try:
         return gather()
     except amounts.Wrong:
-        raise entry.Fault("the trace has a tick line that is none (kubelet-replay explain says which)") from None
+        raise entry.Fault("the trace has a tick line that is none (kubelet-replay explain shows which)") from None

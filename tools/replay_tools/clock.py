@@ -32,7 +32,7 @@ def clock_of(found: Namespace, last: int | None, is_dated: bool = False) -> Cloc
     asked = [clock for clock in Clock if getattr(found, clock.value)]
     if len(asked) > 1:
         named = " and ".join(f"--{clock.value}" for clock in asked)
-        raise entry.Fault(f"{named} exclude each other (--help says more)")
+        raise entry.Fault(f"{named} exclude each other (see --help)")
     if asked:
         return asked[0]
     return Clock.UTC if is_dated or (last or 0) > reports.LEAST_DATED else Clock.SECONDS

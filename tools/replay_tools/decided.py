@@ -58,13 +58,13 @@ class Deletion:
         return f"{by}{'' if self.grace is None else f', {self.grace} s of grace'}"
 
 
-def take_words(trace: Trace, present: dict[str, Pod]) -> None:
-    """What the newest tick says of pods that are being deleted, and of those that the node has ended: the first tick
-    counts. What else is known of a deletion may come later."""
+def take_words(trace: Trace, entries: dict[str, dict[str, Any]], present: dict[str, Pod]) -> None:
+    """What the newest tick says of pods that are being deleted, and of those that the node has ended, by its entries of
+    which more is said than is listed: the first tick counts. What else is known of a deletion may come later."""
     tick = trace.ticks[-1]
     if not trace.heeds_words():
         return
-    for key, entry in tick.entries.items():
+    for key, entry in entries.items():
         if OF_WORDS.isdisjoint(entry):
             continue
         pod = present[key]

@@ -1,4 +1,4 @@
-"""Replays a trace as it is and with an edit, and says which lines of the reports differ."""
+"""Replays a trace as it is and with an edit, and shows which lines of the reports differ."""
 
 from __future__ import annotations
 
@@ -14,7 +14,7 @@ from typing import Any
 from replay_tools import entry, nearest, packed, program as programs
 from replay_tools.traces import LONGEST_TRACE
 
-# a line that the edit leaves as it is stays, byte for byte; others are written anew
+# a line that the edit leaves as it is stays, byte for byte; others are written again
 EDIT = r"""include "edits";
     inputs as $text
     | $text
@@ -30,7 +30,7 @@ OTHER_FOLDER = "(TMPDIR names another folder)"
 
 def difference(edit: str, seconds: float) -> str:
     """The lines in which the report of the trace of standard input and that with an edit differ, each with - or +;
-    what is said where there is none goes to standard error. The edit may take so many seconds."""
+    what is printed where there is none goes to standard error. The edit may take so many seconds."""
     program = os.environ.get("KUBELET_REPLAY") or programs.path()
     for command in ("jq", "diff", program):
         if shutil.which(command) is None:
@@ -98,9 +98,9 @@ class Comparison:
             raise self.fault_of(trace, named, done.returncode, said, bool(option))
 
     def fault_of(self, trace: str, named: str, status: int, said: str, is_extended: bool) -> entry.Fault:
-        """What is said of a trace without a report."""
+        """What is printed of a trace without a report."""
         if status == 2:
-            return entry.Fault(f"the {named} is refused: {said}", means=meaning(self.path(trace), is_extended))
+            return entry.Fault(f"the {named} is rejected: {said}", means=meaning(self.path(trace), is_extended))
         if status == 127:
             return entry.Fault(f"the {named} can't be replayed: {said}", 127)
         if status == 1 and said == "write failed":
@@ -122,7 +122,7 @@ class Comparison:
                 raise entry.Fault(f"the edit took longer than {self.seconds:g} s: --timeout SECONDS sets another limit"
                                   ) from None
         if done.returncode < 0:
-            for name, what in (("edited", "the edit makes"), ("error", "the edit says")):
+            for name, what in (("edited", "the edit makes"), ("error", "the edit reports")):
                 if os.path.getsize(self.path(name)) > LONGEST_TRACE:
                     raise too_long(what)
         with open(self.path("error"), encoding="utf-8", errors="replace") as file:
@@ -158,15 +158,15 @@ def too_long(what: str) -> entry.Fault:
 
 
 def meaning(path: str, is_extended: bool) -> str | None:
-    """What a refusal of a file means, in one line."""
+    """What a rejection of a file means, in one line."""
     from replay_tools.explain import answer, told
     given = answer.answer_of(path, is_extended)
     return None if given.has_no_verdict else told.one_line(given) or given.said
 
 
 def check_there(asked: list[dict[str, Any]]) -> None:
-    """Raises Fault where an edit asks for a pod or a container that the trace has not. Each line says what it was asked
-    for, and what it is of that kind."""
+    """Raises Fault where an edit asks for a pod or a container that the trace has not. Each line shows what it was
+    asked for, and what it is of that kind."""
     of_pods = [each for each in asked if "container" not in each]
     for pod in sorted({each["pod"] for each in of_pods}, key=str):
         there = [each["is"] for each in of_pods if each["pod"] == pod and "is" in each]

@@ -11,15 +11,15 @@ if TYPE_CHECKING:
 
 
 def by_rules(report: reports.Report) -> list[reports.Eviction]:
-    """The pods that the rules evict or, in the report of a recording that says whom the kubelet evicted, name."""
+    """The pods that the rules evict or, in the report of a recording that shows whom the kubelet evicted, name."""
     named = [reports.Eviction(event.at, event.pod, event.rest[1], event.rest[2], 0, event.number, is_named=True)
              for event in report.events if event.word == "names" and event.pod is not None]
     return [*report.evictions, *named]
 
 
 def heeds_rounds(trace: traces.Trace, report: reports.Report) -> bool:
-    """Whether the report's program heeds which ticks are judged and which pods are spared: then the rules name or evict
-    no pod in a tick that is not judged, and none that is spared."""
+    """Whether the report's program heeds which ticks are judged and which pods are exempt: then the rules name or evict
+    no pod in a tick that is not judged, and none that is exempt."""
     if report.heeds_rounds is None:
         spared = {pod.number for pod in trace.pods if pod.is_spared}
         report.heeds_rounds = all(
@@ -29,14 +29,14 @@ def heeds_rounds(trace: traces.Trace, report: reports.Report) -> bool:
 
 
 def ended_by_kubelet(report: reports.Report, pod: reports.Pod) -> tuple[int, str] | None:
-    """When the kubelet ended a pod, and why, as the report says it: with a reason, and not by the rules."""
+    """When the kubelet ended a pod, and why, as the report shows it: with a reason, and not by the rules."""
     end = reports.end_of(pod)
     is_by_rules = any(eviction.number == pod.number for eviction in report.evictions)
     return None if pod.reason == "-" or is_by_rules or end is None else (end[0], pod.reason)
 
 
 def had_ended(pod: reports.Pod, at: int) -> bool:
-    """Whether a pod had ended before the node decided at a moment. What it does to a pod ends it behind that."""
+    """Whether a pod had ended before the node decided at a moment. What it does to a pod ends it after that."""
     end = reports.end_of(pod)
     return end is not None and (end[0] < at or end[0] == at and pod.reason == "-")
 

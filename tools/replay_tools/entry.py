@@ -21,12 +21,12 @@ if TYPE_CHECKING:
 LONGEST_INPUT = 64 << 20
 # an interrupt that Python drops comes again after so long
 AGAIN_SECONDS = 0.01
-# the part of CHANGELOG.md that a checkout has between two releases, and what the version then says
+# the part of CHANGELOG.md that a checkout has between two releases, and what the version then shows
 NOT_RELEASED, UNRELEASED = "## Not released yet", ", and what is not released yet"
 
 
 class Fault(Exception):
-    """What is said in one line on standard error, in one more what it means where that is known, and the status."""
+    """What is printed in one line on standard error, in one more what it means where that is known, and the status."""
 
     def __init__(self, said: str, status: int = 2, means: str | None = None) -> None:
         super().__init__(said)
@@ -38,16 +38,18 @@ class Help(Exception):
 
 
 class Words(argparse.ArgumentParser):
-    """Takes the words of a tool. Its help is a text of its own, and what is mistaken is a fault of one line."""
+    """Parses the arguments of a tool. Its help is a text of its own, and a wrong argument is a fault of one line."""
 
     def __init__(self, text: str) -> None:
         # nothing of it is shown, so nothing is asked of the terminal
         super().__init__(usage="", add_help=False, allow_abbrev=False, exit_on_error=False,
                          formatter_class=functools.partial(argparse.HelpFormatter, width=120))
         self.text = text
+        # what differs if the tool is started by itself, as tools/NAME
+        self.note = ""
         self.of_files: set[str] = set()
         self.choices: dict[str, tuple[str, ...]] = {}
-        self.add_argument("-h", "--help", action=ShowHelp, text=text)
+        self.add_argument("-h", "--help", action=ShowHelp)
 
     def flag(self, *names: str) -> None:
         """Words without a value."""
@@ -77,7 +79,7 @@ class Words(argparse.ArgumentParser):
                      for name in action.option_strings)
 
     def taken(self, words: list[str]) -> argparse.Namespace:
-        """The values of the words, in whatever order they stand. Raises Fault and Help."""
+        """The values of the words, in whatever order they are. Raises Fault and Help."""
         try:
             found, left = self.parse_known_intermixed_args(words)
         except argparse.ArgumentError as fault:
@@ -87,30 +89,29 @@ class Words(argparse.ArgumentParser):
         return found
 
     def unknown(self, given: str, *more: str) -> str:
-        """What is said of an argument that the tool does not take: the nearest option is named."""
+        """What is printed of an argument that the tool does not take: the nearest option is named."""
         from replay_tools import nearest
         options = [*self.names(with_value=True), *self.names(with_value=False), *more]
-        return f"{given} is no word of it{nearest.option_words(given, options)} (--help says more)"
+        return f"{given} is no known argument{nearest.option_words(given, options)} (see --help)"
 
 
 def said_of(message: str) -> str:
-    """What is said of a word that argparse refuses; what a kind of value says of one that is none stays."""
+    """What is printed of a word that argparse rejects; what a kind of value shows of one that is none stays."""
     if message.startswith("expected one argument"):
-        return "wants a value (--help says more)"
+        return "needs a value (see --help)"
     if message.startswith("ignored explicit argument"):
-        return "takes no value (--help says more)"
+        return "takes no value (see --help)"
     return message
 
 
 class ShowHelp(argparse.Action):
-    """Ends the reading of words by the help."""
+    """Ends the parsing with the help."""
 
-    def __init__(self, option_strings: list[str], dest: str, text: str) -> None:
+    def __init__(self, option_strings: list[str], dest: str) -> None:
         super().__init__(option_strings, argparse.SUPPRESS, nargs=0, default=argparse.SUPPRESS)
-        self.text = text
 
-    def __call__(self, *_: object) -> None:
-        raise Help(self.text)
+    def __call__(self, parser: Any, *_: object) -> None:
+        raise Help(parser.text + parser.note)
 
 
 def whole_number(most: int) -> Callable[[str], int]:
@@ -148,7 +149,7 @@ def read_report() -> reports.Report:
     from replay_tools import first_bytes, report as reports
     given = standard_input()
     if given.isatty():
-        raise Fault("it wants a report on standard input, as kubelet-replay run TRACE > REPORT writes it: .. < REPORT")
+        raise Fault("it needs a report on standard input, as kubelet-replay run TRACE > REPORT writes it: .. < REPORT")
     text = read_bounded(given, "standard input")
     try:
         return reports.read_report(text.decode("utf-8", "replace"))
@@ -172,7 +173,7 @@ class OutputFault(OSError):
 
 
 class Output(io.FileIO):
-    """Standard output, with faults that can be told from those of other files."""
+    """Standard output, with faults that can be distinguished from those of other files."""
 
     def write(self, data: Any) -> int:
         try:
@@ -192,8 +193,8 @@ def standard_output() -> TextIO:
 
 
 def again_if_interrupt(dropped: Any) -> None:
-    """Python tells of an interrupt that comes within a callback of its own, as of an import, and drops it: it comes again
-    a moment later. What else is dropped is told as ever."""
+    """Raises again an interrupt that Python drops since it came within a callback of its own, as of an import. Python
+    reports other dropped exceptions as usual."""
     if dropped.exc_type is not KeyboardInterrupt:
         sys.__unraisablehook__(dropped)
         return
@@ -216,7 +217,7 @@ def run(tool: str, main: Callable[[], int]) -> int:
             signal.pthread_sigmask(signal.SIG_UNBLOCK, [signal.SIGINT])
             return main()
         finally:
-            # behind the tool's end Python would tell of one
+            # after the tool's end Python would report one
             signal.pthread_sigmask(signal.SIG_BLOCK, [signal.SIGINT])
     except KeyboardInterrupt:
         return 130
@@ -227,14 +228,14 @@ def run(tool: str, main: Callable[[], int]) -> int:
 
 
 def is_interrupt(fault: BaseException) -> bool:
-    """Whether a fault stands for an interrupt: Python before 3.12 makes one of it that comes as a class is made, whose
+    """Whether a fault counts as an interrupt: Python before 3.12 makes one of it that comes as a class is made, whose
     cause it is."""
     return isinstance(fault, KeyboardInterrupt) or (fault.__cause__ is not None and is_interrupt(fault.__cause__))
 
 
 def answered(tool: str, main: Callable[[], int], words: list[str]) -> int:
     """The status of a tool, whose answer, help, version or fault is written: that of main, or of a fault, 1 where
-    standard output takes no more or the system refuses something that no tool expects."""
+    standard output takes no more or the system rejects something that no tool expects."""
     sys.argv = [tool, *words]
     try:
         status = version(tool) if is_version(words) else helped(main)

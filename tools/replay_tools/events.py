@@ -1,5 +1,5 @@
-"""What the events of a report are called, how a line has their fields, and in which words they are told. The table is
-docs/report.schema.json, which a release has too; it is read where it is first asked for."""
+"""What the events of a report are called, how a line has their fields, and in which words they are printed. The table
+is docs/report.schema.json, which a release has too; it is read where it is first asked for."""
 
 from __future__ import annotations
 
@@ -43,16 +43,16 @@ class Kind:
     subject: str
     """what its line names first: container, pod or node"""
     fields: tuple[Field, ...]
-    """in the order of its line, behind the subject and the word"""
+    """in the order of its line, after the subject and the word"""
     sentence: str
     sentence_beside: str
-    """where it stands beside what the kubelet did"""
+    """where it is next to what the kubelet did"""
     anew: str | None
-    """what is said of it behind a border of several traces, from which on what it goes by is counted anew"""
+    """what is reported of it after a rotation of several traces, from which on what it goes by is counted again"""
     is_counted: bool
-    """its record has that border"""
+    """its record has that rotation"""
     sentence_guessed: str
-    """where the trace says that its code was guessed"""
+    """where the trace shows that its code was guessed"""
 
     @functools.cached_property
     def form(self) -> re.Pattern[str]:
@@ -90,7 +90,7 @@ def kinds() -> dict[str, Kind]:
 
 
 def attempt_words(attempt: str) -> str:
-    """The attempt of an event, behind its words; nothing where it has none."""
+    """The attempt of an event, after its words; nothing where it has none."""
     return filled(attempt_sentence(), {"attempt": attempt}) if attempt else ""
 
 
@@ -99,7 +99,7 @@ def attempt_sentence() -> str:
 
 
 def decision_sentence(decision: str = "") -> str:
-    """In which words it is told what the kubelet did to a pod, of a kind that has words of its own in those."""
+    """In which words it is printed what the kubelet did to a pod, of a kind that has words of its own in those."""
     found = definitions()["decision"]
     return found.get(f"sentence_{decision}", found["sentence"])
 

@@ -75,10 +75,15 @@ def text_at(found: dict[str, Any], name: str, otherwise: str | None = None) -> s
 
 
 def bounds_of(resources: Any) -> Bounds:
-    """The bounds of an object of resources, in which a limit stands for a request that is not there. The formats do not
+    """The bounds of an object of resources, in which a limit counts as a request that is not there. The formats do not
     read each of these objects, so what has another shape sets nothing."""
     return Bounds(*(next(filter(None, (amount_in(resources, kind, name) for kind in kinds)), None)
                     for name in ("memory", "cpu") for kinds in (("requests", "limits"), ("limits",))))
+
+
+def own_bounds_of(resources: Any) -> Bounds:
+    """The bounds of the resources of a pod, in which a limit is no request."""
+    return Bounds(*(amount_in(resources, kind, name) for name in ("memory", "cpu") for kind in ("requests", "limits")))
 
 
 def amount_in(resources: Any, kind: str, name: str) -> int | None:

@@ -1,4 +1,4 @@
-"""What a file is by its first bytes, where it is not what a tool wants."""
+"""What a file is by its first bytes, where it is not what a tool needs."""
 
 from __future__ import annotations
 
@@ -25,7 +25,7 @@ KIND = re.compile(rb'"kind"\s*:\s*"(\w+)"')
 
 
 def kind_of(head: bytes) -> str | None:
-    """What a file is that begins with these bytes; None where they say nothing of it."""
+    """What a file is that begins with these bytes; None where they show nothing of it."""
     head = head[:LOOKED_AT]
     if not head:
         return EMPTY
@@ -65,32 +65,32 @@ def unpacked_by(kind: str | None) -> str | None:
 
 
 def instead_of_report(head: bytes, what: str = "standard input") -> str | None:
-    """What to say where a report is wanted, and these bytes begin what is there; None where that begins as one, or
-    says nothing."""
+    """What to show where a report is needed, and these bytes begin what is there; None where that begins as one, or
+    shows nothing."""
     kind = kind_of(head)
     if kind in (None, REPORT):
         return None
     if kind in (EMPTY, BLANK):
-        return f"{what} is empty: it wants a whole report, which kubelet-replay run TRACE writes"
+        return f"{what} is empty: it needs a whole report, which kubelet-replay run TRACE writes"
     if kind == REFUSAL:
-        return f"{what} is {kind}: kubelet-replay explain TRACE says what it means"
+        return f"{what} is {kind}: kubelet-replay explain TRACE shows what it means"
     if kind == TRACE:
-        return f"{what} is a trace, and it wants the report: run it first, as in: kubelet-replay run TRACE | .."
+        return f"{what} is a trace, and it needs the report: run it first, as in: kubelet-replay run TRACE | .."
     if kind == PACKED[b"\x1f\x8b"][0]:
-        return f"{what} is {kind}, and it wants a report; if it is a trace, --traces FILE replays it"
-    return f"{what} is {kind}, and it wants a report{how_to_unpack(kind)}"
+        return f"{what} is {kind}, and it needs a report; if it is a trace, --traces FILE replays it"
+    return f"{what} is {kind}, and it needs a report{how_to_unpack(kind)}"
 
 
 def instead_of_trace(head: bytes, what: str) -> str | None:
-    """The same where a trace is wanted."""
+    """The same where a trace is needed."""
     kind = kind_of(head)
     if kind in (None, TRACE):
         return None
     if kind in (EMPTY, BLANK):
         return f"{what} is empty: it has no line of a trace"
     if kind == REPORT:
-        return f"{what} is a report, and it wants the trace that the report is of"
-    return f"{what} is {kind}, and it wants a trace{how_to_unpack(kind)}"
+        return f"{what} is a report, and it needs the trace that the report is of"
+    return f"{what} is {kind}, and it needs a trace{how_to_unpack(kind)}"
 
 
 def how_to_unpack(kind: str | None) -> str:

@@ -7,7 +7,7 @@ import re
 from collections.abc import Callable
 from dataclasses import dataclass, field
 
-from replay_tools import amounts, decided, endings, events, report as reports, traces, why
+from replay_tools import amounts, decided, endings, events, report as reports, signals, traces, why
 
 # what is no further apart is one eviction, in seconds
 NEAR = 2
@@ -18,15 +18,15 @@ RESOURCE = re.compile(r"The node was low on resource: ([a-z-]+)")
 OWN_LIMIT = re.compile(r"exceeds the (?:total )?limit|exceeded its local ephemeral storage limit")
 # what the reason says with which a kubelet ends a pod (Kubernetes, "Node Shutdowns", "Jobs", and the kubelet's own)
 MEANINGS = {"DeadlineExceeded": "it ran for longer than its activeDeadlineSeconds",
-            "Preempting": "a critical pod had no room beside it", "Terminated": "the node was shut down",
+            "Preempting": "a critical pod had no room next to it", "Terminated": "the node was shut down",
             "Shutdown": "the node was shut down", "NodeShutdown": "the node was shut down"}
 # what a recorder writes for a reason that no source gave
 OTHER = "Other"
 USING = re.compile(r"Container (\S+) was using ([^\s,]+), "
                    r"(?:which exceeds its request of|request is) ([^\s,]+?)[.,]?(?:\s|$)")
 CONDITION = re.compile(r"The node had condition: \[([^\]]*)\]")
-SIGNALS = {"memory": traces.SIGNALS[:1], "ephemeral-storage": traces.SIGNALS[1:3], "inodes": traces.SIGNALS[3:5],
-           "pids": traces.SIGNALS[5:]}
+SIGNALS = {"memory": signals.SIGNALS[:1], "ephemeral-storage": signals.SIGNALS[1:3], "inodes": signals.SIGNALS[3:5],
+           "pids": signals.SIGNALS[5:]}
 
 
 @dataclass
@@ -176,8 +176,8 @@ def causes_of(trace: traces.Trace, report: reports.Report, pod: traces.Pod, deci
     if gone is not None and gone < len(trace.ticks) and trace.ticks[gone].at <= decision.at:
         return [["the pod had gone from the trace before", trace.ticks[gone].at]]
     resource = resource_of(decision)
-    signals = SIGNALS.get(resource or "", traces.SIGNALS)
-    limits = [limit for limit in trace.thresholds if limit.signal in signals]
+    named = SIGNALS.get(resource or "", signals.SIGNALS)
+    limits = [limit for limit in trace.thresholds if limit.signal in named]
     if not limits:
         return [[f"the trace has no threshold of {resource or 'any signal'}"]]
     near = ticks_near(trace, report, decision.at)
@@ -231,7 +231,7 @@ def no_sample_below(limits: list[traces.Threshold], near: list[traces.Tick]) -> 
     found = []
     for limit in limits:
         values = [tick.signals[limit.signal] for tick in near if limit.signal in tick.signals]
-        of_bytes = limit.signal in traces.BYTE_SIGNALS
+        of_bytes = limit.signal in signals.BYTE_SIGNALS
         least = f"was {amounts.amount_text(min(values), of_bytes)}" if values else "had no sample"
         found.append(f"{limit.signal} {least}, {limit.kind} threshold {amounts.amount_text(limit.limit, of_bytes)}")
     return [f"no sample below the threshold was recorded ({'; '.join(found)})"]
@@ -327,7 +327,7 @@ def causes_text(causes: list[list[int | str]], show: Callable[[int], str]) -> st
 def rules_words(fact: Fact, show: Callable[[int], str], names: bool = False) -> str:
     """What the rules do to the pod beside what the kubelet did."""
     if not fact.is_judged and fact.eviction is None:
-        return f"the rules have nothing to say of it{causes_text(fact.causes, show)}"
+        return f"the rules can't judge it{causes_text(fact.causes, show)}"
     if fact.eviction is None:
         does = "name" if names else "evict"
         return f"the rules, over the recorded samples, differ: they do not {does} it" + causes_text(fact.causes, show)

@@ -1,5 +1,5 @@
 """A pod's lanes, which timeline and page draw: what it and each of its containers were, from when until when, why a
-container waited, what was ordered, and what was said."""
+container waited, what was ordered, and what was reported."""
 
 from __future__ import annotations
 
@@ -47,8 +47,8 @@ class Lane:
 
 @dataclass(frozen=True)
 class Lanes:
-    """Those of a pod: whether it was Ready, its containers', and what was said, by the places of these, -1 of the pod
-    itself."""
+    """Those of a pod: whether it was Ready, its containers', and what was reported, by the places of these, -1 of the
+    pod itself."""
 
     ready: list[Span]
     containers: list[Lane]
@@ -61,9 +61,9 @@ class Lanes:
 
 
 def lanes_of(pod: reports.Pod, trace: traces.Trace | None) -> Lanes:
-    """The lanes of a pod, by its events and, with the trace of its report, by what that says beside them."""
+    """The lanes of a pod, by its events and, with the trace of its report, by what that shows next to them."""
     names = [container.name for container in pod.containers]
-    ready = readiness.spans_of(trace, pod) or reports.ready_spans(pod)
+    ready = readiness.spans_of(trace, pod) or readiness.by_rules(trace, pod)
     return Lanes(ready, [lane_of(pod, name, trace) for name in names],
                  trace.said.by_lane(pod.number, names) if trace else {})
 
@@ -78,7 +78,7 @@ def lane_of(pod: reports.Pod, name: str, trace: traces.Trace | None) -> Lane:
 
 def state_of(pod: reports.Pod, name: str, span: Span, deaths: dict[tuple[str, str], reports.Event],
              trace: traces.Trace | None) -> State:
-    """A span of a container's state; its note has the attempt, and behind it the code."""
+    """A span of a container's state; its note has the attempt, and after it the code."""
     if not span.note:
         return State(span.value, span.since, span.until)
     attempt, _, code = span.note.partition(" ")

@@ -1,4 +1,4 @@
-"""The memory that an instance might use, and what it used, as far as a trace says it."""
+"""The memory that an instance might use, and what it used, as far as a trace shows it."""
 
 from __future__ import annotations
 
@@ -67,7 +67,7 @@ class Used:
 
 
 def used_in(said: dict[str, Any]) -> Used | None:
-    """What a listing says of that."""
+    """What a listing shows of that."""
     used = said.get("used")
     memory = outside.whole(used.get("workingSet")) if isinstance(used, dict) else None
     age = outside.whole(used.get("age", 0)) if isinstance(used, dict) else None

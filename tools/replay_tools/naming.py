@@ -1,4 +1,4 @@
-"""Pods by the names that an operator gives them: NAMESPACE/NAME, either cut behind, or without the namespace."""
+"""Pods by the names that an operator gives them: NAMESPACE/NAME, either cut at its end, or without the namespace."""
 
 from __future__ import annotations
 

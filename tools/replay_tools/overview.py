@@ -14,8 +14,8 @@ if TYPE_CHECKING:
 def text(report: reports.Report, namespace: str | None, show: Callable[[int], str],
          trace: traces.Trace | None = None, kubelet: kubelets.Kubelet | None = None,
          since: int = summing.NEVER) -> str:
-    """The table of the pods of a namespace, or of all without one; of what came behind a moment, where one is given,
-    with all restarts of a pod beside those; above it what happened to the node meanwhile."""
+    """The table of the pods of a namespace, or of all without one; of what came after a moment, where one is given,
+    with all restarts of a pod next to those; above it what happened to the node meanwhile."""
     ranked = [summary for summary in summing.summaries(report, trace, kubelet, since=since)
               if namespace is None or report.pods[summary.number].key.startswith(f"{namespace}/")]
     pods = [report.pods[summary.number] for summary in ranked]

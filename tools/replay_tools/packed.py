@@ -15,7 +15,7 @@ PIECE = 1 << 16
 
 
 class Damaged(Exception):
-    """What is packed can't be unpacked; the message says why."""
+    """What is packed can't be unpacked; the message shows why."""
 
 
 def regular(path: str) -> BinaryIO:

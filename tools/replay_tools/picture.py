@@ -21,7 +21,7 @@ COLOURS = {"Waiting": "#e9c46a", "Running": "#3f7fc4", "Ended with 0": "#a3adb8"
 INK, QUIET, KILL, SAID = "#17212b", "#5a6775", "#8a2be2", "#12797d"
 # marks at less than so many pixels become a strip where they are more than so many
 DENSE, MOST_MARKS = 12, 4
-# what was said stands below a lane, so wide and high; of what falls on one mark so many are told
+# what was reported is below a lane, so wide and high; of what falls on one mark so many are printed
 SAID_WIDTH, SAID_HEIGHT, MOST_SAID = 3, 4, 6
 # a picture that is higher has its moments above too
 TALL = 700
@@ -98,7 +98,7 @@ def label(picture: Picture, y: float, name: str, kind: str = "") -> None:
 
 
 def axis(picture: Picture, last: int, bottom: float) -> None:
-    """Lines and moments at round steps, at most nine of them; the axis stands above what is drawn over it. A tall
+    """Lines and moments at round steps, at most nine of them; the axis is above what is drawn over it. A tall
     picture has the moments below and above."""
     steps = CLOCK_STEPS if picture.clock is not clocks.Clock.SECONDS and last <= reports.LAST_DATE else PLAIN_STEPS
     step = next(step for step in steps if picture.span / step <= 9)
@@ -124,7 +124,7 @@ def gaps(picture: Picture, report: reports.Report, bottom: float) -> None:
 
 
 def kubelet_starts(picture: Picture, trace: traces.Trace | None, bottom: float) -> None:
-    """A dashed line where the kubelet was started anew."""
+    """A dashed line where the kubelet was started again."""
     for at in trace.kubelet_starts() if trace else ():
         if at >= picture.first:
             x = picture.x(at)
@@ -156,7 +156,7 @@ def kubelet_lane(picture: Picture, kubelet: kubelets.Kubelet, y: float) -> None:
 
 
 def pressure_lanes(picture: Picture, report: reports.Report, y: float) -> float:
-    """A lane for each condition that was ever True, or one that says that none was; gives the y below them."""
+    """A lane for each condition that was ever True, or one that shows that none was; gives the y below them."""
     pressed = [(kind, reports.pressure_spans(report, kind)) for kind in reports.CONDITIONS]
     pressed = [(kind, spans) for kind, spans in pressed if spans]
     if not pressed:
@@ -171,7 +171,7 @@ def pressure_lanes(picture: Picture, report: reports.Report, y: float) -> float:
 
 
 def eviction_lane(picture: Picture, report: reports.Report, is_beside: bool, y: float) -> None:
-    """A cross for each eviction by the rules, a quiet one where those of the kubelet stand beside it."""
+    """A cross for each eviction by the rules, a quiet one where those of the kubelet are next to it."""
     label(picture, y + BAR - 2, "by the rules" if is_beside else "evictions")
     colour = QUIET if is_beside else COLOURS["Ended otherwise"]
     for eviction in report.evictions:
@@ -207,7 +207,7 @@ def container_lane(picture: Picture, lane: made.Lane, trace: traces.Trace | None
 
 
 def said_marks(picture: Picture, said: list[Said], y: float) -> None:
-    """A mark for each thing that was said, or one for all that fall on it."""
+    """A mark for each thing that was reported, or one for all that fall on it."""
     runs: list[list[Said]] = []
     for each in said:
         if runs and picture.x(each.at) - picture.x(runs[-1][0].at) < SAID_WIDTH:
@@ -264,7 +264,7 @@ def wait_text(picture: Picture, wait: reasons.Wait, states: list[made.State], y:
 
 
 def runs_of(picture: Picture, orders: list[reports.Event]) -> list[list[reports.Event]]:
-    """Orders that stand near each other, together."""
+    """Orders that are near each other, together."""
     runs: list[list[reports.Event]] = []
     for event in orders:
         if runs and picture.x(event.at) - picture.x(runs[-1][-1].at) < DENSE:
@@ -286,7 +286,7 @@ def order_strip(picture: Picture, run: list[reports.Event], y: float) -> None:
 
 
 def order_mark(picture: Picture, event: reports.Event, y: float, trace: traces.Trace | None) -> None:
-    """A mark where an event of a container is an order, with what its probe put out, where the trace says that."""
+    """A mark where an event of a container is an order, with what its probe put out, where the trace shows that."""
     x, name = picture.x(event.at), event.container
     if event.word == "kill":
         picture.shape([(x, y + BAR + 1), (x - 5, y - 4), (x + 5, y - 4)], KILL,
@@ -360,8 +360,8 @@ def legend(picture: Picture, y: float, is_beside: bool, has_said: bool) -> None:
     cross(picture, x, y - 4, QUIET if is_beside else COLOURS["Ended otherwise"], "eviction by the rules")
     picture.text(x + 10, y, "evicted by the rules", "small")
     if has_said:
-        said_mark(picture, x + 160, y - 6, "said of it")
-        picture.text(x + 168, y, "said of it", "small")
+        said_mark(picture, x + 160, y - 6, "reported of it")
+        picture.text(x + 168, y, "reported of it", "small")
 
 
 STYLE = """\

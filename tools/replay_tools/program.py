@@ -11,9 +11,9 @@ from collections.abc import Iterable
 from replay_tools import entry
 
 TOP = os.path.dirname(os.path.dirname(os.path.dirname(os.path.realpath(__file__))))
-# in a release it stands aside, so that its users see one command, kubelet-replay
+# in a release it is aside, so that its users see one command, kubelet-replay
 RELEASED = "lib/kubelet_replay"
-# in a checkout ./kubelet_replay is a script that builds this program, and looks at each run whether it is current
+# in a checkout ./kubelet_replay is a script that builds this program, and checks at each run whether it is current
 BUILT = "crates/replay_program/out/replay_program"
 SMALLEST = b'{"kind":"node","name":"n1"}\n'
 
@@ -27,7 +27,7 @@ def path() -> str:
 
 def checked_path() -> str:
     """The path of a program that writes reports. In a checkout this builds it where that is due, once and before
-    many processes ask for it; so what it says is not held back. What is given is then the built program itself, whose
+    many processes ask for it; so what it shows is not held back. What is given is then the built program itself, whose
     sum is another one where it is another program."""
     found = path()
     try:
@@ -49,8 +49,8 @@ def missing(found: str, fault: OSError) -> str:
 
 
 def format_words(lines: Iterable[bytes]) -> list[str]:
-    """The words for the format of a trace, of which the lines are given as bytes: --extended where its node line says
-    version 3. Whatever else it says, the program has to say why it is refused."""
+    """The words for the format of a trace, of which the lines are given as bytes: --extended where its node line shows
+    version 3. Whatever else it shows, the program has to show why it is rejected."""
     node_line = next((line for line in lines if line.strip(b" \t\r\n")), b"")
     try:
         node = json.loads(node_line)

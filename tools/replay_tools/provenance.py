@@ -22,7 +22,7 @@ STILL_RUNS = 120
 
 
 def class_words(pod: traces.Pod | None, qos: str) -> str:
-    """A pod's class as its report has it, which says nothing if its manifest is unknown."""
+    """A pod's class as its report has it, which shows nothing if its manifest is unknown."""
     return UNKNOWN_CLASS if pod is not None and pod.is_guessed else qos
 
 
@@ -35,7 +35,7 @@ def phase_words(trace: traces.Trace | None, pod: reports.Pod) -> str:
 def manifest_lines(pod: traces.Pod | None) -> list[str]:
     if pod is None or not pod.is_guessed:
         return []
-    return [f"{UNKNOWN_MANIFEST}: limits, probes, class and restart policy can't be told"]
+    return [f"{UNKNOWN_MANIFEST}: limits, probes, class and restart policy are unknown too"]
 
 
 def head_lines(trace: traces.Trace | None, show: Callable[[int], str]) -> list[str]:
@@ -78,7 +78,7 @@ def lacking(trace: traces.Trace) -> list[str]:
 def wrongly_deleted(trace: traces.Trace) -> set[int]:
     """The numbers of the pods that a recorder marked as being deleted though nobody had deleted them: a kubelet that
     had just started answered with an empty list, so all pods were marked in one tick. It is seen if several pods, all
-    that were there, were marked in one tick, nothing says by whom, and a container of them runs long afterwards."""
+    that were there, were marked in one tick, nothing shows by whom, and a container of them runs long afterwards."""
     marked: dict[int, list[int]] = {}
     for number, deletion in trace.deletions.items():
         if deletion.by is None and deletion.grace is None:

@@ -26,6 +26,7 @@ OF_LISTING = frozenset(("ended", "guessed", "reason"))
 # but that of the kubelet's next look
 CODE, MOMENT, PHASE = "exitCode", "moment", "phase"
 WITHIN = " (within a second)"
+CLOSED = "readiness gate", None
 
 
 @dataclass
@@ -69,6 +70,10 @@ class Reasons:
         self.open: dict[tuple[int, str], Wait] = {}
         self.gates: dict[tuple[int, str], list[Wait]] = {}
         """as waits, by the pod's number and the condition of a readiness gate that is not true"""
+        self.has_gates = False
+        """whether the manifest of some pod has a readiness gate, in version 3"""
+        self.conditions: dict[tuple[int, str], bool] = {}
+        """the newest status of a gate's condition in version 3, by the pod's number and the condition"""
         self.closed: dict[tuple[int, str], Wait] = {}
         self.turns: dict[int, dict[int, str]] = {}
         """how the condition Ready has turned in the kubelet's status: its status by the moment, by the pod's number"""
@@ -77,8 +82,9 @@ class Reasons:
         self.looked: set[tuple[str, int, str, int]] = set()
         """the starts and deaths that are known by a look: the event's word, the pod's number, container and attempt"""
 
-    def take(self, at: int, entries: dict[str, dict[str, Any]], present: dict[str, traces.Pod]) -> None:
-        """What a tick says, by its entries."""
+    def take(self, at: int, entries: dict[str, dict[str, Any]], others: dict[str, dict[str, Any]],
+             present: dict[str, traces.Pod]) -> None:
+        """What a tick says, by its entries, and those of them of which more is said than is listed."""
         waiting: dict[tuple[int, str], tuple[str, str | None]] = {}
         closed: dict[tuple[int, str], tuple[str, str | None]] = {}
         for key, found in entries.items():
@@ -86,13 +92,28 @@ class Reasons:
             for each in listed if isinstance(listed, list) else ():
                 if isinstance(each, dict) and not OF_LISTING.isdisjoint(each):
                     self.take_listing(present[key].number, each)
+        for key, found in others.items():
             if not OF_ENTRY.isdisjoint(found):
                 number = present[key].number
                 self.take_pod(number, found)
                 waiting.update(waits_in(number, found))
-                closed.update({(number, gate): ("readiness gate", None) for gate in closed_gates(found)})
+                closed.update({(number, gate): CLOSED for gate in closed_gates(found)})
+        if self.has_gates:
+            closed.update(dict.fromkeys(self.closed_by_conditions(entries, present), CLOSED))
         take_waits(self.waits, self.open, at, waiting)
         take_waits(self.gates, self.closed, at, closed)
+
+    def closed_by_conditions(self, entries: dict[str, dict[str, Any]],
+                             present: dict[str, traces.Pod]) -> Iterator[tuple[int, str]]:
+        """The gates of manifests whose conditions are not True after a tick. None is True until a tick says so."""
+        for key, pod in present.items():
+            given = entries.get(key, {}).get("conditions") if pod.gates else None
+            for gate in pod.gates:
+                status = given.get(gate) if isinstance(given, dict) else None
+                if isinstance(status, bool):
+                    self.conditions[pod.number, gate] = status
+                if not self.conditions.get((pod.number, gate)):
+                    yield pod.number, gate
 
     def take_pod(self, number: int, found: dict[str, Any]) -> None:
         for turn in dicts_at(found, "readyTurns"):
@@ -178,8 +199,15 @@ def waits_in(number: int, found: dict[str, Any]) -> Iterator[tuple[tuple[int, st
             yield (number, each["container"]), (reason, text_at(each, "message"))
 
 
+def gates_in(found: dict[str, Any]) -> tuple[str, ...]:
+    """The condition types of the readiness gates that the manifest of a pod line has, each once."""
+    gates = dicts_at(found["pod"]["spec"], "readinessGates")
+    return tuple(dict.fromkeys(filter(None, (text_at(gate, "conditionType") for gate in gates))))
+
+
 def closed_gates(found: dict[str, Any]) -> list[str]:
-    """The conditions of the readiness gates that an entry says are not true."""
+    """The conditions of the readiness gates that an entry says are not true, as recordings in the standard format and
+    older ones have it."""
     gates = found.get("readinessGates")
     named = [outside.text_of(gate) for gate, is_true in gates.items() if is_true is False] if isinstance(gates, dict) \
         else []
@@ -202,7 +230,7 @@ def dicts_at(found: dict[str, Any], name: str) -> list[dict[str, Any]]:
     return [each for each in value if isinstance(each, dict)] if isinstance(value, list) else []
 
 
-def text_at(found: dict[str, int | str], name: str) -> str | None:
+def text_at(found: dict[str, Any], name: str) -> str | None:
     return outside.text_of(found.get(name))
 
 
@@ -283,7 +311,7 @@ def meaning_lines(event: reports.Event, end: End, trace: traces.Trace) -> list[s
                     f"exited with {end.code} by itself"]
         return [f"OOM-killed because {because}{left_words(event, trace)}"]
     if end.reason == PLAIN and end.code == LOST and not end.is_guessed:
-        return [f"the runtime says {PLAIN} and not {OUT_OF_MEMORY}: it was killed, as at the end of a grace period, or "
+        return [f"the runtime has {PLAIN} and not {OUT_OF_MEMORY}: it was killed, as at the end of a grace period, or "
                 f"exited with {LOST} itself"]
     if end.reason == HOOK_FAILED:
         return [f"its postStart hook failed, so the kubelet killed it{f': {end.message}' if end.message else ''}"]

@@ -1,4 +1,4 @@
-"""A report as records: dicts of plain values by name, as docs/report.schema.json says. Moments and lengths are in
+"""A report as records: dicts of plain values by name, as docs/report.schema.json shows. Moments and lengths are in
 seconds of the trace. What a record does not have is left out of it; what is there and unknown is None."""
 
 from __future__ import annotations
@@ -6,7 +6,8 @@ from __future__ import annotations
 from collections.abc import Iterator
 from typing import Any, TYPE_CHECKING
 
-from replay_tools import events, kubelet as kubelets, provenance, reasons, report as reports, summary as summing
+from replay_tools import (events, kubelet as kubelets, provenance, readiness, reasons, report as reports,
+                          summary as summing)
 from replay_tools.summary import NEVER, came_again, last_moment, seconds_of
 
 if TYPE_CHECKING:
@@ -17,7 +18,7 @@ def records_of(report: reports.Report, kubelet: kubelets.Kubelet | None = None, 
                span: tuple[int, int] | None = None, known: int = NEVER) -> Iterator[dict[str, Any]]:
     """Each record of a report: the node, its events, its pods with their containers and conditions, its own
     conditions, and the evictions; then what the kubelet did, and why instances died and containers waited, where a
-    trace said so. The span are the moments of the trace's first and last tick, where they are known. What is by the
+    trace shown it. The span are the moments of the trace's first and last tick, where they are known. What is by the
     moment `known` was so in the trace that this one follows, and is counted there."""
     if span is None and trace is not None and trace.ticks:
         span = trace.ticks[0].at, trace.ticks[-1].at
@@ -31,7 +32,7 @@ def records_of(report: reports.Report, kubelet: kubelets.Kubelet | None = None, 
     ranked = summing.summaries(report, trace, kubelet, last, known)
     ranks = {summary.number: (rank, summary) for rank, summary in enumerate(ranked, 1)}
     for pod in report.pods:
-        yield (pod_record(report, pod, *ranks[pod.number], known) | deletion_fields(pod, trace)
+        yield (pod_record(report, pod, *ranks[pod.number], known, trace) | deletion_fields(pod, trace)
                | manifest_fields(pod, trace))
         for container in pod.containers:
             yield container_record(report, pod, container, known, trace)
@@ -49,7 +50,7 @@ def records_of(report: reports.Report, kubelet: kubelets.Kubelet | None = None, 
 
 
 def of_trace(trace: traces.Trace | None) -> dict[str, Any]:
-    """When the kubelet was started anew, and whether the trace was imported, where a trace says one of these."""
+    """When the kubelet was started again, and whether the trace was imported, where a trace shows one of these."""
     if trace is None:
         return {}
     starts = trace.kubelet_starts()
@@ -104,7 +105,7 @@ def event_record(report: reports.Report, number: int, event: reports.Event) -> d
 
 
 def reason_fields(event: reports.Event, trace: traces.Trace | None) -> dict[str, Any]:
-    """Of a death why, as a trace says it: whether the code is the instance's own, the reason, the message."""
+    """Of a death why, as a trace shows it: whether the code is the instance's own, the reason, the message."""
     if event.word != "died" or trace is None:
         return {}
     end = trace.reasons.end_of(event)
@@ -114,8 +115,8 @@ def reason_fields(event: reports.Event, trace: traces.Trace | None) -> dict[str,
 
 
 def pod_record(report: reports.Report, pod: reports.Pod, rank: int, summary: summing.Summary,
-               known: int = NEVER) -> dict[str, Any]:
-    """A pod, with what its events come to, and its summary and rank as all tools say them."""
+               known: int = NEVER, trace: traces.Trace | None = None) -> dict[str, Any]:
+    """A pod, with what its events come to, and its summary and rank as all tools show them."""
     namespace, _, name = pod.key.partition("/")
     ended, ready, seen = reports.end_of(pod), pod.condition("Ready"), reports.has_ticks(report, pod)
     evicted = next((eviction for eviction in report.evictions if eviction.number == pod.number), None)
@@ -128,7 +129,7 @@ def pod_record(report: reports.Report, pod: reports.Pod, rank: int, summary: sum
         "restarts": summary.all_restarts, "restarts_since": summary.restarts,
         "deaths": count(pod, "died", known=known), "kills": count(pod, "kill", known=known),
         "backoffs": count(pod, "backoff", known=known), "named": count(pod, "names", known=known),
-        "became_unready": became_unready(pod, known), "unready_seconds": summary.unready_seconds,
+        "became_unready": became_unready(pod, known, trace), "unready_seconds": summary.unready_seconds,
         "evicted_at": evicted.at if evicted else None, "evicted_signal": evicted.signal if evicted else None,
         "evicted_kind": evicted.kind if evicted else None, "worst": summary.found.worst.value,
         "worst_at": summary.found.at, "worst_words": summary.found.words or None, "rank": rank,
@@ -149,9 +150,9 @@ def deletion_fields(pod: reports.Pod, trace: traces.Trace | None) -> dict[str, A
             "deletion_grace_seconds": deletion.grace if deletion else None}
 
 
-def became_unready(pod: reports.Pod, known: int = NEVER) -> int:
+def became_unready(pod: reports.Pod, known: int = NEVER, trace: traces.Trace | None = None) -> int:
     """How often Ready went from True to False, the pod's end included."""
-    spans = reports.ready_spans(pod)
+    spans = readiness.by_rules(trace, pod)
     return sum(before.value == "True" and after.value == "False" and after.since is not None and after.since > known
                for before, after in zip(spans, spans[1:]))
 
@@ -235,7 +236,7 @@ def eviction_record(report: reports.Report, number: int, eviction: reports.Evict
 
 def decision_record(report: reports.Report, number: int, decision: traces.Decision,
                     fact: kubelets.Fact | None) -> dict[str, Any]:
-    """What the kubelet did to a pod, and whether the rules agree; a refused pod is none that they evict."""
+    """What the kubelet did to a pod, and whether the rules agree; a rejected pod is none that they evict."""
     record = {"record": "decision", "node": report.node, "number": number, "at": decision.at, "pod": decision.pod,
               "pod_number": decision.number, "decision": decision.kind, "reason": decision.reason,
               "message": decision.message, "rules_at": None, "agrees": None, "causes": None}

@@ -1,4 +1,4 @@
-"""Reads a report of the program, as docs/report.md says, and what it tells over time."""
+"""Reads a report of the program, as docs/report.md shows, and what it shows over time."""
 
 from __future__ import annotations
 
@@ -21,11 +21,11 @@ LAST_DATE = 253402300799
 
 
 class ReportFault(Exception):
-    """The text is no report; the message says where."""
+    """The text is no report; the message shows where."""
 
 
 class NoLine(ValueError):
-    """It is no line of a report, or none that stands there."""
+    """It is no line of a report, or none that is there."""
 
 
 @dataclass
@@ -38,7 +38,7 @@ class Event:
     number: int | None = None
     """that of its pod, where it has one"""
     anew: int | None = None
-    """the moment of a border behind which what it counts began anew"""
+    """the moment of a rotation after which what it counts began again"""
     was_so: bool = False
     """it was so in the trace before, which is not there"""
 
@@ -55,6 +55,9 @@ class Condition:
     at: int
     reason: str | None
 
+    def copied(self) -> Condition:
+        return Condition(self.kind, self.value, self.at, self.reason)
+
 
 @dataclass
 class Container:
@@ -64,6 +67,9 @@ class Container:
     restarts: str
     ready: str
     started: str
+
+    def copied(self) -> Container:
+        return Container(self.name, self.state, self.code, self.restarts, self.ready, self.started)
 
 
 @dataclass
@@ -82,7 +88,7 @@ class Pod:
     gaps: list[tuple[int, int]] = field(default_factory=list)
     """spans of moments of which nothing is known"""
     anew: int = 0
-    """the place of the event from which on it is told anew, since only the rules had ended it before"""
+    """the place of the event from which on it is printed again, since only the rules had ended it before"""
 
     def condition(self, kind: str) -> Condition:
         """That of a kind of which it has one."""
@@ -103,9 +109,9 @@ class Eviction:
     number: int | None = None
     """that of the pod"""
     anew: int | None = None
-    """the moment of a border behind which its grace period or the pause began anew"""
+    """the moment of a rotation after which its grace period or the pause began again"""
     is_named: bool = False
-    """the rules would evict the pod, and the recording says whom the kubelet evicted"""
+    """the rules would evict the pod, and the recording shows whom the kubelet evicted"""
 
 
 @dataclass
@@ -113,9 +119,9 @@ class Border:
     """Where the report of one trace ends and that of the next begins, of those of several traces."""
 
     since: int
-    """up to when the one says all that happened"""
+    """up to when the one shows all that happened"""
     at: int
-    """from when on the other does; what it says up to then was so before"""
+    """from when on the other does; what it shows up to then was so before"""
     name: str
     """the trace that begins"""
     missing: str | None = None
@@ -140,7 +146,7 @@ class Report:
     borders: list[Border] = field(default_factory=list)
     """of one that is joined of several"""
     heeds_rounds: bool | None = None
-    """what endings.heeds_rounds says of it, once it was asked"""
+    """what endings.heeds_rounds shows of it, once it was asked"""
 
     @property
     def gaps(self) -> list[tuple[int, int]]:
@@ -149,11 +155,11 @@ class Report:
 
     @functools.cached_property
     def names_pods(self) -> bool:
-        """Whether the rules name pods in it and evict none: its trace says whom the node evicted."""
+        """Whether the rules name pods in it and evict none: its trace shows whom the node evicted."""
         return any(event.word == "names" for event in self.events)
 
 
-# of events the words that they may have stand in their table
+# of events the words that they may have are in their table
 FORMS = {
     "node": r"node (\S+) pods=(\d+) ticks=(\d+)",
     "node event": r"event (\d+) node ({node}) (\S.*)",
@@ -170,18 +176,21 @@ FORMS = {
 
 
 @functools.cache
-def forms() -> dict[str, re.Pattern[str]]:
-    """The form of each kind of line."""
+def forms() -> dict[str, list[tuple[str, re.Pattern[str]]]]:
+    """The kinds of lines with their forms, by the first word of a line."""
     kinds = events.kinds().values()
     words = {"node": [kind.word for kind in kinds if kind.subject == "node"],
              "pod": [kind.word for kind in kinds if kind.subject != "node"]}
-    return {name: re.compile(form.replace("{node}", "|".join(words["node"])).replace("{pod}", "|".join(words["pod"])),
-                             re.ASCII) for name, form in FORMS.items()}
+    found: dict[str, list[tuple[str, re.Pattern[str]]]] = {}
+    for name, form in FORMS.items():
+        whole = form.replace("{node}", "|".join(words["node"])).replace("{pod}", "|".join(words["pod"]))
+        found.setdefault(form.partition(" ")[0], []).append((name, re.compile(whole, re.ASCII)))
+    return found
 
 
 def parts_of(line: str) -> tuple[str | None, tuple[Any, ...]]:
     """What kind of line it is, with its parts, which are names and words that can be shown."""
-    for kind, form in forms().items():
+    for kind, form in forms().get(line.partition(" ")[0], ()):
         found = form.fullmatch(line)
         if found and line.isprintable():
             return kind, found.groups()
@@ -268,7 +277,7 @@ def tell_left(named: dict[str, list[Pod]]) -> None:
 
 def pod_at(pods: Iterable[Pod], at: int) -> Pod | None:
     """Of pods of one key, one after the other, that which was there at the moment of an event: the last whose first
-    tick was by then. A pod without ticks has the moment 0 as its first, and its lines say that nothing happened."""
+    tick was by then. A pod without ticks has the moment 0 as its first, and its lines show that nothing happened."""
     begun = [pod for pod in pods if first_tick(pod) <= at]
     return max(begun, key=lambda pod: (first_tick(pod), was_seen(pod), -pod.number)) if begun else None
 
@@ -280,7 +289,7 @@ def was_seen(pod: Pod) -> bool:
 
 
 def number_words(report: Report, pod: Pod) -> str:
-    """What tells a pod from the others of its key, where there are others."""
+    """What distinguishes a pod from the others of its key, where there are others."""
     return f", number {pod.number}" if sum(other.key == pod.key for other in report.pods) > 1 else ""
 
 
@@ -289,7 +298,7 @@ def check_whole(report: Report) -> None:
     if [condition.kind for condition in report.conditions] != list(CONDITIONS):
         raise ReportFault("standard input has no whole report: a condition of the node is missing")
     if len(report.pods) != report.pod_count:
-        raise ReportFault(f"standard input has no whole report: it has {len(report.pods)} pods and says "
+        raise ReportFault(f"standard input has no whole report: it has {len(report.pods)} pods and counts "
                           f"{report.pod_count}")
     for pod in report.pods:
         if [condition.kind for condition in pod.conditions[:4]] != list(POD_CONDITIONS):
@@ -297,7 +306,7 @@ def check_whole(report: Report) -> None:
 
 
 def add_line(report: Report, kind: str, parts: tuple[Any, ...]) -> None:
-    """Adds what a line says. Raises NoLine where it is none of this report."""
+    """Adds what a line shows. Raises NoLine where it is none of this report."""
     if kind == "event":
         at, pod, container, word, rest = parts
         container = None if container == "-" else container
@@ -345,7 +354,7 @@ def checked(event: Event) -> Event:
 
 
 def moment_text(at: int, utc: bool) -> str:
-    """A moment as its seconds, or as a UTC time, which says so, where that was asked for and there is one."""
+    """A moment as its seconds, or as a UTC time, which shows it, where that was asked for and there is one."""
     if not utc or at > LAST_DATE:
         return str(at)
     return datetime.fromtimestamp(at, timezone.utc).strftime("%Y-%m-%d %H:%M:%SZ")
@@ -357,8 +366,8 @@ def first_tick(pod: Pod) -> int:
 
 
 def has_ticks(report: Report, pod: Pod) -> bool:
-    """Whether some tick came after the pod's line, as far as the report tells: a pod without one has the moment 0. Pods
-    come in the order of their lines, so one with 0 behind one with more has none, and so has one beside whose key
+    """Whether some tick came after the pod's line, as far as the report shows: a pod without one has the moment 0. Pods
+    come in the order of their lines, so one with 0 after one with more has none, and so has one next to whose key
     another began at 0."""
     if first_tick(pod) > 0 or pod.events:
         return True
@@ -387,9 +396,10 @@ def end_of_spans(pod: Pod) -> int | None:
     return end[0] if end else pod.left
 
 
-def ready_spans(pod: Pod) -> list[Span]:
-    """The spans of Ready, which is ContainersReady here."""
-    final, spans = pod.condition("Ready"), changes_of_ready(pod)
+def ready_spans(pod: Pod, kind: str = "Ready") -> list[Span]:
+    """The spans of Ready or ContainersReady by the events. Readiness gates make no event, so of a pod that has some
+    these are the spans of ContainersReady."""
+    final, spans = pod.condition(kind), changes_of_ready(pod)
     if (spans[-1].value, spans[-1].since) != (final.value, final.at):
         spans = [Span(final.value, final.at, None)]
     return without_gaps(spans, pod.own_gaps())
@@ -397,7 +407,7 @@ def ready_spans(pod: Pod) -> list[Span]:
 
 def changes_of_ready(pod: Pod) -> list[Span]:
     """The spans of Ready by the pod's events. Containers that are never ready are init containers, or the pod was never
-    ready; which of both the condition's own line says."""
+    ready; which of both the condition's own line shows."""
     first, end = first_tick(pod), end_of(pod)
     ever = {event.container for event in pod.events if event.word == "ready"}
     now, changes = set(), []
@@ -414,9 +424,9 @@ def changes_of_ready(pod: Pod) -> list[Span]:
 
 
 def condition_spans(pod: Pod, condition: Condition) -> list[Span]:
-    """The spans of a condition as far as the report tells them."""
+    """The spans of a condition as far as the report shows them."""
     if condition.kind in ("Ready", "ContainersReady"):
-        return ready_spans(pod)
+        return ready_spans(pod, condition.kind)
     last = Span(condition.value, condition.at, None)
     if condition.kind == "Initialized" and condition.at > first_tick(pod):
         before = Span("False" if condition.value == "True" else "True", None, condition.at)

@@ -16,7 +16,7 @@ def opened(path: str) -> int:
 
 
 def fault(folder: int, is_written: Callable[[str], bool]) -> str | None:
-    """Why nothing may be written into a folder that is open, in words behind its name, or None. `is_written` says of a
+    """Why nothing may be written into a folder that is open, in words after its name, or None. `is_written` shows of a
     name whether it is one of those that are written there. Raises OSError."""
     found, own = os.fstat(folder), os.geteuid()
     if found.st_uid not in (own, 0):

@@ -1,4 +1,5 @@
-"""What was said of pods, as a trace has it beside what the formats read: by the kubelet's journal, or by Events."""
+"""What was reported of pods, as a trace has it next to what the formats read: by the kubelet's journal, or by
+Events."""
 
 from __future__ import annotations
 
@@ -12,15 +13,15 @@ if TYPE_CHECKING:
     from replay_tools import report as reports, traces
 
 UNHEALTHY = "Unhealthy"
-# how the message of an Event goes on behind the word of a probe, as Liveness
+# how the message of an Event goes on after the word of a probe, as Liveness
 FAILED = " probe failed: "
 MOST = 2 ** 31 - 1
 
 
 @dataclass(frozen=True)
 class Said:
-    """One thing that was said: when, of which container, if of one, the reason's word, what it is about (a probe, or
-    why an instance was ended), the grace of an end, how often, and the message."""
+    """One thing that was reported: when, of which container, if of one, the reason's word, what it is about (a probe,
+    or why an instance was ended), the grace of an end, how often, and the message."""
 
     at: int
     container: Optional[str]
@@ -37,7 +38,7 @@ class Said:
         return f"said: {head}{f': {self.message}' if self.message else ''}"
 
     def output_of(self, probe: str) -> Optional[str]:
-        """What a probe put out, where that is said here."""
+        """What a probe put out, where that is printed here."""
         if self.reason != UNHEALTHY or self.message is None:
             return None
         if self.about is not None:
@@ -57,13 +58,13 @@ def said_of(found: dict[str, Any]) -> Optional[Said]:
 
 
 class SaidOfPods:
-    """What the ticks of a trace say, by the numbers of pods."""
+    """What the ticks of a trace show, by the numbers of pods."""
 
     def __init__(self) -> None:
         self.of_pod: dict[int, dict[Said, None]] = {}
 
     def take(self, entries: dict[str, dict[str, Any]], present: dict[str, traces.Pod]) -> None:
-        """What a tick says, by its entries."""
+        """What a tick shows, by its entries."""
         for key, entry in entries.items():
             if "said" not in entry:
                 continue
@@ -71,15 +72,15 @@ class SaidOfPods:
                 self.add(present[key].number, said)
 
     def add(self, number: int, said: Said) -> None:
-        """What is said once more, as in a trace that follows, is said once."""
+        """What is printed once more, as in a trace that follows, is printed once."""
         self.of_pod.setdefault(number, {})[said] = None
 
     def of(self, number: Optional[int]) -> list[Said]:
-        """What was said of a pod, by its moments; nothing of what is no pod's."""
+        """What was reported of a pod, by its moments; nothing of what is no pod's."""
         return [] if number is None else sorted(self.of_pod.get(number, ()), key=lambda said: said.at)
 
     def by_lane(self, number: Optional[int], names: list[str]) -> dict[int, list[Said]]:
-        """What was said of a pod, by the places of its containers, -1 of the pod itself."""
+        """What was reported of a pod, by the places of its containers, -1 of the pod itself."""
         found: dict[int, list[Said]] = {}
         for said in self.of(number):
             found.setdefault(names.index(said.container) if said.container in names else -1, []).append(said)

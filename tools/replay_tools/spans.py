@@ -1,4 +1,4 @@
-"""Spans of time in which a value held, and what of them lies beside gaps of which nothing is known."""
+"""Spans of time in which a value held, and what of them lies next to gaps of which nothing is known."""
 
 from __future__ import annotations
 
@@ -41,7 +41,7 @@ def without_gaps(spans: list[Span], gaps: list[tuple[int, int]]) -> list[Span]:
 
 
 def beside_gap(span: Span, since: int, until: int) -> list[Span]:
-    """A span as what of it lies before a gap and behind it."""
+    """A span as what of it lies before a gap and after it."""
     begun = until if span.since is None else span.since
     if begun >= until or (span.until is not None and span.until <= since):
         return [span]

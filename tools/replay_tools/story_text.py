@@ -1,4 +1,4 @@
-"""The story of one pod, of a report and what its trace has beside it."""
+"""The story of one pod, of a report and what its trace has next to it."""
 
 from __future__ import annotations
 
@@ -88,8 +88,8 @@ def evictions(report: reports.Report, pod: reports.Pod, show: Show) -> list[list
 
 def events(report: reports.Report, pod: reports.Pod, show: Show, kubelet: kubelets.Kubelet | None,
            trace: traces.Trace | None, is_near: Callable[[int], bool]) -> list[str]:
-    """The lines of a table of the events of the pod, those of moments that are near, of what was said of it, of what
-    the kubelet did to it, of its deletion, and of what happened to the node."""
+    """A table of the pod's events near the moment, of what was reported of it, of what the kubelet did to it, of its
+    deletion, and of what happened to the node."""
     rows = [(at, OF_NODE, ["-", "-", what]) for at, what, _ in
             (node_rows(trace, report, pod, show) if trace else ())]
     for event in pod.events:
@@ -119,25 +119,29 @@ def conditions(pod: reports.Pod, show: Show, given: asking.Given) -> list[list[s
     """A row for each span of a condition that is near; the last ends with the pod."""
     rows, last = [], "end" if pod.left is None else show(pod.left)
     for condition in pod.conditions:
-        for span in filter(given.is_span_near, reports.condition_spans(pod, condition)):
+        spans = readiness.by_rules(given.trace, pod) if condition.kind == "Ready" \
+            else reports.condition_spans(pod, condition)
+        for span in filter(given.is_span_near, spans):
             rows.append([condition.kind, span.value, "-" if span.since is None else show(span.since),
                          last if span.until is None else show(span.until), condition.reason or "-"])
     return rows
 
 
 def waits(pod: reports.Pod, show: Show, trace: traces.Trace | None) -> list[str]:
-    """The lines of a table of why its containers waited, where the trace says it."""
+    """The lines of a table of why its containers waited, where the trace shows it."""
     rows = [[show(wait.since), name, "end" if wait.until is None else show(wait.until), wait.words()]
             for name, wait in (trace.reasons.waits_of(pod) if trace else ())]
     return table("Waits", ["from", "container", "until", "why"], rows) if rows else []
 
 
 def gates(pod: reports.Pod, show: Show, trace: traces.Trace | None) -> list[str]:
-    """The lines of a table of its readiness gates that were false, where the trace says it; the rules know none."""
+    """The lines of a table of its readiness gates that were false, where the trace shows it. In versions 1 and 2 the
+    rules know none."""
     rows = [[show(wait.since), gate, "end" if wait.until is None else show(wait.until)]
             for gate, wait in (trace.reasons.gates_of(pod) if trace else ())]
-    return table("Not ready by a readiness gate, whatever the conditions say", ["from", "gate", "until"],
-                 rows) if rows else []
+    title = "Not ready by a readiness gate"
+    title += "" if readiness.closed_gates(trace, pod) else ", whatever the conditions are"
+    return table(title, ["from", "gate", "until"], rows) if rows else []
 
 
 def story(given: asking.Given, pod: reports.Pod, show: Show, kubelet: kubelets.Kubelet | None = None) -> str:
@@ -160,7 +164,8 @@ def story(given: asking.Given, pod: reports.Pod, show: Show, kubelet: kubelets.K
              asking.worst_line(given, pod, show, kubelet),
              f"first tick {show(reports.first_tick(pod))}"
              + (f", ended {by_rules}{show(ended[0])} as {ended[1]}" if ended else "")
-             + (f", gone before {show(pod.left)}" if pod.left is not None else ""), ""]
+             + (f", gone before {show(pod.left)}" if pod.left is not None else ""),
+             *filter(None, [readiness.gate_words(trace, pod, show)]), ""]
     if given.several:
         fact = kubelet.fact(pod.number) if kubelet is not None else None
         lines[1:1] = [*told_of_several.nearest_lines(given.several, pod, rows, fact, show),

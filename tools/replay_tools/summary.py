@@ -1,5 +1,5 @@
 """What a pod came to: the worst that happened to it, its restarts and its seconds without readiness, and its rank among
-others. All tools have these from here, so that a pod stands at the same place in each."""
+others. All tools have these from here, so that a pod is at the same place in each."""
 
 from __future__ import annotations
 
@@ -17,7 +17,7 @@ NEVER = -1
 # for which a container waits as it starts
 STARTING = ("ContainerCreating", "PodInitializing")
 BACK_OFF = "CrashLoopBackOff"
-# what was said of a pod whose containers could not start
+# what was reported of a pod whose containers could not start
 HOLDS_UP = ("FailedMount", "FailedAttachVolume", "FailedCreatePodSandBox", "FailedScheduling", "NetworkNotReady")
 
 
@@ -95,7 +95,7 @@ def summary_of(report: reports.Report, pod: reports.Pod, trace: traces.Trace | N
 
 def worst_of(report: reports.Report, pod: reports.Pod, trace: traces.Trace | None,
              kubelet: kubelets.Kubelet | None, since: int = NEVER) -> Found:
-    """The worst that happened to a pod behind a moment."""
+    """The worst that happened to a pod after a moment."""
     ended = ended_by_node(report, pod, kubelet)
     if ended is not None and ended.at is not None and ended.at > since:
         return ended
@@ -112,7 +112,8 @@ def worst_of(report: reports.Report, pod: reports.Pod, trace: traces.Trace | Non
 
 
 def ended_by_node(report: reports.Report, pod: reports.Pod, kubelet: kubelets.Kubelet | None) -> Found | None:
-    """That the kubelet evicted or ended a pod; or that the rules evict it, where no trace says what the kubelet did."""
+    """That the kubelet evicted or ended a pod; or that the rules evict it, where no trace shows what the kubelet
+    did."""
     fact = kubelet.fact(pod.number) if kubelet else None
     if fact is not None:
         return Found(Worst.ENDED, fact.decision.at, kubelets.event_words(fact.decision))
@@ -186,13 +187,16 @@ def past_wait(pod: reports.Pod, trace: traces.Trace | None) -> Found | None:
 
 
 def never_ready(pod: reports.Pod, trace: traces.Trace | None) -> Found:
+    closed = closed_gate(pod, trace) if pod.condition("ContainersReady").value == "True" else None
+    if closed is not None:
+        return closed
     said = [one for one in (trace.said.of(pod.number) if trace else ()) if one.reason in HOLDS_UP]
     because = f", {said[-1].reason}: {said[-1].message}" if said and said[-1].message else ""
     return Found(Worst.NOT_READY, pod.condition("Ready").at, f"not ready{because}")
 
 
 def closed_gate(pod: reports.Pod, trace: traces.Trace | None) -> Found | None:
-    """That a readiness gate is not true at the end, which the rules know nothing of."""
+    """That a readiness gate is not true at the end. In versions 1 and 2 the rules know nothing of it."""
     gates = trace.reasons.gates_of(pod) if trace and pod.left is None else []
     return next((Found(Worst.NOT_READY, wait.since, f"not ready, since its readiness gate {gate} is false")
                  for gate, wait in gates if wait.until is None), None)
@@ -233,7 +237,7 @@ def last_moment(report: reports.Report, trace: traces.Trace | None = None) -> in
 
 
 def has_ticks(report: reports.Report, pod: reports.Pod, trace: traces.Trace | None) -> bool:
-    """Whether some tick came behind a pod's line, as the trace says it or, without one, as far as the report tells."""
+    """Whether some tick came after a pod's line, as the trace shows it or, without one, as far as the report shows."""
     if trace is None:
         return reports.has_ticks(report, pod)
     ours = trace.pods[pod.number]
@@ -246,13 +250,13 @@ def unready_seconds(pod: reports.Pod, last: int, since: int = NEVER, trace: trac
     was gone, or else until the last moment."""
     end = reports.end_of_spans(pod)
     shown, gates = readiness.spans_of(trace, pod), closed_spans(pod, trace)
-    spans = [span for span in (reports.ready_spans(pod) if shown is None else shown) if span.value == "False"]
+    spans = [span for span in (readiness.by_rules(trace, pod) if shown is None else shown) if span.value == "False"]
     whole = together([*spans, *gates]) if gates and shown is None else spans
     return seconds_of(whole, last if end is None else end, since)
 
 
 def closed_spans(pod: reports.Pod, trace: traces.Trace | None) -> list[reports.Span]:
-    """The spans in which a readiness gate of a pod was not true, which the report does not have."""
+    """The spans in which a readiness gate of a pod was not true, of which a report has no event."""
     return [reports.Span("False", wait.since, wait.until) for _, wait in trace.reasons.gates_of(pod)] if trace else []
 
 
@@ -271,14 +275,14 @@ def together(spans: list[reports.Span]) -> list[reports.Span]:
 
 
 def seconds_of(spans: list[reports.Span], last: int, since: int) -> int:
-    """The seconds of spans behind a moment, of those that are open to the last one."""
+    """The seconds of spans after a moment, of those that are open to the last one."""
     lengths = [(last if span.until is None else min(span.until, last))
                - (since if span.since is None else max(span.since, since)) for span in spans]
     return sum(max(length, 0) for length in lengths)
 
 
 def came_again(pod: reports.Pod, name: str, since: int = NEVER) -> int:
-    """How many instances of a container came after another one, as far as they were recorded, behind a moment."""
+    """How many instances of a container came after another one, as far as they were recorded, after a moment."""
     first: dict[str, int] = {}
     for event in pod.events:
         if event.container == name and event.word in ("started", "died"):

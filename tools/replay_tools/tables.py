@@ -1,5 +1,5 @@
 """Records of reports as tables of SQLite, one table for each kind of record. Each row has the number of its report in
-the file, so that many reports can stand in one."""
+the file, so that many reports can be in one."""
 
 from __future__ import annotations
 
@@ -69,7 +69,7 @@ def add_records(connection: sqlite3.Connection, number: int, records: Iterable[d
 
 
 def application_of(path: str) -> int | None:
-    """The number of the application that a database of SQLite says it is of, None of another file."""
+    """The number of the application that a database of SQLite shows it is of, None of another file."""
     with open(path, "rb") as file:
         header = file.read(100)
     is_database = len(header) == 100 and header.startswith(b"SQLite format 3\0")
@@ -84,14 +84,14 @@ def check_replaceable(path: str, application: int) -> None:
         # a new file in its place would take a device away, /dev/null from all
         raise OSError("it is a device or a pipe")
     if os.path.exists(path) and application_of(path) != application:
-        raise FileExistsError("what stands there is no database that this tool has written")
+        raise FileExistsError("the file is no database that this tool has written")
 
 
 def write_database(path: str, application: int, fill: Callable[..., Any],
                    kinds: tuple[str, ...] = tuple(TABLES)) -> None:
-    """A new file with the tables of these kinds of records, which `fill` is given to fill; it says of which application
-    it is. It stands under its name once it is whole. Raises OSError or sqlite3.Error, and then whatever stood there is
-    as it was."""
+    """A new file with the tables of these kinds of records, which `fill` is given to fill; it shows of which
+    application it is. It is under its name once it is whole. Raises OSError or sqlite3.Error, and then whatever was
+    there is as it was."""
     check_replaceable(path, application)
     folder = os.path.dirname(os.path.abspath(path))
     with tempfile.TemporaryDirectory(dir=folder, prefix=".tables-") as work:

@@ -1,4 +1,4 @@
-"""How tables and events are told in words, and what a trace says of its node beside them."""
+"""How tables and events are printed in words, and what a trace shows of its node next to them."""
 
 from __future__ import annotations
 
@@ -16,9 +16,9 @@ if TYPE_CHECKING:
 
 ZONE = r"(?:Z|[+-]\d\d:\d\d)"
 DATE = re.compile(rf"\d{{4}}-\d\d-\d\d (?=\d\d:\d\d:\d\d{ZONE})")
-# a kubelet says within so many seconds that it kills what a probe ordered to be killed
+# a kubelet shows within so many seconds that it kills what a probe ordered to be killed
 NEAR_KILL = 5
-# a code that no tick says
+# a code that no tick shows
 UNKNOWN = "unknown"
 # a cell that is a moment, or several of them
 MOMENTS = re.compile(rf"({DATE.pattern})[\d:]{{8}}{ZONE}(?:, .*)?", re.ASCII)
@@ -43,7 +43,7 @@ def table(title: str, heads: list[str], rows: list[list[str]]) -> list[str]:
 
 def dated_once(rows: list[list[str]]) -> list[list[str]]:
     """Rows in which the date of a moment is left out where it is that of the row above, or of the moment that a text
-    stands beside."""
+    is next to."""
     above: dict[int, str] = {}
 
     def told(place: int, cell: str, own: str | None) -> str:
@@ -61,14 +61,14 @@ def dated_once(rows: list[list[str]]) -> list[list[str]]:
 
 def event_words(event: reports.Event, is_beside: bool = False, trace: traces.Trace | None = None,
                 is_whole: bool = True) -> tuple[str, str]:
-    """An event's attempt, if it has one, and what happened; an eviction in other words where it stands beside what the
-    kubelet did, and a death with why, as far as the trace says it, and the whole with its message."""
+    """An event's attempt, if it has one, and what happened; an eviction in other words where it is next to what the
+    kubelet did, and a death with why, as far as the trace shows it, and the whole with its message."""
     why = reasons.cause_words(event, int(event.rest[1]), trace, is_whole) if event.word == "died" else ""
     kind = events.kinds()[event.word]
     told = kind.told(event.rest, why, is_beside, reasons.is_guessed(event, trace))
     if event.word == "phase" and event.rest[0] in ("Succeeded", "Failed") and trace is not None \
             and event.number in trace.reasons.unknown_phases:
-        told = "phase Succeeded or Failed: no code is known that tells which"
+        told = "phase Succeeded or Failed: no known code shows which"
     return kind.attempt(event.rest), f"{told}{more_words(event, trace)}"
 
 
@@ -82,7 +82,7 @@ def last_lines(event: reports.Event, trace: traces.Trace | None) -> list[str]:
 
 
 def more_words(event: reports.Event, trace: traces.Trace | None) -> str:
-    """What a trace says of an event beside what the report does: what a probe put out before a kill order, or that it
+    """What a trace shows of an event next to what the report does: what a probe put out before a kill order, or that it
     is known within a second."""
     if trace is None:
         return ""
@@ -132,7 +132,7 @@ def grace_words(kill: reports.Event, died: reports.Event, trace: traces.Trace | 
 
 
 def grace_of(kill: reports.Event, trace: traces.Trace | None) -> int | None:
-    """The grace period of a kill: as the kubelet said it, else as the manifest has it."""
+    """The grace period of a kill: as the kubelet reported it, else as the manifest has it."""
     if trace is None or kill.number is None:
         return None
     said = (one.grace for one in trace.said.of(kill.number) if one.reason == "Killing" and one.grace is not None
@@ -153,8 +153,8 @@ def killed_words(pod: reports.Pod, died: reports.Event, show: Callable[[int], st
 
 def beside_words(pod: reports.Pod, event: reports.Event, show: Callable[[int], str],
                  trace: traces.Trace | None = None) -> str:
-    """What stands next to an event of a pod: the kill that led to a death, and of several traces what is not known of
-    it, since it happened in a gap or is counted anew in a trace."""
+    """What is next to an event of a pod: the kill that led to a death, and of several traces what is not known of
+    it, since it happened in a gap or is counted again in a trace."""
     return killed_words(pod, event, show, trace) + border_words(pod, event, show)
 
 
@@ -171,7 +171,7 @@ def border_words(pod: reports.Pod, event: reports.Event, show: Callable[[int], s
 
 
 def containers_title(pod: reports.Pod, ended: tuple[int, str] | None) -> str:
-    """The title of a pod's containers; where some still ran as it ended or went, that they stand as they were seen."""
+    """The title of a pod's containers; where some still ran as it ended or went, that they are as they were seen."""
     is_over = ended is not None or pod.left is not None
     if is_over and any(container.state == "Running" for container in pod.containers):
         return "Containers, each in the last state that was recorded"
@@ -195,7 +195,7 @@ class Exited:
 
 @dataclass(frozen=True)
 class Reboot:
-    """That the node was started anew, and what exited between the last tick before that and the first one behind it."""
+    """That the node was started again, and what exited between the last tick before that and the first one after it."""
 
     at: int
     before: int
@@ -214,7 +214,7 @@ class Reboot:
 
 @dataclass
 class NotReady:
-    """A time in which the node was not Ready: until the first tick that does not say so, or None."""
+    """A time in which the node was not Ready: until the first tick that does not show it, or None."""
 
     since: int
     until: int | None
@@ -229,7 +229,7 @@ class NotReady:
 
 
 def reboots(trace: traces.Trace, report: reports.Report) -> list[Reboot]:
-    """The starts of the node's system before which it was recorded too. Each trace says the newest one."""
+    """The starts of the node's system before which it was recorded too. Each trace shows the newest one."""
     found, moments = [], [tick.at for tick in trace.ticks]
     for at in dict.fromkeys(tick.lines.booted_at for tick in trace.ticks):
         place = 0 if at is None else bisect_left(moments, at)
@@ -243,7 +243,7 @@ def reboots(trace: traces.Trace, report: reports.Report) -> list[Reboot]:
 
 def exits_unseen(trace: traces.Trace, place: int, seen: list[Exited]) -> list[Exited]:
     """The exits that no tick has, of containers that ran before a tick and of which that lists a later instance: a
-    recorder that starts behind a reboot may come too late for them."""
+    recorder that starts after a reboot may come too late for them."""
     before, behind = listings_at(trace, place - 1), listings_at(trace, place)
     known = {(one.pod, one.name) for one in seen}
     return [Exited(*of, UNKNOWN) for of, listing in before.items() if of not in known and of in behind
@@ -273,8 +273,8 @@ def exits_words(exits: list[Exited]) -> str:
 
 
 def times_not_ready(trace: traces.Trace) -> list[NotReady]:
-    """The times in which the node was not Ready, since the moment that its condition says. One lasts over a gap where
-    the condition says so behind it."""
+    """The times in which the node was not Ready, since the moment that its condition shows. One lasts over a gap where
+    the condition shows it after it."""
     found: list[NotReady] = []
     last = None
     for tick in trace.ticks:
@@ -303,7 +303,7 @@ def not_ready_with(trace: traces.Trace, pods: list[reports.Pod]) -> list[NotRead
     return [one for one in times if any(map(one.holds, moments))]
 
 
-# a kubelet that was started anew asks its probes again; a pod that becomes unready so soon after it does so by that
+# a kubelet that was started again asks its probes again; a pod that becomes unready so soon after it does so by that
 AFTER_START = 60
 RESTARTED = "the kubelet was restarted"
 
@@ -331,7 +331,7 @@ def node_rows(trace: traces.Trace, report: reports.Report, pod: reports.Pod,
 
 def node_lines(trace: traces.Trace, report: reports.Report, pods: list[reports.Pod], show: Callable[[int], str],
                since: int) -> list[str]:
-    """The same of several pods, as far as it was behind a moment, in a line each."""
+    """The same of several pods, as far as it was after a moment, in a line each."""
     booted = [one for one in reboots(trace, report) if one.at > since]
     lines = [(one.at, one.words(f" at {show(one.at)}")) for one in booted
              if any(one.is_of(trace.pods[pod.number]) for pod in pods)]

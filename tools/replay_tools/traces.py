@@ -8,87 +8,35 @@ from collections.abc import Callable, Iterator
 from dataclasses import dataclass, field
 from typing import Any, TYPE_CHECKING
 
-from replay_tools import amounts, first_bytes, outside, packed
+from replay_tools import amounts, first_bytes, outside, packed, pods, signals
 from replay_tools.amounts import Wrong
 from replay_tools.decided import Decision, Deletion, decisions_of, take_words
-from replay_tools.fields import Bounds, bounds_of, dict_at, list_at, number_at, object_at, text_at, value_at
-from replay_tools.limits import memory_in
-from replay_tools.reasons import Reasons, guesses_code, is_guessed_in
+from replay_tools.fields import dict_at, list_at, number_at, object_at, own_bounds_of, text_at, value_at
+from replay_tools.pods import Pod, has_bare_manifest, pod_of
+from replay_tools.reasons import Reasons, gates_in, guesses_code, is_guessed_in
 from replay_tools.said import SaidOfPods
+from replay_tools.signals import Threshold, thresholds_of
 
 if TYPE_CHECKING:
     from replay_tools import report as reports
 
+# who reads a trace finds these here too
+SIGNALS, BYTE_SIGNALS = signals.SIGNALS, signals.BYTE_SIGNALS
+Container = pods.Container
+Probe = pods.Probe
 STATES = ("CONTAINER_CREATED", "CONTAINER_RUNNING", "CONTAINER_EXITED", "CONTAINER_UNKNOWN")
-PROBES = ("startup", "liveness", "readiness")
-# the order in which thresholds are served
-SIGNALS = ("memory.available", "nodefs.available", "imagefs.available", "nodefs.inodesFree", "imagefs.inodesFree",
-           "pid.available")
-BYTE_SIGNALS = SIGNALS[:3]
-DEFAULT_HARD = {"memory.available": "100Mi", "nodefs.available": "10%", "imagefs.available": "15%",
-                "nodefs.inodesFree": "5%", "imagefs.inodesFree": "5%"}
 # what the program takes
 LONGEST_TRACE, LONGEST_LINE = 64 << 20, 1 << 20
 USAGES = ("memory", "volumes", "logs", "writable", "inodes", "pids")
+# members of an entry that say nothing of the pod itself
+LISTED = frozenset(("pod", "containers", "probes", "usage"))
+DECODER = json.JSONDecoder()
+# the entries of so many pods are looked for one by one
+FEW = 3
 
 
 class TraceFault(Exception):
     """The text is no trace, or not the one that was asked for; the message says where."""
-
-
-@dataclass
-class Probe:
-    initial_delay: int
-    period: int
-    timeout: int
-    success_threshold: int
-    failure_threshold: int
-
-
-@dataclass
-class Container:
-    name: str
-    role: str
-    """app, sidecar or init"""
-    probes: dict[str, Probe]
-    requests: dict[str, int]
-    """thousandths by resource; a limit without a request stands for it"""
-    memory_limit: int | None = None
-    """thousandths of a byte"""
-    bounds: Bounds = Bounds()
-    """as its manifest sets them"""
-
-
-@dataclass
-class Pod:
-    number: int
-    key: str
-    policy: str
-    priority: int
-    grace: int
-    """terminationGracePeriodSeconds"""
-    containers: list[Container]
-    first: int
-    """the place of its first tick"""
-    gone: int | None = None
-    """the place of the first tick at which it is not present any more"""
-    uid: str | None = None
-    """as a recording says it; None where it does not"""
-    is_spared: bool = False
-    """it is no candidate for eviction"""
-    memory_limit: int | None = None
-    """of all its containers together, in thousandths of a byte"""
-    is_guessed: bool = False
-    """its manifest was made up by who wrote the trace, and has neither a probe nor resources: these are unknown"""
-
-    def is_present(self, place: int) -> bool:
-        return self.first <= place and (self.gone is None or place < self.gone)
-
-    def request(self, resource: str) -> int:
-        """The effective request, in thousandths: what runs at one time, or the greatest init container."""
-        together = sum(container.requests.get(resource, 0) for container in self.containers if container.role != "init")
-        alone = (container.requests.get(resource, 0) for container in self.containers if container.role == "init")
-        return max(together, *alone, 0)
 
 
 @dataclass
@@ -134,6 +82,17 @@ class Lines:
             self.read(begin, end)
         return self.newest[1]
 
+    def entry(self, key: str, begin: int, end: int) -> dict[str, Any] | None:
+        """The entry of one pod. In a line as recorders write it that is found by how it begins, and read alone."""
+        sign = b'{"pod":"%b","containers":[' % key.encode()
+        place = self.text.find(sign, begin, end) if self.newest[0] != begin else -1
+        if place < 0:
+            return self.entries(begin, end).get(key)
+        try:
+            return DECODER.raw_decode(self.text[place:end].decode())[0]
+        except (ValueError, RecursionError):
+            raise Wrong("line") from None
+
 
 @dataclass
 class Tick:
@@ -157,21 +116,13 @@ class Tick:
         """By the pod's key, as they are written."""
         return self.lines.entries(self.begin, self.end)
 
+    def entry(self, key: str) -> dict[str, Any] | None:
+        """That of one pod."""
+        return self.lines.entry(key, self.begin, self.end)
+
     def may_have(self, name: bytes) -> bool:
         """Whether a member of this name may be in its line, where it may be written with escapes."""
         return any(self.lines.text.find(sign, self.begin, self.end) >= 0 for sign in (name, b"\\u"))
-
-
-@dataclass
-class Threshold:
-    signal: str
-    kind: str
-    text: str
-    limit: int
-    """thousandths"""
-    reclaim: int
-    """thousandths, above the limit"""
-    grace: int
 
 
 @dataclass
@@ -201,7 +152,7 @@ class Trace:
 
     def entry(self, pod: Pod, place: int) -> dict[str, Any] | None:
         """What a tick has of a pod, as it is written; None where the pod is not in it."""
-        return self.ticks[place].entries.get(pod.key) if pod.is_present(place) else None
+        return self.ticks[place].entry(pod.key) if pod.is_present(place) else None
 
     def listing(self, pod: Pod, name: str, place: int) -> Listing | None:
         """The instance of a container that a tick lists, or None."""
@@ -216,6 +167,12 @@ class Trace:
     def pause(self) -> int:
         """evictionPauseSeconds, which version 3 alone has."""
         return number_at(self.settings, "evictionPauseSeconds", 0) if self.settings.get("version") == 3 else 0
+
+    def greatest_delay(self) -> int:
+        """The greatest delay of a restart, in seconds; version 3 has the kubelet's own field for it too."""
+        own = self.settings.get("crashLoopBackOff") if self.settings.get("version") == 3 else None
+        period = own.get("maxContainerRestartPeriod") if isinstance(own, dict) else None
+        return value_at(self.settings, "maxRestartDelay", 300) if period is None else amounts.duration(period)
 
     def pauses_until_gone(self) -> bool:
         """Whether the pause is over once the evicted pod has ended or gone."""
@@ -298,6 +255,16 @@ def present_at_each(trace: Trace) -> Iterator[dict[str, Pod]]:
         yield present
 
 
+def entries_by_pods(trace: Trace, tick: Tick, present: dict[str, Pod],
+                    wanted: set[int] | None) -> list[tuple[Pod, dict[str, Any]]]:
+    """The pods of some numbers that are present, or all of them, each with what a tick has of it."""
+    if wanted is None or len(wanted) > FEW:
+        every = [(present[key], entry) for key, entry in tick.entries.items()]
+        return every if wanted is None else [(pod, entry) for pod, entry in every if pod.number in wanted]
+    pods = [pod for pod in map(trace.pods.__getitem__, sorted(wanted)) if present.get(pod.key) is pod]
+    return [(pod, entry) for pod in pods if (entry := tick.entry(pod.key)) is not None]
+
+
 def listing_of(found: dict[str, Any]) -> Listing:
     state = value_at(found, "state")
     if isinstance(state, int) and 0 <= state < len(STATES):
@@ -345,7 +312,7 @@ def trace_of(text: bytes, path: str, watch: Callable[..., Any] | None = None) ->
                 watch(trace, present)
         except Wrong:
             raise TraceFault(f"{path}: line {number} is no line of a trace there "
-                             "(kubelet-replay explain says what it lacks)") from None
+                             "(kubelet-replay explain shows what it lacks)") from None
     if trace is None:
         raise TraceFault(f"{path} is no trace: it has no line")
     drop_wrong_deletions(trace)
@@ -380,6 +347,9 @@ def trace_with(trace: Trace | None, present: dict[str, Pod], lines: Lines, begin
         pod.uid = outside.text_of(found.get("uid"))
         pod.is_spared = trace.heeds_words() and found.get("spared") is True
         pod.is_guessed = is_guessed_in(found, "manifest") and has_bare_manifest(pod)
+        if trace.heeds_words():
+            pod.gates, pod.own = gates_in(found), own_bounds_of(found["pod"]["spec"].get("resources"))
+        trace.reasons.has_gates |= bool(pod.gates)
         present[pod.key] = pod
         trace.pods.append(pod)
     elif kind == "gone":
@@ -387,10 +357,13 @@ def trace_with(trace: Trace | None, present: dict[str, Pod], lines: Lines, begin
     elif kind == "tick":
         add_tick(trace, present, tick_of(found, lines, begin, end))
         trace.ticks[-1].is_judged = not (trace.heeds_words() and found.get("judged") is False)
-        take_words(trace, present)
+        entries = trace.ticks[-1].entries
+        # most entries list containers and samples alone
+        others = {key: entry for key, entry in entries.items() if not LISTED.issuperset(entry)}
+        take_words(trace, others, present)
         trace.decisions += decisions_of(trace, found)
-        trace.reasons.take(trace.ticks[-1].at, trace.ticks[-1].entries, present)
-        trace.said.take(trace.ticks[-1].entries, present)
+        trace.reasons.take(trace.ticks[-1].at, entries, others, present)
+        trace.said.take(others, present)
     else:
         raise Wrong("kind")
     return trace
@@ -427,69 +400,15 @@ def not_ready_of(found: dict[str, Any]) -> dict[str, Any] | None:
 
 
 def entries_of(found: dict[str, Any]) -> dict[str, dict[str, Any]]:
-    return {text_at(entry, "pod"): entry for entry in list_at(found, "pods")}
+    entries = list_at(found, "pods")
+    keys: list[Any] = [entry.get("pod") for entry in entries]
+    if not {str}.issuperset(map(type, keys)):
+        raise Wrong("pod")
+    return dict(zip(keys, entries))
 
 
 def samples(found: dict[str, Any], name: str) -> dict[str, int]:
     return {signal: amounts.quantity(value) for signal, value in dict_at(found, name).items() if value is not None}
-
-
-def pod_of(number: int, manifest: dict[str, Any], first: int) -> Pod:
-    metadata, spec = object_at(manifest, "metadata"), object_at(manifest, "spec")
-    key = f"{text_at(metadata, 'namespace', 'default')}/{text_at(metadata, 'name')}"
-    containers = [container_of(found, "sidecar" if value_at(found, "restartPolicy") == "Always" else "init")
-                  for found in list_at(spec, "initContainers")]
-    containers += [container_of(found, "app") for found in list_at(spec, "containers")]
-    return Pod(number, key, text_at(spec, "restartPolicy", "Always"), number_at(spec, "priority", 0),
-               number_at(spec, "terminationGracePeriodSeconds", 30), containers, first,
-               memory_limit=memory_in(spec.get("resources")))
-
-
-def has_bare_manifest(pod: Pod) -> bool:
-    """Whether no container has a probe, a request or a limit. A manifest made of an owner's template has what the owner
-    sets."""
-    return not pod.memory_limit and not any(one.probes or one.requests or one.memory_limit for one in pod.containers)
-
-
-def container_of(found: dict[str, Any], role: str) -> Container:
-    probes = {kind: probe_of(dict_at(found, f"{kind}Probe")) for kind in PROBES
-              if value_at(found, f"{kind}Probe") is not None}
-    resources = dict_at(found, "resources")
-    requests = {resource: amounts.quantity(value) for named in ("limits", "requests")
-                for resource, value in dict_at(resources, named).items()
-                if resource in ("memory", "ephemeral-storage") and value is not None and amounts.quantity(value)}
-    memory_limit = value_at(dict_at(resources, "limits"), "memory")
-    return Container(text_at(found, "name"), role, probes, requests,
-                     None if memory_limit is None else amounts.quantity(memory_limit), bounds_of(resources))
-
-
-def probe_of(found: dict[str, Any]) -> Probe:
-    return Probe(number_at(found, "initialDelaySeconds", 0), number_at(found, "periodSeconds", 10),
-                 number_at(found, "timeoutSeconds", 1), number_at(found, "successThreshold", 1),
-                 number_at(found, "failureThreshold", 3))
-
-
-def thresholds_of(settings: dict[str, Any]) -> list[Threshold]:
-    """The thresholds that a node line sets, in the order in which they are served."""
-    capacity = {signal: amounts.quantity(value) for signal, value in dict_at(settings, "capacity").items()
-                if value is not None}
-    hard = DEFAULT_HARD if value_at(settings, "evictionHard") is None else dict_at(settings, "evictionHard")
-    soft = dict_at(settings, "evictionSoft")
-    graces, reclaims = dict_at(settings, "evictionSoftGracePeriod"), dict_at(settings, "evictionMinimumReclaim")
-    found = []
-    for signal in SIGNALS:
-        reclaim = amounts.limit(value_at(reclaims, signal, 0), capacity.get(signal)) or 0
-        for kind, limits in (("hard", hard), ("soft", soft)):
-            text = value_at(limits, signal)
-            amount = None if text is None or is_off(text) else amounts.limit(text, capacity.get(signal))
-            if amount is not None:
-                grace = amounts.duration(text_at(graces, signal)) if kind == "soft" else 0
-                found.append(Threshold(signal, kind, str(text), amount, reclaim, grace))
-    return found
-
-
-def is_off(text: int | str) -> bool:
-    return isinstance(text, str) and text.endswith("%") and amounts.hundredths(text) in (0, 10000)
 
 
 def check_belongs(trace: Trace, report: reports.Report, path: str) -> None:

@@ -25,30 +25,30 @@ class Command:
     lists_pods: bool = False
     """without a pod it lists those of a namespace"""
     takes_several: bool = False
-    """it tells of several traces, and of those of a cluster's node"""
+    """it takes several traces, and the traces of a cluster's node"""
     is_of_program: bool = False
     """the program does it"""
     subcommands: tuple[str, ...] = ()
 
 
 COMMANDS = {
-    "record": Command("record", "record a node", takes_file=False),
-    "run": Command("run", "the report of a trace", names_files=True, is_of_program=True),
-    "check": Command("check", "whether a file is a trace, or its first faulty line", names_files=True,
+    "record": Command("record", "record a node as a trace", takes_file=False),
+    "run": Command("run", "write the report of a trace", names_files=True, is_of_program=True),
+    "check": Command("check", "test whether a file is a trace, or print its first faulty line", names_files=True,
                      is_of_program=True),
-    "explain": Command("explain", "what a refusal means, and what to do", names_files=True),
-    "story": Command("story", "one pod's story", "one", lists_pods=True, takes_several=True),
-    "why": Command("why", "what the trace holds around each event of one pod", "one", takes_several=True),
-    "page": Command("page", "a page of a node", names_files=True, takes_several=True),
-    "timeline": Command("timeline", "a picture, of all pods or of those named", "any", takes_several=True),
-    "json": Command("json_lines", "a report as JSON lines, or with --sqlite FILE as tables", takes_several=True),
-    "what-if": Command("what_if", "a trace replayed with an edit"),
-    "import": Command("import_journal", "a trace out of a kubelet's journal, where none was recorded",
+    "explain": Command("explain", "explain why the program rejects a trace", names_files=True),
+    "story": Command("story", "show what happened to a pod, and why", "one", lists_pods=True, takes_several=True),
+    "why": Command("why", "show what led to each event of a pod", "one", takes_several=True),
+    "page": Command("page", "make an HTML page of a node", names_files=True, takes_several=True),
+    "timeline": Command("timeline", "draw pods as an SVG picture", "any", takes_several=True),
+    "json": Command("json_lines", "write a report as JSON lines, or as tables of SQLite", takes_several=True),
+    "what-if": Command("what_if", "replay a trace as it is and with an edit"),
+    "import": Command("import_journal", "make a trace from a kubelet's journal",
                       takes_file=False),
-    "fleet": Command("fleet", "the traces of many nodes, and their worst pods", takes_file=False, names_files=True,
+    "fleet": Command("fleet", "replay the traces of many nodes, and find the worst", takes_file=False, names_files=True,
                      subcommands=("run", "worst")),
-    "fetch": Command("fetch", "the traces of a cluster's nodes, into a folder", takes_file=False),
-    "nodes": Command("nodes", "which nodes of a cluster record, since when, how much", takes_file=False),
+    "fetch": Command("fetch", "copy the traces of a cluster's nodes into a folder", takes_file=False),
+    "nodes": Command("nodes", "list the nodes of a cluster that record", takes_file=False),
 }
 # what has them all
 ENTRIES = {"kubelet-replay": "kubelet_replay", "kubectl-replay": "kubectl_replay",
@@ -64,7 +64,7 @@ def start(given: list[str]) -> int:
 
 
 def run(name: str, words: list[str]) -> int:
-    """The status of a tool, whose faults are said under its name."""
+    """The status of a tool, whose faults are printed under its name."""
     return entry.answered(name, lambda: module_of(name).main(words), words)
 
 
@@ -74,12 +74,12 @@ def is_tool(name: str) -> bool:
 
 
 def help_of(name: str) -> str:
-    """What a tool says of itself."""
+    """What a tool shows of itself."""
     return parser_of(name).text
 
 
 def parser_of(name: str, given: list[str] | None = None) -> entry.Words:
-    """The words that a command takes, behind a subcommand where it has some."""
+    """The words that a command takes, after a subcommand where it has some."""
     subcommands = COMMANDS[name].subcommands
     chosen = [word for word in (given or [])[:1] if word in subcommands] or list(subcommands[:1])
     return module_of(name).parser(*chosen)

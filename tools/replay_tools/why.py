@@ -12,6 +12,7 @@ from typing import Any
 
 from replay_tools import endings, outside, report as reports, traces
 from replay_tools.fields import Bounds, bounds_of, text_at
+from replay_tools.pods import Container, Probe
 
 # an exit behind a run this long, in seconds, begins the count of exits anew
 LONG_RUN = 600
@@ -32,7 +33,7 @@ class Results:
     """The results of a probe from the start of an instance to an event, as runs of equal ones."""
 
     kind: str
-    probe: traces.Probe
+    probe: Probe
     since: int | None
     runs: list[tuple[str | None, list[int]]]
 
@@ -268,13 +269,11 @@ class Ticks:
 
     def take(self, trace: traces.Trace, tick: traces.Tick, present: dict[str, traces.Pod]) -> None:
         now, tells_use = {}, any(map(tick.may_have, SIGNS_OF_USE))
-        for key, entry in tick.entries.items():
-            pod = present[key]
-            if self.wanted is None or pod.number in self.wanted:
-                self.of(trace, pod).take(tick.at, entry)
-                now[pod.number] = pod
-                if tells_use:
-                    self.of(trace, pod).take_used(tick.at, entry)
+        for pod, entry in traces.entries_by_pods(trace, tick, present, self.wanted):
+            self.of(trace, pod).take(tick.at, entry)
+            now[pod.number] = pod
+            if tells_use:
+                self.of(trace, pod).take_used(tick.at, entry)
         for number, pod in self.listed.items():
             if number not in now and present.get(pod.key) is pod:
                 self.found[number].take(tick.at, {})
@@ -352,7 +351,7 @@ def counted(exits: list[Exit]) -> list[Exit]:
     return exits[-exits[-1].number :] if exits else []
 
 
-def results_of(ticks: PodTicks, container: traces.Container, event: reports.Event, start: tuple[str, int] | None,
+def results_of(ticks: PodTicks, container: Container, event: reports.Event, start: tuple[str, int] | None,
                died: bool) -> list[Results]:
     """The results of the probes that an event is of, from the start of the instance on."""
     kinds = {"startup-passed": ("startup",), "kill": tuple(event.rest[1:]), "ready": ("startup", "readiness"),

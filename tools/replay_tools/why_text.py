@@ -7,6 +7,7 @@ from typing import Any, TYPE_CHECKING
 
 from replay_tools import entry, events, kubelet as kubelets, provenance, readiness, reasons, traces, why
 from replay_tools.amounts import amount_text
+from replay_tools.signals import BYTE_SIGNALS
 from replay_tools.telling import (DECIDED, OF_NODE, SAID_LATER, beside_words, event_words, node_rows, rank_of,
                                   rank_of_said, table)
 
@@ -33,7 +34,7 @@ def whole_text(trace: traces.Trace, report: reports.Report, pod: reports.Pod, sh
                *beside(pod, around, show, kubelet), *told(trace, pod, around, show), *throttled_lines(around, show)])
              for around in why.around_events(trace, report, pod)]
     parts += [(at, DECIDED, lines) for at, lines in kubelet_parts(trace, report, pod, show, kubelet)]
-    parts += [(at, SAID_LATER, lines) for at, lines in wait_parts(trace, pod, show)]
+    parts += [(at, SAID_LATER, lines) for at, lines in wait_parts(trace, pod, show) + gate_parts(trace, pod, show)]
     parts += [(said.at, rank_of_said(said),
                [" ".join(filter(None, [f"{show(said.at)} ", said.container, said.words()]))])
               for said in trace.said.of(pod.number)]
@@ -85,6 +86,13 @@ def wait_parts(trace: traces.Trace, pod: reports.Pod, show: Callable[[int], str]
             for name, wait in trace.reasons.waits_of(pod)]
 
 
+def gate_parts(trace: traces.Trace, pod: reports.Pod, show: Callable[[int], str]) -> list[tuple[int, list[str]]]:
+    """Which readiness gates kept a pod from being Ready, by moment."""
+    return [(wait.since, [f"{show(wait.since)}  readiness gate {gate} is not True, so the pod is not Ready",
+                          f"until {'the end of the trace' if wait.until is None else show(wait.until)}"])
+            for gate, wait in readiness.closed_gates(trace, pod)]
+
+
 def heading(event: reports.Event, show: Callable[[int], str], kubelet: kubelets.Kubelet | None = None,
             trace: traces.Trace | None = None) -> str:
     attempt, what = event_words(event, kubelet is not None, trace)
@@ -124,7 +132,7 @@ def use_lines(trace: traces.Trace, around: why.Around, show: Callable[[int], str
     rows = [[show(use.at), amount_text(None if use.memory is None else 1000 * use.memory, True),
              "-" if use.cpu is None else f"{use.cpu / 1000:g}"] for use in kept]
     lines = table("what it used:", ["moment", "memory", "cores"], rows)[:-1]
-    return lines + left_out(len(uses) - len(kept), "samples behind the first")
+    return lines + left_out(len(uses) - len(kept), "samples after the first")
 
 
 def throttled_lines(around: why.Around, show: Callable[[int], str]) -> list[str]:
@@ -187,7 +195,7 @@ def left_out(count: int, what: str) -> list[str]:
 
 def exit_lines(trace: traces.Trace, pod: reports.Pod, around: why.Around, show: Callable[[int], str]) -> list[str]:
     kept = around.exits[-MOST_ROWS:]
-    policy, most = trace.pods[pod.number].policy, traces.value_at(trace.settings, "maxRestartDelay", 300)
+    policy, most = trace.pods[pod.number].policy, trace.greatest_delay()
     name = around.event.name
     rows = [[str(found.number), str(found.attempt), "-" if found.started is None else show(found.started),
              show(found.died), f"{found.run} s",
@@ -208,11 +216,11 @@ def reason_of(trace: traces.Trace, pod: reports.Pod, name: str, found: why.Exit)
 
 def evicted_lines(evicted: why.Evicted, show: Callable[[int], str], is_kubelets: bool = False) -> list[str]:
     """The threshold of an eviction, its samples, and the pods in the order in which the rules rank them."""
-    of_bytes = evicted.signal in traces.BYTE_SIGNALS
+    of_bytes = evicted.signal in BYTE_SIGNALS
     lines = threshold_lines(evicted, of_bytes, show) + pause_lines(evicted, show, is_kubelets)
-    lines += sample_lines(evicted, of_bytes, show, is_kubelets) if evicted.samples else ["no sample stands near it"]
+    lines += sample_lines(evicted, of_bytes, show, is_kubelets) if evicted.samples else ["no sample is near it"]
     if not evicted.candidates:
-        return [*lines, "each pod that was present is spared, so none is ranked"]
+        return [*lines, "each pod that was present is exempt, so none is ranked"]
     with_requests = any(candidate.request is not None for candidate in evicted.candidates)
     rows = [candidate_row(place, candidate, of_bytes, show, victim_word(evicted))
             for place, candidate in enumerate(evicted.candidates, 1)]
@@ -220,7 +228,7 @@ def evicted_lines(evicted: why.Evicted, show: Callable[[int], str], is_kubelets:
                    ["place", "pod", "usage", "request", "above", "priority", "class", ""], rows)[:-1]
     lines += [f"their order: {order_words(evicted, with_requests)}"]
     if evicted.spared:
-        lines += [f"spared, and no candidates: {', '.join(evicted.spared[:MOST_ROWS])}"]
+        lines += [f"exempt, and no candidates: {', '.join(evicted.spared[:MOST_ROWS])}"]
         lines += left_out(len(evicted.spared) - MOST_ROWS, "more of these")
     if not evicted.is_victim_first:
         lines += [f"the {victim_word(evicted)} pod does not come first in it"]
@@ -279,7 +287,7 @@ def sample_lines(evicted: why.Evicted, of_bytes: bool, show: Callable[[int], str
     lines = table(title, heads, rows)[:-1]
     least = min((value for _, value, _ in samples if value is not None), default=None)
     if len(samples) > len(kept):
-        lines.append(f"{len(samples) - len(kept)} samples behind the first are left out; the least of all is "
+        lines.append(f"{len(samples) - len(kept)} samples after the first are left out; the least of all is "
                      f"{amount_text(least, of_bytes)}")
     return lines
 

@@ -16,7 +16,7 @@ from selenium.webdriver.common.by import By
 from selenium.webdriver.common.keys import Keys
 
 WIDTH, HEIGHT = 1280, 900
-# the lanes begin behind the names and end before the edge, as lanes.js and draw.js have it
+# the lanes begin after the names and end before the edge, as lanes.js and draw.js have it
 LEFT, RIGHT = 170, 10
 # processor seconds of a page that is quick
 LONGEST_STEP, LONGEST_LOAD = 1.5, 8.0
@@ -52,7 +52,7 @@ class Page:
         self.driver.quit()
 
     def wait(self):
-        """Two frames, behind which what was asked for is drawn."""
+        """Two frames, after which what was asked for is drawn."""
         self.driver.execute_async_script(FOUND)
 
     def text(self, selector):
@@ -258,7 +258,7 @@ def check_narrow(chromedriver, path):
         tell("shows there what became of a pod", (page.text(".meta"), page.script(cut)),
              ("evicted 30 by nodefs.available · BestEffort", False))
         page.pinch(page.row("default/a"), (180, 220), (140, 260))
-        # the lanes have 226 px, of 104 on the left: 11.7 and 18.8 s are then 26 and 146 px behind these
+        # the lanes have 226 px, of 104 on the left: 11.7 and 18.8 s are then 26 and 146 px after these
         tell("zooms there by two fingers", page.text("#range"), "10 – 23 (13 s)")
         page.click("#whole")
         page.click(".pod .name")
@@ -389,7 +389,7 @@ def check_said(chromedriver, path):
         page.press(Keys.ESCAPE)
         page.click_at(page.row("shop/web-0"), 15 / 40, 20)
         tell("tells it beside the event", "said: Killing, liveness, grace period 5 s" in page.text("#panel"), True)
-        tell("has it in the legend", "said of it" in page.text("#legend"), True)
+        tell("has it in the legend", "reported of it" in page.text("#legend"), True)
         tell("of what was said: no error came", page.log(), [])
 
 

@@ -1,5 +1,5 @@
 """Test functions as unittest has them: a case of each module, whose methods are its functions. Each comparison of them
-is a sub-test, so that one that fails hides none behind it."""
+is a sub-test, so that one that fails hides none after it."""
 
 import contextlib
 import fnmatch
@@ -94,7 +94,7 @@ def end_children():
 
 
 def tests_in(module):
-    """The tests of a module, in the order in which they stand there."""
+    """The tests of a module, in the order in which they are there."""
     functions = {name: function for name, function in vars(module).items()
                  if name.startswith(PREFIX) and callable(function)}
     methods = {name: method_of(function) for name, function in functions.items()}

@@ -15,7 +15,7 @@ TOP = os.path.dirname(TOOLS)
 sys.path += [TOOLS, f"{HERE}/commands", f"{TOP}/bench/lib", f"{TOP}/bench/lib/real_node"]
 # python3 -m unittest takes no such word
 WITHOUT_PROGRAM = "--without-program" in sys.argv[1:] or "WITHOUT_PROGRAM" in os.environ
-# in place of the program one that says that it was asked
+# in place of the program one that shows that it was asked
 REPLAY = f"{HERE}/commands/no_program" if WITHOUT_PROGRAM else os.environ.get("KUBELET_REPLAY", f"{TOP}/kubelet_replay")
 # seconds; what goes on by mistake ends all the same, and what a machine that does much else runs comes to its end
 LONGEST = 600
@@ -84,7 +84,7 @@ def replayed(trace):
 
 
 def expect_refused(name, answer, status, words, means=None):
-    """One line on standard error with some words, and one more where it says what they mean; nothing on standard
+    """One line on standard error with some words, and one more where it shows what they mean; nothing on standard
     output, and a status."""
     got, out, said = answer
     lines = said.split("\n")

@@ -1,4 +1,4 @@
-"""Counts what an imported trace says beside what a kubelet did: `import_counts.py LEVEL[,LEVEL ..] FOLDER ..` prints a
+"""Counts what an imported trace says next to what a kubelet did: `import_counts.py LEVEL[,LEVEL ..] FOLDER ..` prints a
 table for each level of verbosity, and what is not in the trace; `import_counts.py keep FOLDER INTO` makes a recording
 of the tests out of a run. A run's folder has kubelet.log.xz, a log at -v=4, shown.jsonl.xz, the kubelet's /pods twice a
 second, ctr-events.gz, the runtime's events, and watch.jsonl.gz, the pods' objects. One that bench/real_node --api keeps
@@ -63,11 +63,11 @@ def pods_of(folder):
     return json.dumps({"kind": "PodList", "items": list(found.values())}, separators=(",", ":"))
 
 
-# --- beside what is imported ---
+# --- next to what is imported ---
 
 
 def imported(folder, level, replay):
-    """What is made of a run's log at a level, beside what the kubelet did."""
+    """What is made of a run's log at a level, next to what the kubelet did."""
     with tempfile.TemporaryDirectory() as made:
         facts, log = facts_of(folder), from_log.at_level(read_lzma(f"{folder}/kubelet.log.xz"), level)
         from_log.import_log(log, pods_of(folder), time.gmtime(facts[0].moment).tm_year, f"{made}/log", replay)

@@ -128,6 +128,6 @@ def decisions_of(records, kind):
 
 
 def lines_of_pod(records, key="shop/web"):
-    """The lines that say that a pod comes or goes."""
+    """The lines that show that a pod comes or goes."""
     return [record["kind"] for record in records if record.get("pod") == key or record["kind"] == "pod" and (
         "/".join(record["pod"]["metadata"][name] for name in ("namespace", "name")) == key)]

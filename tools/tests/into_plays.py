@@ -86,7 +86,7 @@ class Into:
 
 
 def recorded_here(into, clock, *words):
-    """Records a play in this process, which may stand in for the system; what is said."""
+    """Records a play in this process, which may replace the system; what is said."""
     play, said = Play(f"{into.run}/play.json"), []
     sources = Sources("n1", run=lambda asked, _: play.answer(asked, clock.now()))
     words = words_of(["--node", "n1", "--into", into.folder, *words])
@@ -107,7 +107,7 @@ def follows(text):
 
 
 def parts_of(text):
-    """A trace as what it begins with, which shows what was known, and what comes behind that."""
+    """A trace as what it begins with, which shows what was known, and what comes after that."""
     lines = text.splitlines(True)
     known = follows(text)
     if known is None:
@@ -118,7 +118,7 @@ def parts_of(text):
 
 
 def laid(texts):
-    """Traces as one, laid one behind the other."""
+    """Traces as one, laid one after the other."""
     return "".join(parts_of(text)[1] for text in texts)
 
 
@@ -145,9 +145,9 @@ PROBED = {
 
 
 def probed_play():
-    """What a border could lose: startup that has passed, one that fails over it, a delay that is over, failures before
-    it that order a kill behind it, readiness that wants two successes, a sidecar that was started and has exited, a
-    container that the runtime has removed, and one that is unknown."""
+    """What a rotation could lose: startup that has passed, one that fails over it, a delay that is over, failures
+    before it that order a kill after it, readiness that wants two successes, a sidecar that was started and has exited,
+    a container that the runtime has removed, and one that is unknown."""
     made = [{"id": f"c{number}", "pod": f"shop/{name}", "name": "app", "attempt": 0, "created": 2, "started": 3}
             for number, name in enumerate(PROBED)]
     by_pod = {each["pod"]: each for each in made}

@@ -1,4 +1,4 @@
-"""Plays that are recorded as several traces, and traces by hand, for the tests of what is told of several."""
+"""Plays that are recorded as several traces, and hand-written traces, for the tests of what is told of several."""
 
 import gzip
 import json
@@ -10,7 +10,7 @@ from into_plays import Into, series, unpacked
 
 
 def restarting_play():
-    """A pod whose container exits six times, at last behind a kill, and one that is not ready for a while."""
+    """A pod whose container exits six times, at last after a kill, and one that is not ready for a while."""
     made, at = [], 5
     for attempt, (runs, waits) in enumerate([(8, 2), (8, 3), (12, 5), (14, 2), (10, 12), (60, 0)]):
         made.append({"id": f"w{attempt}", "pod": "shop/web", "name": "app", "attempt": attempt, "created": at,

@@ -1,4 +1,4 @@
-"""Runs the tests of the tools: each with recorded answers, known reports or words alone. README.md says what is kept
+"""Runs the tests of the tools: each with recorded answers, known reports or words alone. README.md shows what is kept
 here. With `--write` it writes what the tools answer in place of what was kept, to be looked at, one by one; with
 `--without-program` it leaves out the tests that ask the program; `--jobs N` has so many run at a time; other words
 choose the tests whose names have one of them."""
@@ -43,7 +43,7 @@ def longest_first(tests):
 
 
 def run_tests(tests, jobs):
-    """Runs tests, and says how many checks passed and failed, and what took long; the status."""
+    """Runs tests, and shows how many checks passed and failed, and what took long; the status."""
     began = time.monotonic()
     with tempfile.TemporaryDirectory(ignore_cleanup_errors=True) as room:
         os.chmod(room, 0o711)

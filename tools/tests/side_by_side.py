@@ -1,5 +1,5 @@
 """Runs tests so many at a time, each in a process and with a folder of its own. One that crashes its process ends
-alone: a keeper stands above each, to which what a test has started and left comes, and which ends that with it."""
+alone: a keeper is above each, to which what a test has started and left comes, and which ends that with it."""
 
 import collections
 import contextlib
@@ -141,7 +141,7 @@ def keep(test, pipe, room, run):
             perform(test, pipe, room)
         signal.pthread_sigmask(signal.SIG_UNBLOCK, ending.INTERRUPTS)
         if os.getppid() == run:
-            # behind a line that the test may not have brought to its end
+            # after a line that the test may not have brought to its end
             os.write(pipe, b"\n")
             tell(pipe, EXITED, status_of(identity))
     finally:
@@ -186,8 +186,8 @@ class Job:
 
 
 class Run:
-    """Tests that run so many at a time, and the counts of their checks. Each that fails is told as it does, and so is one
-    that takes longer than LONGEST_TEST, which ends it."""
+    """Tests that run so many at a time, and the counts of their checks. Each that fails is told as it does, and so is
+    one that takes longer than LONGEST_TEST, which ends it."""
 
     def __init__(self, room, most):
         self.room, self.most = room, most

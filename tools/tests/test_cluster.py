@@ -103,7 +103,7 @@ def test_nodes():
                        "the recorders can't be listed: kubectl: not expected: get pods -n far")
         cluster.put("pods.json", "[]")
         expect_refused("nodes of no list", cluster.run("nodes"), 1, "kubectl's answer is no list of pods")
-        expect_refused("nodes of a word", cluster.run("nodes", "n1"), 2, "n1 is no word of it")
+        expect_refused("nodes of a word", cluster.run("nodes", "n1"), 2, "n1 is no known argument")
 
 
 def test_fetch():
@@ -130,7 +130,7 @@ def test_fetch():
         expect("fetch --since", cluster.asked(), ["00-00-40", "00-01-00", "00-01-20"])
         status, told, said = cluster.fetch("--all", "--at", "2026-01-01T00:00:45Z")
         expect("fetch --all --at", (status, said, [line[:2] for line in told.split("\n")[:-1]]), (
-            1, "fetch: n2: its recorder holds no trace yet\nfetch: n3: its recorder recorder-c is Pending\n", ["n1"]))
+            1, "fetch: n2: its recorder has no trace yet\nfetch: n3: its recorder recorder-c is Pending\n", ["n1"]))
         expect("fetch, by the plugin", cluster.run("kubectl-replay", "fetch", "n1", "--into", f"{cluster.path}/here"),
                cluster.fetch("n1"))
 
@@ -162,12 +162,12 @@ def test_fetch_refused():
             ([], 2, "it takes nodes, or --all and none"),
             (["n1", "--all"], 2, "it takes nodes, or --all and none"),
             (["n12"], 2, "no recorder on n12; the nearest: n2, n1"),
-            (["worker-9"], 2, "no recorder on worker-9; there are those of n1, n2, n3"),
+            (["worker-9"], 2, "no recorder on worker-9; there are recorders on n1, n2, n3"),
             (["n1", "--since", "soon"], 2, "--since takes a time"),
             (["n1", "--since", "2h", "--at", "03:10Z"], 2, "exclude each other"),
-            (["n1", "--since", "2h"], 1, "n1: its recorder holds no trace of that time; it holds those of 2026-01-01 "
+            (["n1", "--since", "2h"], 1, "n1: its recorder has no trace of that time; it has traces of 2026-01-01 "
                                          "00:00:00Z to 2026-01-01 00:01:21Z"),
-            (["n2"], 1, "n2: its recorder holds no trace yet"),
+            (["n2"], 1, "n2: its recorder has no trace yet"),
             (["n3"], 1, "n3: its recorder recorder-c is Pending"),
             (["n1", "--recorders", "other"], 2, "no recorder in the namespace other"),
         ):
@@ -222,10 +222,10 @@ def test_story_of_a_cluster():
         for words, status, said in (
             (["story", "web", "--node", "n12"], 2, "no recorder on n12; the nearest: n2, n1"),
             (["story", "web", "--node", "n3"], 1, "n3: its recorder recorder-c is Pending"),
-            (["story", "web", "--node", "n1", "--since", "1h"], 1, "n1: its recorder holds no trace of that time"),
+            (["story", "web", "--node", "n1", "--since", "1h"], 1, "n1: its recorder has no trace of that time"),
             (["story", "web", "--since", "1h"], 1, "pod/web in default: no pod of it is known, in the cluster or in"),
             (["page", "--since", "1h"], 2, "-f FILE or FOLDER for traces that are here, or --node NODE"),
-            (["story", "web", "--node"], 2, "--node wants a value"),
+            (["story", "web", "--node"], 2, "--node needs a value"),
             (["story", "web", "--node", "n1", "-f", folder.path, "--recorders", "x"], 2, "--recorders is for"),
         ):
             means = "may still lie on" if "n12" in words else "the pods of default: can't" if (

@@ -3,6 +3,7 @@ in the shells that are there."""
 
 import argparse
 import gzip
+import importlib
 import os
 import pty
 import re
@@ -20,7 +21,9 @@ load_tests = cases.loaded(__name__)
 
 COMMAND = f"{TOOLS}/kubelet-replay"
 # those that a help writes otherwise
-DEFAULTS = {"--most": "(1Gi)", "--each": "1h"}
+DEFAULTS = {"--most": "(1Gi)", "--each": "(1h)"}
+# what a tool takes instead of -f if it is started by itself, as tools/NAME
+BY_ITSELF = {"--trace", "--traces", "--without-why"}
 NAMES = ("record", "run", "check", "explain", "story", "why", "page", "timeline", "json", "what-if", "import",
          "fleet", "fetch", "nodes")
 TRACE, REPORT = (f"{TOP}/examples/memory_pressure.{kind}" for kind in ("trace", "report"))
@@ -43,9 +46,9 @@ def test_command_runs_the_tools():
         ("json -f TRACE", run([f"{TOOLS}/json", "--trace", TRACE], report)),
     ):
         expect(f"kubelet-replay {words}", run([COMMAND, *words.replace("TRACE", TRACE).split()], report), wanted)
-    expect_refused("kubelet-replay plot", run([COMMAND, "plot"]), 2, "plot is no command of it: record, run, check")
+    expect_refused("kubelet-replay plot", run([COMMAND, "plot"]), 2, "plot is no known command: record, run, check")
     expect_refused("kubelet-replay story --context far", run([COMMAND, "story", "--context", "far"], report), 2,
-                   "--context is no word of it")
+                   "--context is no known argument")
     expect_refused("kubelet-replay story of another pod", run([COMMAND, "story", "-f", TRACE, "default/aa"]), 2,
                    "no pod default/aa; the nearest: default/a")
 
@@ -76,7 +79,7 @@ def python_with_pip():
 
 
 def test_the_package():
-    """Installed by pip it is an ordinary package with console scripts, which say what the tools say."""
+    """Installed by pip it is an ordinary package with console scripts, which show what the tools say."""
     python = python_with_pip()
     if python is None:
         print("left out: the package, since pip, setuptools or wheel is missing")
@@ -91,14 +94,15 @@ def test_the_package():
     for words in (["story", "default/a"], ["page"], ["json"], ["--version"], ["--help"], ["__complete", "st"]):
         answer = run([python, f"{folder}/there/bin/kubelet-replay", *words], read(REPORT), PYTHONPATH=f"{folder}/there")
         status, told, said = run([COMMAND, *words], read(REPORT))
-        # a checkout has the changes beside it, and says what no release has
+        # a checkout has the changes next to it, and shows what no release has
         wanted = (status, told.replace(entry.UNRELEASED, ""), said) if words == ["--version"] else (status, told, said)
         expect(f"kubelet-replay {words[0]} as a package", answer, wanted)
     shutil.rmtree(folder)
 
 
 def test_one_tree():
-    """Each option of a tool that its parser takes is completed, and no other; all stand in the tool's help."""
+    """Each option of a tool that its parser takes is completed, and no other. The help has all of them, except those of
+    a tool that is started by itself, which the manual has."""
     for name, command in tree.COMMANDS.items():
         for subcommand in command.subcommands or (None,):
             parser = tree.parser_of(name, [subcommand] if subcommand else [])
@@ -109,12 +113,16 @@ def test_one_tree():
                 {"--all"} if name == "story" else set())
             expect(f"{' '.join(words)} completes its options", completed - beside, own)
             if not command.is_of_program:
-                expect(f"the help of {name} has its options", [each for each in own if each not in parser.text], [])
+                details = importlib.import_module(f"replay_tools.manual.{command.module}").TEXT
+                expect(f"the help of {name} has its options",
+                       [each for each in own - BY_ITSELF if each not in parser.text], [])
+                expect(f"the manual of {name} has the others",
+                       [each for each in own & BY_ITSELF if each not in details], [])
                 expect(f"the help of {' '.join(words[:-1])} has its defaults", defaults_left_out(parser), [])
         if not command.is_of_program:
             taken = {each for subcommand in command.subcommands or (None,) for with_value in (True, False)
                      for each in tree.parser_of(name, [subcommand] if subcommand else []).names(with_value)}
-            usage = re.findall(r"--[a-z][a-z-]*", parser.text.partition("\n\n")[0])
+            usage = re.findall(r"--[a-z][a-z-]*", parser.text.split("\n\n")[1])
             expect(f"the usage of {name} has no other options", sorted({*usage} - taken), [])
 
 
@@ -158,7 +166,7 @@ def test_unknown_options():
 
 
 def test_names_that_are_not_utf8():
-    """A byte of a name is written the same way by each command, whichever of them says that it can't be read."""
+    """A byte of a name is written the same way by each command, whichever of them shows that it can't be read."""
     name = b"/nonexistent/\xff.trace"
     for words in (["run"], ["check"], ["story", "-f"], ["what-if", ".", "-f"]):
         status, _, said = run([COMMAND, *words, name])
@@ -177,7 +185,7 @@ def test_words_of_the_program_are_only_shown():
 
 
 def test_packed_reports():
-    """A report that gzip has packed is read as the report, and what wants a trace says that it is one."""
+    """A report that gzip has packed is read as the report, and what needs a trace shows that it is one."""
     folder = tempfile.mkdtemp()
     path = f"{folder}/x.report.gz"
     with gzip.open(path, "wt", encoding="utf-8") as file:
@@ -186,7 +194,7 @@ def test_packed_reports():
         expect(f"kubelet-replay {' '.join(words)} -f of a packed report", run([COMMAND, *words, "-f", path]),
                run([COMMAND, *words, "-f", REPORT]))
     expect_refused("what-if -f of a packed report", run([COMMAND, "what-if", "-f", path, "."]), 2,
-                   f"{path} is a report, and it wants a trace")
+                   f"{path} is a report, and it needs a trace")
     completed = run([COMMAND, "__complete", "story", "-f", path, "default/"])
     expect("completion of a packed report", completed[1].split(), ["default/a", "default/b", "default/c", ":4"])
     shutil.rmtree(folder)
@@ -211,9 +219,9 @@ def test_command_fails_on():
     expect("run --fail-on evicted, of a trace that says whom the kubelet evicted", (told[0], told[2]), (
         4, "kubelet-replay: --fail-on evicted: shop/agree, shop/first, shop/unseen and 2 more pods\n"))
     for words, said in ((["--fail-on", "killed"], "evicted, restarted, unready, one or more"),
-                        (["--fail-on"], "wants a value"), (["--fail-on="], "one or more")):
+                        (["--fail-on"], "needs a value"), (["--fail-on="], "one or more")):
         expect_refused(f"run {' '.join(words)}", run([COMMAND, "run", TRACE, *words]), 2, said)
-    expect_refused("run --fail-on of no trace", run([COMMAND, "run", "--fail-on", "evicted"]), 2, "wants one trace")
+    expect_refused("run --fail-on of no trace", run([COMMAND, "run", "--fail-on", "evicted"]), 2, "needs one trace")
     refused = run([COMMAND, "run", "/dev/null", "--fail-on", "evicted"])
     expect("run --fail-on of a trace that is refused", (refused[0], refused[1]), (2, ""))
 
@@ -242,7 +250,7 @@ def test_run_of_what_cannot_be_read():
 
 
 def test_what_if_on_a_terminal():
-    """It says what it waits for, and takes it."""
+    """It shows what it waits for, and takes it."""
     for words in ([f"{TOOLS}/what-if"], [COMMAND, "what-if"]):
         master, terminal = pty.openpty()
         os.write(master, b'{"kind":"node","name":"n1"}\n\x04')
@@ -260,14 +268,14 @@ def test_command_helps():
     said = run([COMMAND, "--help"])
     expect("kubelet-replay --help", (said[0], said[2]), (0, ""))
     expect("kubelet-replay without a word", run([COMMAND]), (2, "", said[1]))
-    expect("kubelet-replay has each command", [f"  kubelet-replay {name} " in said[1] for name in NAMES],
+    expect("kubelet-replay has each command", [f"\n  {name} " in said[1] for name in NAMES],
            [True] * len(NAMES))
     for name in NAMES:
         status, told, fault = run([COMMAND, name, "--help"])
         expect(f"kubelet-replay {name} --help", (status, fault), (0, ""))
         expect(f"kubelet-replay help {name}", run([COMMAND, "help", name])[1], told)
         if name not in ("run", "check"):
-            expect(f"the help of {name}: its name", told.startswith(f"usage: kubelet-replay {name} "), True)
+            expect(f"the help of {name}: its name", f"\n\nUsage:\n  kubelet-replay {name} " in told, True)
             expect(f"the help of {name}: no file of a checkout",
                    re.findall(rf"tools/(?:{'|'.join(NAMES)})\b(?![-/])|\./kubelet_replay", told), [])
 

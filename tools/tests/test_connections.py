@@ -146,8 +146,8 @@ def has_openssl():
 
 
 def test_kubelet():
-    """All answers of a kubelet come by one connection, which is opened anew where it was closed; only crictl is a
-    command."""
+    """All answers of a kubelet come by one connection, which is opened anew where it was closed, but the one that has
+    when it was started; only crictl is a command."""
     if not has_openssl():
         return
     place = Place()
@@ -159,7 +159,7 @@ def test_kubelet():
         status, trace, said = run([f"{TOOLS}/record", *words], **place.settings)
         expect(f"kubelet, {name}", (status, kinds(trace)[:3], said), (0, ["node", "pod", "tick"], ""))
         expect(f"kubelet, {name}: its answers", kubelet.answers >= 5, True)
-        many = kubelet.answers if answers_each == 1 else 1
+        many = kubelet.answers if answers_each == 1 else 2
         expect(f"kubelet, {name}: connections", kubelet.connections, many)
         expect(f"kubelet, {name}: commands", (place.asked()["crictl"] > 0, place.asked()["curl"]), (True, 0))
         kubelet.end()
@@ -260,7 +260,7 @@ def test_check_of_rights():
         for path, wanted in missing.items():
             [line] = [line[2] for line in lines if line[:2] == ["missing", path]]
             expect(f"--check with {name}: {path}", (line.startswith("answered with 403 Forbidden: Forbidden (user="),
-                                                    f" and wants the permission to {wanted}" in line), (True, True))
+                                                    f" and needs the permission to {wanted}" in line), (True, True))
         found = [line.removeprefix("rights   ") for line in told.splitlines() if line.startswith("rights ")]
         expect(f"--check with {name}: rights", [line.startswith(rights or "") for line in found],
                [] if rights is None else [True])

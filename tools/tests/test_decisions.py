@@ -1,5 +1,5 @@
 """The tests of what the tools tell of the kubelet's own decisions: of whys/kubelet, in which it evicts one pod as the
-rules do, others where they do not, and refuses two. What `why` tells of them is kept beside that trace."""
+rules do, others where they do not, and refuses two. What `why` tells of them is kept next to that trace."""
 
 import json
 import os
@@ -154,7 +154,7 @@ def test_fleet_of_decisions():
 
 
 def test_odd_decisions():
-    """What has another shape says nothing, since the formats do not read it."""
+    """What has another shape shows nothing, since the formats do not read it."""
     lines = read(TRACE).splitlines()
     place = next(place for place, line in enumerate(lines) if '"kubelet"' in line)
     for odd in (5, None, [], {"evicted": 3}, {"evicted": [1, None]}, {"evicted": [{"pod": 1}]}, {"evicted": {"a": 1}}):

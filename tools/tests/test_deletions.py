@@ -1,4 +1,4 @@
-"""The tests of pods that are being deleted: when that is said, over a border, and what is told of it."""
+"""The tests of pods that are being deleted: when that is said, over a rotation, and what is told of it."""
 
 import json
 
@@ -19,7 +19,7 @@ load_tests = cases.loaded(__name__)
 
 RECORDED = f"{HERE}/recordings/deleted_extended"
 BEGIN = 1767225600
-# what an object says of its deletion, and since when it is asked for, in seconds behind the begin of that year
+# what an object says of its deletion, and since when it is asked for, in seconds after the begin of that year
 MOMENTS = (
     ({"deletionTimestamp": "2026-01-01T00:00:30Z", "deletionGracePeriodSeconds": 30}, 0),
     ({"deletionTimestamp": "2026-01-01T00:00:30Z", "deletionGracePeriodSeconds": 0}, 30),
@@ -106,7 +106,7 @@ class Unwritten(Output):
 
 
 def test_nothing_behind_it():
-    """What was seen of a pod behind the moment at which it had gone is not kept."""
+    """What was seen of a pod after the moment at which it had gone is not kept."""
     play = goes(21, 12.5, waits=[{"container": "app", "from": 22, "reason": "CrashLoopBackOff"}])
     play["samples"] = {str(at): {"memory": 2 ** 32 - at, "pods": {"uid-web": at + 9}, "containers": {
         "uid-web": {"app": [at + 9, 9, 9, at]}}} for at in range(-1, 60, 2)}

@@ -198,7 +198,7 @@ def test_entry():
         process = subprocess.Popen([f"{DEPLOY}/entry", "--look", "5"], env={**os.environ, **settings}, text=True,
                                    stdout=subprocess.PIPE, stderr=subprocess.DEVNULL, start_new_session=True)
         lines = [process.stdout.readline().rstrip("\n") for _ in range(12 + len(wanted))]
-        # what writes the token anew is its child
+        # what writes the token again is its child
         os.killpg(process.pid, 15)
         process.communicate()
         expect(f"the entry {name}", lines, [
@@ -216,7 +216,8 @@ def test_entry():
 
 
 def test_entry_writes_through_no_link():
-    """A link that somebody put in the place of the recorder's file is replaced, and what it leads to stays as it was."""
+    """A link that somebody put in the place of the recorder's file is replaced, and what it leads to stays as it
+    was."""
     with tempfile.TemporaryDirectory() as folder:
         with open(f"{folder}/kubelet-replay", "w", encoding="utf-8") as file:
             file.write("#!/bin/sh\n")
@@ -232,7 +233,7 @@ def test_entry_writes_through_no_link():
 
 
 def test_entry_gives_no_token_away():
-    """Beside a kubelet with a certificate of its own the recorder says what is to be set, and keeps the token; with
+    """Next to a kubelet with a certificate of its own the recorder shows what is to be set, and keeps the token; with
     that certificate, or told to take any, it records."""
     if not has_openssl():
         return
@@ -250,7 +251,7 @@ def test_entry_gives_no_token_away():
         process = subprocess.Popen([f"{DEPLOY}/entry", "--for", "1"], env={**os.environ, **settings}, text=True,
                                    stdout=subprocess.DEVNULL, stderr=subprocess.PIPE, start_new_session=True)
         status = process.wait(LONGEST)
-        # what writes the token anew is left where the entry ends
+        # what writes the token again is left where the entry ends
         with contextlib.suppress(ProcessLookupError):
             os.killpg(process.pid, 15)
         said = process.communicate()[1]
@@ -274,7 +275,7 @@ for _ in sys.stdin:
 
 
 def bound(path):
-    """A server of a socket, as a runtime that is started anew binds it: whatever was there is taken away."""
+    """A server of a socket, as a runtime that is started again binds it: whatever was there is taken away."""
     with contextlib.suppress(FileNotFoundError):
         os.unlink(path)
     server = socket.socket(socket.AF_UNIX)
@@ -284,7 +285,7 @@ def bound(path):
 
 
 def test_a_runtime_that_is_started_anew():
-    """What the pod mounts of the runtime leads to its socket also once the runtime has bound it anew."""
+    """What the pod mounts of the runtime leads to its socket also once the runtime has bound it again."""
     parts, tried = manifest("daemonset.yaml"), ["unshare", "-m", "mount", "-o", "bind", DEPLOY, DEPLOY]
     if parts is None or shutil.which("unshare") is None or run(tried)[0] != 0:
         print("left out: a runtime that is started anew, since nothing may be mounted or python3-yaml is missing")
@@ -329,7 +330,7 @@ def probed(container, folder):
 
 
 def test_probe():
-    """The pod is started anew once the runtime or the kubelet has given no answer for long."""
+    """The pod is started again once the runtime or the kubelet has given no answer for long."""
     parts = manifest("daemonset.yaml")
     recorder = Recorder("crash_loop")
     folder = f"{recorder.run}/traces"

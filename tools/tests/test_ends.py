@@ -1,5 +1,5 @@
-"""The tests of pods that the node has ended: what a status says, when that stands, of `ended_extended`, over a border,
-and what waits for a list of pods."""
+"""The tests of pods that the node has ended: what a status says, when that stands, of `ended_extended`, over a
+rotation, and what waits for a list of pods."""
 
 import json
 
@@ -44,22 +44,22 @@ def test_statuses():
 
 
 def words_of(trace, word):
-    """Since when each pod has a word in its entry, in seconds behind the begin, and the word."""
+    """Since when each pod has a word in its entry, in seconds after the begin, and the word."""
     ticks = [json.loads(line) for line in trace.splitlines() if '"kind":"tick"' in line]
     entries = [(entry, tick["at"] - BEGIN) for tick in ticks for entry in tick["pods"]]
     return [(entry["pod"], at, entry[word]) for entry, at in entries if word in entry]
 
 
 def test_moments_of_ends():
-    """It stands with the first exit that no start followed, though it was seen seconds later; where a container was
-    said to wait behind its exit, or runs, with the look that saw it; where no exit wants a start, with the last one."""
+    """It is with the first exit that no start followed, though it was seen seconds later; where a container was
+    said to wait after its exit, or runs, with the look that saw it; where no exit needs a start, with the last one."""
     expect("ended: when, by a play", words_of(read(f"{RECORDED}/trace"), "failed"), [
         ("shop/deadline", 5, "DeadlineExceeded"), ("shop/shut", 26, "Shutdown"), ("shop/once", 33, "DeadlineExceeded"),
         ("shop/loop", 34, "Other")])
 
 
 def test_end_over_a_border():
-    """A trace that follows says it once more, in each of its first ticks, and what the kubelet said of it."""
+    """A trace that follows says it once more, in each of its first ticks, and what the kubelet reported of it."""
     standing = Standing()
     for line in read(f"{RECORDED}/trace").splitlines():
         standing.take(json.loads(line))

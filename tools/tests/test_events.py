@@ -130,11 +130,11 @@ def test_events_that_do_not_come():
     status, trace, said = place.record("--extended", "--events", "kubectl", "--for", "40")
     place.clean()
     expect("events that do not come", (status, said_of(trace), said.splitlines()[0].split(": ", 2)[2]),
-           (0, [], "the events of pods failed with status 1: forbidden; what they would say is left out"))
+           (0, [], "the events of pods failed with status 1: forbidden; their content is left out"))
 
 
 def test_ready_of_the_node():
-    """Each tick says so while the node is not Ready, some seconds behind the condition's own moment, which stands
+    """Each tick says so while the node is not Ready, some seconds after the condition's own moment, which stands
     there; and over a border."""
     ready = [{"at": -100, "status": "True", "reason": "KubeletReady"}, {"at": 12, "status": "Unknown",
              "reason": "NodeStatusUnknown"}, {"at": 31, "status": "True", "reason": "KubeletReady"}]
@@ -155,8 +155,8 @@ def test_ready_of_the_node():
 
 
 def test_check():
-    """--check asks the API server too, where it is named, and says which right is wanted."""
-    missing = "failed with status 1: forbidden; it wants the permission to"
+    """--check asks the API server too, where it is named, and shows which right is needed."""
+    missing = "failed with status 1: forbidden; it needs the permission to"
     do = "the rights of deploy/rights-events.yaml do"
     works = ["works    the events of pods: they may be listed", "works    the node: Ready is False"]
     for fails, wanted in (([], works),
@@ -187,4 +187,4 @@ def test_api_at_an_address():
     lines = [line for line in told.splitlines() if "event" in line or "the node" in line]
     expect("the API server at an address", (status, said, lines[0], api.given),
            (1, "", "works    the events of pods: they may be listed", {TOKEN: 2}))
-    expect("the API server at an address: what is missing", "it wants the permission to get nodes" in lines[1], True)
+    expect("the API server at an address: what is missing", "it needs the permission to get nodes" in lines[1], True)

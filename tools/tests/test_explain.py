@@ -82,6 +82,10 @@ def test_words_of_recordings():
         (node % "" + pod % ',"spared":"x"', "line 2: 35 Manifest 12", ("spared",)),
         (node % "" + pod % "" + tick % (',"judged":0', ""), "line 3: 46 Usage", ("judged",)),
         (node % "" + pod % "" + tick % ("", ',"failed":"no such"'), "line 3: 46 Usage", ("pods", 0, "failed")),
+        (node % "" + pod % "" + tick % ("", ',"conditions":{"a":1}'), "line 3: 46 Usage",
+         ("pods", 0, "conditions", "a")),
+        (node % ',"crashLoopBackOff":{"maxContainerRestartPeriod":"0s"}', "line 1: 36 Config",
+         ("crashLoopBackOff", "maxContainerRestartPeriod")),
     ):
         found = found_of(text.encode(), f"status 2: {said}", True).found
         expect(f"explain {path[-1]} of another kind", [each.path for each in found], [path])
@@ -121,7 +125,7 @@ def test_fallback():
         ('{"kind":"node","name":"n1"}\n', "line 7: 44 ExitCode", "the text ends without a line that counts"),
         ('{"kind":"node","name":"n1"}\n[[\n{"kind":"tick","at":7}\n', "line 3: 42 Moment", "at is missing, no whole"),
         ('{"kind":"node","name":"n1"}\n[[\n', "line 2: 33 UnknownKind", "the line is no object, or its kind"),
-        ('{"kind":"node","name":"n1"}\n', "line 1: 99 Strange", "the program refuses it"),
+        ('{"kind":"node","name":"n1"}\n', "line 1: 99 Strange", "the program rejects it"),
     ):
         with open(f"{folder}/trace", "w") as file:
             file.write(text)
@@ -162,7 +166,7 @@ def test_what_is_no_fault():
 
 
 def test_words_of_explain():
-    for words, said in ((["a", "b"], "one trace, not 2"), (["--all"], "--all is no word")):
+    for words, said in ((["a", "b"], "one trace, not 2"), (["--all"], "--all is no known argument")):
         expect_refused(f"explain {' '.join(words)}", run([f"{TOOLS}/explain", *words]), 2, said)
     expect_refused("explain of a closed standard input", run(["sh", "-c", f"exec '{TOOLS}/explain' <&-"]), 2,
                    "standard input is closed")

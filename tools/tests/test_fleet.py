@@ -106,7 +106,7 @@ def test_fleet_tables():
 
 
 def check_reports(database, folder):
-    """The reports beside a database are those of the program."""
+    """The reports next to a database are those of the program."""
     connection = sqlite3.connect(database)
     rows = connection.execute("SELECT path, report_file FROM traces WHERE status = 'replayed'").fetchall()
     connection.close()
@@ -205,7 +205,7 @@ def test_fleet_begins_again():
 
 
 def hold(folder):
-    """From now on a run stands still in its eighth replay and those behind it, until the file `hold` is gone."""
+    """From now on a run stands still in its eighth replay and those after it, until the file `hold` is gone."""
     with open(f"{folder}/runs", "w", encoding="ascii"), open(f"{folder}/hold", "w", encoding="ascii"):
         pass
 
@@ -226,7 +226,7 @@ def test_fleet_is_stopped():
         busy = run(words, **{**settings, "HOLD": ""})
         process.send_signal(number)
         os.remove(settings["HOLD"])
-        # each of its processes holds this end of its standard error, so no process is left behind it
+        # each of its processes holds this end of its standard error, so no process is left after it
         said = process.communicate(timeout=LONGEST)[1].decode()
         expect(f"fleet ended by {number.name}", (process.returncode, said, os.path.exists(database)),
                (status, "", False))
@@ -264,8 +264,8 @@ def test_fleet_failures():
     settings = {**COUNTED, "RUNS": f"{folder}/runs", "ENDS": "n5"}
     words = [FLEET, "run", f"{folder}/traces", "--out", f"{folder}/fleet.db", "--processes", "2"]
     status, _, said = run(words, **settings)
-    expect("fleet: traces that fail", (status, said), (1, "fleet: 3 traces failed; the table traces says why, and a "
-                                                          "further run tries them again\n"))
+    expect("fleet: traces that fail", (status, said), (
+        1, "fleet: 3 traces failed; the table traces has the reason, and a further run tries them again\n"))
     connection = sqlite3.connect(f"{folder}/fleet.db")
     rows = connection.execute("SELECT path, fault FROM traces WHERE status = 'failed'").fetchall()
     connection.close()

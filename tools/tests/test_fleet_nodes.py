@@ -91,8 +91,9 @@ def test_fleet_metrics_of_others():
     with open(f"{folder}/other", "w", encoding="utf-8") as file:
         file.write("# TYPE node_load1 gauge\nnode_load1 1\n")
     os.mkfifo(f"{folder}/pipe")
-    for name, said in (("other", "has no metrics of kubelet-replay fleet"), ("pipe", "has no metrics"), ("db", "has no metrics"),
-                       ("traces", "has no metrics"), ("none/fleet.prom", "no folder that can be written to")):
+    for name, said in (("other", "has no metrics of kubelet-replay fleet"), ("pipe", "has no metrics"),
+                       ("db", "has no metrics"), ("traces", "has no metrics"),
+                       ("none/fleet.prom", "no folder that can be written to")):
         words = [FLEET, "worst", f"{folder}/db", "--metrics", f"{folder}/{name}"]
         expect_refused(f"fleet --metrics over {name}", run(words), 2, said)
     expect("the file of another stays", read(f"{folder}/other").startswith("# TYPE node_load1"), True)
@@ -110,37 +111,83 @@ def asked(database, query):
         connection.close()
 
 
-def found_trace(is_recorded):
-    """A trace that begins with a container that had exited twice, which then exits once more."""
-    node = {"kind": "node", "version": 3, "name": "n1", **({"recordsKubelet": True} if is_recorded else {})}
+def found_trace(node, line, before):
+    """A trace that begins with a container that had exited twice, which then exits once more; ahead of the first look
+    so many ticks show what was known."""
     pod = {"metadata": {"name": "web", "namespace": "shop"}, "spec": {"containers": [{"name": "app"}]}}
     listings = [{"attempt": 1, "state": "CONTAINER_EXITED", "exitCode": 3, "reason": "Error"},
                 {"attempt": 2, "state": "CONTAINER_RUNNING"},
                 {"attempt": 2, "state": "CONTAINER_EXITED", "exitCode": 4, "reason": "Error"}]
-    lines = [node, {"kind": "pod", "pod": pod},
-             *({"kind": "tick", "at": 1767225600 + 30 * place, "pods": [
-                 {"pod": "shop/web", "containers": [{"name": "app", **each}]}]} for place, each in enumerate(listings))]
+    ticks = [(1767225600 - back, listings[0], {}) for back in range(before, 0, -1)]
+    ticks.append((1767225600, listings[1 if before else 0], {"memory.available": 2 ** 32}))
+    ticks += [(1767225600 + 30 * place, each, {}) for place, each in enumerate(listings) if place]
+    lines = [{"kind": "node", "version": 3, "name": "n1", **node}, {"kind": "pod", "pod": pod, **line},
+             *({"kind": "tick", "at": at, "pods": [{"pod": "shop/web", "containers": [{"name": "app", **each}]}],
+                "signals": signals} for at, each, signals in ticks)]
     return "".join(f"{json.dumps(line)}\n" for line in lines)
 
 
 def test_what_a_recorder_found():
-    """Of a trace of a recorder that follows no other, its first tick shows what the recorder found: those deaths and
-    restarts are not counted again."""
-    for is_recorded, wanted in ((True, ([("4", 1)], [(1,)])), (False, ([("3", 1), ("4", 1)], [(2,)]))):
+    """Of a trace of a recorder that follows no other, its first ticks show what the recorder found: those deaths and
+    restarts are not counted again, whatever it recorded of the kubelet."""
+    found, all_of_it = ([("4", 1)], [(1,)]), ([("3", 1), ("4", 1)], [(2,)])
+    alone = {"uid": "uid-web", "guessed": ["manifest"]}
+    for name, node, line, before, wanted in (
+            ("recorded", {"recordsKubelet": True}, {}, 0, found), ("made up", {}, {}, 0, all_of_it),
+            ("of the runtime alone", {}, alone, 0, found), ("imported", {"imported": True}, alone, 0, all_of_it),
+            ("with what its statuses say", {"recordsKubelet": True}, {"uid": "uid-web"}, 2, ([("4", 1)], [(0,)]))):
         with tempfile.TemporaryDirectory() as folder:
             with open(f"{folder}/n1.trace", "w", encoding="utf-8") as file:
-                file.write(found_trace(is_recorded))
+                file.write(found_trace(node, line, before))
             answer = run([FLEET, "run", f"{folder}/n1.trace", "--out", f"{folder}/db", "--processes", "1"])
             connection = sqlite3.connect(f"{folder}/db")
             deaths = connection.execute("SELECT code, SUM(times) FROM causes WHERE cause = 'died' GROUP BY code")
             restarts = connection.execute("SELECT restarts_since FROM pods")
             got = [(str(code), times) for code, times in deaths.fetchall()], restarts.fetchall()
             connection.close()
-            expect(f"what a recorder found, recorded {is_recorded}", (answer[0], answer[2], got), (0, "", wanted))
+            expect(f"what a recorder found, {name}", (answer[0], answer[2], got), (0, "", wanted))
+
+
+def trace_of(begin, uid, listings):
+    """A trace of a recorder that lists a pod with each of some attempts, states and codes, (None for no pod yet)."""
+    pod = {"metadata": {"name": "web", "namespace": "shop"}, "spec": {"containers": [{"name": "app"}]}}
+    lines, has_pod = [{"kind": "node", "version": 3, "name": "n1", "recordsKubelet": True}], False
+    for place, listed in enumerate(listings):
+        if listed and not has_pod:
+            lines.append({"kind": "pod", "uid": uid, "pod": pod})
+            has_pod = True
+        attempt, state, code = listed or (0, "", 0)
+        shown = {"name": "app", "attempt": attempt, "state": f"CONTAINER_{state}",
+                 **({"exitCode": code, "reason": "Error"} if state == "EXITED" else {})}
+        lines.append({"kind": "tick", "at": begin + 10 * place, "signals": {"memory.available": 2 ** 32},
+                      "pods": [{"pod": "shop/web", "containers": [shown]}] if listed else []})
+    return "".join(f"{json.dumps(line)}\n" for line in lines)
+
+
+def test_pods_of_older_traces():
+    """A pod that comes into a trace later, as of a kubelet that has just started, and that an earlier trace of its node
+    has by its uid: what its first tick shows was counted there. Another one of its name is new."""
+    older = [(1, "RUNNING", 0), (1, "EXITED", 3), (2, "RUNNING", 0), (2, "EXITED", 4)]
+    newer = [None, None, (2, "EXITED", 4), (3, "RUNNING", 0), (3, "EXITED", 5)]
+    for uid, wanted in (("uid-web", [(3, 1), (4, 1), (5, 1)]), ("uid-other", [(3, 1), (4, 2), (5, 1)])):
+        with tempfile.TemporaryDirectory() as folder:
+            # the names of the files say nothing of their order
+            for name, text in (("b", trace_of(1767225600, "uid-web", older)), ("a", trace_of(1767229200, uid, newer))):
+                with open(f"{folder}/{name}.trace", "w", encoding="utf-8") as file:
+                    file.write(text)
+            words = [FLEET, "run", folder, "--out", f"{folder}/db", "--processes", "1"]
+            for again in ("", ", again"):
+                status, _, said = run(words)
+                place = f"a pod of an older trace, {uid}{again}"
+                expect(place, (status, said), (0, ""))
+                expect(f"{place}: its deaths", asked(f"{folder}/db", "SELECT code, SUM(times) FROM causes "
+                                                     "WHERE cause = 'died' GROUP BY code ORDER BY code"), wanted)
+                expect(f"{place}: its rows", asked(f"{folder}/db", "SELECT COUNT(*), SUM(deaths) FROM pods"),
+                       [(2, sum(times for _, times in wanted))])
 
 
 def test_fleet_over_borders():
-    """Traces one behind the other, which gzip has packed, come to what they come to as one: no second, restart, death
+    """Traces one after the other, which gzip has packed, come to what they come to as one: no second, restart, death
     or kill counts twice, and none is lost."""
     with Folder() as folder:
         database = f"{folder.into.run}/db"
@@ -175,4 +222,4 @@ def test_fleet_over_borders():
             file.write(whole.read()[:200])
         status, told, said = run([FLEET, "run", folder.path, "--out", database, "--processes", "2"])
         expect("fleet of a damaged trace", (status, said, "it is damaged, and can't be unpacked" in told),
-               (1, "fleet: 1 trace failed; the table traces says why, and a further run tries it again\n", True))
+               (1, "fleet: 1 trace failed; the table traces has the reason, and a further run tries it again\n", True))

@@ -1,5 +1,5 @@
-"""The tests of tools/story --follow: what is written into a folder is told as it comes, over the border of two traces,
-once, and not before it is written for good."""
+"""The tests of tools/story --follow: what is written into a folder is told as it comes, over the rotation of two
+traces, once, and not before it is written for good."""
 
 import contextlib
 import gzip
@@ -99,8 +99,8 @@ def test_follow():
     with Followed() as followed:
         followed.write(f"{FIRST}.part", NODE, pod("web-7d-x"), pod("calm"), tick(0, RUNS), tick(10, RUNS))
         followed.start()
-        expect("follow: from when on", followed.next(), "story: what is recorded behind 2026-01-01 00:00:00Z is told "
-               "as it comes; an interrupt ends it")
+        expect("follow: from when on", followed.next(), "story: it prints what is recorded after "
+               "2026-01-01 00:00:00Z; an interrupt ends it")
         followed.write(f"{FIRST}.part", tick(20, DIED))
         expect("follow: what may be written otherwise is not told yet", followed.next(3), None)
         followed.write(f"{FIRST}.part", tick(30, AGAIN))
@@ -133,10 +133,10 @@ def test_follow_one_pod_since():
     with Followed("web", "--since", "1970-01-01T00:00Z", "--seconds") as followed:
         followed.start()
         expect("follow a folder without a trace", followed.next(), f"story: {followed.path} has no trace: no file in "
-               "it ends with .trace, .trace.gz or .trace.part; it goes on to look")
+               "it ends with .trace, .trace.gz or .trace.part; it goes on")
         followed.write(f"{FIRST}.part", NODE, pod("web-7d-x"), pod("calm"), tick(0, RUNS), tick(10, DIED),
                        tick(20, AGAIN))
-        wanted = ["story: what is recorded behind 1767225610 is told as it comes; an interrupt ends it",
+        wanted = ["story: it prints what is recorded after 1767225610; an interrupt ends it",
                   f"{BEGIN}  shop/web-7d-x app started (attempt 0)", f"{BEGIN}  shop/web-7d-x app ready",
                   f"{BEGIN}  shop/web-7d-x phase Running",
                   f"{BEGIN + 10}  shop/web-7d-x app died with code 3: Error (attempt 0)",
@@ -145,7 +145,7 @@ def test_follow_one_pod_since():
 
 
 def test_follow_of_the_node():
-    """That it was not Ready, by the moments of its condition, and that it was started anew with what exited: once."""
+    """That it was not Ready, by the moments of its condition, and that it was started again with what exited: once."""
     since = {"status": "False", "reason": "KubeletNotReady", "since": BEGIN + 17}
     with Followed("web", "--seconds") as followed:
         followed.write(f"{FIRST}.part", {**NODE, "bootedAt": BEGIN - 1000}, pod("web-7d-x"), pod("calm"),
@@ -186,9 +186,9 @@ def test_follow_what_goes():
 
 
 def test_follow_refused():
-    for words, said in ((["--follow", "/nonexistent"], "/nonexistent is no folder, as that of tools/record --into"),
+    for words, said in ((["--follow", "/nonexistent"], "/nonexistent is no folder of kubelet-replay record --into"),
                         (["--follow", "/tmp", "--at", "03:10Z"], "--follow and --at exclude each other"),
                         (["--follow", "/tmp", "--traces", "/tmp"], "--follow and --traces exclude each other"),
-                        (["--follow"], "--follow wants a value"),
+                        (["--follow"], "--follow needs a value"),
                         (["--follow", "/tmp", "--since", "soon"], "--since takes a time")):
         expect_refused(f"story {' '.join(words)}", run([f"{TOOLS}/story", *words]), 2, said)

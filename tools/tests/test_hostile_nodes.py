@@ -55,7 +55,7 @@ def listing(cluster):
 
 
 def test_odd_listings():
-    """What a listing has that is no trace of that node is left out and said, and the traces beside it are copied."""
+    """What a listing has that is no trace of that node is left out and said, and the traces next to it are copied."""
     with Folder() as folder, Cluster(folder) as cluster:
         whole = listing(cluster)
         for line in ODD:
@@ -69,7 +69,7 @@ def test_odd_listings():
             shutil.rmtree(f"{cluster.path}/here")
         cluster.put("recorder-a.lists", "".join(f"{line}\n" for line in ODD))
         expect_refused("fetch of odd names alone", cluster.run("kubectl-replay", "story", "web", "--node", "n1"), 1,
-                       "it and 15 more are left out; its recorder holds no trace yet")
+                       "it and 15 more are left out; its recorder has no trace yet")
         cluster.put("recorder-a.lists", "".join(f"{FIRST.replace('Z.', f'Z_{number}.')} 1 1\n"
                                                 for number in range(2, 20_010)))
         expect_refused("fetch of a listing of very many traces", cluster.fetch("n1"), 1,

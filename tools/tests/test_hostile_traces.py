@@ -89,7 +89,7 @@ class Made:
 
 
 def test_traces_out_of_range():
-    """What the formats do not read may be anything: it says nothing then, and no tool ends by it."""
+    """What the formats do not read may be anything: it shows nothing then, and no tool ends by it."""
     for name, at in (("far", FAR), ("of many digits", 10 ** 300), ("below", -FAR), ("a text", "x"), ("a truth", True),
                      ("a fraction", 1.5), ("later than its tick", LATER), ("a list", [1])):
         with Made(bad=hostile_trace(at), good=read(f"{TOP}/examples/liveness_kill.trace")) as made:
@@ -125,7 +125,7 @@ def test_values_of_no_kind():
             of_probe = "container" in was or "result" in was
             for words in (["why", "shop/web-0", "--trace"], ["page"], *[["json", "--trace"]] * (not of_probe)):
                 answer = made.run(*words, path, given=report)
-                expect_refused(f"{words[0]} of {odd}", answer, 2, "(kubelet-replay explain says wh")
+                expect_refused(f"{words[0]} of {odd}", answer, 2, "(kubelet-replay explain shows wh")
     for fault in (KeyError, TypeError, AttributeError, ValueError):
         def fail(kind=fault):
             raise kind("a fault of the tools' own")

@@ -366,7 +366,7 @@ def test_import_of_an_audit_log():
         for _ in range(2):
             file.write(json.dumps({"kind": "Event", "apiVersion": "audit.k8s.io/v1", "auditID": "1",
                                    "responseObject": pod}) + "\n")
-    status, trace, _ = imported("--audit", f"{folder}/audit", given=silent, pods=None)
+    status, trace, _ = imported("--journal", "-", "--audit", f"{folder}/audit", given=silent, pods=None)
     rows = [row for row in listings_of(trace) if row[1] == "shop/web"]
     expect("import of an audit log", (status, rows[:3]), (0, [
         (1772359207, "shop/web", "app", 0, "RUNNING", None), (1772359219, "shop/web", "app", 0, "EXITED", 3),
@@ -416,7 +416,7 @@ def test_import_of_what_is_no_journal():
     for words, said in ((["--journal", "/nonexistent"], "can't be read"), (["--pods", "/nonexistent"], "can't be read"),
                         (["--zone", "CET"], "--zone takes"), (["--year", "26"], "--year takes"),
                         (["--node", "../x"], "--node takes"), (["--into", "/nonexistent/a"], "is no folder"),
-                        (["--each", "1s"], "--each takes"), (["--all"], "is no word of it"),
+                        (["--each", "1s"], "--each takes"), (["--all"], "is no known argument"),
                         (["--journal", "a", "--journal", "a"], "has a file twice")):
         expect_refused(f"import {' '.join(words)}", run([IMPORT, *words], text), 2, said)
     with open(f"{folder}/none", "w", encoding="utf-8") as file:

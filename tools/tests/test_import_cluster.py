@@ -1,5 +1,5 @@
 """The tests of what an import asks a cluster of a node, and of what becomes of it where the cluster answers less, late
-or nothing. A script stands in for kubectl."""
+or nothing. A script replaces kubectl."""
 
 import json
 import os

@@ -1,5 +1,5 @@
-"""The tests of when an imported trace says that the kubelet evicted a pod: as it decided that, by the lines of the
-decision, and not where it says that the pod's containers have stopped. The lines are written by hand, in both forms."""
+"""The tests of when an imported trace shows that the kubelet evicted a pod: as it decided that, by the lines of the
+decision, and not where it shows that the pod's containers have stopped. The lines are hand-written, in both forms."""
 
 import json
 import tempfile
@@ -56,7 +56,7 @@ def with_lines(*lines, form=KEYED):
 
 
 def ended_in(trace):
-    """Whom the ticks say that the kubelet evicted, when and with which message; and the seconds of `failed`."""
+    """Whom the ticks show that the kubelet evicted, when and with which message; and the seconds of `failed`."""
     ticks = [each for each in map(json.loads, trace.splitlines()) if each["kind"] == "tick"]
     told = [(each["at"] - BEGUN, each["pod"], each["message"] if "message" in each else None)
             for tick in ticks for each in (tick.get("kubelet") or {}).get("evicted", ())]
@@ -77,7 +77,7 @@ def without(lines, *left_out):
 
 
 def test_import_of_an_eviction_that_is_told_late():
-    """It stands where the round's ranking is, with `failed`, and the exit behind it; so in both forms."""
+    """It stands where the round's ranking is, with `failed`, and the exit after it; so in both forms."""
     for name, form in (("keys", KEYED), ("sentences", PRINTED)):
         trace, _ = expect_eviction(f"import of an eviction that is told late, {name}",
                                    with_lines(*LATE, form=form), (60, LOW))
@@ -104,7 +104,7 @@ def test_import_of_an_eviction_that_is_told_very_late():
 
 
 def test_import_of_an_eviction_whose_kill_fails():
-    """A kubelet that can't stop the containers in time says that it failed to evict the pod, and has evicted it."""
+    """A kubelet that can't stop the containers in time shows that it failed to evict the pod, and has evicted it."""
     for name, form in (("keys", KEYED), ("sentences", PRINTED)):
         late = [*without(LATE, SUCCESS, WAITING, EXITED), (71.5, "failed")]
         expect_eviction(f"import of an eviction whose kill fails, {name}", with_lines(*late, form=form), (60, LOW))
@@ -124,7 +124,7 @@ def test_import_of_an_eviction_behind_a_pod_that_is_spared():
 
 
 def test_import_of_an_eviction_of_another_round():
-    """A ranking says nothing of what is evicted once another round has begun, or another kubelet."""
+    """A ranking shows nothing of what is evicted once another round has begun, or another kubelet."""
     late = [(55.0, RECLAIMS), (55.02, RANKED), *without(LATE, RECLAIMS, RANKED, KILLING)]
     expect_eviction("import of an eviction of a ranking before", with_lines(*late), (55, LOW))
     for name, said in (("another round", RECLAIMS), ("a round that says nothing of its own",

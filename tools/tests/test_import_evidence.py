@@ -3,12 +3,13 @@ knowledge of the API."""
 
 import json
 import os
+import subprocess
 import tempfile
 
 import cases
 from checks import expect, expect_refused
 from test_import_evictions import BEGUN as BEGIN
-from test_import import checked, imported, listings_of, pod_lines
+from test_import import IMPORT, checked, imported, listings_of, pod_lines
 
 load_tests = cases.loaded(__name__)
 
@@ -90,6 +91,27 @@ def test_import_of_events_alone():
     expect("import of Events of two nodes", [pod["pod"]["spec"]["containers"] for pod in pod_lines(trace)],
            [[{"name": "app"}]])
     os.remove(path)
+
+
+def test_import_of_events_waits_for_nobody():
+    """Standard input is read only where it is named: it may be a pipe that stays open, or the input of what runs the
+    import, of which nothing is taken. That something waits there is said."""
+    path = made(json.dumps({"items": EVENTS}))
+    words = [IMPORT, "--node", "worker-3", "--events", path]
+    with subprocess.Popen(words, stdin=subprocess.PIPE, stdout=subprocess.PIPE, stderr=subprocess.PIPE) as process:
+        try:
+            out, said = process.stdout.read(), process.stderr.read().decode()
+            expect("import of Events beside an open pipe", (process.wait(60), out.count(b'"kind":"node"'),
+                                                           "standard input" in said), (0, 1, False))
+        finally:
+            process.kill()
+    log = made("nothing that an import reads\n")
+    with open(log, "rb") as given:
+        done = subprocess.run(words, stdin=given, capture_output=True, text=True, check=False)
+        expect("import of Events beside a file", (done.returncode, done.stderr.count("pass --journal -"),
+                                                 given.tell()), (0, 1, 0))
+    for each in (path, log):
+        os.remove(each)
 
 
 def test_import_of_an_audit_log_alone():

@@ -45,7 +45,7 @@ def of_1_21(text):
 
 
 def of_several_lines(text):
-    """From 1.24 on a value of several lines stands in lines of its own, each behind a tab."""
+    """From 1.24 on a value of several lines is in lines of its own, each after a tab."""
     return text.replace('output="HTTP probe failed with statuscode: 503"',
                         "output=<\n\tHTTP probe failed with statuscode: 503\n\tand more\n >")
 
@@ -134,7 +134,7 @@ def test_import_of_flags_in_json():
 
 
 def test_import_of_names_of_starts():
-    """From -v=3 on a line says which container is made; at -v=4 also which sandbox is, and whose an instance is."""
+    """From -v=3 on a line shows which container is made; at -v=4 also which sandbox is, and whose an instance is."""
     begin = [(10.0, '"SyncLoop ADD" source="api" pods=["shop/pair"]'),
              (11.0, event("ContainerStarted", identity_of("d"))), (12.0, event("ContainerStarted", identity_of("a")))]
     second = (14.0, event("ContainerStarted", identity_of("b")))
@@ -191,7 +191,7 @@ def test_import_of_statuses_by_version():
 
 
 def test_import_of_evictions_by_version():
-    """From -v=3 on a line of its own says that an eviction begins, with the whole message; whom a kubelet does not
+    """From -v=3 on a line of its own shows that an eviction begins, with the whole message; whom a kubelet does not
     admit is told with the conditions, in each form."""
     message = "The node was low on resource: memory. Threshold quantity: 2Gi, available: 1Gi."
     begins = f'"Evicting pod" pod="shop/hog" podUID="{UIDS["hog"]}" message="{message} "'
@@ -234,7 +234,7 @@ SIDECAR = {"kind": "Pod", "metadata": {"name": "pair", "namespace": "shop", "uid
 
 
 def test_import_of_a_sidecar():
-    """An init container that comes again runs on while the others come, and comes again beside them."""
+    """An init container that comes again runs on while the others come, and comes again next to them."""
     lines = [(10.0, '"SyncLoop ADD" source="api" pods=["shop/pair"]')]
     lines += [(11.0 + place, event("ContainerStarted", identity_of(letter))) for place, letter in enumerate("dab")]
     finished = '"Generic (PLEG): container finished" podID="44444444" containerID="{}" exitCode={}'
@@ -284,7 +284,7 @@ def test_import_of_containerd_by_version():
 
 
 def test_import_of_what_crio_removes():
-    """A container that is removed behind the next start has ended before that; the newest one ends with it."""
+    """A container that is removed after the next start has ended before that; the newest one ends with it."""
     def said(moment, text):
         return f'time="{stamp(BEGUN + moment).replace("T", " ")}.0Z" level=info msg={json.dumps(text)}\n'
 
@@ -363,7 +363,7 @@ def test_import_of_a_deletion_of_what_had_ended():
 
 
 def test_import_of_events_of_other_times_and_nodes():
-    """A cluster's list has Events of pods of all nodes, and of before the journal and behind it: none of these makes a
+    """A cluster's list has Events of pods of all nodes, and of before the journal and after it: none of these makes a
     pod, or a tick."""
     def started(pod, at):
         return {"kind": "Event", "involvedObject": {"kind": "Pod", "name": pod, "namespace": "shop", "uid": f"u-{pod}",

@@ -65,7 +65,7 @@ def attempts_of(tick):
 
 def test_import_of_a_clock_that_went_back():
     """The trace ends there, and the next one has the moments that the clock says from there on; what ran goes on. In a
-    trace alone they go on. The first tick behind it is marked in both."""
+    trace alone they go on. The first tick after it is marked in both."""
     text = read(f"{FOLDER}/keyed.log")
     at = text.index("I0301 10:00:54")
     given = text[:at] + text[at:].replace("I0301 10:", "I0301 09:")
@@ -107,7 +107,7 @@ def imported_of(*texts):
 
 def test_import_of_two_journals_whose_clock_went_back():
     """The kubelet and the runtime show it by lines of other moments, and it is one clock. Where each of two journals,
-    one behind the other, has a turn of its own, there are two."""
+    one after the other, has a turn of its own, there are two."""
     text = read(f"{FOLDER}/keyed.log")
     at = text.index("I0301 10:00:54")
     kubelet = text[:at] + text[at:].replace("I0301 10:", "I0301 09:")
@@ -137,7 +137,7 @@ def test_import_of_two_journals_whose_clock_went_back():
 
 
 def records(text, hole, has_others, sequence="a1", step=1):
-    """The records of a journal whose lines have numbers, of which one is missing before a line; behind each may be one
+    """The records of a journal whose lines have numbers, of which one is missing before a line; after each may be one
     of another program."""
     made, number = [], 4094
     for line, second, fraction, process, *_ in lines_of(text):
@@ -152,7 +152,7 @@ def records(text, hole, has_others, sequence="a1", step=1):
 
 
 def by_number(made):
-    """Records as another export has them, with their numbers beside their cursors."""
+    """Records as another export has them, with their numbers next to their cursors."""
     return [{**{name: value for name, value in record.items() if name != "__CURSOR"},
              "__SEQNUM": str(int(record["__CURSOR"].split(";")[1][2:], 16))} for record in made]
 
@@ -201,14 +201,14 @@ def later(text, place, seconds):
 
 
 def gap_in(trace):
-    """The tick behind the gap of a trace, the moment of the tick before it, and both traces of a folder."""
+    """The tick after the gap of a trace, the moment of the tick before it, and both traces of a folder."""
     ticks = ticks_of(map(json.loads, trace.splitlines()))
     place = next((place for place, tick in enumerate(ticks) if "gap" in tick), None)
     return (None, None) if place is None else (ticks[place], ticks[place - 1]["at"])
 
 
 def test_import_of_the_kubelets_journal_with_a_hole():
-    """A kubelet that tells of its rounds and says nothing for a minute, or whose container starts again without a line
+    """A kubelet that tells of its rounds and shows nothing for a minute, or whose container starts again without a line
     of its exit: the trace ends there. Below -v=3 a kubelet may be silent for long."""
     text = read(f"{FOLDER}/keyed.log")
     rounds = [f'I0301 10:{minute:02}:{second}0.500000    2211 eviction_manager.go:2] "Eviction manager: synchronize '
@@ -224,8 +224,8 @@ def test_import_of_the_kubelets_journal_with_a_hole():
         0, 0, {"since": 1772359250, "until": 1772359554}, 1772359250))
     expect("import of a silent kubelet: what is said", [line for line in said.split("\n") if "behind a gap" in line
                                                         or "lines are missing" in line], [
-        "import: 1 time without a line of the kubelet's, which would have said something there: lines are missing",
-        "import: 1 pod of which no line behind a gap speaks (shop/hog): told as before it"])
+        "import: 1 time without a line of the kubelet's, which would have written something there: lines are missing",
+        "import: 1 pod that no line after a gap names (shop/hog): as before it"])
     listed = {entry["pod"]: [(each["attempt"], each.get("guessed")) for each in entry["containers"]]
               for entry in tick["pods"]}
     expect("import of a silent kubelet: a pod of which no line speaks", listed, {
@@ -261,7 +261,7 @@ def test_import_of_an_exit_in_a_hole():
 
 
 def test_import_of_rounds():
-    """Each round of the eviction manager is one judged tick, of the moment of its first observation; a round that finds
+    """Each round of the eviction manager is one sync tick, of the moment of its first observation; a round that finds
     nothing is none, though the second in which it begins has a tick."""
     begins = '"Eviction manager: synchronize housekeeping"'
     found = '"Eviction manager: observations" signal="{}" available="{}" capacity="8Gi" time="2026-03-01 10:00:20 UTC"'

@@ -1,5 +1,5 @@
-"""The tests of how the importer reads lines in which klog's header stands behind what journald or a runtime has of
-them: beside a reading of the same text line by line."""
+"""The tests of how the importer reads lines in which klog's header is behind what journald or a runtime has of
+them: next to a reading of the same text line by line."""
 
 import io
 import random

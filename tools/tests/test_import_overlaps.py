@@ -44,7 +44,7 @@ def with_cursors(text, begin=0x1000, shift=0):
 
 
 def test_import_of_overlapping_journals():
-    """The trace is that of the whole log, whatever the forms and the order, and it is said how many messages stand in
+    """The trace is that of the whole log, whatever the forms and the order, and it is said how many messages are in
     both."""
     text, wanted = read(f"{FOLDER}/keyed.log"), read(f"{FOLDER}/keyed.trace")
     first, second = parts(text)

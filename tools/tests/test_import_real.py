@@ -1,4 +1,4 @@
-"""The tests of what tools/import makes of a real kubelet's log, beside what that kubelet did. The log is that of a run
+"""The tests of what tools/import makes of a real kubelet's log, next to what that kubelet did. The log is that of a run
 of 305 s at -v=4, cut to a verbosity; docs/import.md has the counts."""
 
 import os
@@ -24,7 +24,7 @@ WANTED = {2: {"starts": 95, from_log.ANY_CODE: 90, "kills by a liveness probe": 
 
 
 def test_import_of_a_real_log():
-    """Counted anew, as docs/import.md has it; no exit has a false code that is not marked as guessed, and the rules
+    """Counted again, as docs/import.md has it; no exit has a false code that is not marked as guessed, and the rules
     evict nobody."""
     os.environ.setdefault("KUBELET_REPLAY", REPLAY)
     before, _, rest = read(PAGE).partition("<!-- the counts -->\n")
@@ -54,7 +54,7 @@ def test_tools_over_an_imported_trace():
         with open(path, "w", encoding="utf-8") as file:
             file.write(trace)
         told = run([f"{TOOLS}/kubelet-replay", "story", "-f", path, "shop/livetrap"])
-        nothing = "the rules have nothing to say of it; no journal has what pods use of the node"
+        nothing = "the rules can't judge it; no journal has what pods use of the node"
         expect("story of an imported trace", (status, told[0], told[2], nothing in told[1].split("\n")),
                (0, 0, "", True))
         for words in ("why -f TRACE shop/oomer", "page -f TRACE", "timeline -f TRACE", "json -f TRACE",

@@ -43,7 +43,7 @@ def restarted(is_printed, moment=60.5):
 
 
 def test_import_of_a_restart():
-    """The first tick behind it has its moment, once; what runs goes on."""
+    """The first tick after it has its moment, once; what runs goes on."""
     for name, is_printed in (("1.20", True), ("keys", False)):
         status, records, said = imported(restarted(is_printed).text(), [pod(containers=[READY])])
         started = [(tick["at"] - BEGIN, tick["kubeletStartedAt"] - BEGIN) for tick in ticks_of(records)
@@ -56,7 +56,7 @@ def test_import_of_a_restart():
 
 
 def test_import_of_pods_that_turn_unready_by_a_restart():
-    """A kubelet that was started takes a pod for unready until its readiness probe has passed, as the status says that
+    """A kubelet that was started takes a pod for unready until its readiness probe has passed, as the status shows that
     it sends, though no probe failed."""
     for name, is_printed in (("1.20", True), ("keys", False)):
         status, records, _ = imported(restarted(is_printed).text(), [pod(containers=[READY])])
@@ -70,7 +70,7 @@ def test_import_of_pods_that_turn_unready_by_a_restart():
 
 
 def test_import_of_restarts_in_a_folder():
-    """Of traces one behind the other the one that begins with the restart has its moment, by the clock of then."""
+    """Of traces one after the other the one that begins with the restart has its moment, by the clock of then."""
     with tempfile.TemporaryDirectory() as folder:
         status, _, _ = imported(restarted(True).text(), [pod(containers=[READY])], (), ("--into", f"{folder}/into"))
         found = []

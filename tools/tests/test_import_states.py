@@ -38,7 +38,7 @@ def test_import_of_a_container_that_never_runs():
 
 
 def test_import_of_a_wait_of_what_was_taken_to_run():
-    """A container of which a line says that it waits does not run, whatever was guessed of its instances."""
+    """A container of which a line shows that it waits does not run, whatever was guessed of its instances."""
     journal = Journal(True).loop(0, "ADD").look(1, "Started", "a").look(1.001, "Started", "5")
     journal.wait(60, "app").wait(75, "app", message="back-off 20s restarting failed container")
     journal.say(120, 'SyncLoop (housekeeping)').loop(130, "UPDATE")
@@ -52,7 +52,7 @@ def test_import_of_a_wait_of_what_was_taken_to_run():
 
 def test_import_of_exits_that_no_line_has():
     """At -v=0, with the journal of a runtime that does not write them, their code and moment are unknown. An exit is
-    where a line says that the container waits, or in the tick of the next start."""
+    where a line shows that the container waits, or in the tick of the next start."""
     made = []
     for at, attempt in ((1, 0), (40, 1), (200, 2)):
         made.append(f'time="{stamp(at)}" level=info msg="CreateContainer within sandbox \\"{identity("5")}\\" for '
@@ -86,7 +86,7 @@ def ran_once(policy):
 
 
 def test_import_of_an_unknown_phase():
-    """A pod that is not started again has failed or succeeded, which no line says where none has the code; one that
+    """A pod that is not started again has failed or succeeded, which no line shows where none has the code; one that
     would be started again where it failed has succeeded."""
     status, records, said = ran_once("Never")
     marked = [(at, entry["guessed"]) for at, entry in entries_of(records) if "guessed" in entry]
@@ -221,7 +221,7 @@ def test_import_of_an_ephemeral_container():
 
 def test_import_of_pods_that_are_forgotten():
     """Pods that went are forgotten, and the number of no pod is given twice: each instance stays with its own pod. The
-    kubelet's journal and CRI-O's are read beside each other."""
+    kubelet's journal and CRI-O's are read next to each other."""
     kubelet, crio = [], []
     def say(kept, at, unit, message):
         kept.append((at, json.dumps({"__REALTIME_TIMESTAMP": str(int((BEGIN + at) * 1e6)), "_HOSTNAME": "n1",
@@ -259,7 +259,7 @@ def test_import_of_pods_that_are_forgotten():
 
 
 def test_import_of_names_that_come_late():
-    """Of a pod without a manifest: a name that lines have only behind the pod's own is that of the container which had
+    """Of a pod without a manifest: a name that lines have only after the pod's own is that of the container which had
     none by then."""
     journal = Journal(True).loop(0, "ADD").look(1, "Started", "a").look(1.001, "Started", "5")
     for at in range(60, 1500, 60):
@@ -270,6 +270,18 @@ def test_import_of_names_that_come_late():
     expect("import of names that come late", (status, is_accepted(records), states_of(records)[-1][1:4], last.get(
         "waiting", [{}])[0].get("container")), (0, True, ("unnamed", 0, "EXITED"), "unnamed"))
     expect("import of names that come late: what is said", "1 container named late (shop/web app)" in said, True)
+
+
+def test_import_of_gates_and_resources_of_a_pod():
+    """A manifest has the resources of the pod as a whole. It has no readiness gates: no line has their conditions, and
+    without these the rules would never take the pod for Ready."""
+    journal = Journal().loop(0, "ADD").look(1, "Started", "a").look(2, "Started", "b").loop(30, "UPDATE")
+    gates, resources = [{"conditionType": "example.com/lb"}], {"limits": {"memory": "1Gi", "hugepages-2Mi": "4Mi"}}
+    of_pod = pod(readinessGates=gates, resources=resources)
+    status, records, _ = imported(journal.text(), [of_pod])
+    [spec] = [record["pod"]["spec"] for record in records if record["kind"] == "pod"]
+    expect("import of gates and resources of a pod", (status, spec.get("readinessGates"), spec.get("resources")),
+           (0, None, {"limits": {"memory": "1Gi"}}))
 
 
 def test_import_of_many_instances():

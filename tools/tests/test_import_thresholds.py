@@ -1,5 +1,5 @@
 """The tests of the thresholds that tools/import reads out of a journal: what a kubelet says as it starts, by its flags
-and in its rounds, in both forms; and the conditions that the rules make of a real kubelet's log, beside those that its
+and in its rounds, in both forms; and the conditions that the rules make of a real kubelet's log, next to those that its
 rounds told."""
 
 import calendar
@@ -80,7 +80,7 @@ def thresholds_in(node):
 
 
 def test_import_of_hard_thresholds():
-    """They stand in the node line as the kubelet says them when it starts, in each form; a part of a capacity that no
+    """They are in the node line as the kubelet says them when it starts, in each form; a part of a capacity that no
     line has sets none."""
     rounds = round_of(20, "4Gi")
     wanted = {"evictionHard": {MEMORY: "100Mi", DISK: "10%"}, "evictionsRecorded": True}
@@ -102,7 +102,7 @@ def test_import_of_hard_thresholds():
 
 
 def test_import_of_soft_thresholds():
-    """A soft one stands in the round in which it is met; a journal that begins behind the kubelet's start has those
+    """A soft one is in the round in which it is met; a journal that begins after the kubelet's start has those
     alone that rounds show."""
     rounds = round_of(20, "1Gi", "MemoryPressure", "MemoryPressure", ["2Gi"])
     for name, text in (("sentences", line(20.5, f"eviction manager: eviction criteria not yet met for {SOFT}")),
@@ -134,7 +134,7 @@ def flags(**values):
 
 
 def test_import_of_flags():
-    """Flags set thresholds where no file of a configuration is given, and beside one where they are not a kubelet's
+    """Flags set thresholds where no file of a configuration is given, and next to one where they are not a kubelet's
     own; a configuration that is printed goes before them."""
     given = {"eviction_hard": "memory.available<500Mi,nodefs.available<10%", "eviction_soft": "memory.available<1Gi",
              "eviction_soft_grace_period": "memory.available=1m30s", "eviction_minimum_reclaim":
@@ -156,13 +156,13 @@ def test_import_of_flags():
 
 
 def test_import_of_what_rounds_show():
-    """How long a condition stays behind the last round that met it, and how much has to be reclaimed, no line says:
+    """How long a condition stays after the last round that met it, and how much has to be reclaimed, no line says:
     what fits the rounds is taken, and marked."""
     met = round_of(20, "1Gi", "MemoryPressure", "MemoryPressure", ["2Gi"])
     stays = round_of(30, "3Gi", "", "MemoryPressure") + round_of(40, "3Gi", "", "MemoryPressure")
     node, said = node_of(configured(), met, stays, round_of(52, "3Gi"), round_of(62, "3Gi"))
     expect("import of a transition period", (node.get(PERIOD), node.get("guessed")), ("30s", [PERIOD]))
-    expect("import of a transition period: what is said", f"and no line says: {PERIOD}" in said, True)
+    expect("import of a transition period: what is said", f"and no line has it: {PERIOD}" in said, True)
     expect("import of a condition that stays", PERIOD in node_of(configured(), met, stays)[0], False)
     long = "".join(round_of(20 + 10 * place, "3Gi", "", "MemoryPressure") for place in range(1, 35))
     expect("import of a condition that stays for longer than a kubelet's own period", node_of(
@@ -220,7 +220,7 @@ def test_import_of_a_kubelet_that_is_started_anew_with_other_thresholds():
     shutil.rmtree(folder)
 
 
-# --- beside a real kubelet ---
+# --- next to a real kubelet ---
 
 TOLD = re.compile(r"I(\d\d)(\d\d) (\d\d):(\d\d):(\d\d)\.\d+ .*?\] eviction manager: (synchronize|observations: |"
                   r"node conditions - transition period not met: \[(.*?)\])")
@@ -267,5 +267,5 @@ def test_import_of_conditions():
     said = re.findall(r"Evicted at [^<]*by the rules", picture)
     expect("timeline of a real kubelet's conditions: who evicted", said, [])
     expect("why of a real kubelet's eviction", [words in why for words in (
-        "memory.available hard: below 8.51Gi (36.16%)", "each pod that was present is spared, so none is ranked")],
+        "memory.available hard: below 8.51Gi (36.16%)", "each pod that was present is exempt, so none is ranked")],
            [True, True])

@@ -45,7 +45,7 @@ FORGED = [(30.0, f'"Killing container with a grace period" pod="shop/web" podUID
 
 
 def test_import_of_a_whole_journal():
-    """Lines of another unit say nothing of the kubelet, whatever name its process gives itself: neither those of
+    """Lines of another unit show nothing of the kubelet, whatever name its process gives itself: neither those of
     kube-proxy, nor what a container writes that logs to journald."""
     text, wanted = read(f"{FOLDER}/keyed.log"), read(f"{FOLDER}/keyed.trace")
     proxy = [(5.0 + 3 * place, klog(5 + 3 * place, f'"Successfully retrieved node IP" ip="{place}"'),

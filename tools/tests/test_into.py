@@ -1,4 +1,4 @@
-"""The tests of `tools/record --into`: traces one behind the other have what one trace has, and each goes on where the
+"""The tests of `tools/record --into`: traces one after the other have what one trace has, and each goes on where the
 one before it ended."""
 
 import json
@@ -20,14 +20,14 @@ TOLD = ("started", "died", "kill", "ready", "unready")
 
 
 def told_in(report, behind=-1):
-    """What a report tells of containers and pods behind a second."""
+    """What a report tells of containers and pods after a second."""
     events = [line.split(" ") for line in report.split("\n") if line.startswith("event ")]
     return sorted(" ".join(event) for event in events if event[4] in TOLD and int(event[1]) > behind)
 
 
 def known_in(report):
     """What a report says at its end of each pod and its containers, by their keys; the last one of a key counts. Of a
-    pod that the node has ended it says how its containers were then, and the next trace how they are at its begin."""
+    pod that the node has ended it shows how its containers were then, and the next trace how they are at its begin."""
     found, keys = {}, {}
     for line in report.splitlines():
         word, number, *rest = line.split(" ")
@@ -56,7 +56,7 @@ def border_fault(before, text):
 
 
 def borders_fault(play, *words, each="10s", recording=None):
-    """What traces one behind the other say otherwise than one trace of the same play, or None."""
+    """What traces one after the other say otherwise than one trace of the same play, or None."""
     into = Into(play, recording)
     whole, made = into.record(*words, "--extended"), into.into(*words, "--each", each)
     texts = into.texts()
@@ -84,7 +84,7 @@ def chance_fault(seed):
 
 
 def test_borders_by_chance():
-    """Plays over several borders: laid one behind the other the traces have the lines of one trace, and each alone
+    """Plays over several rotations: laid one after the other the traces have the lines of one trace, and each alone
     tells what happens in its time, from what the one before ended with."""
     with ThreadPoolExecutor(4) as threads:
         faults = list(filter(None, threads.map(chance_fault, range(1000, 1000 + PLAYS))))
@@ -92,7 +92,7 @@ def test_borders_by_chance():
 
 
 def test_borders_of_probes():
-    """Each at borders of other seconds, so that each state stands at one of them."""
+    """Each at rotations of other seconds, so that each state is at one of them."""
     play = probed_play()
     for each in (10, 11, 13, 17):
         expect(f"borders of what probes have shown, each {each} s",
@@ -108,7 +108,7 @@ def test_borders_of_a_real_kubelet():
 
 
 def test_what_a_trace_begins_with():
-    """The node line says what it follows; the first tick shows since when each container is as it is."""
+    """The node line shows what it follows; the first tick shows since when each container is as it is."""
     into = Into(probed_play())
     status, _, _ = into.into("--for", "40", "--each", "20s")
     first, second = into.texts()
@@ -195,7 +195,7 @@ def test_many_pods():
 
 
 def test_more_pods_than_a_trace_has():
-    """Of 258 pods two are left out; where others have gone they are there behind the next border."""
+    """Of 258 pods two are left out; where others have gone they are there after the next border."""
     spec = {"containers": [{"name": "app"}]}
     lives = {f"shop/p{number:03}": {"spec": spec, **({"until": 14} if number < 20 else {})} for number in range(258)}
     made = [{"id": f"c{number}", "pod": f"shop/p{number:03}", "name": "app", "attempt": 0, "created": -2, "started": -1,

@@ -21,6 +21,7 @@ from test_plays import quiet_node, report_of
 from test_record import Recorder
 
 from player import Play
+from replay_tools.manual import record as manual
 from replay_tools.record.folder import Folder
 from replay_tools.record.into import LastingRecording, Traces
 from replay_tools.record.output import Ended
@@ -61,7 +62,7 @@ folder=$2; shift 3; "$@"; status=$?; cp -a "$folder/." "$folder.made"; exit $sta
 
 
 def on_a_mount(into, options, again, *words):
-    """Records into a file system of its own, of what lies beside the folder as `seed`; then it is copied out."""
+    """Records into a file system of its own, of what lies next to the folder as `seed`; then it is copied out."""
     os.makedirs(f"{into.folder}.seed", 0o755, exist_ok=True)
     os.mkdir(f"{into.folder}.made")
     return into.into(*words, before=["unshare", "-rm", "sh", "-c", MOUNTED, "sh", options, into.folder, again])
@@ -113,7 +114,7 @@ def test_folders_of_others():
 
 
 def test_room_for_what_is_not_packed():
-    """Half of a small --most is left for what is written and packed, as the help says."""
+    """Half of a small --most is left for what is written and packed, as the manual has it."""
     into = Into(quiet_node(1, 60))
     names = [f"n1.2025-12-31T0{hour}-00-00Z.trace.gz" for hour in range(8)]
     for name in names:
@@ -122,15 +123,15 @@ def test_room_for_what_is_not_packed():
     kept = sorted(set(names) & set(into.names()))
     expect("traces of --most 8Mi", (answer[0], kept), (0, names[-len(kept):]))
     expect("half of --most is kept", sum(os.path.getsize(f"{into.folder}/{name}") for name in kept) // 1000000, 4)
-    expect("the help says what is left", "of which 128Mi, or half where --most is below\n256Mi, are left for what is not "
-           "packed" in run([f"{TOOLS}/record", "--help"])[1], True)
+    expect("the manual has what is left", "Of these 128Mi, or half if --most is below 256Mi, remain for what is not "
+           "packed" in " ".join(manual.TEXT.split()), True)
     into.clean()
 
 
 def test_refused_folders_are_told():
-    """What is refused stands in the help, and what to do where a folder is made for a recorder."""
-    expect("the help says which folder is refused", "user's than root or the recorder's, or may be written by its\n"
-           "group or others" in run([f"{TOOLS}/record", "--help"])[1], True)
+    """The manual has which folders are rejected, and the pages what to do if a folder is made for a recorder."""
+    expect("the manual has which folder is rejected", "belongs to another user than root or the recorder's, or its "
+           "group or others may write it" in " ".join(manual.TEXT.split()), True)
     for path in ("docs/recorder.md", "SECURITY.md", "deploy/daemonset.yaml"):
         told = read(f"{TOP}/{path}")
         expect(f"{path} says what to do with a folder of others", ("chown root" in told, "chmod go-w" in told),
@@ -243,7 +244,7 @@ def test_a_full_file_system():
     answer = on_a_mount(into, "size=768k", "", "--for", "60", "--every", "1", "--each", "20s")
     expect("a full file system without a trace", (answer, os.listdir(f"{into.folder}.made")),
            ((1, "", f"record: {BEGIN}: nothing is written into '{into.folder}' until it can be: the file system has no "
-             "room to spare\n"), ["another"]))
+             "free room\n"), ["another"]))
     into.clean()
 
 
@@ -287,7 +288,7 @@ def test_room_that_comes_again():
                                                                  > BEGIN + 25, at["trace"] in into.names()),
            (3, True, True, True))
     expect("room that comes again: it is said twice", [line.split(": ", 1)[1] for line in said],
-           [f"nothing is written into '{into.folder}' until it can be: the file system has no room to spare",
+           [f"nothing is written into '{into.folder}' until it can be: the file system has no free room",
             "there is room again, and a trace begins"])
     expect("room that comes again: all else is there",
            (whole.startswith(laid(texts[:-1])), whole.endswith(parts_of(texts[-1])[1]),
@@ -299,7 +300,7 @@ def test_room_that_comes_again():
 
 
 def killed_at(into, play, second, *words):
-    """What a recorder leaves that is killed behind its look at a second: the names, and the traces as one."""
+    """What a recorder leaves that is killed after its look at a second: the names, and the traces as one."""
     clock = ClockUntil(BEGIN, BEGIN + second)
     sources = Sources("n1", run=lambda asked, seconds: play.answer(asked, clock.now()))
     words = words_of(["--node", "n1", "--into", into.folder, *words])
@@ -390,17 +391,17 @@ def a_trace():
 
 
 def left_files():
-    """What may lie in a folder: what it is, the files, what is said, and what is there behind the start."""
+    """What may lie in a folder: what it is, the files, what is said, and what is there after the start."""
     whole = a_trace()
     cut, name = whole[:whole.rindex(b"\n", 0, -9) + 50], "n1.2025-12-31T23-00-00Z.trace"
     ended = f"record: {name}.part was left by a recorder that did not end: it is"
     return (
         ("a part that is whole", {f"{name}.part": whole}, f"{ended} {name}.gz now\n", {f"{name}.gz": whole}),
         ("a part that is cut", {f"{name}.part": cut},
-         f"{ended} {name}.gz now, without the 49 bytes behind its last whole line\n",
+         f"{ended} {name}.gz now, without the 49 bytes after its last whole line\n",
          {f"{name}.gz": cut[:cut.rindex(b"\n") + 1]}),
         ("a part with nothing behind its lines", {f"{name}.part": whole + bytes(4096)},
-         f"{ended} {name}.gz now, without the 4096 bytes behind its last whole line\n", {f"{name}.gz": whole}),
+         f"{ended} {name}.gz now, without the 4096 bytes after its last whole line\n", {f"{name}.gz": whole}),
         ("a part that is empty", {f"{name}.part": b""}, f"record: {name}.part has no whole line, and is removed\n", {}),
         ("a part that is cut in its first line", {f"{name}.part": whole[:40]},
          f"record: {name}.part has no whole line, and is removed\n", {}),

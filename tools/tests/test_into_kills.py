@@ -111,7 +111,7 @@ def end_left(place):
 
 
 def whole_at(play, words, second):
-    """What a recorder leaves that ends behind its look at a second."""
+    """What a recorder leaves that ends after its look at a second."""
     place = Into(play)
     answer = left_by(place, *killed(place, words, second))
     names = place.names()
@@ -121,7 +121,7 @@ def whole_at(play, words, second):
 
 def faults_of(play, words, second, moments):
     """What a kill at so many moments of a look, in which one trace ends, leaves otherwise than as it was before that
-    look, or behind it."""
+    look, or after it."""
     _, before, _, names = whole_at(play, words, second - 1)
     _, behind, told, now = whole_at(play, words, second)
     if len(now) != len(names) + 1:
@@ -149,7 +149,7 @@ def other_line(text, wanted):
 
 def test_kills_where_a_trace_ends():
     """At 200 moments of the looks in which one trace ends and the next begins: what had been written is there, once, as
-    one that was not killed wrote it, before that look or behind it."""
+    one that was not killed wrote it, before that look or after it."""
     for second in (15, 25, 35):
         expect(f"kills at moments of the look at {second}",
                list(faults_of(probed_play(), ["--each", "10s"], second, 67))[:1], [])
@@ -169,7 +169,7 @@ def kept_ahead(name, size, data, torn=0):
 
 
 def test_lines_ahead():
-    """Those that are whole and newer than what stands in the part are put there, and no others."""
+    """Those that are whole and newer than what is in the part are put there, and no others."""
     name = "n1.2026-01-01T00-00-00Z.trace"
     node, ticks = b'{"kind":"node","version":3,"name":"n1"}\n', [b'{"kind":"tick","at":%d}\n' % at for at in range(5)]
     settled = node + ticks[0]

@@ -118,7 +118,7 @@ def test_a_disk_that_another_fills():
     answer = on_a_mount(into, "size=8384k", "", "--for", "30", "--each", "10s")
     expect("a disk that another fills", (answer, sorted(os.listdir(f"{into.folder}.made"))),
            ((1, "", f"record: {BEGIN}: nothing is written into '{into.folder}' until it can be: the file system has no "
-             "room to spare\n"), ["another", *HOURS[:4]]))
+             "free room\n"), ["another", *HOURS[:4]]))
     into.clean()
 
 

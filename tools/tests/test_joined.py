@@ -1,4 +1,4 @@
-"""The tests of several traces that are told as one: beside one recording of the same play, over borders and gaps."""
+"""The tests of several traces that are told as one: next to one recording of the same play, over rotations and gaps."""
 
 import contextlib
 import glob
@@ -31,7 +31,7 @@ except ImportError:
 
 PLAYS = 16
 KEPT = f"{HERE}/joined"
-# what exits, grace periods and pauses lead to may differ, since they are counted anew at a border
+# what exits, grace periods and pauses lead to may differ, since they are counted again at a rotation
 TOLD = ("started", "died", "startup-passed", "kill", "ready", "unready", "phase")
 OF_POD = ("pod", "phase", "ready", "ready_since", "first_tick", "restarts", "deaths", "kills", "became_unready",
           "unready_seconds")
@@ -53,7 +53,7 @@ def told_of(lines):
 
 
 def joined_fault(play, *words, each="10s", recording=None):
-    """What traces one behind the other tell together otherwise than one recording of the same play, or None."""
+    """What traces one after the other tell together otherwise than one recording of the same play, or None."""
     into = Into(play, recording)
     whole = into.record(*words, "--extended")[1]
     into.into(*words, "--each", each)
@@ -66,7 +66,7 @@ def joined_fault(play, *words, each="10s", recording=None):
         return f"{one[2]}{several[2]}"
     wanted, got = (told_of(records(answer)) for answer in (one, several))
     for side in (wanted, got):
-        # a border has a tick, so that the end, or the first tick without a pod, may be another one
+        # a rotation has a tick, so that the end, or the first tick without a pod, may be another one
         for cells in side[2].values():
             cells[-1] = cells[-1] if cells[2] else None
     other = wanted[0] | got[0]
@@ -135,7 +135,7 @@ def belongs_fault(folder, has_gaps=False):
 
 
 def test_joined_belongs():
-    """Over borders each event of each play stands at a tick that lists it, and each tool takes it."""
+    """Over rotations each event of each play is at a tick that lists it, and each tool takes it."""
     for path in sorted(glob.glob(f"{HERE}/recordings/*/play.json")):
         name = os.path.basename(os.path.dirname(path))
         if read(f"{os.path.dirname(path)}/words").split()[:1] == ["--standard"] or "extended" not in name:
@@ -165,7 +165,7 @@ def test_joined_belongs():
            "no restart within 600 s of 2026-11-27 14:28:00Z; nearest to it, at 2026-11-27 14:28:11Z: the kubelet "
            "evicted it")
     into.clean()
-    # where the rules evict they take h-bulk before a border and the kubelet behind it: there they begin anew
+    # where the rules evict they take h-bulk before a rotation and the kubelet after it: there they begin again
     into = Into({}, folder)
     into.into(*words, "--each", "60s", "--simulate")
     told = run([f"{TOOLS}/story", "--traces", into.folder, "shop/h-bulk", "--without-why"])[1]
@@ -190,13 +190,13 @@ def gaps_fault(seed):
 
 
 def test_joined_with_gaps_by_chance():
-    """Also where traces are missing each event stands at a tick that lists it, and each tool takes it."""
+    """Also where traces are missing each event is at a tick that lists it, and each tool takes it."""
     faults = list(filter(None, map(gaps_fault, range(3000, 3006))))
     expect("joined traces with gaps of plays by chance", faults[:1], [])
 
 
 def test_story_over_borders():
-    """A restart over a border is told once, and where exits are counted anew it is said."""
+    """A restart over a rotation is told once, and where exits are counted again it is said."""
     with Folder() as folder:
         for name, words in (("story", ["story", "web"]), ("quiet", ["story", "quiet", "--without-why"]),
                             ("pods", ["story"]), ("at", ["story", "web", "--at", "2026-01-01T00:00:50Z"]),
@@ -239,7 +239,7 @@ def test_a_moment():
 
 
 def test_gap():
-    """Of a trace that is not there nothing is told: it is a gap, what came of it stands at its end, and what came in
+    """Of a trace that is not there nothing is told: it is a gap, what came of it is at its end, and what came in
     it counts in no seconds."""
     with Folder() as folder:
         os.remove(folder.place(40))
@@ -303,7 +303,7 @@ def test_gap_of_a_recorder():
 
 
 def test_recorder_that_starts_again():
-    """Its first ticks show what the statuses of the pods say, and stand before it began: nothing of that is told of the
+    """Its first ticks show what the statuses of the pods say, and are before it began: nothing of that is told of the
     gap, and a pod that was ready stays so."""
     first = Into(restarted_play(0))
     first.into("--for", "30", "--each", "1h")

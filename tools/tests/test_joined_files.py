@@ -100,21 +100,21 @@ def test_traces_that_are_left_out():
             file.write('{"kind":"node","name":"n1","version":3}\n{"kind":"tick","at":5}\n{"kind":"tick","at":5}\n')
         status, _, said = folder.tell("story", "web")
         expect("a refused trace of a folder", (status, said.split("\n")[0]), (
-            0, f"story: {name} is left out: it is refused: line 3: 42 Moment (at is 5: the tick of line 2 has 5, and "
+            0, f"story: {name} is left out: it is rejected: line 3: 42 Moment (at is 5: the tick of line 2 has 5, and "
                "each is later than the one before: keep one tick of each second, in the order of their moments)"))
         expect_refused("a refused trace by its name", folder.tell("story", "web", traces=folder.place(40)), 2,
-                       "it is refused: line 3: 42 Moment", "")
+                       "it is rejected: line 3: 42 Moment", "")
 
 
 def test_traces_that_are_none_together():
     with Folder() as folder:
         other = folder.write("n2.2026-01-01T00-00-00Z.trace", folder.text(0).replace('"n1"', '"n2"'))
         expect_refused("a folder of two nodes", folder.tell("story", "web"), 2,
-                       "has traces of 2 nodes, n1, n2: --node says which is meant")
+                       "has traces of 2 nodes, n1, n2: choose one with --node")
         status, told, said = folder.tell("story", "web", "--node", "n1")
         expect("a node of a folder", (status, said, told.split(":")[0]), (0, "", "shop/web on n1"))
         expect_refused("a node that a folder has not", folder.tell("story", "--node", "n3"), 2,
-                       "has no trace of n3; it has those of n1, n2")
+                       "has no trace of n3; it has traces of n1, n2")
         two = run([f"{TOOLS}/story", "--traces", folder.place(0), "--traces", other])
         expect_refused("traces of two nodes by their names", two, 2, "is of n1 and")
         report = folder.write("report", replayed(folder.text(20))[1])
@@ -126,7 +126,7 @@ def test_traces_that_are_none_together():
             (["--traces", f"{folder.path}/none"], "no trace found:"),
             (["--traces", HERE], "has no trace: no file in it ends with .trace"),
             (["--traces", "/dev/null"], "/dev/null: it is a device or a pipe"),
-            (["--traces", f"{HERE}/run.py"], "run.py: it is refused: line 1: 32 NotJson"),
+            (["--traces", f"{HERE}/run.py"], "run.py: it is rejected: line 1: 32 NotJson"),
             (["--traces", folder.place(0), "--at", "2026-01-02T00:00Z"], "nothing was recorded at 2026-01-02 00:00"),
             (["--traces", folder.path, "--node", "n1", "--at", "2025-12-31T12:00Z"], "there is no trace by 2025-12-31"),
             (["--traces", folder.path, "--node", "n1", "--since", "2h"], "nothing was recorded since "),
@@ -135,8 +135,8 @@ def test_traces_that_are_none_together():
             (["--traces", folder.path, "--at", "2026-02-30T03:10Z"], "is no time that there is"),
             (["--traces", folder.path, "--since", "tonight"], "--since takes a time, as 2026-11-27T03:10Z"),
             (["--traces", folder.path, "--trace", folder.place(0)], "--trace and --traces exclude each other"),
-            (["--since", "2h"], "--since wants --traces too"),
-            (["--node", "n1"], "--node wants --traces too"),
+            (["--since", "2h"], "--since needs --traces too"),
+            (["--node", "n1"], "--node needs --traces too"),
         ):
             answer = run([f"{TOOLS}/story", *words])
             expect_refused(f"story {' '.join(words)}", answer, 2, said,
@@ -179,7 +179,7 @@ def test_packed_traces():
            run(["sh", "-c", f"{shell}'{trace}'"]))
     answer = run(["sh", "-c", f"'{TOOLS}/story' < '{folder}/trace.gz'"])
     expect_refused("story of a packed trace on standard input", answer, 2,
-                   "standard input is packed by gzip, and it wants a report; if it is a trace, --traces FILE replays")
+                   "standard input is packed by gzip, and it needs a report; if it is a trace, --traces FILE replays")
     piped = f"zcat '{folder}/trace.gz' | '{TOOLS}/kubelet-replay' run -"
     expect("zcat to the program", run(["sh", "-c", piped]), run([f"{TOOLS}/kubelet-replay", "run", trace]))
     piped = f"zcat '{folder}/trace.gz' | '{REPLAY}' run /dev/stdin --extended"
@@ -212,6 +212,6 @@ def test_command_of_several():
                folder.tell("why", "web", *at))
         for words, said in (
             (["run", "-f", first, "-f", rest[0]], "it takes one file, not 2"),
-            (["story", "--since", "2h"], "-f FILE or FOLDER for traces that are here, or --node NODE for those of a"),
+            (["story", "--since", "2h"], "-f FILE or FOLDER for traces that are here, or --node NODE for a cluster"),
         ):
             expect_refused(f"kubelet-replay {words[0]}", run([f"{TOOLS}/kubelet-replay", *words]), 2, said)

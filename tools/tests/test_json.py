@@ -71,7 +71,7 @@ WRITTEN = {"pod": "NAMESPACE/NAME", "delay_seconds": "DELAY", "grace_seconds": "
 
 
 def test_events_of_the_documents():
-    """Each kind of event of the table stands in docs/report.md with the fields of its line."""
+    """Each kind of event of the table is in docs/report.md with the fields of its line."""
     page, missing = read(f"{TOP}/docs/report.md"), []
     for kind in json.loads(read(SCHEMA))["definitions"]["event"]["oneOf"]:
         line = re.sub(r"\{(\w+)\}", lambda found: WRITTEN.get(found[1], found[1].upper()), kind["line"])
@@ -83,7 +83,7 @@ def test_events_of_the_documents():
 
 
 def test_without_the_table():
-    """The tools without their table say what they lack."""
+    """The tools without their table show what they lack."""
     folder = tempfile.mkdtemp()
     copy_package(folder)
     shutil.copy(f"{TOOLS}/json", f"{folder}/tools")
@@ -194,9 +194,9 @@ def test_refused_json():
         ("a code that is no number", report.replace("died 0 1", "died 0 one"), "line 5 "),
         ("a probe that there is not", report.replace("restart 0", "kill 0 readiness"), "line 7 "),
         ("a state that there is not", report.replace("state=Waiting", "state=Idle"), "line 35 "),
-        ("a pod too few", "\n".join(lines[:29] + lines[35:]), "2 pods and says 3"),
+        ("a pod too few", "\n".join(lines[:29] + lines[35:]), "2 pods and counts 3"),
         ("a pod's number that is another", report.replace("pod 2 shop/late", "pod 4 shop/late"), "line 30 "),
     ):
         expect_refused(f"json of {name}", run([f"{TOOLS}/json"], text), 2, words)
-    for words, said in ((["--table"], "--table is no word"), (["x"], "x is no word"), (["--sqlite"], "wants a value")):
+    for words, said in ((["--table"], "--table is no known argument"), (["x"], "x is no known argument"), (["--sqlite"], "needs a value")):
         expect_refused(f"json {' '.join(words)}", run([f"{TOOLS}/json", *words], report), 2, said)

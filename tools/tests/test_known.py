@@ -70,7 +70,7 @@ def lines_with(text, *words):
 
 
 def test_a_kubelet_that_is_restarted():
-    """It is an event of the node for each tool, and stands above the stories of pods that became unready by it."""
+    """It is an event of the node for each tool, and is above the stories of pods that became unready by it."""
     ready, failed = ({"probes": [{"container": "app", "probe": "readiness", "result": result}]}
                      for result in ("success", "failure"))
     told = Told(NODE, pod("web", READY), pod("calm"), tick(0, entry("web", runs(), **ready), entry("calm", runs())),
@@ -135,7 +135,7 @@ def test_an_end_without_a_reason():
 
 
 def test_unknown_manifests():
-    """Of a pod whose manifest was made up no tool says that it has no limit, no probe, or which class."""
+    """Of a pod whose manifest was made up no tool shows that it has no limit, no probe, or which class."""
     died = exited(137, reason="OOMKilled")
     told = Told(NODE, pod("lost", guessed=["manifest"]), pod("known"),
                 tick(0, entry("lost", runs()), entry("known", runs())),
@@ -144,7 +144,7 @@ def test_unknown_manifests():
     expect("story: the class", (lost.splitlines()[0], known.splitlines()[0]),
            ("shop/lost on n1: Running, class unknown", "shop/known on n1: Running, BestEffort"))
     expect("story: what is unknown", lines_with(lost, "its manifest is unknown:"),
-           ["its manifest is unknown: limits, probes, class and restart policy can't be told"])
+           ["its manifest is unknown: limits, probes, class and restart policy are unknown too"])
     expect("story: no limit is claimed", ("no memory limit" in lost or "no limit of its own" in lost,
                                           "its memory limit is unknown" in lost, "no memory limit" in known),
            (False, True, True))
@@ -158,7 +158,7 @@ def test_unknown_manifests():
 
 
 def test_an_unknown_phase():
-    """A pod of policy Never has exited with an unknown code: no tool says that it failed."""
+    """A pod of policy Never has exited with an unknown code: no tool shows that it failed."""
     never = pod("once")
     never["pod"]["spec"]["restartPolicy"] = "Never"
     told = Told(NODE, never, tick(0, entry("once", runs())),
@@ -166,7 +166,7 @@ def test_an_unknown_phase():
     story = told.by("story", "shop/once")
     expect("the phase in the head", story.splitlines()[0].split(",")[0], "shop/once on n1: Succeeded or Failed")
     expect("no event says that it failed", (re.findall(r"phase .*", story)[-1], "phase Failed" in story),
-           ("phase Succeeded or Failed: no code is known that tells which", False))
+           ("phase Succeeded or Failed: no known code shows which", False))
     expect("the list", "Succeeded or Failed" in told.by("story"), True)
     expect("json", [(record["phase"], record.get("phase_is_unknown")) for record in told.records("pod")],
            [(None, True)])

@@ -69,7 +69,7 @@ def test_kubectl_words():
 
 
 def test_kubectl_runs_the_program():
-    """What the program says of a trace of each format, of a file and of a pipe, is what it says itself; behind a
+    """What the program says of a trace of each format, of a file and of a pipe, is what it says itself; after a
     refusal stands one more line. A file that can't be read has the status 2."""
     folder = make_folder()
 
@@ -98,7 +98,7 @@ def test_kubectl_refused():
         answer = run([*PLUGIN, *words.replace("FOLDER", folder).split()], report, **with_stand_ins(folder, REPLAY))
         expect_refused(f"kubectl replay {words}", answer, int(status), said.replace("FOLDER", folder), *means)
     answer = run([f"{TOOLS}/kubectl-replay", "story", "-f", "-", "shop/web"], "{}\n")
-    expect_refused("kubectl replay -f - of no trace", answer, 2, "standard input is refused: line 1: 33 UnknownKind",
+    expect_refused("kubectl replay -f - of no trace", answer, 2, "standard input is rejected: line 1: 33 UnknownKind",
                    "kind is missing")
     for name in ("trace", "extended"):
         piped = f"cat '{folder}/{name}' | '{TOOLS}/kubectl-replay' story -f - -n shop web"

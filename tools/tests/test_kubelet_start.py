@@ -69,11 +69,14 @@ def play(**more):
             "samples": {"0": {"memory": 2 ** 32}}, **more}
 
 
-def recorded(script, look, *words):
+BY_ADDRESS = "--kubelet", "http://127.0.0.1:10250"
+BY_KUBECTL = ()
+
+
+def recorded(script, look, *words, asks=BY_ADDRESS, lasts=60):
     """The status of a recording of a play, its trace and what it says."""
     into = Into(script)
-    answer = into.record("--for", "60", "--extended", "--kubelet", "http://127.0.0.1:10250", "--look", str(look),
-                         *words)
+    answer = into.record("--for", str(lasts), "--extended", *asks, "--look", str(look), *words)
     into.clean()
     return answer
 
@@ -102,6 +105,90 @@ def test_start_without_its_moment():
         expect(f"a start without its moment, --look {look}", (status, words_of(trace, "deleting"), gone_of(trace)),
                (0, [], []))
         expect(f"a start without its moment, --look {look}: it is said once", said.count("failed: 403"), 1)
+
+
+def silent(**until):
+    """Answers that do not come from 20 on, each up to a moment."""
+    return [{"kind": kind, "from": 20, "until": end, "text": "gave no answer"} for kind, end in until.items()]
+
+
+# a restart that is over before the next look, and one after which only the pods of a file are listed for long
+QUICK = [{"from": 20.6, "until": 21.5, "pods": []}, {"from": 21.5, "until": 23.2, "pods": ["shop/file"]}]
+LONG = [{"from": 20.6, "until": 22.9, "pods": []}, {"from": 22.9, "until": 30.2, "pods": ["shop/file"]}]
+# which answers are silent for how long: all but the list of pods, the one that tells the start, or the list itself
+SILENT = (silent(), silent(metrics=23), silent(metrics=32), silent(metrics=99), silent(summary=32), silent(pods=21),
+          silent(metrics=32, summary=32), silent(probes=32, metrics=32, summary=32),
+          [{"kind": "metrics", "from": 21.7, "until": 26, "text": "gave no answer"}])
+
+
+def test_lists_beside_silent_answers():
+    """A list is no word on a pod while the kubelet does not say that it is the same process: none is deleted or gone,
+    whichever of its answers are silent, for however long, and whoever gives its list."""
+    by_address, by_kubectl = ((1, 0.9, LONG), (1, 1.5, QUICK), (5, 2.5, LONG)), ((1, 0, QUICK),)
+    for asks, looks in ((BY_ADDRESS, by_address), (BY_KUBECTL, by_kubectl)):
+        for number, fails in enumerate(SILENT):
+            for look, shift, lists in looks:
+                script = play(clock=[shift], started=[-3600, 20.6], fails=fails, lists=lists)
+                status, trace, said = recorded(script, look, asks=asks)
+                place = f"silent answers {number}, --look {look}, from {shift} on, by {asks or 'kubectl'}"
+                expect(place, (status, words_of(trace, "deleting"), gone_of(trace)), (0, [], []))
+                # that it restarted is known as soon as it says when it was started
+                wanted = [] if silent(metrics=99) == fails else [20]
+                expect(f"{place}: it is told", [at for at, _ in started_of(trace)], wanted)
+                expect(f"{place}: it is said", said.count("the kubelet restarted"), len(wanted))
+
+
+def test_api_server_is_away():
+    """A kubelet that was started while the API server is away lists the pods of files alone: those of which the runtime
+    has containers are there, however long that lasts."""
+    for look in POLLS:
+        script = play(lists=[{"from": 24, "until": 25, "pods": []}, {"from": 25, "until": 110, "pods": ["shop/file"]}])
+        status, trace, _ = recorded(script, look, lasts=130)
+        expect(f"the API server is away, --look {look}", (status, words_of(trace, "deleting"), gone_of(trace)),
+               (0, [], []))
+
+
+def test_ended_before_a_start():
+    """A pod that the node has ended is there yet when the kubelet restarts."""
+    for look in POLLS:
+        script = play()
+        script["pods"]["shop/done"].update(failed=-10, reason="DeadlineExceeded")
+        _, trace, _ = recorded(script, look)
+        expect(f"a pod that was ended, --look {look}", (words_of(trace, "deleting"), gone_of(trace)), ([], []))
+
+
+def test_deleted_beside_a_start():
+    """A pod that is deleted while the kubelet restarts goes once its lists are whole, and one that is deleted later is
+    told at once, also by a kubelet that won't say when it was started."""
+    for asks in (BY_ADDRESS, BY_KUBECTL):
+        for look in POLLS:
+            script = play()
+            script["pods"]["shop/done"]["until"] = 21
+            _, trace, _ = recorded(script, look, asks=asks)
+            deleted = words_of(trace, "deleting")
+            expect(f"deleted beside a start, --look {look}", ([each[0] for each in deleted], gone_of(trace)),
+                   (["shop/done"], ["shop/done"]))
+            expect(f"deleted beside a start, --look {look}: when", [26 <= at <= 40 for _, at, _ in deleted], [True])
+        for fails in ([], [{"kind": "metrics", "from": -9, "until": 99, "text": "failed: 403"}]):
+            script = play(started=[-3600], fails=fails, lists=[])
+            script["pods"]["shop/done"]["until"] = 21
+            _, trace, _ = recorded(script, 1, asks=asks)
+            expect("deleted without a start", [(pod, 21 <= at <= 31) for pod, at, _ in words_of(trace, "deleting")],
+                   [("shop/done", True)])
+
+
+def test_removed_file():
+    """A pod whose file is removed is deleted before its container is stopped for that, though the list that lacks it
+    comes later: so its exit is none of its own. With --look 5 what was written by the second list stays."""
+    for look in POLLS:
+        script = play(started=[-3600], fails=[], lists=[{"from": 20.3, "until": 99, "pods": list(KEYS[:-1])}])
+        script["containers"][1].update(exited=20.6, code=5)
+        script["pods"]["shop/file"]["says"] = [{"from": -30, "status": {"conditions": [{
+            "type": "Ready", "status": "True", "lastTransitionTime": "2025-12-31T23:59:30Z"}]}}]
+        _, trace, _ = recorded(script, look)
+        deleted = [(pod, at) for pod, at, _ in words_of(trace, "deleting")][:1]
+        expect(f"a file that is removed, --look {look}", deleted, [("shop/file", 20 if look == 1 else 26)])
+        expect(f"a file that is removed, --look {look}: it goes", gone_of(trace), ["shop/file"])
 
 
 def test_lists_without_a_start():

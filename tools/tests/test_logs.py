@@ -52,7 +52,7 @@ def play():
 
 
 def log_in(trace):
-    """What the ticks have of last lines, in seconds behind the begin."""
+    """What the ticks have of last lines, in seconds after the begin."""
     ticks = [json.loads(line) for line in trace.splitlines() if '"kind":"tick"' in line]
     return [(tick["at"] - BEGIN, entry["pod"], each.get("log"), each.get("logLeftOut"))
             for tick in ticks for entry in tick["pods"] for each in entry["containers"]
@@ -81,7 +81,7 @@ def test_lines_that_do_not_come():
 
 
 def test_story():
-    """They stand beside the death, as far as they are kept."""
+    """They are next to the death, as far as they are kept."""
     place = Into(play())
     _, trace, _ = place.record("--extended", "--logs", "3", "--for", "20")
     with open(f"{place.run}/it.trace", "w", encoding="utf-8") as file:

@@ -133,7 +133,7 @@ def test_refused_pages():
         ("a trace that is not there", page_of(report, "/nonexistent"), "can't be read"),
         ("another trace", page_of(report, f"{PROBES}/trace"), "does not belong to the report"),
         ("two traces", page_of(report, "a", "b"), "one trace, not 2"),
-        ("a strange word", page_of(report, "--wide"), "--wide is no word"),
+        ("a strange word", page_of(report, "--wide"), "--wide is no known argument"),
     ):
         expect_refused(f"page of {name}", answer, 2, words)
     folder = tempfile.mkdtemp()
@@ -145,7 +145,7 @@ def test_refused_pages():
 
 
 def test_page_of_use():
-    """What containers used, with the moments of the samples, once each, beside their bounds; nothing of a pod or a
+    """What containers used, with the moments of the samples, once each, next to their bounds; nothing of a pod or a
     trace that does not say it."""
     pods = {pod["key"]: pod for pod in data_in(page_of(read(f"{REBOOTED}/report"), f"{REBOOTED}/trace")[1])["podList"]}
     app, proxy = pods["shop/web"]["used"]
@@ -172,7 +172,7 @@ def drawn_of(path, *words):
 
 
 def test_page_draws_use():
-    """Beside the story of a pod, in both themes, the lines of its memory and processor time with request and limit,
+    """Next to the story of a pod, in both themes, the lines of its memory and processor time with request and limit,
     and what is said where one points at them."""
     if shutil.which("node") is None:
         print("left out: what a page draws of memory and processor time, since node is missing")

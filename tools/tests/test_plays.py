@@ -20,7 +20,7 @@ from replay_tools.traces import read_trace
 load_tests = cases.loaded(__name__)
 
 PLAYS = 32
-# how late a start or an exit may stand where all sources answer, as what shares a second stands in those after it
+# how late a start or an exit may stand where all sources answer, as what shares a second is in those after it
 LATEST = 5
 PODS_SECONDS = 10
 
@@ -50,8 +50,8 @@ def named(key, number):
 
 
 def last_moment(play, life, is_extended):
-    """Up to when what happens in a pod is wanted. In the extended format an evicted pod is gone when that is seen, and
-    in the standard one a pod that was made anew under its name has no line. Where a source is silent, what goes
+    """Up to when what happens in a pod is needed. In the extended format an evicted pod is gone when that is seen, and
+    in the standard one a pod that was made again under its name has no line. Where a source is silent, what goes
     meanwhile is not seen."""
     if play["fails"] and ("until" in life or "evicted" in life or not life["named"].endswith("-0")):
         return 0
@@ -80,7 +80,7 @@ def wanted_of(play, look, is_extended):
 
 
 def one_name_each(text):
-    """A trace in which each pod has a name of its own, so that a line of its report says which of them it is of."""
+    """A trace in which each pod has a name of its own, so that a line of its report shows which of them it is of."""
     lines, counts = [], {}
     for line in map(json.loads, text.splitlines()):
         if line["kind"] == "pod":
@@ -135,7 +135,7 @@ def names_of(found):
 
 
 def steps_of(trace, pod, container):
-    """What the ticks of a trace say of one container: its starts and its exits, as (words, moment). Those behind the
+    """What the ticks of a trace say of one container: its starts and its exits, as (words, moment). Those after the
     tick with which the node has ended the pod are none of it."""
     before, started = None, set()
     last = trace.failed[pod.number].at if pod.number in trace.failed else trace.ticks[-1].at
@@ -183,7 +183,7 @@ def other_steps(said, trace):
 
 
 def said_when_gone(said, trace):
-    """An event of a pod behind its last tick; what was left out of all later ones has not died by that."""
+    """An event of a pod after its last tick; what was left out of all later ones has not died by that."""
     last = {name: trace.ticks[pod.gone - 1].at - BEGIN for name, pod in zip(names_of(trace), trace.pods) if pod.gone}
     late = min((place for place, moment in said.items() if moment > last.get(place[0], moment)), default=None)
     return late and f"{' '.join(late)} at {said[late]}, when its pod was gone"
@@ -311,7 +311,7 @@ def ticks_of(trace):
 
 
 def test_samples_of_slow_looks():
-    """A sample stands at its own moment, also where it was taken behind the begin of the look that saw it."""
+    """A sample is at its own moment, also where it was taken after the begin of the look that saw it."""
     for words in ([], ["--look", "5"]):
         play = slow_play(slow={"probes": 3, "summary": 1},
                          samples={str(at): {"memory": 4294967296 - 4096 * max(at, 0)} for at in range(-1, 61)})
@@ -325,7 +325,7 @@ def test_samples_of_slow_looks():
 
 
 def test_what_happens_in_slow_looks():
-    """Also an exit, in a folder of traces too, and an eviction stand at their own moments there."""
+    """Also an exit, in a folder of traces too, and an eviction are at their own moments there."""
     ended = {"pod": "shop/web", "name": "app", "attempt": 0, "id": "a", "created": 2, "started": 3, "code": 7,
              "exited": 16.5}
     play = slow_play(slow={"probes": 3}, containers=[ended])

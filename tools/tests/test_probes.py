@@ -1,5 +1,5 @@
-"""The tests of results of probes as the recorder counts them: their order between two looks, and answers that leave some
-out."""
+"""The tests of results of probes as the recorder counts them: their order between two looks, and answers that leave
+some out."""
 
 import re
 
@@ -35,8 +35,8 @@ def test_order():
 
 
 def test_counts():
-    """Counts began anew where one of them fell, and there was time for all of them since; else what an answer leaves out
-    stays."""
+    """Counts began again where one of them fell, and there was time for all of them since; else what an answer leaves
+    out stays."""
     for before, now, most, wanted in (({"success": 9}, {"success": 11, "failure": 2}, 3, (2, 2)),
                                       ({"success": 9, "failure": 4}, {"success": 10}, 3, (1, 0)),
                                       ({"success": 9, "failure": 1}, {"success": 1, "failure": 1}, 3, (1, 1)),
@@ -73,7 +73,7 @@ def test_kills_between_looks():
 
 
 def test_empty_answers():
-    """An answer that has no counts is no sign that they began anew."""
+    """An answer that has no counts is no sign that they began again."""
     left = ("record: shop/web app liveness: N results are more than there was time for since the last look, and are "
             "left out\n")
     for name, empty, wanted in (("once", [[5, 6]], ""), ("for long", [[5, 25]], ""), ("again", [[5, 6], [7, 9]], ""),

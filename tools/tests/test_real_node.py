@@ -35,7 +35,7 @@ KINDS = {"starts": "started", "exits": "died", "kills by a liveness probe": "kil
 STARTUP_SECONDS = (45, 71)
 
 
-# --- what a kubelet showed beside the report ---
+# --- what a kubelet showed next to the report ---
 
 
 def recorded_facts(recording=RECORDING):
@@ -101,7 +101,7 @@ def counted_anew(recording):
 
 
 def test_real_evictions():
-    """What a kubelet did whose pods came by an API server is counted anew, as docs/real.md has it: each start and exit
+    """What a kubelet did whose pods came by an API server is counted again, as docs/real.md has it: each start and exit
     is in the report, each eviction is told, and nobody else is ended."""
     for name in KEPT_RUNS:
         rows, ordered, codes = counted_anew(f"{HERE}/recordings/{name}")
@@ -118,8 +118,8 @@ def test_real_evictions():
 
 
 def test_real_rounds():
-    """Each round of the kubelet's log has a judged tick, within a second of its sample, and no other tick is judged but
-    the first one. The log is that of a run with a grace period, whose rounds stand in a file."""
+    """Each round of the kubelet's log has a sync tick, within a second of its sample, and no other tick is judged but
+    the first one. The log is that of a run with a grace period, whose rounds are in a file."""
     recording = f"{HERE}/recordings/real_soft_run"
     folder, _, path = played(recording)
     ticks = [json.loads(line) for line in read(path).splitlines() if '"kind":"tick"' in line]
@@ -153,7 +153,8 @@ def test_captured_answers():
 
 
 def test_captured_kubelet():
-    """A kubelet at an address is asked by one connection, and what it answers is kept as what curl would give."""
+    """A kubelet at an address is asked by one connection, and once by another one for when it was started; what it
+    answers is kept as what curl would give."""
     if not test_connections.has_openssl():
         return
     place = test_connections.Place()
@@ -163,7 +164,7 @@ def test_captured_kubelet():
     status, trace, said = run([sys.executable, f"{PARTS}/captured.py", f"{place.folder}/answers.jsonl", *words],
                               **place.settings)
     expect("captured of an address: the trace", (status, trace[:14], said), (0, '{"kind":"node"', ""))
-    expect("captured of an address: connections", (kubelet.connections, place.asked()["curl"]), (1, 0))
+    expect("captured of an address: connections", (kubelet.connections, place.asked()["curl"]), (2, 0))
     kept = [json.loads(line) for line in read(f"{place.folder}/answers.jsonl").splitlines()]
     kinds = {trimmed.kind_of(entry["words"]) for entry in kept if "answer" in entry}
     expect("captured of an address: each kind", kinds >= {"pods", "summary", "probes", "configz", "ps"}, True)

@@ -121,7 +121,7 @@ def test_json_of_reasons():
 
 
 def test_pictures_of_reasons():
-    """Why a container waits stands in its lane, where there is room for it, and why it died in its bar."""
+    """Why a container waits is in its lane, where there is room for it, and why it died in its bar."""
     picture = xml.dom.minidom.parseString(played("timeline", "--seconds", "--trace", f"{PLAYED}/trace")[1])
     titles = [title.firstChild.data for title in picture.getElementsByTagName("title")]
     expect("timeline: a bar with a reason", [title for title in titles if "OOMKilled, its memory limit" in title],
@@ -144,7 +144,7 @@ ODD = (5, None, "x", [], {}, [None], ["x"], [{"container": 1, "reason": "a"}], [
 
 
 def test_odd_reasons():
-    """What has another shape says nothing, since the formats do not read it; an escape is shown as one."""
+    """What has another shape shows nothing, since the formats do not read it; an escape is shown as one."""
     node = ('{"kind":"node","name":"n1"}\n'
             '{"kind":"pod","pod":{"metadata":{"name":"a"},"spec":{"containers":[{"name":"app"}]}}}\n')
     listed = {"name": "app", "attempt": 1, "state": "CONTAINER_EXITED", "exitCode": 1}

@@ -96,8 +96,8 @@ def check_asked(recorder):
 
 
 def test_node_lines():
-    """Configurations that a kubelet answered: the node line, what is said of it, and whether the formats take it as it
-    stands."""
+    """Configurations that a kubelet answered: the node line, what the recorder prints, and whether the formats take it
+    as it is."""
     folder = f"{HERE}/node_lines"
     for path in sorted(name for name in os.listdir(folder) if name.endswith(".json")):
         name, made = path.removesuffix(".json"), tempfile.mkdtemp()
@@ -192,7 +192,7 @@ def test_check_without_a_command():
     expect("--check without crictl", (status, said), (1, ""))
     whole = read(f"{HERE}/checked/all").split("\n")
     expect("--check without crictl: the lines", told.split("\n"), [
-        "missing  crictl ps can't be asked: crictl is not on the PATH; it wants root, on the node, and the runtime's "
+        "missing  crictl ps can't be asked: crictl is not on the PATH; it needs root, on the node, and the runtime's "
         "socket (crictl --runtime-endpoint, /etc/crictl.yaml)",
         "unasked  crictl inspect: there is no container to ask for", *whole[2:]])
     expect_refused("a recording without crictl", run([f"{TOOLS}/record", "--node", "worker-3"], **settings), 127,

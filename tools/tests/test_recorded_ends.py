@@ -31,7 +31,7 @@ def recorded(script, *words):
 
 
 def told_of(trace, kind):
-    """What ticks say that the kubelet did: the pod, when, and its reason, with what is guessed."""
+    """What ticks show that the kubelet did: the pod, when, and its reason, with what is guessed."""
     return [(each["pod"], each["at"] - BEGIN, each["reason"], each.get("guessed")) for tick in ticks_of(trace)
             for each in (tick.get("kubelet") or {}).get(kind, [])]
 
@@ -72,7 +72,7 @@ def test_failed_without_reason():
 
 
 def test_reason_by_an_event():
-    """Where Events are asked for the one that says why comes before the end is written."""
+    """Where Events are asked for the one that shows why comes before the end is written."""
     for reason, message, kind, at in (("Evicted", "The node was low on resource: memory. ", "evicted", 19),
                                       ("Preempting", "Preempted in order to admit critical pod", "ended", 20)):
         script = play(says=[{"from": 21, "status": {"phase": "Failed", "reason": None, "containerStatuses": []}}])
@@ -119,7 +119,7 @@ def test_not_admitted():
 
 
 def test_reason_with_its_message():
-    """A kubelet 1.20 writes the reason of a hook that failed with its message behind it."""
+    """A kubelet 1.20 writes the reason of a hook that failed with its message after it."""
     for word, message, wanted in (
             (HOOK, "Exec lifecycle hook", ("PostStartHookError", "exited with 7", False)),
             ("PostStartHookError", "s3cret", ("PostStartHookError", None, True)),
@@ -131,7 +131,7 @@ def test_reason_with_its_message():
 
 
 def test_wait_for_a_second():
-    """What a status shows for a second behind an exit is told, also where the recorder looks each 5 s."""
+    """What a status shows for a second after an exit is told, also where the recorder looks each 5 s."""
     for look in ("1", "5"):
         script = play(waits=[{"container": "app", "from": 20.5, "until": 21.4, "count": 0, "reason": HOOK},
                              {"container": "app", "from": 21.4, "count": 0, "reason": "CrashLoopBackOff"}])
@@ -143,7 +143,7 @@ def test_wait_for_a_second():
 
 
 def test_first_wait():
-    """The wait for the first start is none behind an exit: what comes behind that exit is still looked for."""
+    """The wait for the first start is none after an exit: what comes after that exit is still looked for."""
     script = play(waits=[{"container": "app", "from": 0, "count": 0, "reason": "ContainerCreating"}],
                   says=[{"from": 28, "status": {"phase": "Failed", "reason": "DeadlineExceeded",
                                                 "containerStatuses": []}}])

@@ -29,7 +29,7 @@ def sampled(**moments):
 
 
 def rounds_of(*answers, evicted_at=None):
-    """The rounds that answers show, one behind the other, each with the signals that are below a threshold."""
+    """The rounds that answers show, one after the other, each with the signals that are below a threshold."""
     found = Rounds()
     return [list(found.of(samples, frozenset(below), evicted_at)) for below, samples in answers]
 
@@ -130,7 +130,7 @@ def test_rounds_over_a_border():
 
 
 def judged_behind_an_eviction(samples, **configz):
-    """The judged ticks of a play whose kubelet evicts a pod at 21, by samples of the memory."""
+    """The sync ticks of a play whose kubelet evicts a pod at 21, by samples of the memory."""
     play = low_play(samples={str(at): {"memory": value * 2 ** 20, "pods": {}} for at, value in samples.items()},
                     configz=configz)
     play["pods"]["shop/hog"] = {"evicted": 21, "spec": {"containers": [{"name": "app"}]}}
@@ -186,7 +186,7 @@ def test_summary_between_looks():
 
 
 def test_pause_and_rounds():
-    """No pause is written where the ticks say which of them are rounds."""
+    """No pause is written where the ticks show which of them are rounds."""
     summary = Summary({}, False, sampled(memory=10), {})
     answer = json.dumps({"kubeletconfig": {}})
     without = Summary({}, False, sampled(memory=None), {})
@@ -196,7 +196,7 @@ def test_pause_and_rounds():
 
 
 def test_evictions_recorded():
-    """The node line of the extended format says that the ticks end whom the kubelet evicted, but with --simulate; one
+    """The node line of the extended format shows that the ticks end whom the kubelet evicted, but with --simulate; one
     that is given has what it says itself."""
     for words, wanted in (((), None), (("--extended",), True), (("--extended", "--simulate"), None),
                           (("--extended", "--eviction-pause", "5", "--simulate"), None)):

@@ -1,4 +1,4 @@
-"""The tests of what is told of what the kubelet said: beside a kill by a probe, and by its moment; of traces out of a
+"""The tests of what is told of what the kubelet said: next to a kill by a probe, and by its moment; of traces out of a
 journal and of recordings with Events."""
 
 import json
@@ -46,7 +46,7 @@ def told_of(said, tool):
 
 
 def test_said():
-    """What a probe put out stands beside the kill order, and each thing by its moment."""
+    """What a probe put out is next to the kill order, and each thing by its moment."""
     for name, said, output, rows in (
         ("a journal", OF_JOURNAL, "HTTP 503", ["10 web {}said: Unhealthy, liveness: HTTP 503",
                                                "15 web {}said: Killing, liveness, grace period 5 s"]),
@@ -75,7 +75,7 @@ def data_in(page):
 
 
 def test_page_of_what_was_said():
-    """The page has it by its moment and its container, and what a probe put out beside the kill order."""
+    """The page has it by its moment and its container, and what a probe put out next to the kill order."""
     data = data_in(drawn_of(OF_JOURNAL | OF_POD, "page"))
     [pod] = data["podList"]
     told = sorted([at, place, data["saids"][words]] for at, place, words in pod["said"])
@@ -90,7 +90,7 @@ def test_page_of_what_was_said():
 
 
 def test_picture_of_what_was_said():
-    """A mark below the lane of its container, or below that of Ready, with its words; and beside the kill order."""
+    """A mark below the lane of its container, or below that of Ready, with its words; and next to the kill order."""
     picture = drawn_of(OF_JOURNAL | OF_POD, "timeline", "--trace")
     xml.dom.minidom.parseString(picture)
     titles = re.findall(r"<title>(.*?)</title>", picture)
@@ -98,7 +98,7 @@ def test_picture_of_what_was_said():
               "20 said: FailedPostStartHook: exec: &lt;b&gt;", "21 said: BackOff: Back-off 10s",
               "web: kill order at 15 (liveness) (HTTP 503)"]
     expect("timeline: what was said", [each for each in wanted if each not in titles], [])
-    expect("timeline: its legend", ">said of it<" in picture, True)
+    expect("timeline: its legend", ">reported of it<" in picture, True)
     expect("timeline: of nothing said there is nothing", "said" in drawn_of({}, "timeline", "--trace"), False)
 
 

@@ -43,7 +43,7 @@ KEPT = (
 
 def test_secrets():
     """A pod that has a secret in each place of its manifest, and in each message: none of them is in the trace, nor in
-    what is said of it."""
+    what is reported of it."""
     recorder = Recorder("secrets")
     status, trace, said = recorder.whole()
     recorder.clean()

@@ -57,7 +57,7 @@ def script(text):
 
 
 def test_each_trace():
-    """In their order, each once, also behind a new start; the path comes last, or where it is wanted."""
+    """In their order, each once, also after a new start; the path comes last, or where it is needed."""
     place = Place()
     shipping = place.shipping(*script(f'echo "$1" >> {place.taken}/list; cp "$1" {place.taken}'))
     place.look_until(shipping, lambda: shipping.shipment is None and len(os.listdir(place.taken)) == 5)
@@ -73,8 +73,8 @@ def test_each_trace():
 
 
 def test_a_clock_that_went_back():
-    """A trace that is newer and has an earlier name is taken too, by the same recorder and by the next one; what was not
-    taken is printed at the end. The file of an older version has the last name alone."""
+    """A trace that is newer and has an earlier name is taken too, by the same recorder and by the next one; what was
+    not taken is printed at the end. The file of an older version has the last name alone."""
     place = Place()
     shipping = place.shipping("cp", "{}", place.taken)
     place.look_until(shipping, lambda: shipping.shipment is None and len(os.listdir(place.taken)) == 4)
@@ -153,7 +153,7 @@ def test_end():
 
 
 def test_recording():
-    """A recording goes on beside a command that is slow, and ends as without one: the first command waits for the
+    """A recording goes on next to a command that is slow, and ends as without one: the first command waits for the
     second trace."""
     place = Into(quiet_node(2, 60))
     taken = f"{place.run}/taken"

@@ -2,6 +2,7 @@
 the same, and tell the words by which pods are deleted, ended and named. The trace and its report are by hand."""
 
 import contextlib
+import importlib
 import json
 import os
 import re
@@ -13,7 +14,8 @@ import cases
 from checks import HERE, TOOLS, TOP, expect, expect_refused, read, replayed, run
 from joined_plays import Folder
 
-from replay_tools import helps, records, report as reports, summary, traces
+from replay_tools import records, report as reports, summary, traces
+from replay_tools.manual import shared
 
 load_tests = cases.loaded(__name__)
 
@@ -76,7 +78,7 @@ def story_of(trace, report, *words):
 
 
 def test_all_say_the_same():
-    """Of one trace, beside what was counted by hand."""
+    """Of one trace, next to what was counted by hand."""
     listed = told_by("story", "--trace", TRACE).splitlines()
     expect("story: the list", [re.split(r" {2,}", line.strip()) for line in listed[2:]],
            [[key, {"shop/hog": "Failed", "shop/late": "Failed"}.get(key, "Running"), str(restarts), str(unready),
@@ -112,15 +114,16 @@ def test_all_say_the_same():
 
 
 def test_the_order_is_said():
-    """In each help, in the same words, as the tools themselves have it."""
-    for tool in ("story", "why", "page", "json", "fleet"):
-        expect(f"{tool} --help says the order", helps.ORDER in run([f"{TOOLS}/{tool}", "--help"])[1], True)
+    """In each manual page, in the same words, as the tools themselves have it."""
+    for tool in ("story", "why", "page", "json_lines", "fleet"):
+        details = importlib.import_module(f"replay_tools.manual.{tool}").TEXT
+        expect(f"the manual of {tool} has the order", shared.ORDER in details, True)
     places = [summary.Worst(kind).place for kind in KINDS]
     expect("the order of the kinds", places, sorted(places))
 
 
 def test_of_a_report_alone():
-    """Without the trace the report still says whom the kubelet ended, and how often the rules name a pod."""
+    """Without the trace the report still shows whom the kubelet ended, and how often the rules name a pod."""
     listed = [line.split("  ")[-1].strip() for line in told_by("story").splitlines()[2:]]
     expect("story of a report alone", listed[:2], ["the kubelet evicted it: Evicted", LATE])
     named = "the rules name it: memory.available hard (first of 2)"
@@ -187,7 +190,7 @@ def test_why_of_names():
     table = told.partition("pods that were present and had not ended:")[2]
     expect("why: candidates", re.findall(r"shop/\w+", table.partition("their order")[0]),
            ["shop/probed", "shop/loop", "shop/once", "shop/named", "shop/never", "shop/guessed"])
-    expect("why: who is spared", "  spared, and no candidates: shop/calm" in told.splitlines(), True)
+    expect("why: who is spared", "  exempt, and no candidates: shop/calm" in told.splitlines(), True)
     expect("why: once more", told.splitlines().count("  once more, as above"), 1)
     samples = told_by("why", "hog", "--trace", TRACE)
     expect("why: the ended pod is a candidate of its own tick", re.findall(r"(shop/hog) .* (\w+)$", samples, re.M)[-1],
@@ -206,8 +209,8 @@ def test_unjudged_samples():
 
 
 def test_words_that_a_program_passes_over():
-    """A program that heeds neither which pods are spared nor which ticks are judged names a pod that is spared, at a
-    tick that is not judged, and the pod stands in the table."""
+    """A program that heeds neither which pods are spared nor which ticks are judged names a pod that is exempt, at a
+    tick that is not judged, and the pod is in the table."""
     trace = ('{"kind":"node","name":"n1","version":3,"evictionHard":{"memory.available":"100Mi"},'
              '"recordsKubelet":true,"evictionsRecorded":true}\n'
              '{"kind":"pod","spared":true,"pod":{"metadata":{"name":"a"},"spec":{"containers":[{"name":"c"}]}}}\n'
@@ -225,7 +228,7 @@ def test_words_that_a_program_passes_over():
 
 
 def test_a_code_that_was_guessed():
-    """It is told as unknown wherever a code is told, and is null where a value is wanted."""
+    """It is told as unknown wherever a code is told, and is null where a value is needed."""
     told = told_by("story", "guessed", "--trace", TRACE)
     expect("story: a guessed code", re.findall(r"  (died.*unknown)", told),
            ["died, code unknown", "died at 1767225614, code unknown"])
@@ -241,7 +244,7 @@ def test_a_code_that_was_guessed():
 
 
 def test_odd_words():
-    """What has another shape says nothing: the program refuses some of it, and reads the rest of it not at all."""
+    """What has another shape shows nothing: the program refuses some of it, and reads the rest of it not at all."""
     node = ('{"kind":"node","name":"n1","version":3}\n'
             '{"kind":"pod","pod":{"metadata":{"name":"a"},"spec":{"containers":[{"name":"app"}]}}}\n')
     for odd in (5, None, [], "", "1st", "a b", "x" * 64, {"reason": "Evicted"}):
@@ -263,11 +266,11 @@ def test_of_own_limits():
     told = story_of(text, report, "hog", "--without-why").splitlines()
     expect("story: a limit of its own", told[1:3], [
         'the kubelet evicted it at 1767225620: Usage of EmptyDir volume "work" exceeds the limit "1Gi".',
-        "the rules have nothing to say of it; it came to a limit of its own, which is no pressure of the node"])
+        "the rules can't judge it; it came to a limit of its own, which is no pressure of the node"])
 
 
 def test_pods_that_the_rules_evict():
-    """Where no trace says what the kubelet did the rules' evictions stand first, else behind what happened."""
+    """Where no trace shows what the kubelet did the rules' evictions stand first, else behind what happened."""
     report = reports.read_report(read(f"{TOP}/examples/memory_pressure.report"))
     ranked = summary.summaries(report)
     expect("the rules alone, without a trace", [(each.number, each.found.worst.value) for each in ranked],
@@ -297,7 +300,7 @@ def test_clocks():
 
 
 def test_counts_since_a_moment():
-    """With --since restarts, seconds and the worst are of that time, and all restarts stand beside them."""
+    """With --since restarts, seconds and the worst are of that time, and all restarts are next to them."""
     with Folder() as folder:
         told = folder.tell("story", "--since", "2026-01-01T00:00:40Z")[1].splitlines()
         heads = next(line for line in told if line.split()[:1] == ["pod"])
@@ -312,7 +315,7 @@ def test_counts_since_a_moment():
 
 
 def test_readiness_gates():
-    """A gate that is not true is told, in the list where nothing else is, and beside the conditions of the report."""
+    """A gate that is not true is told, in the list where nothing else is, and next to the conditions of the report."""
     text = read(TRACE).replace('{"pod":"shop/calm",', '{"pod":"shop/calm","readinessGates":{"target-health":false},')
     told = story_of(text, read(REPORT))
     [line] = [line for line in told.splitlines() if "shop/calm" in line]
@@ -326,7 +329,7 @@ def test_readiness_gates():
 
 
 def test_memory_of_a_death():
-    """The limit is that which the container had by then, else the manifest's, else that of the pod; beside it stands
+    """The limit is that which the container had by then, else the manifest's, else that of the pod; next to it stands
     what it used, and below it what it wrote last."""
     died = '"exitCode":2,"reason":"Error"'
     used = '"exitCode":2,"reason":"OOMKilled","used":{"workingSet":66060288,"age":4},"log":["first","a \\u001b[31mred"]'

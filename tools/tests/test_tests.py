@@ -144,7 +144,7 @@ def test_without_the_program():
 
 
 def test_that_a_test_ends_alone():
-    """One that raises fails, what it has started is ended, and the tests behind it run."""
+    """One that raises fails, what it has started is ended, and the tests after it run."""
     folder = tempfile.mkdtemp()
     with open(f"{folder}/replay", "w", encoding="utf-8") as file:
         file.write("#!/bin/sh\necho node n1 pods=0 ticks=0\n")

@@ -78,7 +78,7 @@ def test_series():
 
 
 def test_hostile_series():
-    """What is no value, and what is no name, counts as not there, and hides nothing behind it."""
+    """What is no value, and what is no name, counts as not there, and hides nothing after it."""
     for name, text in (
         *((f"a value {value!r}", line(value)) for value in (
             "NaN", "nan", "+Inf", "inf", "-1", "-0", "1e999", "1e-", "0x10", "1_0", "", " ", "\u0661", "1" * 400,
@@ -193,7 +193,7 @@ def throttled_in(ticks):
 
 
 def test_recorded():
-    """It stands with what the container used, of the instance that runs, and once more with its exit."""
+    """It is with what the container used, of the instance that runs, and once more with its exit."""
     whole = [(0, 0, 0), (8, 0, 2000), (18, 0, 4500), (28, 0, 7000), (33, 0, 7000), (38, 1, 125), (48, 1, 500)]
     lacking = [(at, attempt, None) for at, attempt, _ in whole]
     words = ["--extended", "--for", "60"]
@@ -316,7 +316,7 @@ def recorded_until(words, settings, is_over):
 
 
 class OfKubelet:
-    """A recorder beside a kubelet that says this of throttling."""
+    """A recorder next to a kubelet that says this of throttling."""
 
     def __init__(self, other):
         self.place = Place()
@@ -334,7 +334,7 @@ class OfKubelet:
         return recorded_until(self.words, self.place.settings, is_over)
 
     def has_gone_on(self, count=3):
-        """Whether so many looks came behind the one at which it was asked."""
+        """Whether so many looks came after the one at which it was asked."""
         paths = self.kubelet.paths
         if not paths[PATH]:
             return False
@@ -357,7 +357,7 @@ def test_of_a_kubelet():
         return
     body = OTHER * 3000 + of_the_server().encode()
     works = f"works    {PATH}: 1 container whose processor has a limit"
-    wants = f"it is at the kubelet's port 10250, and wants the permission to get nodes/metrics; {LEFT_OUT}"
+    wants = f"it is at the kubelet's port 10250, and needs the permission to get nodes/metrics; {LEFT_OUT}"
     for name, other, said, told in (
         ("whole", (200, body), "", works),
         ("in chunks", chunked(body), "", works),

@@ -1,6 +1,7 @@
 """The tests of what several tools share: stories, pictures and edits of kept recordings, their words, versions and
 helps, and the commands that they need."""
 
+import importlib
 import os
 import re
 import shutil
@@ -11,6 +12,8 @@ import xml.dom.minidom
 import big_node
 import cases
 from checks import HERE, TOOLS, TOP, copy_package, expect, expect_kept, expect_refused, read, run
+
+from replay_tools import tree
 
 load_tests = cases.loaded(__name__)
 
@@ -157,8 +160,8 @@ def test_no_reports():
         ("a line behind the totals", f"{report}{lines[1]}\n", "is no line"),
         ("no condition of the node", report.replace("nodecondition PIDPressure", "nodecondition Other"), "condition"),
         ("a pod without a condition", report.replace("condition 0 Ready", "condition 0 Steady"), "shop/api-7f9c"),
-        ("a trace", read(f"{RECORDINGS}/crash_loop/trace"), "is a trace, and it wants the report: run it first"),
-        ("a refusal", "line 1: 36 Config\n", "kubelet-replay explain TRACE says what it means"),
+        ("a trace", read(f"{RECORDINGS}/crash_loop/trace"), "is a trace, and it needs the report: run it first"),
+        ("a refusal", "line 1: 36 Config\n", "kubelet-replay explain TRACE shows what it means"),
         ("lines of json", '{"record":"node"}\n', "standard input is lines of kubelet-replay json"),
     ):
         expect_refused(f"story of {name}", run([f"{TOOLS}/story", "shop/api-7f9c"], text), 2, words)
@@ -235,13 +238,13 @@ def test_refused_edits():
         ("an edit that fails", "node(.name + 1)", trace, "the edit fails", None),
         ("an edit of a pod that fails", 'pod("shop/api-7f9c"; error("no"))', trace, "the edit fails: jq: error", None),
         ("a trace that is refused", ".", trace.replace('"kind":"node"', '"kind":"nod"'),
-         "the trace is refused: line 1: 33 UnknownKind", 'kind is "nod": there are node, pod and tick'),
+         "the trace is rejected: line 1: 33 UnknownKind", 'kind is "nod": there are node, pod and tick'),
         ("an edited trace that is refused", "node(.maxRestartDelay = 301)", trace,
-         "the edited trace is refused: line 1: 36 Config", "maxRestartDelay is 301: it is a whole number from 1 to"),
-        ("a report", ".", read(f"{RECORDINGS}/crash_loop/report"), "the trace is refused: line 1: 32 NotJson",
+         "the edited trace is rejected: line 1: 36 Config", "maxRestartDelay is 301: it is a whole number from 1 to"),
+        ("a report", ".", read(f"{RECORDINGS}/crash_loop/report"), "the trace is rejected: line 1: 32 NotJson",
          "it is a report: give the trace that it was made of"),
         ("an edit that brings the extended format a fault", "node(.version = 3 | .evictionPauseSeconds = -1)", trace,
-         "the edited trace is refused: line 1: 36 Config", "evictionPauseSeconds is -1"),
+         "the edited trace is rejected: line 1: 36 Config", "evictionPauseSeconds is -1"),
     ):
         expect_refused(f"what-if {name}", run([f"{TOOLS}/what-if", edit], given), 2, words, means)
 
@@ -272,8 +275,8 @@ def test_edits_of_what_is_not_there():
 
 def test_words():
     for words, said in (
-        (["record", "--often"], "--often is no word"),
-        (["record", "--every"], "--every wants a value"),
+        (["record", "--often"], "--often is no known argument"),
+        (["record", "--every"], "--every needs a value"),
         (["record", "--every", "0"], "--every takes"),
         (["record", "--every", "1.5"], "--every takes"),
         (["record", "--every", "86401"], "--every takes"),
@@ -295,7 +298,7 @@ def test_words():
         (["record", "--into", "/nonexistent/traces"], "--into: '/nonexistent/traces' is no folder"),
         (["record", "--into", f"{HERE}/run.py"], "run.py' is no folder"),
         (["record", "--into", HERE, "--node", "worker/3"], "--node takes a node's name, not 'worker/3'"),
-        (["record", "--into", HERE, "--node", ".."], "--into wants --node with a name of the formats, not '..'"),
+        (["record", "--into", HERE, "--node", ".."], "--into needs --node with a name of the formats, not '..'"),
         (["record", "--into", HERE, "--standard"], "--into writes the extended format"),
         (["record", "--into", HERE, "--each", "1"], "--each takes a time from 10s to 400d, as 1h, not '1'"),
         (["record", "--into", HERE, "--each", "9s"], "--each takes a time"),
@@ -305,11 +308,11 @@ def test_words():
         (["record", "--each", "1h"], "--each goes with --into"),
         (["record", "--crictl", "'"], "--crictl takes words"),
         (["story", "a/b", "c/d"], "one pod, not 2"),
-        (["story", "--all"], "--all is no word"),
-        (["timeline", "--wide"], "--wide is no word"),
+        (["story", "--all"], "--all is no known argument"),
+        (["timeline", "--wide"], "--wide is no known argument"),
         (["what-if"], "one edit, not 0"),
         (["what-if", ".", "."], "one edit, not 2"),
-        (["what-if", "--edit"], "--edit is no word"),
+        (["what-if", "--edit"], "--edit is no known argument"),
     ):
         answer = run([f"{TOOLS}/{words[0]}", *words[1:]], PATH=f"{COMMANDS}:{os.environ['PATH']}")
         expect_refused(" ".join(words), answer, 2, said)
@@ -376,12 +379,18 @@ def test_versions():
 
 
 def test_help():
-    for tool in ("record", "story", "timeline", "what-if", "json", "why", "page", "fleet", "explain", "import"):
+    """A help fits a terminal and has its parts; the manual has what a tool needs and leaves out."""
+    for tool in (name for name in tree.COMMANDS if tree.is_tool(name)):
         status, help_text, said = run([f"{TOOLS}/{tool}", "--help"])
-        found = [words in help_text for words in (f"usage: tools/{tool} ", "It needs", "leaves out", "Status 0")]
-        expect(f"{tool} --help", (status, said, found), (0, "", [True] * 4))
-        widest = max(map(len, help_text.split("\n")))
-        expect(f"{tool} --help: its columns", widest <= 120, True)
+        found = [words in help_text for words in (
+            f"\n\nUsage:\n  kubelet-replay {tool} ", "\n\nExamples:\n  # ", "\n\nOptions:\n  ",
+            "\n\nExit status: 0 done, ", f"\nMore: man kubelet-replay-{tool}")]
+        expect(f"{tool} --help", (status, said, found), (0, "", [True] * 5))
+        lines = help_text.splitlines()
+        expect(f"{tool} --help fits a terminal", [line for line in lines if len(line) > 80] + lines[40:], [])
+        details = importlib.import_module(f"replay_tools.manual.{tree.COMMANDS[tool].module}").TEXT
+        expect(f"the manual of {tool} has what it needs and leaves out", [words in details for words in (
+            "It needs python3", "leaves out", "\n\nStatus 0: ")], [True] * 3)
 
 
 def test_missing_commands():

@@ -1,4 +1,4 @@
-"""The tests of what containers use, beside what a recording lists of them: when it is told, of which instance, and
+"""The tests of what containers use, next to what a recording lists of them: when it is told, of which instance, and
 how much a recording grows by it."""
 
 import json
@@ -33,7 +33,7 @@ def ticks_of(play, *words):
 
 
 def used_in(ticks, name="app"):
-    """What the ticks say that a container used, in seconds behind the begin, with what its exit of before did."""
+    """What the ticks show that a container used, in seconds after the begin, with what its exit of before did."""
     found = []
     for tick in ticks:
         for each in (each for entry in tick["pods"] for each in entry["containers"] if each["name"] == name):
@@ -61,7 +61,7 @@ LEAK = play_of(
 
 def test_used():
     """Each ten seconds, and once more as an instance exits, of it alone: one of before its start is not its own. Where
-    the tick of a start says an exit too, it stands with that."""
+    the tick of a start says an exit too, it is with that."""
     ticks, answer = ticks_of(LEAK, "--extended", "--for", "60")
     expect("used: all is recorded", answer, (0, ""))
     expect("used: when", used_in(ticks), [

@@ -131,7 +131,7 @@ def of_node(lines):
 
 
 def test_node_is_told():
-    """A reboot with the exits of before and behind it, and when the node was not Ready where a pod of it became
+    """A reboot with the exits of before and after it, and when the node was not Ready where a pod of it became
     unready then."""
     story = told_of("story", "web", "--without-why")
     expect("story: the node", of_node(story), [NOT_READY, BOOTED])
@@ -159,7 +159,7 @@ def test_throttling_is_told():
 
 
 def test_odd_words_of_a_node():
-    """What has another shape says nothing, since the formats do not read it; a moment that is none is that of the
+    """What has another shape shows nothing, since the formats do not read it; a moment that is none is that of the
     tick."""
     text, report = read(f"{REBOOTED}/trace"), reports.read_report(read(f"{REBOOTED}/report"))
     said = f'{{"status":"Unknown","reason":"NodeStatusUnknown","since":{BEGIN + 12}}}'
@@ -175,7 +175,7 @@ def test_odd_words_of_a_node():
 
 
 def test_not_ready_over_a_gap():
-    """It lasts over a gap where the condition says so behind it; else it is known up to the gap."""
+    """It lasts over a gap if the condition shows it after it; else it is known up to the gap."""
     for since, wanted in ((5, [(5, 60)]), (45, [(5, 20), (45, 60)]), (None, [(5, 20)])):
         said = [(10, 5), (20, 5), (50, since), (60, None)]
         ticks = [{"kind": "tick", "at": at, "pods": [], **({} if begun is None else {
@@ -271,7 +271,7 @@ def test_refused_whys():
                                                '"at":5,"pods":[{"pod":"shop/web","containers":[{"name":"other"'),
          "at 5 it does not list attempt 0 of app of shop/web as running"),
         ("that is none", "{}\n", "line 1 is no line of a trace"),
-        ("that is a report", "node n1\n", "is a report, and it wants the trace that the report is of"),
+        ("that is a report", "node n1\n", "is a report, and it needs the trace that the report is of"),
         ("without a node line", given[given.index("\n") + 1 :], "line 1 is no line of a trace"),
         ("with a cut line", given[:-30], "line 16 is no line of a trace"),
         ("with nothing", "", "it has no line"),
@@ -296,7 +296,7 @@ def test_refused_words_of_why():
         expect_refused(f"why {pod}", run([f"{TOOLS}/why", pod, "--trace", trace], read(report)), 2, said)
         expect_refused(f"story {pod}", run([f"{TOOLS}/story", pod], read(report)), 2, said)
     for words, said in (([], "one pod, not 0"), (["a/b", "c/d", "--trace", trace], "one pod, not 2"),
-                        (["a/b"], "it wants --trace"), (["a/b", "--trace"], "--trace wants a value"),
-                        (["--all"], "--all is no word")):
+                        (["a/b"], "it needs --trace"), (["a/b", "--trace"], "--trace needs a value"),
+                        (["--all"], "--all is no known argument")):
         expect_refused(f"why {' '.join(words)}", run([f"{TOOLS}/why", *words], read(report)), 2, said)
     expect_refused("why of no report", run([f"{TOOLS}/why", "a/b", "--trace", trace], "no\n"), 2, "line 1 ")

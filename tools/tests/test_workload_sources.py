@@ -49,7 +49,7 @@ def test_options_of_kubectl():
                    if calls else "no call", [])
         words = ("story", "deploy/web", "-n", "shop", "--kubeconfig", "X", "--as", "bob", "--sinse", "10m")
         expect_refused("an unknown option", cluster.run(*words, "--nonsense"), 2,
-                       "--sinse is no word of it; the nearest is --since")
+                       "--sinse is no known argument; the nearest is --since")
         expect("an unknown option asks nothing", kept(cluster, "options"), [])
 
 

@@ -1,5 +1,6 @@
 """The tests of the story of a workload of a cluster: from its name to its nodes, and one story over all of them, by a
-stand-in of kubectl with three nodes. Two nodes have traces by hand, the third one the recording of a real kubelet."""
+stand-in of kubectl with three nodes. Two nodes have hand-written traces, the third one the recording of a real
+kubelet."""
 
 import gzip
 import json
@@ -98,7 +99,7 @@ def event(name, reason, message, at, host=None, **more):
 
 
 def objects():
-    """What the API server knows: one pod of the Deployment has gone, and its node stands in its events."""
+    """What the API server knows: one pod of the Deployment has gone, and its node is in its events."""
     sets = [{"metadata": {"name": name, "uid": f"uid-{name}",
                           "ownerReferences": [{"kind": "Deployment", "uid": owner}]}}
             for name, owner in ((NEW, "uid-web"), (OLD, "uid-web"), ("webhook-11111", "uid-webhook"))]
@@ -253,7 +254,7 @@ def test_refused():
             (("story", "pod/none", *SINCE), 1, "pod/none in shop: no pod of it is known, in the cluster or in a trace"),
             (("story", "deploy/web", "--since", "soon"), 2, "--since takes a time"),
             (("story", "deploy/--raw=/api"), 2, "'--raw=/api' is no name of a deployment"),
-            (("story", "web", "-n", "--raw=x"), 2, "-n/--namespace wants a value"),
+            (("story", "web", "-n", "--raw=x"), 2, "-n/--namespace needs a value"),
             (("story", "deploy/web", "-n", "a/b"), 2, "'a/b' is no name of a namespace"),
             (("story", "deploy/web", "--timeout", "0"), 2, "--timeout takes seconds from 1 to 3600, not '0'"),
             (("story", "deploy/web", "-o", "yaml"), 2, "-o takes json, not 'yaml'"),

@@ -20,10 +20,10 @@ from replay_tools.joined import files
 
 AT_ONCE = 16
 TRIES = 2
-# of a part, what stands ahead at its end is taken away at the next look
+# of a part, what is ahead at its end is taken away at the next look
 MOST_OF_TRACE = traces.LONGEST_TRACE + (1 << 20)
 MOST_OF_NODE = 1 << 30
-# behind so many that did not come no more of a node are asked for
+# after so many that did not come no more of a node are asked for
 MOST_FAILED = 3
 # a copy that is not whole yet has a name of its own, so that no other fetch writes or renames it
 COPY = ".copy"
@@ -35,7 +35,7 @@ TICK = b'{"kind":"tick"'
 
 @dataclass
 class Wanted:
-    """Of which time traces are wanted, either end of which may be left open, and how many bytes of each node."""
+    """Of which time traces are needed, either end of which may be left open, and how many bytes of each node."""
 
     first: int | None = None
     last: int | None = None
@@ -130,15 +130,15 @@ def of_node(cluster: asking.Cluster, recorder: asking.Recorder, folder: int, wan
         found.faults.append(left)
     chosen = of_time(held.files, wanted)
     if not held.files:
-        found.faults.append("its recorder holds no trace yet")
+        found.faults.append("its recorder has no trace yet")
     elif not chosen:
-        found.faults.append(f"its recorder holds no trace of that time; it holds {span_words(held.files)}")
+        found.faults.append(f"its recorder has no trace of that time; it has {span_words(held.files)}")
     take_all(cluster, recorder, chosen, folder, wanted.most, found)
     return found
 
 
 def span_words(held: list[asking.File]) -> str:
-    return (f"those of {reports.moment_text(held[0].begun, True)} to "
+    return (f"traces of {reports.moment_text(held[0].begun, True)} to "
             f"{reports.moment_text(max(file.changed for file in held), True)}")
 
 
@@ -240,7 +240,7 @@ def whole(cluster: asking.Cluster, recorder: asking.Recorder, file: asking.File,
 
 
 def cut(copy: BinaryIO, name: str) -> int | None:
-    """Cuts a part behind its last whole line; the moment of its last tick, None where it has none yet."""
+    """Cuts a part after its last whole line; the moment of its last tick, None where it has none yet."""
     end, line = last_tick(copy)
     copy.truncate(end)
     if line is None:
@@ -253,7 +253,7 @@ def cut(copy: BinaryIO, name: str) -> int | None:
 
 
 def check_node(copy: BinaryIO, node: str, name: str) -> None:
-    """Raises NoAnswer where a trace says that it is of another node, as which it would be told and counted."""
+    """Raises NoAnswer where a trace shows that it is of another node, as which it would be reported and counted."""
     try:
         found = outside.json_of(packed.first_line(copy, traces.LONGEST_LINE))
     except packed.Damaged:

@@ -1,4 +1,4 @@
-"""kubectl, asked for one answer. It is handed on piece by piece, so that nobody sends more than there is room for."""
+"""kubectl, asked for one answer. It is passed on piece by piece, so that nobody sends more than there is room for."""
 
 from __future__ import annotations
 
@@ -11,15 +11,15 @@ from collections.abc import Callable
 
 from replay_tools import amounts, entry, outside
 
-# kubectl says so behind what the command itself said
+# kubectl shows it after what the command itself reported
 ENDED = "command terminated with exit code"
 PIECE = 1 << 16
-# of what it says on standard error so much is kept, the last of it
+# of what it shows on standard error so much is kept, the last of it
 MOST_SAID = 1 << 14
 
 
 class NoAnswer(Exception):
-    """Something was asked and not answered; the message says why."""
+    """Something was asked and not answered; the message shows why."""
 
 
 class Silent(NoAnswer):
@@ -60,7 +60,7 @@ def started(words: list[str]) -> subprocess.Popen:
 
 def handed_on(process: subprocess.Popen, most: int, seconds: float, silent: float,
               take: Callable[[bytes], object]) -> bytes:
-    """Hands on what a process writes for so many seconds; gives what it said last on standard error. Raises
+    """Hands on what a process writes for so many seconds; gives what it reported last on standard error. Raises
     TimeoutError with the seconds within which it had to answer."""
     size, said = 0, b""
     begin = heard = time.monotonic()

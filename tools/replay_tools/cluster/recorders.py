@@ -1,4 +1,4 @@
-"""The pods of the recorder's DaemonSet, asked by kubectl. Their image has find and cat, and no more is wanted of it.
+"""The pods of the recorder's DaemonSet, asked by kubectl. Their image has find and cat, and no more is needed of it.
 Whoever has a node may answer anything in their place."""
 
 from __future__ import annotations
@@ -236,7 +236,8 @@ def on_nodes(recorders: dict[str, Recorder], nodes: Iterable[str]) -> list[Recor
     for node in nodes:
         if node not in recorders:
             near = difflib.get_close_matches(node, list(recorders), 3)
-            known = f"the nearest: {', '.join(near)}" if near else f"there are those of {files.listed(list(recorders))}"
+            known = f"the nearest: {', '.join(near)}" if near else \
+                f"there are recorders on {files.listed(list(recorders))}"
             raise entry.Fault(f"no recorder on {node}; {known}", means=on_the_node(node))
     return [recorders[node] for node in dict.fromkeys(nodes)]
 

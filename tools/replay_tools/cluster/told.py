@@ -61,7 +61,7 @@ class Row:
 
 @dataclass
 class Story:
-    """All that is told of a workload."""
+    """All that is printed of a workload."""
 
     members: Members
     found: list[OnNode]
@@ -89,7 +89,7 @@ def blank(cell: str) -> str | None:
 
 
 def on_node(node: str, several: join.Joined, members: Members) -> OnNode:
-    """Of the pods of one name all are told."""
+    """Of the pods of one name all are printed."""
     given = asking.Given(several.report, several.trace, several)
     pods = [pod for pod in given.report.pods if members.has(pod.key)]
     return OnNode(node, given, several, asking.kubelet_beside(given.trace, given.report), pods)

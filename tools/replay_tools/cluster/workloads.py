@@ -1,5 +1,5 @@
 """A workload of a cluster, as a Deployment, a label or a namespace: which pods it has and had, on which nodes these are
-and were, and what the API server's events say of them. kubectl is asked, as one who may view the namespace."""
+and were, and what the API server's events show of them. kubectl is asked, as one who may view the namespace."""
 
 from __future__ import annotations
 
@@ -35,7 +35,7 @@ MOST_OF_ANSWER = 256 << 20
 ASSIGNED = re.compile(r"Successfully assigned \S+ to (\S+)")
 STAMP = re.compile(r"(\d{4}-\d\d-\d\dT\d\d:\d\d:\d\d)(?:\.\d+)?Z", re.ASCII)
 CONTAINER = re.compile(r"spec\.(?:initContainers|containers)\{([^}]*)\}")
-# what a trace says itself, or says nothing of what went wrong
+# what a trace shows itself, or shows nothing of what went wrong
 TOLD_BY_TRACE = ("Scheduled", "Pulling", "Pulled", "Created", "Started", "SuccessfulCreate", "SuccessfulDelete")
 
 
@@ -238,14 +238,14 @@ def name_pattern(target: Target) -> str:
 
 
 def take_events(found: Members) -> None:
-    """Takes what the events say of the pods, by time."""
+    """Takes what the events show of the pods, by time."""
     for event in found.events:
         take_event(found, event)
     found.said.sort(key=lambda said: said.at)
 
 
 def take_event(found: Members, event: dict[str, Any]) -> None:
-    """What an event says of one of the pods: on which node it was, and what went wrong."""
+    """What an event shows of one of the pods: on which node it was, and what went wrong."""
     about = event.get("involvedObject")
     if not isinstance(about, dict) or about.get("kind") != "Pod":
         return
@@ -296,7 +296,7 @@ def listed(cluster: Cluster, target: Target, kind: str, waiting: Waiting) -> lis
 
 
 def object_of(cluster: Cluster, target: Target, waiting: Waiting) -> str | None:
-    """The uid of the workload; None if the API server has none of that name, or does not say."""
+    """The uid of the workload; None if the API server has none of that name, or does not show."""
     try:
         with waiting.for_answer(target.words()):
             found = answered(cluster, "get", target.kind or "", target.name or "", *target.of_namespace)

@@ -6,33 +6,36 @@ import argparse
 import sys
 import time
 
-from replay_tools import amounts, entry, helps, report as reports
+from replay_tools import amounts, entry, report as reports
 from replay_tools.cluster import fetching, recorders
 from replay_tools.joined import asked
 
 HELP = """\
-usage: tools/fetch NODE .. [--since 2h | --at 2026-11-27T03:10Z] [--into FOLDER] [--most 1Gi]
-            [--timeout 15]
-       tools/fetch --all [--since 2h | --at 2026-11-27T03:10Z] [--into FOLDER] [--most 1Gi]
+Copy the traces of a cluster's nodes into a folder.
 
-Copies the traces that the recorders of deploy/daemonset.yaml hold of some nodes, or of all, into FOLDER (traces), and
-says of each node what came. --since takes those since a moment, or for so long before now; --at those around a moment,
-an hour before it and ten minutes behind; without both all are taken. Moments are times with a zone, as 03:10Z, which is
-the last one before now, or seconds since 1970. A trace that is there already is not copied again. The one that is still
-written is copied up to its last whole line, under its name there, NAME.trace.part, until it is there whole.
+Usage:
+  kubelet-replay fetch NODE .. [options]
+  kubelet-replay fetch --all [options]
 
-""" + helps.RECORDERS + """find and cat in them.
+Examples:
+  # The last two hours of two nodes
+  kubelet-replay fetch worker-3 worker-4 --since 2h
+  # All nodes, around 03:10
+  kubelet-replay fetch --all --at 03:10Z --into incident/
 
-A node may send anything. Of each node --most bytes (1Gi) are copied in a run, and 65Mi of a trace; what is named after
-another node, and what has no size or time, is left out, which is said, and the others are copied. A FOLDER that others
-may write is refused, unless it is sticky and each trace in it is a file of one's own.
+Options:
+      --all             all nodes that record
+      --since TIME      only the traces since TIME (2h, or 2026-11-27T03:10Z)
+      --at TIME         only from an hour before TIME to ten minutes after
+      --into FOLDER     where to copy them (traces)
+      --most SIZE       the most to copy of a node (1Gi)
+      --recorders NAME  the namespace of the recorders (kubelet-replay)
+      --timeout N       seconds for which a recorder may be silent (15)
+      --context NAME, --kubeconfig FILE, --as USER, ..
+                        kubectl's own options
 
-""" + helps.RIGHTS + """It leaves out traces of nodes whose recorder is gone, though they may still lie on the node,
-and says how to get them.
-
-Status 0: done; 1: some node's traces did not come, or not whole, or not all, which is said, or standard output takes no
-more; 2: a bad word, a node without a recorder, a FOLDER that can't be written to, or that others may write; 127: a
-command is missing.
+Exit status: 0 done, 1 some traces did not come, 2 bad input.
+More: man kubelet-replay-fetch
 """
 LEAST = 1 << 20
 
@@ -40,7 +43,7 @@ LEAST = 1 << 20
 def main(words: list[str]) -> int:
     found = parser().taken(words)
     if bool(found.nodes) == found.all:
-        raise entry.Fault("it takes nodes, or --all and none (--help says more)")
+        raise entry.Fault("it takes nodes, or --all and none (see --help)")
     wanted = fetching.Wanted(*asked.span_of(found.since, found.at, time.time()), found.most)
     cluster, folder = recorders.cluster_of(found), found.into
     there = cluster.recorders()

@@ -8,47 +8,38 @@ from replay_tools import entry
 from replay_tools.cluster import options
 
 HELP = """\
-usage: tools/import [--journal FILE ..] [--pods FILE ..] [--node NAME] > TRACE
-       tools/import [--journal FILE ..] [--pods FILE ..] [--node NAME] --into FOLDER [--each 1h]
-       tools/import NODE [--since 3h] [--context NAME] [--timeout 60], and the other words
-       journalctl -u kubelet --since -3h -o json | tools/import --pods pods.json > TRACE
+Make a trace from a kubelet's journal, for a node without a recorder.
 
-Makes a trace of the extended format (docs/import.md) out of the journal of a node's kubelet, where no recorder ran; or,
-with --into, traces one behind the other as tools/record --into writes them, which the tools tell as one.
+Usage:
+  kubelet-replay import --journal FILE .. [options] > TRACE
+  kubelet-replay import NODE [--since 3h] [options] > TRACE
 
---journal FILE is a journal of the kubelet, of containerd or of CRI-O; several in any order, which may overlap, or
-standard input ("-").
-It may be what journalctl prints with each of its -o, klog's own lines, text or JSON, what oc adm node-logs, kubectl
-logs or a runtime has of a kubelet, or what a store of logs exports, as JSON or CSV; gzip may have packed it. Its lines
-may be the newest first.
---pods FILE has manifests, as JSON or YAML: kubectl get pods -o json, a list, single pods, what owns them (Deployment,
-StatefulSet, DaemonSet, ReplicaSet, Job, CronJob: their templates, by the pods' names), static pods' files, audit
-events, a watch. A pod without one has the containers that lines name, and no probes.
---events FILE is kubectl get events -o json; --audit FILE an audit log, which has manifests and statuses.
---node NAME is the node, where no line names it, and of which lines are read, where a journal has several.
---unit NAME is a unit of systemd that runs the kubelet under another name: k3s, k3s-agent, rke2-server, kubelite.
-Without it lines are the kubelet's only if their unit is; give it more than once for several.
---year N and --zone +02:00 are those of klog's own moments, which have neither: else the year of the file, and UTC.
---most SIZE is how much of each journal is read (4Gi).
---each 1h is how long a trace of --into is.
-NODE asks the cluster by kubectl, and needs nothing on the node: for the logs of its kubelet and its runtime since
---since (1h), by the API of Kubernetes 1.30 and newer where NodeLogQuery is on, or else for the file messages or syslog;
-for its pods, for what owns pods and for Events. It goes on without all but the kubelet's log; if the cluster does not
-give that, it prints what to run on the node. An answer has to go on within --timeout (60 seconds). It needs the rights
-to get nodes/proxy and to list pods, owners and events.
+With NODE it asks the cluster for the logs, by kubectl.
 
-What the journal does not have is not made up. An exit without its code has "guessed":["exitCode"], a start or an exit
-that is known by the second of the kubelet's look "moment", an instance that no line names, but exclusion, "container",
-one that ran before a hole of the journal, and of whose pod no line behind that speaks, "state", and a pod whose
-manifest is made of lines or of its owner "manifest". At its end it says on standard error what the journal had and what
-it lacked, by kind.
+Examples:
+  # From the node's journal, with the manifests of the cluster's pods
+  kubelet-replay import --journal kubelet.json --pods pods.json > node.trace
+  # From the cluster, with nothing installed on the node
+  kubelet-replay import worker-3 --since 3h > worker-3.trace
 
-It needs python3, for YAML python3-yaml, for NODE kubectl. It leaves out pods' use of the node, which no journal has,
-so each pod is spared, and the rules evict nobody; the kubelet's own evictions are told as what they are.
+Options:
+      --journal FILE    a journal of the kubelet or of its runtime, or -
+      --pods FILE       manifests and statuses (kubectl get pods -A -o json)
+      --events FILE     kubectl get events -A -o json
+      --audit FILE      an audit log of the API server
+      --node NAME       the node, if the journal has several or no name
+      --unit NAME       the kubelet's systemd unit (k3s, rke2-agent, ..)
+      --year N, --zone +02:00
+                        for klog's moments (the file's year, and UTC)
+      --most SIZE       how much of each journal to read (4Gi)
+      --into FOLDER     write one trace after the other into FOLDER
+      --each TIME       how long such a trace is (1h)
+      --since TIME      with NODE, how far back (1h)
+      --timeout N       seconds for which an answer may pause (60)
+      --context NAME, --kubeconfig FILE, ..   kubectl's own options
 
-Status 0: done; 1: nothing was understood, as of a file that is no journal, of several kubelets whose lines are mixed,
-or of manifests of another cluster, and nothing is written; the cluster gives no log; or what is made can't be written;
-2: a bad word, or a file that can't be read; 127: python3-yaml or kubectl is missing.
+Exit status: 0 done, 1 nothing to import or no output, 2 bad input.
+More: man kubelet-replay-import, docs/import.md
 """
 
 

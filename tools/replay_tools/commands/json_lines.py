@@ -8,47 +8,47 @@ from argparse import Namespace
 from collections.abc import Iterator
 from typing import Any
 
-from replay_tools import entry, helps
+from replay_tools import entry
 from replay_tools.joined import asked
 
 HELP = """\
-usage: tools/json [--trace TRACE] < REPORT > LINES
-       tools/json [--trace TRACE] --sqlite FILE < REPORT
-       tools/json --traces TRACES [--node NODE] [--since 2h | --at 2026-11-27T03:10Z] [--sqlite FILE]
+Write a report as JSON lines, or as tables of SQLite.
 
-Writes a report of ./kubelet_replay as JSON lines, one object for each record: the node, its events, its pods with their
-containers and conditions, the node's conditions, and the evictions. docs/report.schema.json says what each holds. With
-TRACE, the trace of the report, records of decisions have what the kubelet did, deaths have why, and records of causes
-how often instances died and how long containers waited for what, where the trace says so, as those of tools/record do:
-an eviction of the report is one that the rules make of the recorded samples, and a code 137 of it may be that of an
-instance that a tick just left out. With --sqlite it writes the same records as tables of an SQLite database in place of
-the lines: nodes, pods, containers, events, conditions, evictions, borders, decisions and causes. A FILE that is such a
-database is replaced once the new one is whole, and no other file is. A pod has the worst that happened to it, and its
-rank among the report's pods.
+Usage:
+  kubelet-replay json -f FILE [options] > LINES
+  kubelet-replay json -f FILE --sqlite DB [options]
+  kubelet-replay json WORKLOAD | -l LABEL [options] > LINES
 
-""" + helps.ORDER + """
-With --traces it writes the records of several traces of one node, which it replays itself, as those of one; --node,
---since and --at choose among those of a folder, as tools/story --help says. Records of borders say where each of them
-begins, and whether nothing was recorded before it.
+Without -f it asks the recorders of a cluster.
 
-It needs python3, and with --traces ./kubelet_replay (KUBELET_REPLAY names another program). It leaves out what a report
-does not have: the samples, the results of probes, the moment of the last tick, and without TRACE when a pod left, of
-the extended format. A pod's unready_seconds are counted to the pod's end, else to when it left, else to the last
-moment: that of TRACE, else the last that the report names.
+Examples:
+  # The pods that a signal evicted
+  kubelet-replay json -f node-a.trace | jq 'select(.record == "eviction")'
+  # The same data as tables
+  kubelet-replay json -f traces/ --sqlite node-a.db
 
-Status 0: done, also with a gap, or without a trace of a folder that can't be used; 1: standard output takes no more, or
-the program has no memory; 2: a bad word, a text that is no report, a trace that can't be read, is damaged or refused,
-or does not belong to it, no trace or none of that time, traces that overlap or are of two nodes, a FILE that can't be
-written or is another one; 127: a command is missing.
+Options:
+  -f, --filename FILE   a trace, a report, a folder of traces, or -
+      --sqlite DB       write the tables of a database instead of lines
+      --since TIME      only what came since TIME (2h, or 2026-11-27T03:10Z)
+      --at TIME         only from an hour before TIME to ten minutes after
+      --node NODE       one node of a folder, or of the cluster
+  -n, --namespace NAME  the namespace of the workload
+  -l, --selector LABEL  the pods of the cluster with LABEL
+      --recorders NAME  the namespace of the recorders (kubelet-replay)
+      --timeout N       seconds for which a source may be silent (15)
+
+Exit status: 0 done, 1 output failed, 2 bad input.
+More: man kubelet-replay-json, docs/report.schema.json
 """
-# SQLite keeps it in the file; it says whose file it is
+# SQLite keeps it in the file; it shows whose file it is
 APPLICATION = int.from_bytes(b"repT", "big")
 
 
 def parser() -> entry.Words:
     taken = entry.Words(HELP)
     taken.files("--sqlite")
-    asked.add_words(taken)
+    asked.add_words(taken, "json")
     return taken
 
 
@@ -63,7 +63,7 @@ def main(words: list[str]) -> int:
 
 
 def records_of(found: Namespace) -> Iterator[dict[str, Any]]:
-    """The records of the report that the words name, with what its trace says of the kubelet, if there is one."""
+    """The records of the report that the words name, with what its trace shows of the kubelet, if there is one."""
     from replay_tools import asking, records
     given = asking.given(found)
     kubelet = asking.kubelet_beside(given.trace, given.report)

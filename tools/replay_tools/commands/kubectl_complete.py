@@ -1,4 +1,4 @@
-"""Completes the words of kubectl replay: kubectl runs it, with all words behind replay."""
+"""Completes the arguments of kubectl replay: kubectl runs it, with all arguments after replay."""
 
 from __future__ import annotations
 
@@ -7,16 +7,22 @@ import sys
 from replay_tools import entry
 
 HELP = """\
-usage: kubectl_complete-replay WORDS .. WORD
+Complete the arguments of kubectl replay.
 
-Prints what WORD, the last one, may become after WORDS, those behind kubectl replay: a line for each candidate, and at
-last the directive for the shell, :4 (no files) or :0 (files too). kubectl runs it where it is on the PATH. Pods and
-namespaces are those of the file of -f or --trace, so that word comes first. Without a file it asks the cluster, for 5 s
-at most, for namespaces, nodes, recorders, contexts and workloads.
+Usage:
+  kubectl_complete-replay ARGUMENTS .. LAST
 
-It needs python3, and kubectl for the namespace of its context. It leaves out words of the recorder.
+It prints what LAST may become after ARGUMENTS, which follow kubectl replay: a
+line for each candidate, then the directive for the shell, :4 (no files) or :0
+(files too). kubectl runs it if it is on the PATH. Pods and namespaces come
+from the file of -f or --trace, so put -f first. Without a file it asks the
+cluster, for 5 s at most, for namespaces, nodes, recorders, contexts and
+workloads.
 
-Status 0: done; 127: python3 is missing.
+It needs python3, and kubectl for the namespace of its context. It leaves out
+options of the recorder.
+
+Exit status: 0 done, 127 python3 is missing.
 """
 
 

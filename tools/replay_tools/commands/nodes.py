@@ -5,24 +5,30 @@ from __future__ import annotations
 import sys
 from concurrent.futures import ThreadPoolExecutor
 
-from replay_tools import amounts, entry, helps, report as reports, telling
+from replay_tools import amounts, entry, report as reports, telling
 from replay_tools.cluster import fetching, recorders
 from replay_tools.cluster.waiting import Waiting
 
 HELP = """\
-usage: tools/nodes [--recorders NAMESPACE] [--timeout 15] [--context NAME]
+List the nodes of a cluster that record, since when and how much.
 
-Lists the nodes on which a recorder of deploy/daemonset.yaml runs: since when it has traces (the begin of the oldest
-that it holds), up to when (its newest was written last then), how many they are, and how many bytes they have. Where a
-recorder does not answer, or does not run, that stands in its line.
+Usage:
+  kubelet-replay nodes [options]
 
-""" + helps.RECORDERS + """find in each of them.
+Examples:
+  # All nodes with a recorder
+  kubelet-replay nodes
+  # Of another cluster
+  kubelet-replay nodes --context staging
 
-""" + helps.RIGHTS + """It leaves out nodes that have no such pod, and of a node what is named after another one, or
-has no size or time, which stands in its line.
+Options:
+      --recorders NAME  the namespace of the recorders (kubelet-replay)
+      --timeout N       seconds for which a recorder may be silent (15)
+      --context NAME, --kubeconfig FILE, --as USER, ..
+                        kubectl's own options
 
-Status 0: done; 1: the recorders can't be listed, some recorder did not answer, or standard output takes no more; 2: a
-bad word, no recorder; 127: a command is missing.
+Exit status: 0 done, 1 a recorder did not answer, 2 bad input.
+More: man kubelet-replay-nodes
 """
 
 

@@ -1,4 +1,4 @@
-"""Tells the story of one pod, of a report."""
+"""Prints the story of one pod, of a report."""
 
 from __future__ import annotations
 
@@ -7,59 +7,46 @@ import sys
 import time
 from argparse import Namespace
 
-from replay_tools import clock, entry, helps
+from replay_tools import clock, entry
 from replay_tools.joined import asked
 
 HELP = """\
-usage: tools/story POD [--trace TRACE [--without-why]] < REPORT
-       tools/story [NAMESPACE/] [--trace TRACE] < REPORT
-       tools/story --traces TRACES [--node NODE] [--since 2h | --at 2026-11-27T03:10Z] [POD | NAMESPACE/]
-       tools/story --follow FOLDER [--node NODE] [--since 10m] [POD | NAMESPACE/]
+Show what happened to a pod, and why.
 
-Tells of one pod, NAMESPACE/NAME, what a report of ./kubelet_replay says: its containers, its events, its restarts and
-what led to each, its conditions as spans of time, its eviction by the rules. With --trace, the trace of the report, it
-tells first what the kubelet did, and with each death why, as OOMKilled, and why containers waited, where the trace says
-so, as those of tools/record do, and when the node was rebooted, or was not Ready while the pod became unready; and
-behind the story, but --without-why, what the trace holds around each event, as tools/why does.
+Usage:
+  kubelet-replay story [POD | NAMESPACE/] -f FILE [options]
+  kubelet-replay story WORKLOAD | POD | -n NAMESPACE | -A [options]
+  kubelet-replay story --follow FOLDER [POD | NAMESPACE/] [options]
 
-""" + helps.MOMENTS + """
-POD may be cut behind, as shop/web for shop/web-7d4b9c-x2x1z, and may be without its namespace; it has to fit one pod.
-Without POD it lists the pods, of one namespace or of all, each with the first event of the worst kind.
+Without -f it asks the recorders of a cluster. Without POD it lists the pods,
+the worst first.
 
-""" + helps.ORDER + """
-With --traces it tells one story over several traces of one node, which it replays itself, or over several reports.
-TRACES is a file, which gzip may have packed, a pattern in quotes, or a folder, as that of tools/record --into; the word
-may be repeated, and they come in the order of their times. --node names one of the nodes of a folder. --since takes the
-traces since a moment, or for so long before now; --at those from an hour before a moment to ten minutes behind it,
-tells what lies within ten minutes of it, and first what led to the nearest restart. A moment is a time with its zone,
-as 03:10Z, which is the last one before now, or seconds since 1970. What a trace shows at its begin was so before, and
-is told once. Of a gap between two, as where no recorder ran or a trace is not there, nothing is told. Each trace counts
-exits, grace periods and pauses anew, which is said where it matters. A trace that is still written (.trace.part) is
-read up to its last whole line. What can't be used is refused, and of a folder left out, which is said.
+Examples:
+  # The worst pods of a recording
+  kubelet-replay story -f node-a.trace
+  # One pod, around 03:10
+  kubelet-replay story -f traces/ --at 03:10Z shop/web
+  # A Deployment, over all its nodes
+  kubelet-replay story deploy/web -n shop --since 2h
 
-With --follow it tells what happens as tools/record --into records it into FOLDER, in a line each, until it is
-interrupted: from now on, or since a moment. It is told ten seconds later, since a recorder writes what it saw last, and
-may write it otherwise for some seconds; where a source of it is silent for longer than that, it may do so later too. A
-pod may be named by the beginning of its name, up to a -. That the node is not Ready, or was started anew, is told too.
+Options:
+  -f, --filename FILE   a trace, a report, a folder of traces, or -
+      --since TIME      only what came since TIME (2h, or 2026-11-27T03:10Z)
+      --at TIME         only the ten minutes before and after TIME
+      --node NODE       one node of a folder, or of the cluster
+      --follow FOLDER   print events as a recorder writes them into FOLDER
+  -n, --namespace NAME  the namespace of the pods
+  -A, --all-namespaces  the pods of all namespaces
+  -l, --selector LABEL  the pods of the cluster with LABEL
+      --all             each event (default: the last 20 that matter)
+  -o, --output json     the story as one JSON object
+      --recorders NAME  the namespace of the recorders (kubelet-replay)
+      --timeout N       seconds for which a source may be silent (15)
+      --utc, --local, --seconds
+                        moments in UTC, in local time, or in trace seconds
 
-It needs python3, and with --traces or --follow ./kubelet_replay (KUBELET_REPLAY names another program). It takes the
-story from the report, and leaves out what a report does not have:
-  - whom the kubelet evicted: an eviction of the report is one that the rules make of the recorded samples;
-  - why an instance died, and whether one with the code 137 was killed: a report has that code also where a tick just
-    leaves an instance out;
-  - what the containers of a pod that has ended did later: each has the last state that was recorded by its end, so
-    those of an evicted pod mostly stand as Running;
-  - the moment of the last tick: the last span of a condition lasts to the end of the trace, whenever that was;
-  - when Initialized began to be what it was before its last change (written as -);
-  - of the eviction's order all but that the evicted pod came first; the others in it were those that had not ended;
-  - when a pod left, of the extended format. Of pods of one name each has left by the first tick of the next, and an
-    event is of the one that was there at its moment; one that did not come again stays, also in an eviction's order.
-    With --trace it is known.
-
-Status 0: done, also with a gap, or without a trace of a folder that can't be used; 1: standard output takes no more, or
-the program has no memory; 2: a bad word, a text that is no report, a pod that is not in it, a trace that can't be read,
-is damaged or refused, or does not belong to it, no trace or none of that time, traces that overlap or are of two nodes;
-127: a command is missing.
+Exit status: 0 done, 1 output failed, 2 bad input.
+More: man kubelet-replay-story
 """
 
 
@@ -69,18 +56,18 @@ def parser() -> entry.Words:
     taken.flag("--without-why")
     taken.files("--follow")
     clock.add_words(taken)
-    asked.add_words(taken)
+    asked.add_words(taken, "story")
     return taken
 
 
 def follow(found: Namespace) -> int:
-    """Tells what is recorded into a folder, as it comes; the status, once nobody reads it any more."""
+    """Prints what is recorded into a folder, as it comes; the status, once nobody reads it any more."""
     from replay_tools.joined import following
     for word in ("trace", "traces", "at"):
         if getattr(found, word) is not None:
-            raise entry.Fault(f"--follow and --{word} exclude each other (--help says more)")
+            raise entry.Fault(f"--follow and --{word} exclude each other (see --help)")
     if not os.path.isdir(found.follow):
-        raise entry.Fault(f"{found.follow} is no folder, as that of tools/record --into")
+        raise entry.Fault(f"{found.follow} is no folder of kubelet-replay record --into")
     now = time.time()
     since = None if found.since is None else asked.since_of(found.since, now)
     show = clock.clock_of(found, int(now)).text
@@ -92,7 +79,7 @@ def follow(found: Namespace) -> int:
 def main(words: list[str]) -> int:
     found = parser().taken(words)
     if len(found.named) > 1:
-        raise entry.Fault(f"it takes one pod, not {len(found.named)} (--help says more)")
+        raise entry.Fault(f"it takes one pod, not {len(found.named)} (see --help)")
     if found.follow is not None:
         return follow(found)
     from replay_tools import asking, overview, story_text

@@ -4,36 +4,38 @@ from __future__ import annotations
 
 import sys
 
-from replay_tools import clock, entry, helps
+from replay_tools import clock, entry
 from replay_tools.joined import asked
 
 HELP = """\
-usage: tools/timeline [--trace TRACE] [POD ..] < REPORT > PICTURE.svg
-       tools/timeline --traces TRACES [--node NODE] [--since 2h | --at 2026-11-27T03:10Z] [POD ..] > PICTURE.svg
+Draw pods as an SVG picture, with a lane for each container.
 
-Draws a report of ./kubelet_replay as an SVG picture: the node's pressure and evictions above; then for each POD,
-NAMESPACE/NAME, or for all, a strip that is green while the pod is Ready, and a lane for each container with a bar for
-each state, a round mark where a restart was ordered and a pointed one where a kill was, in the colours of tools/page;
-many close together are a strip below the lane. Pointing at a bar, a mark or a strip shows its words. A tall picture has
-its moments above too. With TRACE, the trace of the report, a lane of their own has the evictions that the kubelet made,
-the others are by the rules, a bar says why an instance died, why a container waits stands in its lane, and what the
-kubelet said is a small mark below it, where the trace says so, as those of tools/record and tools/import do.
+Usage:
+  kubelet-replay timeline [POD ..] -f FILE [options] > PICTURE.svg
+  kubelet-replay timeline WORKLOAD | -l LABEL [options] > PICTURE.svg
 
-""" + helps.MOMENTS + """
-With --traces it draws several traces of one node, which it replays itself; --node, --since and --at choose among those
-of a folder, as tools/story --help says. A gap in which nothing was recorded is a grey band. NAMESPACE/ is each pod of
-it.
+Without -f it asks the recorders of a cluster. Without POD it draws all pods.
 
-It needs python3, and with --traces ./kubelet_replay (KUBELET_REPLAY names another program). It leaves out what a report
-does not have: the moment of the last tick (the picture ends a little after the last moment of the report), instances
-that were created and never ran after another one (the bar of the one before goes on), and without TRACE when a pod
-left, of the extended format (a lane ends with the first tick of the next pod of its name, else it goes on), why
-instances died and what the kubelet did.
+Examples:
+  # One pod of a recording
+  kubelet-replay timeline -f node-a.trace shop/web > web.svg
+  # All pods of a namespace, around 03:10
+  kubelet-replay timeline -f traces/ --at 03:10Z shop/ > shop.svg
 
-Status 0: done, also with a gap, or without a trace of a folder that can't be used; 1: standard output takes no more, or
-the program has no memory; 2: a bad word, a text that is no report, a trace that can't be read, is damaged or refused,
-or does not belong to it, a pod that is not in it, no trace or none of that time, traces that overlap or are of two
-nodes; 127: a command is missing.
+Options:
+  -f, --filename FILE   a trace, a report, a folder of traces, or -
+      --since TIME      only what came since TIME (2h, or 2026-11-27T03:10Z)
+      --at TIME         only from an hour before TIME to ten minutes after
+      --node NODE       one node of a folder, or of the cluster
+  -n, --namespace NAME  the namespace of the pods
+  -l, --selector LABEL  the pods of the cluster with LABEL
+      --recorders NAME  the namespace of the recorders (kubelet-replay)
+      --timeout N       seconds for which a source may be silent (15)
+      --utc, --local, --seconds
+                        moments in UTC, in local time, or in trace seconds
+
+Exit status: 0 done, 1 output failed, 2 bad input.
+More: man kubelet-replay-timeline
 """
 
 
@@ -41,7 +43,7 @@ def parser() -> entry.Words:
     taken = entry.Words(HELP)
     taken.add_argument("named", nargs="*")
     clock.add_words(taken)
-    asked.add_words(taken)
+    asked.add_words(taken, "timeline")
     return taken
 
 

@@ -8,41 +8,43 @@ import sys
 from replay_tools import entry
 
 HELP = """\
-usage: tools/what-if [--timeout SECONDS] EDIT < TRACE
+Replay a trace as it is and with an edit, and show which report lines differ.
 
-Replays the trace, and the trace with EDIT applied to each of its lines, and writes the lines in which the reports
-differ: with - those of the trace as it is, with + those with the edit. EDIT is a jq program, for which there are
+Usage:
+  kubelet-replay what-if -f TRACE [--timeout N] EDIT
+  kubelet-replay what-if [--timeout N] EDIT < TRACE
+
+EDIT is a jq program, with these functions:
   node(f)                   f changes the node line
   pod("KEY"; f)             f changes the manifest of the pod NAMESPACE/NAME
-  container("KEY"; "C"; f)  f changes its container C, an init container or an app container
+  container("KEY"; "C"; f)  f changes its container C
   tick(f)                   f changes each tick line
-where KEY stands for each pod of that name in turn, if one came again,
-as in
-  tools/what-if 'node(.evictionHard["memory.available"] = "500Mi")' < TRACE
-  tools/what-if 'container("shop/web"; "app"; .livenessProbe.failureThreshold = 5)' < TRACE
 
---timeout SECONDS ends an edit that takes longer, 10 by default.
+Examples:
+  # With another threshold
+  kubelet-replay what-if -f node-a.trace \\
+      'node(.evictionHard["memory.available"] = "500Mi")'
+  # With a laxer probe
+  kubelet-replay what-if -f node-a.trace \\
+      'container("shop/web"; "app"; .livenessProbe.failureThreshold = 5)'
 
-An edit of a pod or a container that the trace has not is refused, with the nearest names, and so is what has more than
-64 MiB, the most that a trace has: standard input, what it is unpacked, what the edit makes of it.
+Options:
+  -f, --filename TRACE  the trace
+      --timeout N       end an edit that takes longer than N seconds (10)
 
-It needs python3, jq, diff and ./kubelet_replay (KUBELET_REPLAY names another program). tools/explain tells in full what
-a refusal means. It leaves out what the edit would have changed on the node itself: what was recorded stays, so a pod
-that is evicted in the edited replay alone goes on using memory, and a container that a laxer probe spares still exits
-when it did. Of a line that the edit changes numbers above 2^53 are rounded.
-
-Status 0: done, with a difference or without one; 1: no memory, no place on the disk, or standard output takes no more;
-2: a bad word, an edit that is no jq program or fails, a trace that is refused, as it is or edited; 127: a command is
-missing.
+Exit status: 0 done, 1 output failed, 2 bad input.
+More: man kubelet-replay-what-if
 """
-
-
+NOTE = """
+Started by itself, as tools/what-if, it takes no -f.
+"""
 # an edit may go on for ever
 SECONDS = 10.0
 
 
 def parser() -> entry.Words:
     taken = entry.Words(HELP)
+    taken.note = NOTE
     taken.valued("--timeout")
     taken.add_argument("edit")
     return taken
@@ -50,13 +52,13 @@ def parser() -> entry.Words:
 
 def main(words: list[str]) -> int:
     if words[:1] in (["-h"], ["--help"]):
-        raise entry.Help(HELP)
+        raise entry.Help(HELP + NOTE)
     words, seconds = without_timeout(words)
     # an edit may have anything in it, and is no word of options
     if words and words[0].startswith("-"):
         raise entry.Fault(parser().unknown(words[0]))
     if len(words) != 1:
-        raise entry.Fault(f"it takes one edit, not {len(words)} (--help says more)")
+        raise entry.Fault(f"it takes one edit, not {len(words)} (see --help)")
     from replay_tools import edited
     # what is kept goes with an end that is asked for, too
     for number in (signal.SIGTERM, signal.SIGHUP):

@@ -1,39 +1,43 @@
-"""Tells what a trace holds around each event of one pod, of a report."""
+"""Prints what a trace holds around each event of one pod, of a report."""
 
 from __future__ import annotations
 
 import sys
 
-from replay_tools import clock, entry, helps
+from replay_tools import clock, entry
 from replay_tools.joined import asked
 
 HELP = """\
-usage: tools/why POD --trace TRACE < REPORT
-       tools/why --traces TRACES [--node NODE] [--since 2h | --at 2026-11-27T03:10Z] POD
+Show what led to each event of a pod.
 
-Tells for each event of one pod, NAMESPACE/NAME, of a report of ./kubelet_replay what its trace holds around it: for a
-kill, ready and unready the results of the probe since the instance started, beside the probe's thresholds; for a
-backoff and a restart the exits that count, with their runs; for an eviction the signal's samples since the threshold
-became active, and the pods that were present with usage, request, priority and class, in the order of the rules for
-that signal; for a start, a death and a phase what the tick lists. Where the trace tells it, as those of tools/record
-do, it tells what the kubelet did to the pod, and whether the rules agree; what an instance used that ran out of memory;
-for how long a processor was throttled; and that the node was rebooted, with what exited then, or was not Ready while
-the pod became unready. Above it stands the worst that happened to the pod, and its place among all.
+Usage:
+  kubelet-replay why POD -f FILE [options]
+  kubelet-replay why WORKLOAD | POD | -l LABEL [options]
 
-""" + helps.MOMENTS + """
-""" + helps.ORDER + """
-With --traces it tells of several traces of one node, which it replays itself; --node, --since and --at choose among
-those of a folder, as tools/story --help says, and --at tells what lies within ten minutes of it.
+Without -f it asks the recorders of a cluster.
 
-It needs python3, and with --traces ./kubelet_replay (KUBELET_REPLAY names another program). That something happened it
-takes from the report, and applies no rule to the trace but the order of an eviction's table. It leaves out all but the
-last 12 runs of results and exits of an event, and all but the first and the last 11 samples; where it does, it says how
-many.
+Examples:
+  # The probe results that led to a kill, the samples before an eviction
+  kubelet-replay why -f node-a.trace shop/web
+  # Around 03:10, over several traces
+  kubelet-replay why -f traces/ --at 03:10Z shop/web
+  # A StatefulSet, over all its nodes
+  kubelet-replay why sts/db -n shop
 
-Status 0: done, also with a gap, or without a trace of a folder that can't be used; 1: standard output takes no more, or
-the program has no memory; 2: a bad word, a text that is no report, a trace that can't be read, is damaged or refused,
-or does not belong to it, a pod that is not in it, no trace or none of that time, traces that overlap or are of two
-nodes; 127: a command is missing.
+Options:
+  -f, --filename FILE   a trace, or a folder of traces
+      --since TIME      only what came since TIME (2h, or 2026-11-27T03:10Z)
+      --at TIME         only the ten minutes before and after TIME
+      --node NODE       one node of a folder, or of the cluster
+  -n, --namespace NAME  the namespace of the pods
+  -l, --selector LABEL  the pods of the cluster with LABEL
+      --recorders NAME  the namespace of the recorders (kubelet-replay)
+      --timeout N       seconds for which a source may be silent (15)
+      --utc, --local, --seconds
+                        moments in UTC, in local time, or in trace seconds
+
+Exit status: 0 done, 1 output failed, 2 bad input.
+More: man kubelet-replay-why
 """
 
 
@@ -41,22 +45,22 @@ def parser() -> entry.Words:
     taken = entry.Words(HELP)
     taken.add_argument("named", nargs="*")
     clock.add_words(taken)
-    asked.add_words(taken)
+    asked.add_words(taken, "why")
     return taken
 
 
 def main(words: list[str]) -> int:
     found = parser().taken(words)
     if len(found.named) != 1:
-        raise entry.Fault(f"it takes one pod, not {len(found.named)} (--help says more)")
+        raise entry.Fault(f"it takes one pod, not {len(found.named)} (see --help)")
     if found.trace is None and found.traces is None:
-        raise entry.Fault("it wants --trace TRACE, the trace of the report (--help says more)")
+        raise entry.Fault("it needs --trace TRACE, the trace of the report (see --help)")
     from replay_tools import asking
     from replay_tools.joined import told
     given = asking.given(found)
     report, trace = given.report, given.trace
     if trace is None:
-        raise entry.Fault("it wants traces, and --traces names reports (--help says more)")
+        raise entry.Fault("it needs traces, and --traces names reports (see --help)")
 
     show = asking.clock_of(found, given).text
     kubelet = asking.kubelet_beside(trace, report)

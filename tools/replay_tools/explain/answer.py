@@ -24,7 +24,7 @@ if TYPE_CHECKING:
 @dataclass
 class Answer:
     said: str
-    """what the program says"""
+    """what the program shows"""
     is_fault: bool
     found: list[Found]
     advice: str | None = None
@@ -40,7 +40,7 @@ class Answer:
 
 
 def answer_of(path: str, is_extended: bool) -> Answer:
-    """What the program says of a file, and what it means."""
+    """What the program shows of a file, and what it means."""
     return of_verdict(path, verdict_of(path, is_extended), is_extended)
 
 
@@ -69,7 +69,7 @@ def of_verdict(path: str, verdict: Verdict, is_extended: bool) -> Answer:
 
 
 def status_words(status: int) -> str:
-    """How the program ended, where it said nothing."""
+    """How the program ended, where it reported nothing."""
     return f"the program was ended by the signal {-status}" if status < 0 else f"the program ended with status {status}"
 
 
@@ -105,9 +105,9 @@ def advice_for(kind: str) -> str:
     if kind in (first_bytes.EMPTY, first_bytes.BLANK):
         return "look at what wrote it: the recorder writes a node line first"
     if kind == first_bytes.MANIFEST:
-        return "jq -c '{kind:\"pod\",pod:.}' makes a pod line of it, which stands behind a node line"
+        return "jq -c '{kind:\"pod\",pod:.}' makes a pod line of it, for the lines after a node line"
     if kind == first_bytes.MANIFESTS:
-        return "jq -c '.items[] | {kind:\"pod\",pod:.}' makes pod lines of it, which stand behind a node line"
+        return "jq -c '.items[] | {kind:\"pod\",pod:.}' makes pod lines of it, for the lines after a node line"
     command = first_bytes.unpacked_by(kind)
     if command:
         return f"{command} FILE > TRACE, or {command} FILE | kubelet_replay"
@@ -117,7 +117,7 @@ def advice_for(kind: str) -> str:
 def of_damaged(said: str) -> Answer:
     """What is packed, and can't be unpacked."""
     return Answer("it can't be read", True, [Found((), f"it is packed by gzip: {said}")],
-                  "copy it once more from where it was written; gzip -t FILE says whether it is whole")
+                  "copy it once more from where it was written; gzip -t FILE shows whether it is whole")
 
 
 def of_file(path: str, said: str) -> Answer:

@@ -1,4 +1,4 @@
-"""What stands before a line of a trace, as far as it decides what the line may say."""
+"""What is before a line of a trace, as far as it decides what the line may show."""
 
 from __future__ import annotations
 
@@ -116,7 +116,7 @@ def names_of(manifest: dict[str, Any]) -> list[str]:
 
 
 def lines_before(file: IO[bytes], number: int, keeps_listings: bool) -> tuple[Before, bytes]:
-    """What stands before a line of an open trace, and the line itself as bytes; an empty one where there is none. Wrong
+    """What is before a line of an open trace, and the line itself as bytes; an empty one where there is none. Wrong
     where a line before it is none that the program accepts."""
     before = Before()
     for count, line in enumerate(file, 1):

@@ -1,4 +1,4 @@
-"""The one line that the other tools say behind a refusal of the program."""
+"""The one line that the other tools show after a rejection of the program."""
 
 from __future__ import annotations
 
@@ -9,7 +9,7 @@ from .verdict import Verdict, says_extended
 
 
 def meaning(path: str, is_extended: bool) -> str | None:
-    """What a refusal of a file means and what to do; None where nothing is known of it, or it is none."""
+    """What a rejection of a file means and what to do; None where nothing is known of it, or it is none."""
     try:
         return told.one_line(answer.answer_of(path, is_extended))
     except (OSError, entry.Fault):
@@ -17,7 +17,7 @@ def meaning(path: str, is_extended: bool) -> str | None:
 
 
 def meaning_of(path: str, line: int | None, number: int, fault: str) -> str | None:
-    """The same where the program has said the line, the number and the fault already."""
+    """The same where the program has reported the line, the number and the fault already."""
     manifest = fault.partition(" ")[2]
     verdict = Verdict(2, f"line {line}: {number} {fault}", line, number, int(manifest) if manifest.isdigit() else None)
     try:

@@ -1,4 +1,4 @@
-"""One line of a trace as the program reads it, and where a value stands in it."""
+"""One line of a trace as the program reads it, and where a value is in it."""
 
 from __future__ import annotations
 
@@ -97,14 +97,14 @@ def refuse_constant(word: str) -> None:
 
 
 CUT = "the line ends before its object does"
-CONTROL = "a control character stands in a text as it is"
+CONTROL = "a text has an unescaped control character"
 
 
 def words_of_fault(fault: json.JSONDecodeError) -> str:
     if fault.pos >= len(fault.doc.rstrip()) or fault.msg.startswith("Unterminated string"):
         return CUT
     if fault.msg == "Extra data":
-        return "something stands behind the object"
+        return "something follows the object"
     if fault.msg.startswith("Invalid control character"):
         return CONTROL
     return fault.msg[0].lower() + fault.msg[1:]

@@ -8,8 +8,10 @@ from typing import Any
 
 from replay_tools import amounts
 from replay_tools.record import formats
+from replay_tools.record.gates import OF_PODS
 from replay_tools.record.pods import MOST_CONTAINERS, PROBE_FIELDS, RESOURCES
 
+from . import gates
 from .found import Found, at, is_, kind_words
 from .node import quantity_advice
 
@@ -34,6 +36,9 @@ def faults_of(line: dict[str, Any], version: int) -> Iterator[tuple[int, Found]]
             yield fault
             return
     yield from spec_faults(line["pod"]["spec"])
+    if version == 3:
+        yield from resource_faults(line["pod"]["spec"], ("pod", "spec"), OF_PODS)
+        yield from gates.faults_of(line["pod"]["spec"])
     if version == 3 and not isinstance(line.get("spared"), (bool, type(None))):
         yield WRONG_KIND, is_(("spared",), line["spared"], "it is true or false, without quotes")
 
@@ -48,7 +53,7 @@ def object_fault(around: Any, path: tuple[Any, ...], wanted: str) -> tuple[int, 
 
 
 def manifest_advice(around: Any, path: tuple[Any, ...]) -> Any:
-    """What to do where a field of the manifest is missing: often the whole manifest stands one level too high."""
+    """What to do where a field of the manifest is missing: often the whole manifest is one level too high."""
     if path == ("pod",) and ("spec" in around or "metadata" in around):
         return 'put metadata and spec under the field pod: jq -c \'{kind:"pod",pod:.}\''
     return "put the whole object of kubectl get pod -o json under the field pod"
@@ -137,26 +142,28 @@ def role_faults(container: Any, path: tuple[Any, ...]) -> Iterator[tuple[int, Fo
                            "a container of containers has none of its own", "leave it out")
 
 
-def resource_faults(container: Any, path: tuple[Any, ...]) -> Iterator[tuple[int, Found]]:
-    resources, path = container.get("resources"), (*path, "resources")
+def resource_faults(owner: Any, path: tuple[Any, ...],
+                    named: tuple[str, ...] = RESOURCES) -> Iterator[tuple[int, Found]]:
+    """The faults of the resources of a container, or of the pod as a whole, of which fewer are read."""
+    resources, path = owner.get("resources"), (*path, "resources")
     if resources is None:
         return
     if not isinstance(resources, dict):
         yield WRONG_KIND, is_(path, resources, "it is an object with requests and limits")
         return
     for side in ("requests", "limits"):
-        yield from amount_faults(resources.get(side), (*path, side))
-    for resource in RESOURCES:
+        yield from amount_faults(resources.get(side), (*path, side), named)
+    for resource in named:
         yield from above_faults(resources, path, resource)
 
 
-def amount_faults(found: Any, path: tuple[Any, ...]) -> Iterator[tuple[int, Found]]:
+def amount_faults(found: Any, path: tuple[Any, ...], named: tuple[str, ...]) -> Iterator[tuple[int, Found]]:
     if found is None:
         return
     if not isinstance(found, dict):
-        yield WRONG_KIND, is_(path, found, f"it is an object with {', '.join(RESOURCES)}")
+        yield WRONG_KIND, is_(path, found, f"it is an object with {', '.join(named)}")
         return
-    for resource in RESOURCES:
+    for resource in named:
         value = found.get(resource)
         if value is None or not formats.quantity_fault(value):
             continue

@@ -8,7 +8,7 @@ from typing import Any
 from replay_tools import fields
 from replay_tools.record import formats
 from replay_tools.record.node import RECLAIMS
-from replay_tools.traces import SIGNALS
+from replay_tools.signals import SIGNALS
 
 from .found import Found, at, is_, nearest, shown
 
@@ -17,6 +17,7 @@ GRACES = "evictionSoftGracePeriod"
 PERIOD = "evictionPressureTransitionPeriod"
 MOST_SECONDS = 2**31 - 1
 MOST_DELAY = 300
+BACK_OFF, LONGEST = "crashLoopBackOff", "maxContainerRestartPeriod"
 EXTENDED = "this recording is in the extended format (version 3)"
 WITH_EXTENDED = "run it with --extended"
 
@@ -41,6 +42,22 @@ def config_faults(node: Any, is_extended: bool) -> Iterator[Found]:
         for field in ("evictionPauseUntilGone", "evictionsRecorded"):
             if not isinstance(node.get(field), (bool, type(None))):
                 yield is_((field,), node[field], "it is true or false, without quotes")
+        yield from delay_faults(node)
+
+
+def delay_faults(node: Any) -> Iterator[Found]:
+    """The faults of a kubelet's own field for the greatest delay of a restart."""
+    found, path = node.get(BACK_OFF), (BACK_OFF, LONGEST)
+    if found is None:
+        return
+    period = found.get(LONGEST) if isinstance(found, dict) else None
+    if not isinstance(found, dict):
+        yield is_((BACK_OFF,), found, f"it is an object with {LONGEST}")
+    elif period is not None and (formats.duration_fault(period)
+                                 or not 1 <= formats.seconds_of(period) <= MOST_DELAY):
+        yield is_(path, period, f'it is a duration from 1s to {MOST_DELAY}s, as "60s"')
+    if node.get("maxRestartDelay") is not None:
+        yield is_((BACK_OFF,), found, "the line has maxRestartDelay too", "leave one of the two out")
 
 
 def version_fault(node: Any, is_extended: bool) -> Iterator[Found]:

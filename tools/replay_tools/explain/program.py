@@ -1,4 +1,4 @@
-"""Writes what a refusal of the program means, of a trace that may be packed, or be read but once."""
+"""Writes what a rejection of the program means, of a trace that may be packed, or be read but once."""
 
 from __future__ import annotations
 
@@ -19,10 +19,10 @@ NO_FILE = 2
 
 
 def explained(path: str, name: str, is_extended: bool, is_line: bool) -> int:
-    """Writes what is said of a trace, which has this name for the operator; the status."""
+    """Writes what is printed of a trace, which has this name for the operator; the status."""
     check_readable(path, name)
     if not os.environ.get("KUBELET_REPLAY"):
-        # in a checkout this builds the program where that is due, and what it says is not held back
+        # in a checkout this builds the program where that is due, and what it shows is not held back
         programs.checked_path()
     try:
         with readable(path) as known:
@@ -59,7 +59,7 @@ def readable(path: str) -> Iterator[str]:
 
 
 def bytes_to_copy(path: str) -> bytes | None:
-    """The bytes of a file that can't be handed to the program as it is; None where it can, or can't be read."""
+    """The bytes of a file that can't be passed to the program as it is; None where it can, or can't be read."""
     if not os.path.exists(path) or os.path.isdir(path):
         return None
     is_file = os.path.isfile(path) and not path.startswith("/dev/")
@@ -76,7 +76,7 @@ def show(given: answer.Answer, name: str, is_line: bool) -> None:
 
 
 def write(path: str, name: str, is_extended: bool, is_line: bool) -> int:
-    """Writes what a trace's refusal means, and of one of the extended format what it comes to as such; the status."""
+    """Writes what a trace's rejection means, and of one of the extended format what it comes to as such; the status."""
     given = [answer.answer_of(path, is_extended)]
     show(given[0], name, is_line)
     if not is_line and not is_extended and given[0].is_fault and verdict.says_extended(path):

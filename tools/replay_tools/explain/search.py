@@ -1,4 +1,4 @@
-"""Looks for the field that a refusal means. What is found counts only where it is the program's own fault."""
+"""Looks for the field that a rejection means. What is found counts only where it is the program's own fault."""
 
 from __future__ import annotations
 
@@ -24,8 +24,8 @@ KINDS = ("node", "pod", "tick")
 
 
 def search(file: IO[bytes], refusal: Refusal, is_extended: bool) -> tuple[list[Found], bytes]:
-    """The fields at fault of a trace that is open, for what is refused of it, and that line as bytes. Wrong where a
-    line is written otherwise than one that the program accepts, or refuses for that."""
+    """The fields at fault of a trace that is open, for what is rejected of it, and that line as bytes. Wrong where a
+    line is written otherwise than one that the program accepts, or rejects for that."""
     file.seek(0)
     before, line = lines_before(file, refusal.line, refusal.number == 43)
     if refusal.number in (31, 32):
@@ -98,22 +98,22 @@ def unknown_kind(line: Any, before: Before, is_extended: bool) -> Iterator[Found
 
 def gone_words(before: Before, is_extended: bool) -> Any:
     if before.node_line is None:
-        return "no node line stands before it", "put the node line first"
+        return "no node line precedes it", "put the node line first"
     if not is_extended and before.version == 3:
         return node.EXTENDED, node.WITH_EXTENDED
-    return (f"the node line says version {before.version}, which has no such lines",
+    return (f"the node line has version {before.version}, which has no such lines",
             'write "version":3 in the node line and give --extended, or leave the line out')
 
 
 def manifest_advice(line: dict[str, Any]) -> Any:
-    """What to do with an object of Kubernetes that stands as a line of its own."""
+    """What to do with an object of Kubernetes that is as a line of its own."""
     kind, spec = line.get("kind"), line.get("spec")
     if kind == "Pod" or isinstance(spec, dict) and "containers" in spec:
         return "that is a manifest: put it under pod, as jq -c '{kind:\"pod\",pod:.}' does"
     if isinstance(line.get("items"), list):
         return "that is a list of kubectl: jq -c '.items[] | {kind:\"pod\",pod:.}' makes pod lines of it"
     if kind == "KubeletConfiguration":
-        return 'put its fields into the node line, beside "kind":"node" and "name"'
+        return 'put its fields into the node line, next to "kind":"node" and "name"'
     if kind == "Node":
         return 'that is the node of the API server; a node line begins with {"kind":"node","name":"worker-3"}'
     return None
@@ -127,7 +127,7 @@ def out_of_turn(line: dict[str, Any], before: Before) -> Iterator[Found]:
         yield is_(("kind",), kind, f"the node line is line {before.node_line}, and there is one of them",
                   "leave it out; two recordings are two traces")
     elif kind == "pod":
-        yield is_(("kind",), kind, f"it stands behind the tick of line {before.first_tick_line}, and the trace is of "
+        yield is_(("kind",), kind, f"it follows the tick of line {before.first_tick_line}, and the trace is of "
                   "version 1", 'write "version":2 in the node line, or put the line before the ticks')
 
 

@@ -13,14 +13,14 @@ FAULTS = {
          'for gone lines write "version":3 in the node line and give --extended', "The first fault of a text"),
     34: ("the line is not in its turn", 'the order is node, pods, ticks; for pods that arrive late write "version":2 '
          "in the node line", "The first fault of a text"),
-    35: ("the pod's manifest is refused", "take it as kubectl get pod -o json prints it", "Pod line"),
+    35: ("the pod's manifest is invalid", "take it as kubectl get pod -o json prints it", "Pod line"),
     36: ("a field of the node line has another value than the formats take, or a percentage has no capacity",
          "give the capacity, or a quantity for the percentage", "Node line"),
     37: ("a soft threshold has no grace period", "give evictionSoftGracePeriod the time of each soft threshold",
          "Node line"),
     38: ("an earlier pod line gave this key", "keep one line for each pod; where it went and came again, write "
          "version 3 with a gone line before the new one", "Pod line"),
-    39: ("a key is no pod's, or that of a pod whose line comes later", "write NAMESPACE/NAME, and put the pod line "
+    39: ("a key is no pod's, or belongs to a pod whose line comes later", "write NAMESPACE/NAME, and put the pod line "
          "before the tick", "Tick line"),
     40: ("a name is no container's of its pod", "name the containers of the pod's manifest alone", "Tick line"),
     41: ("the line names a pod, a container or a probe twice", "keep one of the two", "Tick line"),
@@ -41,13 +41,13 @@ MANIFEST_FAULTS = {
     16: ("a request is above its limit", "the API server takes no such pod: mend one of the two"),
     17: ("two containers have one name", "give each a name of its own"),
     18: ("a container has a restartPolicy of its own that makes it no sidecar", "leave it out"),
-    19: ("the pod has more than 16 containers", "leave the pod out"),
+    19: ("the pod has more than 16 containers, or readiness gates", "leave the pod, or the gates, out"),
 }
 
 
 def row(number: int, manifest: Any) -> tuple[str, str, str]:
     """What a fault is, what to do, and the part of docs/formats.md."""
-    says, advice, part = FAULTS.get(number, ("the program refuses it", "docs/formats.md has the faults", "The trace"))
+    says, advice, part = FAULTS.get(number, ("the program rejects it", "docs/formats.md has the faults", "The trace"))
     if manifest in MANIFEST_FAULTS:
         what, advice = MANIFEST_FAULTS[manifest]
         says = f"{says}: {what}"

@@ -8,9 +8,9 @@ from typing import Any
 from replay_tools import fields
 from replay_tools.decided import REASON
 from replay_tools.record import formats
-from replay_tools.traces import SIGNALS
+from replay_tools.signals import SIGNALS
 
-from . import before as earlier
+from . import before as earlier, gates
 from .found import Found, at, is_, nearest, shown
 from .node import quantity_advice
 
@@ -49,6 +49,7 @@ def field_faults(line: dict[str, Any], before: earlier.Before) -> Iterator[Found
             for word in ("unsampled", "deleting"):
                 yield from truth_faults(entry, ("pods", index, word))
             yield from failed_faults(entry, ("pods", index, "failed"))
+            yield from gates.status_faults(entry, ("pods", index, "conditions"))
     if before.version == 3:
         yield from truth_faults(line, ("judged",))
     yield from signal_faults(line, "signals", SIGNALS)
@@ -66,7 +67,7 @@ def signal_faults(line: dict[str, Any], field: str, allowed: Iterable[str]) -> I
         if value is None:
             continue
         if signal not in allowed:
-            yield at((field, signal), f"is {shown(value)}: no such signal may stand there",
+            yield at((field, signal), f"is {shown(value)}: no such signal may be there",
                      nearest(signal, allowed) or f"leave it out; there are {', '.join(allowed)}")
         elif formats.is_percentage(value):
             yield is_((field, signal), value, "a tick has amounts and no percentages", "write the amount")
@@ -162,7 +163,7 @@ def stranger_pods(line: dict[str, Any], before: earlier.Before) -> Iterator[Foun
 def stranger(path: tuple[Any, ...], key: str, before: earlier.Before) -> Any:
     """A key that no present pod has."""
     if key in before.gone:
-        return is_(path, key, f"line {before.gone[key]} let this pod go", "leave it out of the ticks behind that "
+        return is_(path, key, f"line {before.gone[key]} let this pod go", "leave it out of the ticks after that "
                    "line, or write a pod line for the one that came again")
     of_namespace = [known for known in before.pods if known.partition("/")[2] == key]
     if of_namespace:
@@ -201,7 +202,7 @@ def doubled(line: dict[str, Any], _: Any) -> Iterator[Found]:
                 name = tuple(fields.text_at(found, each) for each in names)
                 if name in seen:
                     yield at(("pods", index, field, place), f"names {' '.join(name)} of {key} once more",
-                             "keep the newest of a tick; the one before stands in a tick of its own")
+                             "keep the newest of a tick; the earlier one belongs in a tick of its own")
                 seen.add(name)
 
 

@@ -15,7 +15,7 @@ BEFORE, SHOWN = 50, 100
 
 
 def whole_text(answer: Answer, name: str) -> str:
-    """What the program says of a file, what it means, the line around it, and what to do."""
+    """What the program shows of a file, what it means, the line around it, and what to do."""
     if not answer.is_fault:
         return f"{entry.visible(name)}: {answer.said}\n  nothing is wrong with it\n"
     told = [f"{entry.visible(name)}: {answer.said}"]
@@ -24,12 +24,12 @@ def whole_text(answer: Answer, name: str) -> str:
         told += [f"  {entry.visible(found.says)}", *excerpt(answer, found.path)]
         told += [f"    to do: {entry.visible(advice)}"] if advice else []
     if answer.part:
-        told.append(f'  docs/formats.md, "{answer.part}", says what may stand there')
+        told.append(f'  docs/formats.md, "{answer.part}", has what may be there')
     return "\n".join(told) + "\n"
 
 
 def one_line(answer: Answer) -> str | None:
-    """What it means and what to do; None where there is nothing to say."""
+    """What it means and what to do; None where there is nothing to show."""
     if not answer.is_fault or not answer.found:
         return None
     advice = answer.found[0].advice or answer.advice

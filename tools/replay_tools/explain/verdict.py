@@ -13,7 +13,7 @@ REFUSED = re.compile(r"line (\d+): (\d+) (\w+)(?: (\d+))?")
 
 @dataclass(frozen=True)
 class Refusal:
-    """The line that the program refuses, the number of its fault, and that of a manifest's."""
+    """The line that the program rejects, the number of its fault, and that of a manifest's."""
     line: int
     number: int
     manifest: int | None
@@ -31,7 +31,7 @@ class Verdict:
 
     @property
     def refusal(self) -> Refusal | None:
-        """What it refuses; None where it names no line."""
+        """What it rejects; None where it names no line."""
         if self.line is None or self.number is None:
             return None
         return Refusal(self.line, self.number, self.manifest)
@@ -54,7 +54,7 @@ def verdict_of(path: str, is_extended: bool) -> Verdict:
 
 
 def says_extended(path: str) -> bool:
-    """Whether a trace's node line says the extended format."""
+    """Whether a trace's node line shows the extended format."""
     try:
         with open(path, "rb") as file:
             return bool(programs.format_words(file))

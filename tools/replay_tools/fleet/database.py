@@ -1,4 +1,4 @@
-"""The database of a fleet: a table of traces beside those of tables.py, by the number of the trace."""
+"""The database of a fleet: a table of traces next to those of tables.py, by the number of the trace."""
 
 from __future__ import annotations
 
@@ -8,7 +8,7 @@ import urllib.parse
 from typing import Any, TYPE_CHECKING
 
 from replay_tools import entry, safe_folder, tables
-from replay_tools.fleet import work
+from replay_tools.fleet import met, work
 
 if TYPE_CHECKING:
     from replay_tools.fleet import kept
@@ -70,6 +70,7 @@ def write(path: str, paths: list[str], kept: kept.Kept, failed: dict[str, dict[s
     def fill(connection: sqlite3.Connection) -> None:
         connection.execute(f"CREATE TABLE traces (report INTEGER NOT NULL, {', '.join(COLUMNS)})")
         numbers: dict[tuple[str, int], int] = {}
+        pods = met.Met([path for path in paths if path not in failed], kept)
         for number, trace_path in enumerate(paths, 1):
             rows = iter([failed[trace_path]]) if trace_path in failed else kept.rows(trace_path)
             trace = next(rows)
@@ -78,7 +79,7 @@ def write(path: str, paths: list[str], kept: kept.Kept, failed: dict[str, dict[s
             if first != number:
                 trace, rows = copied(trace, first), iter(())
             add_trace(connection, number, trace, kept.file(trace_path, "report"))
-            tables.add_records(connection, number, rows)
+            tables.add_records(connection, number, pods.rows(trace, rows))
 
     try:
         tables.write_database(path, APPLICATION, fill, work.KINDS)

@@ -1,4 +1,4 @@
-"""Answers that are kept beside the database, in a folder of their own: for each trace its rows and its report. A run
+"""Answers that are kept next to the database, in a folder of their own: for each trace its rows and its report. A run
 that begins again takes them from there."""
 
 from __future__ import annotations
@@ -17,7 +17,7 @@ from replay_tools import entry, safe_folder
 
 
 # of which form the rows are: those of another one are no answers
-FORM = "6"
+FORM = "7"
 
 
 class Kept:
@@ -72,7 +72,7 @@ class Kept:
             yield from map(json.loads, lines)
 
     def keep(self, path: str, answer: dict[str, Any]) -> None:
-        """Takes an answer in. The rows come last, since they say that the answer is whole."""
+        """Takes an answer in. The rows come last, since they show that the answer is whole."""
         if answer["rows"] is None:
             return
         if answer["report"] is not None:

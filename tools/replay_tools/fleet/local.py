@@ -13,7 +13,7 @@ from typing import Any
 
 from replay_tools.fleet import work
 
-# tasks that are handed out for each process, with the one that it has in hand
+# tasks that are distributed for each process, with the one that it has in hand
 WAITING_EACH = 4
 
 
@@ -42,7 +42,7 @@ def answer_alone(path: str, known: tuple[str | None, int | None], program: str, 
 
 def answers_of_pool(tasks: list[tuple[str, tuple[str | None, int | None]]], program: str, program_sum: str,
                     processes: int) -> Iterator[tuple[str, dict[str, Any]]]:
-    """A few tasks wait beside those in hand, so that answers don't pile up."""
+    """A few tasks wait next to those in hand, so that answers don't pile up."""
     with concurrent.futures.ProcessPoolExecutor(processes, initializer=begin) as pool:
         pending = {}
         try:

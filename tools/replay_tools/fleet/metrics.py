@@ -1,5 +1,5 @@
 """What a fleet's database comes to as OpenMetrics text, as a node exporter reads it from a file. All are gauges: they
-say what some hours that were recorded came to."""
+show what some hours that were recorded came to."""
 
 from __future__ import annotations
 
@@ -26,14 +26,14 @@ FAMILIES = (
     ("kills", "", "kill orders of probes", ("node",), f"SELECT node, kills FROM ({nodes.NODES}) ORDER BY node"),
     ("unready_seconds", "seconds", "the seconds in which its pods were not ready, summed", ("node",),
      f"SELECT node, unready FROM ({nodes.NODES}) ORDER BY node"),
-    ("evicted", "", "evictions, by the kubelet where a trace says so, else by the rules", ("node",),
+    ("evicted", "", "evictions, by the kubelet if a trace has them, else by the rules", ("node",),
      f"SELECT node, evicted FROM ({nodes.NODES}) ORDER BY node"),
     ("evictions_by_rules", "", "evictions by the rules", ("node", "signal", "kind"),
      "SELECT node, signal, kind, COUNT(*) FROM evictions GROUP BY node, signal, kind ORDER BY node, signal, kind"),
     ("pressure_seconds", "seconds", "for how long a condition of the node was true", ("node", "condition"),
      " UNION ALL ".join(f"SELECT node, '{condition}', SUM({column}) FROM nodes GROUP BY node"
                         for condition, column in nodes.CONDITIONS.items()) + " ORDER BY 1, 2"),
-    ("deaths", "", "instances that died, by reason and code where a trace says why", ("node", "reason", "code"),
+    ("deaths", "", "instances that died, by reason and code if a trace has them", ("node", "reason", "code"),
      "SELECT node, COALESCE(reason, ''), COALESCE(code, ''), SUM(times) FROM causes WHERE cause = 'died' "
      "GROUP BY 1, 2, 3 ORDER BY 1, 2, 3"),
     ("waiting_seconds", "seconds", "the seconds for which containers waited, by reason", ("node", "reason"),

@@ -99,7 +99,7 @@ def cause(nodes: int, times: int, what: str, rest: str) -> tuple[tuple[int, int]
 
 
 def pressed(connection: Connection) -> Iterator[tuple[tuple[int, int], str]]:
-    """Evictions: by the kubelet where a trace says so, else by the rules."""
+    """Evictions: by the kubelet where a trace shows it, else by the rules."""
     for resource, nodes, times in connection.execute(PRESSED):
         yield cause(nodes, times, f"{RESOURCES.get(resource, resource)} pressure", entry.counted(times, "eviction"))
     by_resource: dict[str, Any] = {}

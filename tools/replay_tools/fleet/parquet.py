@@ -12,7 +12,7 @@ import pyarrow.parquet
 from replay_tools import entry
 from replay_tools.fleet import database
 
-# each file has it, and says so whose file it is
+# each file has it, which shows whose file it is
 MARK = {b"application": b"tools/fleet"}
 
 
@@ -43,7 +43,7 @@ def check_replaceable(path: str) -> None:
 
 
 def write(path: str, folder: str) -> None:
-    """A file for each table of a database; each stands under its name once it is whole."""
+    """A file for each table of a database; each is under its name once it is whole."""
     connection = database.open_database(path)
     try:
         with tempfile.TemporaryDirectory(dir=folder, prefix=".tables-") as work:

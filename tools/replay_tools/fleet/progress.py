@@ -20,13 +20,13 @@ class Progress:
         self.is_seen = sys.stderr.isatty()
 
     def step(self, status: str) -> None:
-        """One more trace is done; it is told now and then, and not for each."""
+        """One more trace is done; it is printed now and then, and not for each."""
         self.done += 1
         self.refused += status == "refused"
         self.failed += status == "failed"
         now = time.monotonic()
         if status == "known":
-            # what was kept says nothing of how long the rest takes
+            # what was kept shows nothing of how long the rest takes
             self.kept, self.began = self.kept + 1, now
         if self.is_seen and now - self.shown >= EVERY:
             self.shown = now

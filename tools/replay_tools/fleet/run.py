@@ -11,10 +11,10 @@ from typing import Any
 from replay_tools import entry, program as programs
 from replay_tools.fleet import database, kept, local, progress, traces
 
-# what these parts of it stand on is asked for with their words alone
+# what these parts of it are on is asked for with their words alone
 PARTS = {
-    "scheduler": "Dask distributed is missing, which --scheduler wants (apt-get install python3-distributed)",
-    "parquet": "pyarrow is missing, which --parquet wants (pip install pyarrow)",
+    "scheduler": "Dask distributed is missing, which --scheduler needs (apt-get install python3-distributed)",
+    "parquet": "pyarrow is missing, which --parquet needs (pip install pyarrow)",
 }
 
 

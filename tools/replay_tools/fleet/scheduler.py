@@ -20,7 +20,7 @@ SECONDS_TO_CONNECT = 5
 SECONDS_TO_WAIT = 30
 # after so many without an answer the scheduler is asked whether it is there
 SECONDS_OF_SILENCE = 10
-# tasks that are handed out for each thread of a worker, with the one that it has in hand
+# tasks that are distributed for each thread of a worker, with the one that it has in hand
 WAITING_EACH = 4
 TOOLS = os.path.dirname(os.path.dirname(os.path.dirname(os.path.realpath(__file__))))
 
@@ -28,7 +28,7 @@ TOOLS = os.path.dirname(os.path.dirname(os.path.dirname(os.path.realpath(__file_
 @contextlib.contextmanager
 def connected(address: str) -> Iterator[Any]:
     """A client of the scheduler of an address, with a worker at least."""
-    # what a lost connection means is said in one line
+    # what a lost connection means is printed in one line
     logging.disable(logging.CRITICAL)
     client = client_of(address)
     try:
@@ -68,7 +68,7 @@ def answers(tasks: Any, program: str, program_sum: str, client: Any) -> Iterator
     except entry.Fault:
         raise
     except Exception as fault:
-        # a client that has given up raises what comes
+        # a client that has dropped raises what comes
         if client.status == "running" and not isinstance(fault, (OSError, distributed.CancelledError)):
             raise
         raise entry.Fault("the scheduler went away; what is done is kept, and a further run goes on from there"
@@ -76,7 +76,7 @@ def answers(tasks: Any, program: str, program_sum: str, client: Any) -> Iterator
 
 
 def answers_of_workers(tasks: Any, program: str, program_sum: str, client: Any) -> Iterator[Any]:
-    """A few tasks wait beside those in hand, and answers are fetched as they come, so that few are lost with a worker
+    """A few tasks wait next to those in hand, and answers are fetched as they come, so that few are lost with a worker
     that dies."""
     cloudpickle.register_pickle_by_value(on_worker)
     threads, pending = Threads(client), {}
@@ -96,7 +96,7 @@ class Threads:
         self.asked: float | None = None
 
     def count(self) -> int:
-        """One at least; it is asked for anew each second."""
+        """One at least; it is asked for again each second."""
         now = time.monotonic()
         if self.asked is None or now - self.asked > 1:
             self.known, self.asked = max(sum(self.client.nthreads().values()), 1), now
@@ -105,7 +105,7 @@ class Threads:
 
 def some(pending: Any, client: Any) -> Iterator[Any]:
     """Takes what is done from what is pending, once there is something. An answer that was lost with its worker is
-    pending again, since the scheduler hands its trace out again."""
+    pending again, since the scheduler passes its trace out again."""
     try:
         done, _ = distributed.wait(list(pending), SECONDS_OF_SILENCE, "FIRST_COMPLETED")
     except distributed.TimeoutError:

@@ -40,8 +40,8 @@ def paths_below(folder: str) -> list[str]:
 
 
 def known_ends(paths: list[str]) -> dict[str, int]:
-    """By the path of a trace up to when it says all that happened, where one that follows it says so. Its own last tick
-    may be some seconds before that."""
+    """By the path of a trace up to when it shows all that happened, where one that follows it shows it. Its own last
+    tick may be some seconds before that."""
     by_name: dict[str, Any] = {}
     for path in paths:
         by_name.setdefault(plain_name(path), []).append(path)
@@ -63,8 +63,8 @@ def plain_name(path: str) -> str:
 
 
 def own_follows(path: str) -> dict[str, Any] | None:
-    """What the node line of a trace says of the one before it, of its own node; None where it says nothing, or can't be
-    read."""
+    """What the node line of a trace shows of the one before it, of its own node; None where it shows nothing, or can't
+    be read."""
     try:
         with packed.regular(path) as file:
             node_line = outside.json_of(packed.first_line(file, traces.LONGEST_LINE))

@@ -7,6 +7,7 @@ import functools
 import gzip
 import hashlib
 import io
+import itertools
 import json
 import os
 import re
@@ -16,8 +17,11 @@ from typing import Any
 
 from replay_tools import (amounts, endings, entry, kubelet as kubelets, outside, packed, program as programs, records,
                           report as reports, summary, traces)
+from replay_tools.fleet import met
 
 LONGEST_INPUT = 64 << 20
+# a recording begins with so many ticks at most that show what was there
+MOST_CARRIED = 100
 # events are in the report alone: they would be most of the rows
 KINDS = ("node", "pod", "container", "condition", "eviction", "decision", "cause")
 # of what a trace may say beside its report
@@ -40,7 +44,7 @@ def answer(program: str, program_sum: str, path: str, known: tuple[str | None, i
         return answer_of(program, path, *known)
     except Exception as fault:
         # whatever it is, it must not end the work on the other traces
-        return failed(path, f"it can't be told: {type(fault).__name__}")
+        return failed(path, f"its rows can't be made: {type(fault).__name__}")
 
 
 def answer_of(program: str, path: str, known_sum: str | None, until: int | None) -> dict[str, Any]:
@@ -59,15 +63,16 @@ def answer_of(program: str, path: str, known_sum: str | None, until: int | None)
         said = done.stderr.decode("utf-8", "replace").split("\n")[0]
         return answered(record_of(path, trace_sum, size, **refusal(done.returncode, said)) | {"until": until})
     try:
-        rows = rows_of(text, done.stdout, until)
+        more, rows = rows_of(text, done.stdout, until)
     except reports.ReportFault as fault:
         said = str(fault).replace("standard input", "the report")
         return answered(record_of(path, trace_sum, size, "failed", fault=said))
-    return answered(record_of(path, trace_sum, size, "replayed") | {"until": until}, rows, done.stdout)
+    return answered(record_of(path, trace_sum, size, "replayed") | {"until": until} | more, rows, done.stdout)
 
 
-def rows_of(text: bytes, made: bytes, until: int | None) -> list[dict[str, Any]]:
-    """The records of a trace and its report. Raises ReportFault."""
+def rows_of(text: bytes, made: bytes, until: int | None) -> tuple[dict[str, Any], list[dict[str, Any]]]:
+    """What the record of a trace has for those behind it, and the records of the trace and its report. Raises
+    ReportFault."""
     report = reports.read_report(made.decode("utf-8", "replace"))
     trace, kubelet = beside(text, report)
     span, begun = span_of(text), begun_of(text)
@@ -76,7 +81,11 @@ def rows_of(text: bytes, made: bytes, until: int | None) -> list[dict[str, Any]]
         begun = None if begun is None else min(begun, span[1])
         span = span[0] if begun is None else max(span[0], begun), max(span[1], until or 0)
     found = records.records_of(report, kubelet, trace, span, summary.NEVER if begun is None else begun)
-    return [record for record in found if record["record"] in KINDS]
+    rows = [record for record in found if record["record"] in KINDS]
+    more = met.about(report, trace, span[0] if span else None)
+    if begun is None or trace is None or span is None:
+        return more, rows
+    return more, list(met.rows_of(rows, report, kubelet, trace, span[1], begun))
 
 
 def beside(text: bytes, report: reports.Report) -> tuple[traces.Trace | None, kubelets.Kubelet | None]:
@@ -97,15 +106,36 @@ def beside(text: bytes, report: reports.Report) -> tuple[traces.Trace | None, ku
 
 def begun_of(text: bytes) -> int | None:
     """The moment behind which a trace of a recorder says what happened: one that follows another says it itself, and
-    the first tick of any other shows what the recorder found. None of other traces."""
+    the first ticks of any other show what the recorder found. None of other traces."""
     node_line = outside.json_of(text.lstrip().split(b"\n", 1)[0])
     said = traces.follows_of(node_line)
     if said is not None:
         return said["at"]
-    is_recorded = isinstance(node_line, dict) and node_line.get("recordsKubelet") is True \
-        and node_line.get("imported") is not True
-    first = next(filter(None, map(moment_of, lines_from(text))), None) if is_recorded else None
-    return None if first is None else first["at"]
+    return found_until(text) if isinstance(node_line, dict) and is_recorded(text, node_line) else None
+
+
+def is_recorded(text: bytes, node_line: dict[str, Any]) -> bool:
+    """Whether a recorder wrote a trace: it says so, or its pods have uids, as those of a runtime that was recorded
+    alone."""
+    if node_line.get("imported") is True:
+        return False
+    first = next((line for line in lines_from(text) if b'"pod"' in line), b"")
+    pod = outside.json_of(first)
+    return node_line.get("recordsKubelet") is True or (isinstance(pod, dict) and pod.get("kind") == "pod"
+                                                       and isinstance(pod.get("uid"), str))
+
+
+def found_until(text: bytes) -> int | None:
+    """Up to when the first ticks of a recording show what was there: ticks of one second after the other, of which the
+    last one alone has signals."""
+    first = None
+    for place, tick in enumerate(itertools.islice(filter(None, map(moment_of, lines_from(text))), MOST_CARRIED + 1)):
+        first = tick["at"] if first is None else first
+        if tick["at"] != first + place:
+            break
+        if tick.get("signals"):
+            return first + place
+    return first
 
 
 def span_of(text: bytes) -> tuple[int, int] | None:

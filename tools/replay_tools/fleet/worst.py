@@ -12,7 +12,7 @@ from replay_tools.fleet import database, nodes
 from replay_tools.summary import Worst
 
 WORST = "worst"
-# evictions are by the kubelet, where the trace says what it did, else by the rules
+# evictions are by the kubelet, where the trace shows what it did, else by the rules
 MEASURES = {WORST: "badness", "restarts": "restarts", "unready": "unready_seconds", "evicted": "evictions"}
 # how far its worst is before nothing, by the order that all tools have; that it exited by itself is nothing bad
 BADNESS = "CASE worst " + " ".join(f"WHEN '{kind.value}' THEN {Worst.NOTHING.place - kind.place}" for kind in Worst
@@ -60,7 +60,7 @@ SELECT (SELECT COUNT(*) FROM traces), (SELECT COUNT(*) FROM traces WHERE status 
 
 
 def text(path: str, by: str, top: int) -> str:
-    """What stands in a database, by one of the measures."""
+    """What is in a database, by one of the measures."""
     connection = database.open_database(path)
     try:
         return "\n".join(lines_of(connection, by, top)[:-1]) + "\n"
@@ -94,7 +94,7 @@ def lines_of(connection: sqlite3.Connection, by: str, top: int) -> list[str]:
     if faults:
         lines += table("Traces without a report",
                        ["status", "fault", "traces", "line of the first", "the first"], faults)
-        lines += table("What the refusal of the first means (kubelet-replay explain shows the line)",
+        lines += table("What the fault of the first means (kubelet-replay explain shows the line)",
                        ["fault", "meaning"],
                        list(meanings(connection)))
     return lines
@@ -111,9 +111,9 @@ def words_of(connection: sqlite3.Connection, node: str, pod: str) -> str:
 
 
 def meanings(connection: sqlite3.Connection) -> Iterator[list[str]]:
-    """Of each fault what the refusal of its first trace means, as far as that trace can still be read."""
+    """Of each fault what the rejection of its first trace means, as far as that trace can still be read."""
     for fault, _, path, line, code in connection.execute(REFUSED):
-        # what stands there by now may be a pipe, for which it would wait
+        # what is there by now may be a pipe, for which it would wait
         said = beside.meaning_of(path, line, code, fault) if os.path.isfile(path) else None
         if said:
             yield [fault, said]

@@ -2,7 +2,8 @@
 
 from __future__ import annotations
 
-from dataclasses import dataclass, field, replace
+import operator
+from dataclasses import dataclass, replace
 from typing import Any, Optional, TYPE_CHECKING
 
 from replay_tools.record.decisions import ENDED, EVICTED, EVICTION, Decision
@@ -27,14 +28,18 @@ LOOK_SECONDS = 1.0
 ORDER = {"start": 0, "result": 1, "kill": 2, "exit": 3, "wait": 4}
 
 
-@dataclass(order=True)
+@dataclass
 class Item:
-    """Something that happened in a pod, in the order in which it is placed."""
+    """Something that happened in a pod."""
     at: float
     order: int
     number: int
     what: str
-    value: Any = field(compare=False)
+    value: Any
+
+
+# how they are placed
+IN_ORDER = operator.attrgetter("at", "order", "number", "what")
 
 
 class Account:
@@ -204,9 +209,13 @@ class Account:
 
     def is_settled(self, decision: Decision, horizon: float) -> bool:
         """Whether it is known what happened up to the line that it is evicted, as far as its tick can wait for that."""
+        return horizon >= self.settled_from(decision)
+
+    def settled_from(self, decision: Decision) -> float:
+        """From when on that is known."""
         known = min(self.told_at + LOOK_SECONDS, (decision.moment or 0.0) + LATE_SECONDS - 1)
         leaves_at = self.leaves_at()
-        return horizon >= (known if leaves_at is None else min(known, leaves_at))
+        return known if leaves_at is None else min(known, leaves_at)
 
     def moment_of(self, decision: Decision) -> float:
         """When the kubelet decided; where no line tells that, with the first of the last exits, if it is of the second

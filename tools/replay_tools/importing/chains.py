@@ -4,6 +4,7 @@ container without an instance."""
 from __future__ import annotations
 
 import bisect
+from collections.abc import Iterator
 from dataclasses import dataclass, field
 from typing import Optional, TYPE_CHECKING
 
@@ -78,6 +79,11 @@ class Instance:
         latest = self.gone if self.gone is not None or self.finished is None else self.finished + 1
         return latest is None or self.killing.at <= latest
 
+    @property
+    def is_guess(self) -> bool:
+        """Whether no line has its start, where that is not written yet."""
+        return self.is_unseen and self.started is None and self.gone is not None and self.written is None
+
     def know(self, known: facts.Known) -> None:
         """Takes what a line says of it; what was known stays."""
         self.name = self.name if known.container is None or (self.name and not self.is_found) else known.container
@@ -117,6 +123,20 @@ class Chain:
         """When the instance that runs at a moment ends; 0 where none runs, or its end is not known."""
         each = self.running_at(at)
         return 0.0 if each is None or each.end is None else each.end
+
+    def is_open(self) -> bool:
+        """Whether an instance has no exit though another one follows it, or its start is guessed."""
+        newest = self.newest
+        return any((each.is_unseen and each.is_guess) or (each.end is None and each is not newest)
+                   for each in self.instances)
+
+    def unplaced(self) -> Iterator[float]:
+        """The moments of the starts and exits that are not placed yet, or a little before them."""
+        for each in self.instances:
+            if each.written is None and each.begin is not None:
+                yield each.begin - AFTER
+            if each.end is not None and not each.has_ended:
+                yield each.end
 
     def expected(self) -> float:
         """When its next start is due."""

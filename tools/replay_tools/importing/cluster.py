@@ -16,7 +16,7 @@ from replay_tools.cluster import kubectl
 
 MOST_OF_LOG, MOST_OF_LIST = 4 << 30, 1 << 30
 STAMP = "%Y-%m-%dT%H:%M:%SZ"
-# what is waited for is said so soon
+# what is waited for is reported so soon
 SAID_AFTER = 3.0
 KUBELET, RUNTIMES = "query=kubelet", "query=containerd&query=crio"
 # where a system keeps its log in a file, of a node that answers files alone
@@ -35,11 +35,11 @@ class Answers:
 
 
 class NoLog(entry.Fault):
-    """The cluster does not give the kubelet's log; it says what to run on the node."""
+    """The cluster does not give the kubelet's log; it shows what to run on the node."""
 
 
 class Cluster:
-    """Asks for what concerns a node, and keeps it in a folder. What takes long is said."""
+    """Asks for what concerns a node, and keeps it in a folder. What takes long is reported."""
 
     def __init__(self, folder: str, node: str, since: float, options: list[str], seconds: float) -> None:
         self.folder = folder

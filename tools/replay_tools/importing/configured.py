@@ -9,7 +9,7 @@ from collections.abc import Iterator
 from typing import Any, Optional
 
 from replay_tools.record.formats import DURATION, duration_fault, is_percentage, limit_fault
-from replay_tools.traces import SIGNALS
+from replay_tools.signals import SIGNALS
 
 from . import facts
 

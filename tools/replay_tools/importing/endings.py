@@ -40,7 +40,7 @@ OF_ADMISSION = re.compile(r"Failed to admit pod (\S+) - (?!node has conditions)(
 OF_PREEMPTION = re.compile(r"preemption: pod (\S+) evicted successfully")
 OF_SHUTDOWN = re.compile(r'Shutdown manager killing pod "?([^"\s]+)"? with gracePeriod')
 LONGEST_REASON = 63
-# so long behind its deadline a kubelet ends a pod at the latest, as it looks for that with each sync
+# so long after its deadline a kubelet ends a pod at the latest, as it looks for that with each sync
 DEADLINE_SECONDS = 15.0
 
 
@@ -147,7 +147,7 @@ class Endings:
         self.placing = placing
 
     def take(self, life: Life, fact: facts.Ended) -> None:
-        """A line says that a pod was ended, or not admitted. One that runs, as behind a restart of the kubelet, is
+        """A line shows that a pod was ended, or not admitted. One that runs, as after a restart of the kubelet, is
         ended by that."""
         if life.decision is not None or life.is_refused or fact.reason == EVICTION:
             return
@@ -170,7 +170,7 @@ class Endings:
             self.take(life, facts.Ended(fact.at, fact.pod, fact.reason, fact.message, is_refusal, True))
 
     def take_statuses(self, lives: list[Life], horizon: float, is_end: bool) -> None:
-        """Whom the node ended by its status in a list of pods, or by its deadline, and no line says that it has."""
+        """Whom the node ended by its status in a list of pods, or by its deadline, and no line shows that it has."""
         for life in lives:
             if life.decision is None and not life.is_refused and not life.is_over and life.deleted_at is None:
                 self.take_status(life, horizon, is_end)
@@ -186,7 +186,7 @@ class Endings:
             life.end(stopped_at, DEADLINE, "", True)
 
     def is_over_deadline(self, life: Life, stopped_at: float) -> bool:
-        """Whether all of a pod stopped as its deadline was over, by its manifest: at -v=2 no line says so."""
+        """Whether all of a pod stopped as its deadline was over, by its manifest: at -v=2 no line reports so."""
         deadline: Optional[int] = self.manifests.deadlines.get(life.uid or (life.pod.uid if life.pod else ""))
         if deadline is None or not life.was_added:
             return False

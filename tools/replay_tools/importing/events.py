@@ -24,7 +24,7 @@ def read_all(paths: list[str]) -> Iterator[facts.Fact]:
 
 
 def beside(found: Iterator[facts.Fact], happened: Iterator[facts.Fact]) -> Iterator[facts.Fact]:
-    """What journals have, and the events of its time: of what was before it or is behind it no journal says what ran,
+    """What journals have, and the events of its time: of what was before it or is after it no journal shows what ran,
     and when."""
     event, is_begun = next(happened, None), False
     for fact in found:

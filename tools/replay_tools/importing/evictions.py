@@ -1,4 +1,4 @@
-"""Whom the kubelet evicted, since when and why. That a pod is evicted a kubelet says once it has stopped the pod's
+"""Whom the kubelet evicted, since when and why. That a pod is evicted a kubelet reports once it has stopped the pod's
 containers, which may take it long; the decision has lines of its own: what the node is short of, the ranking of the
 pods, and the Event of the pod."""
 
@@ -69,7 +69,7 @@ class Evictions:
         self.ranking = Ranking(fact.at, fact.pods, resource if fact.at - since <= NEAR_SECONDS else "")
 
     def take_evicted(self, life: Life, at: float) -> None:
-        """A line says that a pod is evicted. A round evicts one pod, and waits for it."""
+        """A line shows that a pod is evicted. A round evicts one pod, and waits for it."""
         if life.decision is not None:
             return
         ranking = self.ranking if self.ranking is not None and self.ranking.has(life) else None
@@ -93,7 +93,7 @@ class Evictions:
             life.take_event_of_eviction(fact.at, message)
 
     def take_events_alone(self, lives: list[Life], horizon: float) -> None:
-        """Whom by an Event the kubelet evicted, and no line says that it has."""
+        """Whom by an Event the kubelet evicted, and no line shows that it has."""
         for life in lives:
             if life.decision is None and life.evicting is not None and life.evicting[0] <= horizon:
                 self.take_evicted(life, life.evicting[0])

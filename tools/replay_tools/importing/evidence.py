@@ -3,7 +3,6 @@ API server has each status that the kubelet sent. Neither has all; what it lacks
 
 from __future__ import annotations
 
-import hashlib
 import re
 from collections.abc import Iterator
 from typing import Any, Optional
@@ -21,7 +20,7 @@ MEMBER = "importedFrom"
 LACKS = {
     EVENTS: "of Events alone: starts are known, of several alike the first and the last one; exits without their "
             "codes, and their moments to within the next start; no successes of probes, no signals, and nothing "
-            "that is older than the cluster keeps Events (1 h, if it does not say otherwise)",
+            "that is older than the cluster keeps Events (1 h by default)",
     AUDIT: "of an audit log alone: starts and exits with their codes, as far as a status has them; no results of "
            "probes, no kills, no waits, no signals, and of what began and ended between two statuses the last "
            "instance alone"}
@@ -103,6 +102,7 @@ class Events:
         """A start, whose instance a status may know by its id."""
         near = next((each.id for each in self.started.get((pod.key, container), ())
                      if each.started is not None and abs(each.started - at) <= SAME_SECOND), None)
+        import hashlib
         text = f"{pod.uid or pod.key}/{container}/{at}"
         identity = near or hashlib.sha256(text.encode("utf-8", "replace")).hexdigest()
         self.starts.setdefault((pod, container), {})[at] = identity

@@ -15,35 +15,36 @@ class Reference:
     uid: Optional[str] = None
 
 
-@dataclass
+# no two facts are compared, and none is printed: without these methods the importer starts sooner
+@dataclass(eq=False, repr=False)
 class Fact:
     at: float
 
 
-@dataclass
+@dataclass(eq=False, repr=False)
 class Process(Fact):
     """The kubelet's process, where it is another one than before; and the node's name, where a line says it."""
     process: int
     node: str = ""
 
 
-@dataclass
+@dataclass(eq=False, repr=False)
 class Begun(Fact):
     """The kubelet was started."""
 
 
-@dataclass
+@dataclass(eq=False, repr=False)
 class NodeName(Fact):
     name: str
 
 
-@dataclass
+@dataclass(eq=False, repr=False)
 class Missing(Fact):
     """A journal has not all lines since the one before it, where that is known, or the clock went forward."""
     since: Optional[float] = None
 
 
-@dataclass
+@dataclass(eq=False, repr=False)
 class TurnedBack(Fact):
     """The node's clock went back by so many seconds from a moment. Moments behind that are so much later than it
     says."""
@@ -51,31 +52,31 @@ class TurnedBack(Fact):
     since: float = 0.0
 
 
-@dataclass
+@dataclass(eq=False, repr=False)
 class Added(Fact):
     pod: Reference
     source: str = ""
 
 
-@dataclass
+@dataclass(eq=False, repr=False)
 class Updated(Fact):
     """The object of a pod has changed, as where an ephemeral container is added."""
     pod: Reference
 
 
-@dataclass
+@dataclass(eq=False, repr=False)
 class Deleted(Fact):
     pod: Reference
     source: str = ""
 
 
-@dataclass
+@dataclass(eq=False, repr=False)
 class Removed(Fact):
     pod: Reference
     source: str = ""
 
 
-@dataclass
+@dataclass(eq=False, repr=False)
 class Turned(Fact):
     """The kubelet's look found, or its runtime said, that a container or a sandbox has started or has died. A moment of
     the runtime's is exact."""
@@ -85,7 +86,7 @@ class Turned(Fact):
     is_exact: bool = False
 
 
-@dataclass
+@dataclass(eq=False, repr=False)
 class Known(Fact):
     """What a line says of one instance of a container by its id: each part of it may be unknown."""
     id: str
@@ -99,7 +100,7 @@ class Known(Fact):
     is_sandbox: bool = False
 
 
-@dataclass
+@dataclass(eq=False, repr=False)
 class Created(Fact):
     """A container of a pod is started now, by its name; its id is in another line. What the cluster says may be of a
     pod of another node."""
@@ -108,7 +109,7 @@ class Created(Fact):
     is_of_cluster: bool = False
 
 
-@dataclass
+@dataclass(eq=False, repr=False)
 class Probed(Fact):
     """The result of a probe: success or failure, and what it put out."""
     pod: Reference
@@ -118,7 +119,7 @@ class Probed(Fact):
     output: str = ""
 
 
-@dataclass
+@dataclass(eq=False, repr=False)
 class Turnover(Fact):
     """What all results of a probe have come to, of a pod whose container is not named: ready, unready, started."""
     pod: Reference
@@ -126,7 +127,7 @@ class Turnover(Fact):
     status: str
 
 
-@dataclass
+@dataclass(eq=False, repr=False)
 class Killing(Fact):
     """The kubelet ends an instance: its grace, and why, as far as a line says that."""
     id: str
@@ -136,7 +137,7 @@ class Killing(Fact):
     why: str = ""
 
 
-@dataclass
+@dataclass(eq=False, repr=False)
 class Waits(Fact):
     """A container waits, and why."""
     pod: Reference
@@ -145,7 +146,7 @@ class Waits(Fact):
     message: str
 
 
-@dataclass
+@dataclass(eq=False, repr=False)
 class Observed(Fact):
     """A round of the eviction manager, and what it found of a signal; None where it says that there was a round."""
     signal: Optional[str] = None
@@ -153,13 +154,13 @@ class Observed(Fact):
     capacity: Optional[int] = None
 
 
-@dataclass
+@dataclass(eq=False, repr=False)
 class HardThresholds(Fact):
     """The hard thresholds of the configuration with which the kubelet was started: limits by signal."""
     limits: dict[str, str]
 
 
-@dataclass
+@dataclass(eq=False, repr=False)
 class SoftThreshold(Fact):
     """A soft threshold that is met, and whose grace period is not over."""
     signal: str
@@ -167,14 +168,14 @@ class SoftThreshold(Fact):
     grace: str
 
 
-@dataclass
+@dataclass(eq=False, repr=False)
 class Flag(Fact):
     """A flag of the kubelet's that may set thresholds, with its value."""
     name: str
     value: str
 
 
-@dataclass
+@dataclass(eq=False, repr=False)
 class Below(Fact):
     """A round has a threshold among those that are met, or whose reclaim is not there yet: its limit, and what was
     observed."""
@@ -184,25 +185,25 @@ class Below(Fact):
     is_unreclaimed: bool = False
 
 
-@dataclass
+@dataclass(eq=False, repr=False)
 class Pressure(Fact):
     """The conditions of the node that a round has met, or else those that are true by it."""
     conditions: frozenset[str]
     is_met: bool = False
 
 
-@dataclass
+@dataclass(eq=False, repr=False)
 class Reclaims(Fact):
     """The node is short of a resource, and the eviction manager begins to reclaim it."""
     resource: str
 
 
-@dataclass
+@dataclass(eq=False, repr=False)
 class Ranked(Fact):
     pods: tuple[Reference, ...]
 
 
-@dataclass
+@dataclass(eq=False, repr=False)
 class Evicted(Fact):
     """The kubelet has evicted a pod, which it says once it has stopped the pod's containers, or could not; or it has
     cleaned up behind that."""
@@ -210,14 +211,14 @@ class Evicted(Fact):
     is_cleaned_up: bool = False
 
 
-@dataclass
+@dataclass(eq=False, repr=False)
 class Refused(Fact):
     """The kubelet did not admit a pod, since the node was under pressure."""
     pod: Reference
     conditions: str
 
 
-@dataclass
+@dataclass(eq=False, repr=False)
 class Ended(Fact):
     """The kubelet ended a pod for a reason of its own, or did not admit it: no eviction under pressure of the node.
     What was ended may have exited before the line that says so."""
@@ -228,7 +229,7 @@ class Ended(Fact):
     is_late: bool = False
 
 
-@dataclass
+@dataclass(eq=False, repr=False)
 class Readied(Fact):
     """A status has the condition Ready: its value, and since when it has that."""
     pod: Reference
@@ -236,7 +237,7 @@ class Readied(Fact):
     since: Optional[float] = None
 
 
-@dataclass
+@dataclass(eq=False, repr=False)
 class Happened(Fact):
     """An Event that the kubelet made of a pod, or of one of its containers; or a line of the kubelet's that says as
     much, of a pod of its own."""
@@ -248,13 +249,13 @@ class Happened(Fact):
     is_line: bool = False
 
 
-@dataclass
+@dataclass(eq=False, repr=False)
 class OutOfMemory(Fact):
     """The kernel killed a process since a memory limit was reached: of a container, where a line has its id."""
     id: Optional[str] = None
 
 
-@dataclass
+@dataclass(eq=False, repr=False)
 class NodeReady(Fact):
     """The node is Ready, or not and why; whether a line has the condition itself, or a reason why it is not Ready."""
     is_ready: bool

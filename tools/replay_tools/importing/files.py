@@ -20,7 +20,7 @@ from .journals import PLAIN, SKIPPED, Counts, Line, Skipping, blocks_of, lines_o
 from .moments import Klog
 from .sorting import is_newest_first, oldest_first
 
-# so many bytes say which form a journal has, and so many lines of them
+# so many bytes show which form a journal has, and so many lines of them
 LOOKED_AT, MOST_LOOKED_AT = 1 << 16, 200
 FIRST_LINES = 20
 # so many bytes of a journal are read, unless another bound is given
@@ -29,7 +29,7 @@ STANDARD_INPUT = "-"
 MARK = b"\xef\xbb\xbf"
 COLOURS = re.compile(rb"\x1b\[[0-9;]{0,32}[mK]")
 HEADER = re.compile(journals.HEADER)
-# what stands before each line where a journal was asked for of several nodes or pods
+# what is before each line where a journal was asked for of several nodes or pods
 PREFIX = re.compile(rb"(\[pod/\S{1,330}\]|[a-zA-Z0-9][-.a-zA-Z0-9]{0,252}) +")
 OF_POD = b"[pod/"
 # the forms that hold one line in each of theirs
@@ -66,7 +66,7 @@ class Limited(io.RawIOBase):
         return len(data)
 
     def read_some(self, count: int) -> bytes:
-        """What comes next; nothing behind a place from which on the file can't be read."""
+        """What comes next; nothing after a place from which on the file can't be read."""
         try:
             return b"" if self.fault else self.file.read1(count)
         except packed.DAMAGES as fault:
@@ -80,14 +80,14 @@ def buffered(file: Any, most: int) -> Any:
 
 
 def lines_at_begin(head: bytes) -> list[bytes]:
-    """The lines with which a journal begins, but for what journalctl says itself."""
+    """The lines with which a journal begins, but for what journalctl shows itself."""
     found = head.removeprefix(MARK).split(b"\n")[:MOST_LOOKED_AT]
     cleaned = (COLOURS.sub(b"", line).rstrip(b"\r") for line in found)
     return [line for line in cleaned if line.strip() and not line.startswith(b"-- ")]
 
 
 def form_of(head: bytes) -> tuple[str, bool]:
-    """The name of the form that a journal has that begins so, and whether a name stands before each line."""
+    """The name of the form that a journal has that begins so, and whether a name is before each line."""
     lines = lines_at_begin(head)
     found = form_of_lines(lines)
     if found is None:
@@ -128,7 +128,7 @@ class Journal:
     """A file of a journal, which may be packed, or standard input. Its lines are in the order of their moments."""
 
     def __init__(self, path: str, counts: Counts, most: int = MOST, node: Optional[str] = None) -> None:
-        # which node's lines are read, where a name stands before each line
+        # which node's lines are read, where a name is before each line
         self.path = path
         self.counts = counts
         self.most = most
@@ -162,7 +162,7 @@ class Journal:
         return head
 
     def lines(self, klog: Klog, skipping: Skipping) -> Iterator[Line]:
-        """Its lines, the oldest first, with one for messages that are not read; a place behind which the file can't be
+        """Its lines, the oldest first, with one for messages that are not read; a place after which the file can't be
         read further ends it, which is kept."""
         is_reversed = is_newest_first(self.first_lines(copy.copy(klog)), copy.copy(klog))
         found = self.wanted(klog, skipping)

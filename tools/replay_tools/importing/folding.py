@@ -4,13 +4,14 @@ from __future__ import annotations
 
 import json
 import os
-from collections.abc import Callable
+from collections.abc import Callable, Iterable
 from typing import Any, Optional, TYPE_CHECKING
 
 from replay_tools import entry
 from replay_tools.record.folder import Folder, Refused, made, may_be_made
 from replay_tools.record.formats import MOST_TICKS, shown
-from replay_tools.record.into import Traces
+from replay_tools.record.part import Ahead
+from replay_tools.record.traces import Traces
 
 from .placing import CLOCK_BACK, STARTED_AT, TICK_AT
 from .thresholds import MEMBERS
@@ -40,8 +41,28 @@ def set_back(value: Any, seconds: int) -> Any:
             for name, inner in value.items()}
 
 
+class NoneAhead(Ahead):
+    """Keeps nothing of what is about to be written: after a crash the journals are still there."""
+
+    def keep(self, name: str, size: int, data: bytes) -> None:
+        """Keeps nothing."""
+
+
 class ImportedTraces(Traces):
-    """Traces that are not recorded: after a crash the journals are still there, and nothing is written ahead."""
+    """Traces that are not recorded, so that nothing is written ahead. Who made a line may know its values."""
+
+    def __init__(self, folder: Folder, each: int, most_ticks: int, say: Callable[..., None],
+                 known: Callable[[str], dict[str, Any]]) -> None:
+        super().__init__(folder, each, most_ticks, say)
+        self.known = known
+
+    def record_of(self, line: str) -> dict[str, Any]:
+        return self.known(line)
+
+    def write_due(self, due: Iterable[Due]) -> None:
+        for lines, _ in due:
+            self.take(lines)
+        self.finish()
 
     def write_ahead(self, due: list[Due]) -> None:
         """Writes nothing."""
@@ -50,12 +71,14 @@ class ImportedTraces(Traces):
 class Folded(Writer):
     """Traces in a folder, each whole by itself. Nothing is made there before there is something to write."""
 
-    def __init__(self, path: str, each: int, say: Callable[..., None]) -> None:
+    def __init__(self, path: str, each: int, say: Callable[..., None],
+                 record_of: Callable[[str], dict[str, Any]]) -> None:
         if not os.path.isdir(path) and not may_be_made(path):
             raise entry.Fault(f"--into: '{path}' is no folder")
         self.path = path
         self.each = each
         self.say = say
+        self.record_of = record_of
         self.traces: Optional[Traces] = None
         # by how much moments are earlier than they are given, since the clock went back
         self.back = 0
@@ -73,11 +96,12 @@ class Folded(Writer):
         try:
             made(self.path)
             folder = Folder(self.path, node["name"], KEPT_SECONDS, KEPT_BYTES, self.say)
+            folder.ahead = NoneAhead(self.path, node["name"])
         except Refused as refused:
             raise entry.Fault(str(refused), 1) from None
         if folder.traces():
             raise entry.Fault(f"--into: '{self.path}' has traces of {node['name']} already: take an empty folder", 1)
-        self.traces = ImportedTraces(folder, self.each, MOST_TICKS, self.say)
+        self.traces = ImportedTraces(folder, self.each, MOST_TICKS, self.say, self.record_of)
         self.traces.write([shown(node)])
         self.thresholds = thresholds_in(node)
         self.is_begun = True
@@ -105,7 +129,7 @@ class Folded(Writer):
         elif self.back:
             lines = self.by_the_clock(lines)
         if lines:
-            self.traces.write_due(iter([(list(map(self.with_start, lines)), has_tick)]))
+            self.traces.write_due([(list(map(self.with_start, lines)), has_tick)])
         if self.traces.is_lost:
             raise Ended(1, f"--into: '{self.path}' takes no more")
 

@@ -16,7 +16,7 @@ from replay_tools import outside
 WHOLE_SECONDS = 60
 # a clock that goes forward by less has not told anything
 FORWARD_SECONDS = 60
-# what a line stands behind
+# what a line is behind
 HOLE, FORWARD = "hole", "forward"
 # programs whose lines journalctl prints where it is asked for the kubelet and its runtime
 OURS = ("kubelet", "systemd", "containerd", "crio", "cri-o", "dockerd")
@@ -35,7 +35,7 @@ JSON_PROGRAM = re.compile(rb'"SYSLOG_IDENTIFIER" ?: ?"([^"\\]*)"')
 @dataclass
 class Run:
     """Lines whose numbers rise by one: the last number, the microseconds of the first one and of the last one, and
-    whether other programs than the kubelet and its runtime have some behind the first."""
+    whether other programs than the kubelet and its runtime have some after the first."""
     number: int
     begun: int
     until: int
@@ -46,7 +46,7 @@ class Run:
 
 
 class Numbers:
-    """The numbers of a journal's lines so far, by their sequences: there is another one where journald began anew. And
+    """The numbers of a journal's lines so far, by their sequences: there is another one where journald began again. And
     by how much the clock is ahead of that of the node's start, by the starts."""
 
     def __init__(self) -> None:
@@ -54,7 +54,7 @@ class Numbers:
         self.ahead: dict[Any, int] = {}
 
     def before_json(self, text: bytes) -> Optional[str]:
-        """Takes a record of JSON; what it stands behind, if it does."""
+        """Takes a record of JSON; what it is behind, if it does."""
         found = JSON_CURSOR.search(text)
         if found is not None:
             return self.before(found, lambda: program_in(text))
@@ -64,7 +64,7 @@ class Numbers:
                                    lambda: program_in(text))
 
     def before_record(self, record: dict[str, Any]) -> Optional[str]:
-        """Takes a record; what it stands behind, if it does."""
+        """Takes a record; what it is behind, if it does."""
         def program() -> str:
             return str(record.get("SYSLOG_IDENTIFIER") or "")
 

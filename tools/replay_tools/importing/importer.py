@@ -94,11 +94,12 @@ class Importer(Pods):
             return
         if not self.has_met_running:
             self.meet_running()
-        self.evictions.take_events_alone(self.lives, horizon)
-        for life in self.lives:
+        lives = [life for life in self.lives if is_end or life.due_at <= horizon]
+        self.evictions.take_events_alone(lives, horizon)
+        for life in lives:
             life.resolve(horizon, self.placing)
-        self.endings.take_statuses(self.lives, horizon, is_end)
-        for life in self.lives:
+        self.endings.take_statuses(lives, horizon, is_end)
+        for life in lives:
             life.settle(horizon, is_end, self.placing)
         before = float("inf") if is_end else int(horizon) - LATE_SECONDS
         self.placing.doubt(self.lives, before)
@@ -111,9 +112,11 @@ class Importer(Pods):
         """A time before a fact in which the kubelet said nothing is a hole where its rounds say so, and no line that it
         was started anew."""
         silence = self.placing.silences.take(fact)
+        if silence is None or not silence.is_hole:
+            return
         is_anew = isinstance(fact, facts.Begun) or (isinstance(fact, facts.Process)
                                                     and self.process not in (None, fact.process))
-        if silence is not None and silence.is_hole and not is_anew:
+        if not is_anew:
             self.pause()
             self.placing.hole(silence.since, silence.until)
 

@@ -75,8 +75,7 @@ class Instances:
     def untangle(self) -> None:
         """An instance whose start no look found ran behind those that started and exited before its exit."""
         for chain in self.chains:
-            guessed = [each for each in chain.instances if each.is_unseen and each.written is None
-                       and each.started is None and each.gone is not None]
+            guessed = [each for each in chain.instances if each.is_guess]
             if not guessed:
                 continue
             starts = [each.seen or 0.0 for each in chain.instances]
@@ -93,7 +92,7 @@ class Instances:
         """What came and went between two looks never ran, if a line says that the container could not be started."""
         for chain in self.chains:
             for each in chain.instances:
-                if each.is_unseen and each.started is None and each.gone is not None and each.written is None:
+                if each.is_guess and each.gone is not None:
                     begin = bisect.bisect_left(self.hints.failed, (each.gone - FAILED_SECONDS, ""))
                     near = self.hints.failed[begin:begin + MOST_CHAINS]
                     each.never_ran = any(name == chain.name and at <= each.gone + LOOK_SECONDS for at, name in near)

@@ -43,7 +43,7 @@ STAMP_OF_CURSOR = re.compile(r";t=([0-9a-f]{1,16})")
 LABELS = re.compile(rb'\{\w{1,64}="[^}]{0,2000}\}\s+')
 MONTHS = {name: place + 1 for place, name in enumerate(
     (b"Jan", b"Feb", b"Mar", b"Apr", b"May", b"Jun", b"Jul", b"Aug", b"Sep", b"Oct", b"Nov", b"Dec"))}
-# klog's header, and how it stands in a record of JSON
+# klog's header, and how it is in a record of JSON
 HEADER = rb"[IWEF]\d{4} [\d:.]{8,18} +\d{1,10} [^\]\s\"\\]{1,200}:\d+\] "
 JSON_HEADER = re.compile(rb'"MESSAGE" ?: ?"' + HEADER + rb'\\?')
 EXPORTED = re.compile(rb"__(?:CURSOR|REALTIME_TIMESTAMP|SEQNUM)=")
@@ -51,7 +51,7 @@ EXPORTED = re.compile(rb"__(?:CURSOR|REALTIME_TIMESTAMP|SEQNUM)=")
 
 @dataclass
 class Line:
-    """One line of a journal: its moment in seconds since 1970 (None where only its message has one), what it says, and
+    """One line of a journal: its moment in seconds since 1970 (None where only its message has one), what it shows, and
     which process of which unit of which node said it, as far as that is known."""
     moment: Optional[float]
     text: bytes
@@ -63,7 +63,7 @@ class Line:
 @dataclass
 class Hole(Line):
     """Stands for lines that a journal lacks, or for a clock that went forward, with the moment, the node and the
-    process of the line behind it."""
+    process of the line after it."""
     why: str = HOLE
 
 
@@ -73,7 +73,7 @@ SKIPPED = Line(None, b"")
 
 @dataclass
 class Skipping:
-    """Which messages are not read: whether a line is one of these, whether one is whose words stand at a place, and
+    """Which messages are not read: whether a line is one of these, whether one is whose words are at a place, and
     the lines of blocks of a form with None in place of these."""
     is_skipped: Callable[[bytes], bool]
     is_unwanted: Callable[[bytes, int], bool]
@@ -83,7 +83,7 @@ class Skipping:
 @dataclass
 class Counts:
     """What was read, and what of it was not: lines that are longer than is read, that are no line of their form, and
-    that a journal says to be missing."""
+    that a journal reports to be missing."""
     size: int = 0
     lines: int = 0
     cut: int = 0
@@ -145,7 +145,7 @@ def of_json(lines: Iterator[bytes], counts: Counts, skipping: Skipping) -> Itera
 
 
 def standing_behind(what: Optional[str], line: Line) -> Iterator[Line]:
-    """A line, with what it stands behind before it, if it does."""
+    """A line, with what it is behind before it, if it does."""
     if what is not None:
         yield Hole(line.moment, b"", line.unit, line.process, line.node, what)
     yield line
@@ -166,7 +166,7 @@ def line_of(member: Callable[[str], Any], counts: Counts) -> Iterator[Line]:
 
 
 def of_export(file: BinaryIO, counts: Counts) -> Iterator[Line]:
-    """`journalctl -o export`: a record's members line by line, and an empty one behind them. One that is no plain text
+    """`journalctl -o export`: a record's members line by line, and an empty one after them. One that is no plain text
     has its name alone, and its length in eight bytes before it."""
     record: dict[str, Any] = {}
     numbers = Numbers()
@@ -248,7 +248,7 @@ def of_syslog(lines: Iterator[Optional[bytes]], counts: Counts, klog: Klog) -> I
 
 def of_container(lines: Iterator[Optional[bytes]], _counts: Counts) -> Iterator[Line]:
     """What a runtime keeps of a kubelet in a container, or `kubectl logs --timestamps` gives. A long line is kept in
-    parts, of which each but the last one says that it is one."""
+    parts, of which each but the last one shows that it is one."""
     parts: list[bytes] = []
     for text in lines:
         if text is None:

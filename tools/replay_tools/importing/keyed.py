@@ -215,7 +215,7 @@ def of_refusal(message: Message) -> Iterator[facts.Fact]:
 
 
 def of_evicting(message: Message) -> Iterator[facts.Fact]:
-    """An eviction begins, as its Event says too."""
+    """An eviction begins, as its Event reports too."""
     yield facts.Happened(message.at, pod_of(message), EVICTION, str(message.keys.get("message") or ""))
 
 
@@ -307,5 +307,5 @@ FORMS: dict[str, Callable[[Message], Iterator[facts.Fact]]] = {
     "Recording event message for node": nodes.of_recorded,
     "Shutdown manager detected new shutdown event, isNodeShuttingDownNow": nodes.of_shutdown,
     **endings.KEYED}
-# the first words of these, by which a line is wanted
+# the first words of these, by which a line is needed
 FIRST_WORDS = {words.split(" ")[0] for words in FORMS} | {"Pod", "FLAG:", "Operation"}

@@ -1,4 +1,4 @@
-"""Which container an instance is of, where no line says it: by exclusion, by the lines that name a container which
+"""Which container an instance is of, if no line shows it: by exclusion, by the lines that name a container which
 waits or is made, and by the order in which a kubelet starts them."""
 
 from __future__ import annotations
@@ -8,18 +8,18 @@ from typing import Optional
 
 from .chains import LOOK_SECONDS, MOST_CHAINS, MOST_NEXT, UNNAMED, Chain, Hints, Instance
 
-# a line that names a container which is started stands so long before the look that finds it
+# a line that names a container which is started stands so long before the poll that finds it
 CREATED_SECONDS = 4.0
-# containers that start so soon behind an exit come one behind the other
+# containers that start so soon after an exit come one after the other
 SOON_SECONDS = 3.0
 # one that runs so long has not crashed at its start
 LONG_SECONDS = 10.0
-# a start comes at most so long behind the line that an object has changed, if that had an ephemeral container added
+# a start comes at most so long after the line that an object has changed, if that had an ephemeral container added
 UPDATED_SECONDS = 60.0
 
 
 def serial(instances: list[Instance]) -> int:
-    """How many instances came one behind the other, each soon behind the exit of the one before."""
+    """How many instances came one after the other, each soon after the exit of the one before."""
     count = 1
     for before, after in zip(instances, instances[1:]):
         if before.gone is None or not 0 <= (after.seen or 0) - before.gone + LOOK_SECONDS < SOON_SECONDS:
@@ -39,7 +39,7 @@ class Linking:
         self.chains = [chain for chain in chains if chain not in self.others]
         self.names = names
         self.inits = inits
-        # those of them that run on beside what comes behind them, and come again
+        # those of them that run on next to what comes after them, and come again
         self.sidecars = sidecars
         self.policy = policy
         self.hints = hints
@@ -87,12 +87,12 @@ class Linking:
         instance.name, instance.is_found = name, instance.is_found or instance.name is None
 
     def created_name(self, instance: Instance) -> Optional[str]:
-        """The name in a line that a container is made, shortly before the look that found it."""
+        """The name in a line that a container is made, shortly before the poll that found it."""
         at = instance.seen or 0
         begin = bisect.bisect_left(self.created, (at - CREATED_SECONDS, ""))
         # one of several made before one look is taken away from them, so few are looked through
         near = self.created[begin:bisect.bisect_left(self.created, (at + LOOK_SECONDS, "~"))]
-        # where two are made before one look, only exclusion says which is which
+        # where two are made before one look, only exclusion shows which is which
         if len({name for _, name in near}) != 1:
             return None
         del self.created[begin]
@@ -108,7 +108,7 @@ class Linking:
         return found
 
     def init_name(self, instance: Instance) -> Optional[str]:
-        """The init container that starts next, while they do: the next one behind an exit with 0, else the same. What
+        """The init container that starts next, while they do: the next one after an exit with 0, else the same. What
         ran before the journal begins is most likely none: they are short."""
         ran = [chain for chain in self.chains if chain.name in self.inits]
         if instance.is_met and not ran:
@@ -136,18 +136,18 @@ class Linking:
         return next_name
 
     def has_waited(self, name: str, since: float, until: float) -> bool:
-        """Whether a line says that a container waits between two moments."""
+        """Whether a line shows that a container waits between two moments."""
         place = bisect.bisect_left(self.waits, (since, ""))
         return any(each == name and at <= until for at, each in self.waits[place:place + MOST_NEXT])
 
     def waits_next(self, instance: Instance) -> Optional[str]:
-        """The container of which the next line from a start on says that it waits: an init container that does so has
-        not passed by then, so that nothing behind it has run."""
+        """The container of which the next line from a start on shows that it waits: an init container that does so has
+        not passed by then, so that nothing after it has run."""
         place = bisect.bisect_left(self.waits, (instance.seen or 0, ""))
         return self.waits[place][1] if place < len(self.waits) else None
 
     def count_extra(self, instances: list[Instance]) -> None:
-        """How often an init container ran again without a code that says it, by how many came one behind the other up
+        """How often an init container ran again without a code that says it, by how many came one after the other up
         to the app's. Which of them it was is not known: the middle one leaves most of the others right."""
         apps = [name for name in self.names if name not in self.inits]
         if not self.inits or self.chains or not instances:
@@ -156,7 +156,7 @@ class Linking:
         if count is None:
             count = serial(instances) - 1
             last = instances[count]
-            # where the last of them soon exited too, and the app is said to wait, it was the app that came again
+            # where the last of them soon exited too, and the app is reported to wait, it was the app that came again
             is_short = last.gone is not None and last.gone - (last.seen or 0) < LONG_SECONDS
             has_crashed = is_short and any(name in apps and at >= (last.gone or 0) for at, name in self.hints.waits)
             count = 0 if has_crashed or len(apps) != 1 else count
@@ -178,7 +178,7 @@ class Linking:
         if len(self.chains) < MOST_CHAINS and (rest > 0 or not self.names or not apps):
             return None
         apps = apps or self.chains
-        # the look that found its exit is not in the journal
+        # the poll that found its exit is not in the journal
         return min(apps, key=lambda chain: chain.newest.seen or 0)
 
     def comes_again(self, chain: Chain) -> bool:

@@ -3,6 +3,7 @@
 from __future__ import annotations
 
 import bisect
+import functools
 from collections.abc import Iterable, Iterator
 from dataclasses import replace
 from typing import Optional, TYPE_CHECKING
@@ -14,7 +15,7 @@ from replay_tools.record.reasons import reason_of
 from replay_tools.record.runtime import EXITED, LOST_CODE, RUNNING, Change, Listing
 
 from . import marks
-from .accounts import LOOK_SECONDS, ORDER, Account, Item
+from .accounts import IN_ORDER, LOOK_SECONDS, ORDER, Account, Item
 from .chains import UNNAMED
 from .outputs import why_killed
 from .placing import NAMED_LATE, PROBED, UNKNOWN_PHASES
@@ -33,6 +34,10 @@ LEFT_SECONDS = 15.0
 WHOLE = 0.999
 # a start that comes so soon behind an exit is of the same second
 AFTER = 0.0001
+# due each time that what is settled is placed, and since a line spoke of it
+ALWAYS, HEARD = 0.0, -1.0
+# so many lists of containers are kept, as many pods have the same
+MOST_KEPT = 1000
 
 
 class ByItself(Change):
@@ -52,6 +57,13 @@ def merged(spans: Iterable[tuple[float, float]]) -> list[tuple[float, float]]:
         else:
             found.append((since, until))
     return found
+
+
+@functools.lru_cache(MOST_KEPT)
+def pod_with(names: tuple[str, ...]) -> recorded.Pod:
+    """A pod with containers of these names, of which nothing else is known."""
+    return recorded.pod_of({"metadata": {"namespace": "default", "name": "pod"},
+                            "spec": {"containers": [{"name": each} for each in names]}})
 
 
 class Life(Account):
@@ -76,6 +88,8 @@ class Life(Account):
         self.is_deleting = False
         self.is_over = False
         self.is_refused = False
+        # from when on something of it is to be placed, as far as lines say so far
+        self.due_at = HEARD
         # whether its manifest was made of lines, and the names of containers that lines have only behind its own
         self.is_made = False
         self.named_late: dict[str, str] = {}
@@ -84,8 +98,14 @@ class Life(Account):
 
     def settle(self, horizon: float, is_end: bool, placing: Placing) -> None:
         """Places all that happened up to a moment, behind which there may be no line any more."""
-        if self.is_over or self.is_refused or self.added_at > horizon:
+        if self.is_over or self.is_refused:
             return
+        if self.added_at <= horizon:
+            self.place_up_to(horizon, is_end, placing)
+        # lines of a pod come in bursts: what they make due is looked for when they pause
+        self.due_at = ALWAYS if self.due_at == HEARD else self.next_due(placing)
+
+    def place_up_to(self, horizon: float, is_end: bool, placing: Placing) -> None:
         pod = self.pod if self.arrived is not None else self.arrive(placing)
         if pod is None:
             self.is_over = self.removed_at is not None and self.removed_at <= horizon
@@ -100,24 +120,46 @@ class Life(Account):
         self.decide(pod, horizon, is_end, placing)
         self.leave(pod, horizon, placing)
 
+    def next_due(self, placing: Placing) -> float:
+        """From when on something of it is to be placed. Until then nothing of it changes, unless a line speaks of it."""
+        is_replaced = self.replaced_at is not None and not self.is_end_told()
+        if is_replaced or any(chain.is_open() for chain in self.instances.chains):
+            return ALWAYS
+        if self.arrived is None:
+            return self.added_at
+        found = [item.at for item in self.pending]
+        found += [at for chain in self.instances.chains for at in chain.unplaced()]
+        found += [probing.due_silent() for (_, probe), probing in self.probings.items() if placing.is_silent(probe)]
+        if self.decision is not None and not self.is_decided:
+            found.append(self.settled_from(self.decision))
+        elif self.decision is None and self.evicting is not None:
+            found.append(self.evicting[0])
+        found += [at for at in (self.leaves_at(), None if self.is_deleting else self.deleted_at) if at is not None]
+        return min(found, default=float("inf"))
+
     def resolve(self, horizon: float, placing: Placing) -> None:
         """Finds the containers of its instances, and ends what no line ends: an instance whose container waits or
         starts again, in a hole of the journal if there is one; and the pod where another one has its name."""
         if self.is_over or self.is_refused:
             return
-        is_ending = self.decision is not None or any(at is not None for at in (
-            self.deleted_at, self.removed_at, self.cleaned_at, self.replaced_at))
+        is_ending = self.replaced_at is not None or self.is_end_told()
         self.instances.resolve(self.pod, self.added_at, self.is_listed, is_ending)
-        for instance, heard_at, start in self.instances.in_holes():
-            instance.gone = placing.hole_between(heard_at, start)
-            instance.is_lost = instance.gone is not None
-        self.instances.untangle()
+        is_open = any(chain.is_open() for chain in self.instances.chains)
+        if is_open:
+            for instance, heard_at, start in self.instances.in_holes():
+                instance.gone = placing.hole_between(heard_at, start)
+                instance.is_lost = instance.gone is not None
+            self.instances.untangle()
         self.instances.lose(horizon)
-        self.instances.see_starts_that_failed()
-        is_told = self.decision is not None or any(at is not None for at in (
-            self.deleted_at, self.removed_at, self.cleaned_at))
-        if self.replaced_at is not None and not is_told:
+        if is_open:
+            self.instances.see_starts_that_failed()
+        if self.replaced_at is not None and not self.is_end_told():
             self.removed_at = placing.hole_between(self.heard_at, self.replaced_at)
+
+    def is_end_told(self) -> bool:
+        """Whether a line says that the pod goes, or that the kubelet ended it."""
+        return self.decision is not None or any(at is not None for at in (
+            self.deleted_at, self.removed_at, self.cleaned_at))
 
     def arrive(self, placing: Placing) -> Optional[recorded.Pod]:
         """Its line, with a manifest, or with the containers that lines name where there is none; None where it has no
@@ -131,7 +173,7 @@ class Life(Account):
         if not placing.has_room(self):
             self.is_refused = True
             return None
-        pod = self.pod = replace(found, uid=self.known_uid(), decision=None)
+        pod = self.pod = found if self.is_made else replace(found, uid=self.known_uid(), decision=None)
         self.arrived = self.changes_from = placing.arrive(self, pod)
         for container in pod.containers():
             for probe in PROBES:
@@ -150,8 +192,9 @@ class Life(Account):
             return None
         namespace, _, name = self.key.partition("/")
         self.is_template = self.is_made = True
-        return recorded.pod_of({"metadata": {"namespace": namespace, "name": name},
-                                "spec": {"containers": [{"name": each} for each in names]}})
+        like = pod_with(tuple(names))
+        manifest = {**like.manifest, "metadata": {"name": name, "namespace": namespace}}
+        return replace(like, key=self.key, uid=self.known_uid(), manifest=manifest)
 
     def placed_name(self, name: str, at: float, placing: Placing) -> str:
         """The name that a container has in the pod's line. One that lines name only later, of a pod without a manifest,
@@ -175,7 +218,7 @@ class Life(Account):
         self.pending = [item for item in self.pending if item.at > horizon]
         for chain in self.instances.chains:
             found += self.items_of(chain, horizon)
-        return sorted(found)
+        return sorted(found, key=IN_ORDER)
 
     def hold_waits(self) -> None:
         """A line may say that a container waits before the look that finds its exit: it waits from that exit on."""

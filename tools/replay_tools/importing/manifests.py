@@ -1,5 +1,5 @@
 """Manifests of pods: of lists and files of them, of what owns them, and of audit events and watches; with what their
-statuses say of instances."""
+statuses report of instances."""
 
 from __future__ import annotations
 
@@ -73,7 +73,7 @@ class Manifests:
         return None, False
 
     def is_on(self, reference: facts.Reference, node: str | None) -> bool:
-        """Whether a pod is said to be on a node."""
+        """Whether a pod is reported to be on a node."""
         return node is not None and self.node_of.get(str(reference.uid)) == node
 
     def take(self, value: Any, depth: int = 0) -> None:
@@ -145,7 +145,7 @@ class Manifests:
         self.by_key[pod.key] = pod
 
     def take_status(self, metadata: dict[str, Any], status: Any) -> None:
-        """What a pod's status says of its instances, and that the node has ended it."""
+        """What a pod's status reports of its instances, and that the node has ended it."""
         if not isinstance(status, dict):
             return
         key, uid = key_of(metadata.get("namespace"), metadata.get("name")), metadata.get("uid")
@@ -159,7 +159,7 @@ class Manifests:
 
 
 def read(path: str, what: str) -> Iterator[Any]:
-    """The documents of a file: JSON, one or several behind each other or a line each, or YAML. Raises a fault where it
+    """The documents of a file: JSON, one or several after each other or a line each, or YAML. Raises a fault where it
     is neither."""
     try:
         with open(path, "rb") as file:

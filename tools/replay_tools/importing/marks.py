@@ -39,6 +39,13 @@ class ImportedAsides(Asides):
     def __init__(self) -> None:
         super().__init__()
         self.guessed: dict[tuple[str, str, int], tuple[str, ...]] = {}
+        # whether something was asked for that was not told before
+        self.has_news = False
+
+    def is_new(self, place: tuple[str, ...], said: Any) -> bool:
+        is_new = super().is_new(place, said)
+        self.has_news = self.has_news or is_new
+        return is_new
 
     def of_listing(self, uid: str, name: str, listing: Any) -> dict[str, Any]:
         """That a code is guessed stands in each tick that has it, as a reason does; the other marks of an instance in

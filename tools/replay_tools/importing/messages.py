@@ -171,18 +171,18 @@ def messages_of(lines: Iterator[Line], klog: Klog, units: Units | None = None) -
     held: Message | None = None
     units, continued = units or Units(), 0
     for line in lines:
-        text = line.text
-        if line.unit and not units.is_kubelet(line.unit):
-            if not isinstance(line, Hole):
-                yield of_other_unit(line, units)
-                continue
-        if line is SKIPPED or isinstance(line, Hole):
+        is_hole = isinstance(line, Hole)
+        if line.unit and not is_hole and not units.is_kubelet(line.unit):
+            yield of_other_unit(line, units)
+            continue
+        if line is SKIPPED or is_hole:
             if held is not None:
                 yield finished(held)
                 held = None
-            if line is not SKIPPED:
+            if is_hole:
                 yield line
             continue
+        text = line.text
         made: Any = json_message(text, line) if text.startswith(b"{") else text_message(text, line, klog)
         if made is None and held is not None and is_continuation(line, held):
             continued += 1

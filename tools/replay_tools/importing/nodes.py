@@ -1,4 +1,4 @@
-"""What lines say of the node itself, in sentences and with keys: whether it is Ready, and that the kernel killed a
+"""What lines report of the node itself, in sentences and with keys: whether it is Ready, and that the kernel killed a
 process for memory."""
 
 from __future__ import annotations
@@ -12,10 +12,10 @@ from . import facts
 from .messages import Message
 from .moments import moment_of_go
 
-# what a condition's message says of why a node is not Ready, and the word for it
+# what a condition's message reports of why a node is not Ready, and the word for it
 CAUSES = (("PLEG is not healthy", "PLEGNotHealthy"), ("container runtime is down", "ContainerRuntimeDown"),
           ("node is shutting down", "NodeShutdown"))
-# what a kubelet says while it starts, which is no fault of the node's
+# what a kubelet shows while it starts, which is no fault of the node's
 STARTING = "has yet to be successful", "may not have completed yet"
 REASON = re.compile(r'Reason"?:"?(\w{1,64})', re.I)
 RECORDED = re.compile(r"Recording (\w+) event message for node")

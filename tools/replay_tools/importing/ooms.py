@@ -17,6 +17,9 @@ LOOKED_SECONDS, LATE_SECONDS = 2.0, 2.5
 EARLY_SECONDS = 0.2
 MOST_KEPT = 1000
 CODE = 137
+# by so much an exit may come behind a later one, as a runtime's line may have a moment before those of the lines before
+UNORDERED_SECONDS = 120.0
+WATCHED = facts.Turned, facts.OutOfMemory, facts.Killing, facts.Known
 
 
 class OutOfMemories:
@@ -37,6 +40,8 @@ class OutOfMemories:
             if self.unnamed and fact.at > self.unnamed[0] + LATE_SECONDS:
                 yield from self.settled(fact.at)
             yield fact
+            if type(fact) not in WATCHED:
+                continue
             if isinstance(fact, facts.Turned):
                 yield from self.turned(fact)
             elif isinstance(fact, facts.OutOfMemory):
@@ -77,8 +82,12 @@ class OutOfMemories:
             at = self.unnamed.popleft()
             if any(abs(each - at) <= LOOKED_SECONDS for each in self.named):
                 continue
-            found = {each.id: each for each in self.died if each.id not in self.others
-                     and at - EARLY_SECONDS <= each.at <= at + LOOKED_SECONDS}
+            found: dict[str, facts.Turned] = {}
+            for each in reversed(self.died):
+                if each.at < at - UNORDERED_SECONDS:
+                    break
+                if each.id not in self.others and at - EARLY_SECONDS <= each.at <= at + LOOKED_SECONDS:
+                    found.setdefault(each.id, each)
             if len(found) == 1:
                 [fact] = found.values()
                 yield facts.Known(max(fact.at, at), fact.id, fact.pod, reason=REASON)

@@ -41,6 +41,12 @@ class Source:
         """Its facts until its clock goes back."""
         while self.head is not None and self.turning() is None:
             yield self.head
+            # of the most journals no clock goes back, and a fact is as it was read
+            for fact in self.found if self.shift == 0 else ():
+                if isinstance(fact, facts.TurnedBack):
+                    self.head = fact
+                    return
+                yield fact
             self.advance()
 
     def turn(self, seconds: int, moment: float) -> None:

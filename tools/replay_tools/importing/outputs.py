@@ -29,7 +29,7 @@ def output_kept(output: str) -> str | None:
 
 
 def why_killed(said: str) -> str | None:
-    """Why the kubelet ends an instance, in a word; None where its line says nothing that is known."""
+    """Why the kubelet ends an instance, in a word; None where its line shows nothing that is known."""
     found = LIVENESS.search(said)
     if found is not None:
         return found[1]

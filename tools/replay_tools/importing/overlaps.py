@@ -49,7 +49,7 @@ class Overlaps:
         return bool(others)
 
     def found(self, minute: int, key: Hashable) -> Optional[Seen]:
-        """A message, whose moment another form may put into the minute beside."""
+        """A message, whose moment another form may put into the minute next to it."""
         for near in (minute, minute - 1, minute + 1):
             seen = self.minutes[near].get(key) if near in self.minutes else None
             if seen is not None:

@@ -3,7 +3,6 @@
 from __future__ import annotations
 
 import heapq
-import json
 import re
 from collections import Counter, defaultdict
 from collections.abc import Iterator
@@ -11,9 +10,9 @@ from dataclasses import replace
 from typing import Any, Optional, TYPE_CHECKING
 
 from replay_tools.record.formats import MOST_PODS, shown
-from replay_tools.record.lines import Format, extended, line_of
+from replay_tools.record.lines import Format, extended
 from replay_tools.record.seen import Recorded
-from replay_tools.traces import SIGNALS
+from replay_tools.signals import SIGNALS
 
 from . import marks
 from .silences import Silences
@@ -72,7 +71,6 @@ class Placing:
         # the ends of gaps of which it is not settled which pods are there behind them
         self.behind: list[float] = []
         self.silences = Silences()
-        self.templates: dict[str, bool] = {}
         # the keys of the pods that are there
         self.there: set[str] = set()
         self.gone_at: dict[str, int] = {}
@@ -117,7 +115,7 @@ class Placing:
         self.there.add(life.key)
         if life.is_made:
             self.count(WITHOUT_MANIFEST, life.key)
-        self.templates[life.key] = life.is_template
+        self.timeline.templates[life.key] = life.is_template
         return self.timeline.place_arrival(pod, max(life.added_at, self.gone_at.get(life.key, -1) + 1.0))
 
     def depart(self, pod: Pod, moment: float) -> None:
@@ -211,16 +209,9 @@ class Placing:
     def with_members(self, line: str) -> str:
         """A line with the members that are not the timeline's."""
         if line.startswith(POD_LINE):
-            return self.pod_with_members(json.loads(line))
+            return line
         line = self.tick_with_gap(line) if self.gaps else line
         return self.tick_with_start(line) if self.started else line
-
-    def pod_with_members(self, fields: dict[str, Any]) -> str:
-        """A pod's line. No journal has what it uses, by which the rules would name it, so it is spared."""
-        metadata = fields["pod"]["metadata"]
-        key = f"{metadata['namespace']}/{metadata['name']}"
-        guessed = {"guessed": [marks.MANIFEST]} if self.templates.get(key) else {}
-        return line_of({**fields, "spared": True, **guessed})
 
     def tick_with_gap(self, line: str) -> str:
         """A tick's line with the gaps before it."""
@@ -264,7 +255,7 @@ class Placing:
 
     @staticmethod
     def with_rows(key: str, entry: Optional[dict[str, Any]], due: Rows) -> dict[str, Any]:
-        """A pod's entry with what was said of it."""
+        """A pod's entry with what was reported of it."""
         taken: dict[str, Any] = dict(entry or {"pod": key, "containers": []})
         if any(member == marks.STATE for _, member, _ in due[key]):
             taken["containers"] = [marks.doubted(listing) for listing in taken["containers"]]

@@ -10,7 +10,7 @@ from typing import Any, Optional
 from replay_tools.record.formats import without_nones
 
 from . import facts
-from .lives import Life
+from .lives import HEARD, Life
 from .manifests import Manifests
 from .outputs import output_kept
 from .placing import WITH_MANIFEST, Placing
@@ -69,6 +69,7 @@ class Pods:
             found = self.by_key.get(pod.key)
             if found is not None and self.is_another(found, pod, is_new):
                 found.replaced_at = at if found.replaced_at is None else found.replaced_at
+                found.due_at = HEARD
                 before, found = found, None
         if found is None and pod.key is not None and (is_new or pod.uid not in self.left):
             found = self.meet(pod, at)
@@ -110,7 +111,7 @@ class Pods:
     def heard(self, life: Optional[Life]) -> Optional[Life]:
         """A pod of which a line speaks."""
         if life is not None:
-            life.heard_at = self.now
+            life.heard_at, life.due_at = self.now, HEARD
         return life
 
     @staticmethod
@@ -239,7 +240,7 @@ class Pods:
         life.turn(fact, not life.was_added and self.is_begin_of_process(fact.at))
 
     def own(self, identity: str, life: Life) -> None:
-        """An id is of a pod; what lines said of it before is told to it."""
+        """An id is of a pod; what lines reported of it before is told to it."""
         if identity not in self.of_id:
             self.of_id[identity] = life
             for known in self.loose.pop(identity, ()):

@@ -7,7 +7,7 @@ import re
 from collections.abc import Callable, Iterator
 
 from replay_tools import amounts, outside
-from replay_tools.traces import SIGNALS
+from replay_tools.signals import SIGNALS
 
 from . import configured, endings, facts, nodes
 from .messages import Message
@@ -65,9 +65,9 @@ def of_loop(message: Message) -> Iterator[facts.Fact]:
             yield facts.Updated(message.at, pod) if is_update else WHERE[found[1]](message.at, pod, found[2])
         return
     found = PLEG.match(message.text)
-    if found is not None and found["type"] in TYPES and id_of(found["id"]) is not None:
-        pod = placed_in(found["pod"] or "") or facts.Reference(None, found["uid"])
-        yield facts.Turned(message.at, pod, found["id"], TYPES[found["type"]])
+    named, uid, what, identity = ("",) * 4 if found is None else found.group("pod", "uid", "type", "id")
+    if what in TYPES and id_of(identity) is not None:
+        yield facts.Turned(message.at, placed_in(named or "") or facts.Reference(None, uid), identity, TYPES[what])
 
 
 def of_probe(message: Message) -> Iterator[facts.Fact]:

@@ -39,6 +39,11 @@ class Probing:
     def end(self) -> None:
         self.due = None
 
+    def due_silent(self) -> float:
+        """From when on a success without a line is due that would change something."""
+        is_due = self.due is not None and self.successes < self.wanted
+        return (self.due or 0.0) + self.period / 2 if is_due else float("inf")
+
     def first_behind(self, moment: float) -> float:
         if self.phase is None:
             return moment + self.period / 2

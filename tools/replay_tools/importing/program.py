@@ -2,10 +2,13 @@
 
 from __future__ import annotations
 
+import fcntl
 import gc
+import os
 import signal
+import stat
 import sys
-import tempfile
+import termios
 import time
 from argparse import Namespace
 
@@ -14,7 +17,7 @@ from replay_tools.joined import asked
 from replay_tools.record.formats import name_fault
 from replay_tools.record.lines import TooLong
 
-from . import cluster, events, evidence, manifests, moments, reading, summary
+from . import events, evidence, manifests, moments, reading, summary
 from .importer import Importer, refuse_strangers
 from .files import MOST, STANDARD_INPUT, Journal
 from .journals import Counts
@@ -37,13 +40,13 @@ def run(words: Namespace) -> int:
     """Imports what the words name, or what the cluster answers of a node; the status."""
     if not words.named:
         if words.since is not None or words.kubectl:
-            raise entry.Fault("--since and kubectl's options go with NODE (--help says more)")
+            raise entry.Fault("--since and kubectl's options go with NODE (see --help)")
         if words.timeout is not None:
-            raise entry.Fault("--timeout goes with NODE (--help says more)")
+            raise entry.Fault("--timeout goes with NODE (see --help)")
         words.optional, words.given = [], True
         return imported(words)
     if len(words.named) > 1 or words.journal or words.node is not None:
-        raise entry.Fault("it takes one NODE, or --journal and --node in its place (--help says more)")
+        raise entry.Fault("it takes one NODE, or --journal and --node in its place (see --help)")
     [node] = words.named
     if name_fault(node) is not None:
         raise entry.Fault(f"NODE is a node's name, not '{node}'")
@@ -51,6 +54,8 @@ def run(words: Namespace) -> int:
     # what is kept goes with an end that is asked for, too
     for number in (signal.SIGTERM, signal.SIGHUP):
         signal.signal(number, lambda number, _: sys.exit(128 + number))
+    import tempfile
+    from . import cluster
     with tempfile.TemporaryDirectory(prefix="import-") as folder:
         found = cluster.Cluster(folder, node, since, words.kubectl, words.timeout or SECONDS).fetch()
         words.node, words.journal, words.given = node, found.journals, bool(words.pods)
@@ -76,8 +81,8 @@ def imported(words: Namespace) -> int:
     known = manifests_of(words)
     journals = journals_of(words)
     sources = [] if journals else evidence.of_what(words.events, words.audit)
-    writer = writer_of(words)
     placing = Placing(most_pods_at_once=words.into is not None)
+    writer = writer_of(words, placing)
     notes = Notes()
     importer = Importer(known, placing, notes)
     units = Units(tuple(words.unit))
@@ -118,12 +123,13 @@ def imported(words: Namespace) -> int:
     return 0
 
 
-def writer_of(words: Namespace) -> Writer:
+def writer_of(words: Namespace, placing: Placing) -> Writer:
     if words.into is None:
         return Plain(sys.stdout)
     # the recorder is as much to read as all the rest, which one trace does not need
     from .folding import Folded
-    return Folded(words.into, words.each, entry.say)
+    placing.timeline.keeps_ticks = True
+    return Folded(words.into, words.each, entry.say, placing.timeline.record_of)
 
 
 class Notes:
@@ -158,20 +164,32 @@ def manifests_of(words: Namespace) -> manifests.Manifests:
 
 
 def journals_of(words: Namespace) -> list[Journal]:
-    paths = words.journal or [STANDARD_INPUT]
-    if not words.journal and (words.events or words.audit) and has_no_input():
+    """The journals that are named, or the one of standard input, which may be a pipe that nobody closes: beside what a
+    trace can be made of alone it is read only where it is named."""
+    if not words.journal and (words.events or words.audit):
+        if has_input():
+            entry.say(f"standard input is not read: for a journal of it pass --journal {STANDARD_INPUT}")
         return []
+    paths = words.journal or [STANDARD_INPUT]
     if STANDARD_INPUT in paths and entry.standard_input().isatty():
-        raise entry.Fault("it wants a journal: --journal FILE, or one on standard input (--help says more)")
+        raise entry.Fault("it needs a journal: --journal FILE, or one on standard input (see --help)")
     if len(set(paths)) < len(paths):
-        raise entry.Fault("--journal has a file twice (--help says more)")
+        raise entry.Fault("--journal has a file twice (see --help)")
     return [Journal(path, Counts(), words.most or MOST, words.node) for path in paths]
 
 
-def has_no_input() -> bool:
-    """Whether standard input is a terminal or empty: then no journal is given."""
-    given = entry.standard_input()
-    return given.isatty() or not given.peek(1)  # type: ignore[attr-defined]
+def has_input() -> bool:
+    """Whether something waits on standard input, of which nothing is taken: it may be another command's."""
+    try:
+        descriptor = entry.standard_input().fileno()
+        found = os.fstat(descriptor)
+        if stat.S_ISREG(found.st_mode):
+            return found.st_size > os.lseek(descriptor, 0, os.SEEK_CUR)
+        if stat.S_ISFIFO(found.st_mode):
+            return any(fcntl.ioctl(descriptor, termios.FIONREAD, bytes(4)))
+    except (entry.Fault, OSError):
+        pass
+    return False
 
 
 def name_of(words: Namespace, importer: Importer, known: manifests.Manifests) -> str:

@@ -4,7 +4,7 @@ from __future__ import annotations
 
 import sys
 import time
-from collections.abc import Iterable, Iterator
+from collections.abc import Iterator
 from typing import Any
 
 from .files import Journal
@@ -22,9 +22,12 @@ class Progress:
         self.is_seen = sys.stderr.isatty()
         self.shown = self.began = time.monotonic()
 
-    def over(self, found: Iterable[Any]) -> Iterator[Any]:
+    def over(self, found: Iterator[Any]) -> Iterator[Any]:
+        return self.shown_over(found) if self.is_seen else found
+
+    def shown_over(self, found: Iterator[Any]) -> Iterator[Any]:
         for number, fact in enumerate(found):
-            if self.is_seen and number % LOOKED_AT == 0 and time.monotonic() - self.shown >= EVERY:
+            if number % LOOKED_AT == 0 and time.monotonic() - self.shown >= EVERY:
                 self.show(fact.at)
             yield fact
 

@@ -49,7 +49,7 @@ class Processes:
         if process in self.seen:
             self.returns_left -= 1
         if self.returns_left < 0:
-            raise entry.Fault("the lines of several kubelets are mixed: give those of one", 1)
+            raise entry.Fault("the lines of several kubelets are mixed: give the lines of one", 1)
         self.seen.add(process)
         self.current = process
 
@@ -93,12 +93,12 @@ class Reader:
         for item in messages_of(self.journal.lines(self.klog, SKIPPING), self.klog, self.units):
             if item.node and not self.processes.is_ours(item.node):
                 continue
-            read: Callable[[Any], Iterator[facts.Fact]] = self.of_message
+            read: Callable[[Any], Iterator[facts.Fact]]
             if isinstance(item, Line):
                 item.moment = moment_in(item.text) if item.moment is None else item.moment
                 moment, read = item.moment, self.of_line
             else:
-                moment = item.at
+                moment, read = item.at, self.of_message
             if moment is not None and moment < self.newest - BACK_SECONDS and self.turns < MOST_TURNS:
                 self.turns += 1
                 since, self.newest, self.now = self.newest, moment, moment

@@ -36,7 +36,7 @@ KIBANA = re.compile(r"([A-Z][a-z]{2}) (\d{1,2}), (\d{4}) @ (\d\d:\d\d:\d\d)(\.\d
 AZURE = re.compile(r"(\d{1,2}/\d{1,2}/\d{4}),? (\d{1,2}:\d\d:\d\d)(\.\d{1,9})? ([AP]M)")
 JOURNALD = "MESSAGE", "__REALTIME_TIMESTAMP"
 DOCKER = "log", "stream"
-# what stands before a record of journalctl -o json-seq, and of -o json-sse
+# what is before a record of journalctl -o json-seq, and of -o json-sse
 SEPARATOR, OF_STREAM = b"\x1e", b"data: "
 
 
@@ -130,7 +130,7 @@ def look_at(text: str, name: str, found: Found, depth: int) -> None:
 
 
 def known_name(name: str) -> Optional[str]:
-    """A member's name as it is compared, where it is one that is read; a column's may have its zone behind it."""
+    """A member's name as it is compared, where it is one that is read; a column's may have its zone after it."""
     name = name.lower().partition(" [")[0]
     return name if name in NAMES else None
 

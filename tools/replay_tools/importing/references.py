@@ -54,8 +54,14 @@ def all_placed(text: str) -> Iterator[Reference | None]:
         before = text[max(found.start() - LONGEST_NAME, 0):found.start()]
         name = before[len(before.rstrip(NAMED)):].lstrip("-.")
         if name:
-            key = key_of(found[1], name)
-            yield None if key is None else Reference(key, found[2])
+            yield named(name, found[1], found[2])
+
+
+@functools.lru_cache(MOST_KEPT)
+def named(name: str, namespace: str, uid: str) -> Reference | None:
+    """A pod of its names and its uid; None where the names are none."""
+    key = key_of(namespace, name)
+    return None if key is None else Reference(key, uid)
 
 
 def reference_of(value: Any, uid: Any = None) -> Reference | None:

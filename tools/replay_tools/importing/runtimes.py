@@ -50,7 +50,7 @@ KILLED = re.compile(rb"[^,\s]{0,1024}?([0-9a-f]{64})")
 # what a line of interest has
 SIGNS = (b"sandbox", b"ontainer", b"TaskExit", b"exit event", b"TaskOOM", b"shim disconnected")
 OF_RUNTIME = RUNTIMES[0]
-# what of a runtime's line of JSON stands behind its message
+# what of a runtime's line of JSON is after its message
 KEYS = "containerID", "description", "id"
 # how a runtime's own line begins where it stands alone
 OWN = b'time="'
@@ -69,7 +69,8 @@ class Runtime:
         self.monitored: dict[str, str] = {}
 
     def facts_of(self, line: Line) -> Iterator[facts.Fact]:
-        """What a line says; nothing of one that is no runtime's, as of what a container has said to a kubelet."""
+        """What a line reports; nothing of one that is no runtime's, as of what a container has reported to a
+        kubelet."""
         moment = line.moment
         if moment is None:
             return
@@ -114,7 +115,7 @@ class Runtime:
             yield facts.Turned(at, self.pods[found[1]], found[1], facts.STARTED, True)
 
     def exited(self, at: float, text: str) -> Iterator[facts.Fact]:
-        """An exit of the container itself, and not of what was run in it; it is told more than once."""
+        """An exit of the container itself, and not of what was run in it; it is reported more than once."""
         if EXIT.search(text) is None:
             return
         named, other, code = EXIT_ID.search(text), OTHER_ID.search(text), CODE.search(text)
@@ -128,7 +129,7 @@ class Runtime:
         yield from self.turned(at, identity)
 
     def turned(self, at: float, identity: str) -> Iterator[facts.Fact]:
-        """A container has ended, which several lines say."""
+        """A container has ended, which several lines report."""
         if identity not in self.ended:
             self.ended.add(identity)
             yield facts.Turned(at, self.pods.get(identity, facts.Reference()), identity, facts.DIED, True)
@@ -140,8 +141,8 @@ class Runtime:
             yield from self.turned(at, found[1])
 
     def stopped(self, at: float, text: str) -> Iterator[facts.Fact]:
-        """A container that was to end has ended; its code is told by an exit's line, which a containerd up to 1.7 has
-        not."""
+        """A container that was to end has ended; its code is reported by an exit's line, which a containerd up to 1.7
+        has not."""
         found = STOPS.search(text)
         if found is not None:
             yield from self.turned(at, found[1])
@@ -197,7 +198,7 @@ class Runtime:
                 yield facts.Turned(at, pod, identity, facts.STARTED, True)
             return
         found = CRIO_ENDED.search(text)
-        # one that is removed behind the next start ended before that, which this start shows
+        # one that is removed after the next start ended before that, which this start shows
         if found is not None and outside.is_label(found[5]) and found[2] not in self.ended and (
                 found[1] == "Stopped" or self.newest.get(found.group(3, 4, 5)) == found[2]):
             self.ended.add(found[2])

@@ -1,5 +1,5 @@
-"""Times in which a kubelet's journal says nothing, and which of them are holes. The journal of the kubelet alone has no
-numbers by which a lost line shows (holes.py has those of the whole one), but what it says shows it: from -v=3 on a
+"""Times in which a kubelet's journal shows nothing, and which of them are holes. The journal of the kubelet alone has
+no numbers by which a lost line shows (holes.py has those of the whole one), but what it shows shows it: from -v=3 on a
 kubelet tells of each round of its eviction manager, each ten seconds, so that a minute without a line is a hole; and
 from -v=2 on of each exit, so that where a container starts again, and no line has the exit before, that was lost."""
 
@@ -25,8 +25,8 @@ OF_KUBELET = {facts.Process, facts.Begun, facts.Added, facts.Deleted, facts.Remo
 
 @dataclass
 class Silence:
-    """A time between two lines of the kubelet, whether it is a hole by its rounds, and whether it is told as a time of
-    which nothing is known."""
+    """A time between two lines of the kubelet, whether it is a hole by its rounds, and whether it is reported as a time
+    of which nothing is known."""
     since: float
     until: float
     is_hole: bool = False
@@ -62,21 +62,21 @@ class Silences:
         return len(self.rounds) == ROUNDS and at - self.rounds[0] <= ROUND_SECONDS
 
     def is_told(self, since: float, until: float) -> bool:
-        """Whether a part of a time is told as one of which nothing is known."""
+        """Whether a part of a time is reported as one of which nothing is known."""
         return any(each.is_told and each.since < until and since < each.until for each in self.found)
 
     def tell(self, since: float, until: float) -> None:
-        """A time is told as one of which nothing is known."""
+        """A time is reported as one of which nothing is known."""
         self.found = [each for each in self.found if each.until <= since or until <= each.since]
         self.found.append(Silence(since, until, True, True))
 
     def between(self, since: float, until: float) -> Optional[Silence]:
-        """The time in which a line between two moments was lost: one that is told, or else the longest."""
+        """The time in which a line between two moments was lost: one that is reported, or else the longest."""
         found = [each for each in self.found if since <= each.since and each.until <= until + LOOK_SECONDS]
         return max(found, key=Silence.rank) if found else None
 
     def open_from(self, horizon: float) -> float:
-        """Up to when all is settled, of what is so far behind the newest line: what a silence is, the lines behind it
+        """Up to when all is settled, of what is so far after the newest line: what a silence is, the lines after it
         say."""
         return min([horizon, *(each.since for each in self.found if not each.is_told and each.until > horizon)])
 

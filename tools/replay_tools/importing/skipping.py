@@ -5,7 +5,7 @@ from __future__ import annotations
 
 import json
 import re
-from collections.abc import Callable, Iterator
+from collections.abc import Callable, Iterable, Iterator
 from typing import Optional
 
 from . import keyed, printed
@@ -18,12 +18,23 @@ FLAG = b"FLAG:"
 READ_FLAGS = b"FLAG: --hostname-override=", b"FLAG: --eviction-", b"FLAG: --config="
 # what is a sentence in JSON too
 SENTENCES = *READ_FLAGS, printed.OPERATION.encode()
+
+
+def any_of(words: Iterable[bytes]) -> bytes:
+    """A pattern of words, each letter of which is looked at once, whichever of them have it in common."""
+    by_letter: dict[bytes, set[bytes]] = {}
+    for word in words:
+        if not word:
+            return b""
+        by_letter.setdefault(word[:1], set()).add(word[1:])
+    return b"(?:%b)" % b"|".join(re.escape(letter) + any_of(by_letter[letter]) for letter in sorted(by_letter))
+
+
+# how the words of a message begin that may be read: most others are told from these by that alone
+BEGINS = any_of({*WANTED - {FLAG}, *READ_FLAGS})
 # where a header ends, at the earliest and at the latest, and how long a first word may be
 SHORTEST, LONGEST_HEADER, LONGEST_WORD = 24, 260, 64
 LETTERS = b"IWEF"
-# the first bytes of a word tell of most that they are none of these
-BEGIN = 3
-BEGINS = sorted({re.escape(word[:BEGIN]) for word in WANTED})
 # what stands in a line before a "]"; said as ranges it takes half the time that [^\]\n] takes
 BEFORE_BRACKET = rb"[\x00-\t\x0b-\\^-\xff]"
 # how klog's header stands behind what journald and a runtime have of a line
@@ -34,8 +45,6 @@ HEADERS = {**dict.fromkeys(JOURNALDS, re.compile(OF_JOURNALD)), "container": re.
 UP_TO_WORDS = {PLAIN: rb"[%b]%b{%d,%d}\] " % (LETTERS, BEFORE_BRACKET, SHORTEST - 1, LONGEST_HEADER - 3),
                **dict.fromkeys(JOURNALDS, BEFORE_BRACKET + b"*" + OF_JOURNALD),
                "container": rb"[^ \n]+ [^ \n]+" + OF_RUNTIME}
-# the end of a line behind which one comes that these and the first bytes of its words do not tell to be skipped
-KEPT = {form: re.compile(rb"\n(?!%b(?!%b))" % (begin, b"|".join(BEGINS))) for form, begin in UP_TO_WORDS.items()}
 # how messages begin that begin as others do, and say nothing
 SILENT = (b"SyncLoop (RECONCILE", b"SyncLoop (SYNC)", b"SyncLoop (housekeeping", b"Error getting ",
           b"Container runtime ", b"eviction manager: no resources", b"Failed to remove container",
@@ -85,11 +94,16 @@ class OfProcess:
         self.process = b""
 
     def is_skipped(self, text: bytes) -> bool:
-        place = place_of_words(text)
-        if is_skipped_at(text, place) or (text.startswith(SILENT, place) and text[PROCESS] == self.process):
+        place, process = place_of_words(text), text[PROCESS]
+        if is_skipped_at(text, place) or (process == self.process and text.startswith(SILENT, place)):
             return True
-        self.process = text[PROCESS]
+        self.process = process
         return False
+
+
+def kept_in(form: str) -> re.Pattern[bytes]:
+    """The end of a line behind which one of a form comes that its first words do not tell to be skipped."""
+    return re.compile(rb"\n(?!%b(?!%b))" % (UP_TO_WORDS[form], BEGINS))
 
 
 def skipped_in(form: str) -> Callable[[bytes], bool]:
@@ -108,10 +122,10 @@ def skipped_in(form: str) -> Callable[[bytes], bool]:
 def left_out(blocks: Iterator[bytes], form: str) -> Iterator[Optional[bytes]]:
     """The lines of a journal of a form that is text, with None for one or more that are skipped. Most are, by their
     first bytes and many at once."""
-    is_behind_skipped, is_left_out = False, skipped_in(form)
+    is_behind_skipped, is_left_out, kept = False, skipped_in(form), kept_in(form)
     for block in blocks:
         block, before = b"\n" + block, 0
-        for found in KEPT[form].finditer(block):
+        for found in kept.finditer(block):
             begin = found.end()
             end = block.find(b"\n", begin)
             end = len(block) if end < 0 else end

@@ -1,4 +1,4 @@
-"""What statuses say of instances: of a pod's object, of a patch that the kubelet sends, and as a log prints them."""
+"""What statuses report of instances: of a pod's object, of a patch that the kubelet sends, and as a log prints them."""
 
 from __future__ import annotations
 
@@ -16,7 +16,7 @@ from .moments import moment_of_go
 from .references import id_of
 
 ROLES = ("initContainerStatuses", "containerStatuses", "ephemeralContainerStatuses")
-# a status as Go prints it; the name of the container stands before
+# a status as Go prints it; the name of the container is before
 PRINTED_NAME = re.compile(r"Name:([a-z0-9][-a-z0-9]{0,62})[ ,](?:State|ID|PodSandboxID)\b")
 PRINTED_END = re.compile(
     r"ContainerStateTerminated\{ExitCode:(?P<code>-?\d{1,10}),Signal:\d+,Reason:(?P<reason>\w*),.{0,8192}?"
@@ -38,7 +38,7 @@ def reason_of(value: Any) -> str | None:
 
 
 def of_status(at: float, pod: Reference, status: Any) -> Iterator[Known]:
-    """The instances that a status in JSON has, each with what it says of them."""
+    """The instances that a status in JSON has, each with what it shows of them."""
     for role in ROLES:
         listed = status.get(role) if isinstance(status, dict) else None
         for each in listed if isinstance(listed, list) else ():

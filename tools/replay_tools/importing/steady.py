@@ -3,15 +3,16 @@ once."""
 
 from __future__ import annotations
 
+import json
 from collections.abc import Callable
 from dataclasses import dataclass, replace
 from typing import Any, Optional, TYPE_CHECKING
 
 from replay_tools.record.formats import shown
-from replay_tools.record.lines import line_of_text
+from replay_tools.record.lines import line_of, line_of_text, pod_fields, without_gates
 from replay_tools.record.timeline import Timeline
 
-from .marks import ImportedAsides
+from .marks import MANIFEST, ImportedAsides
 
 if TYPE_CHECKING:
     from replay_tools.record.lines import Format
@@ -19,7 +20,7 @@ if TYPE_CHECKING:
     from replay_tools.record.seen import Recorded
     from replay_tools.record.ticks import Tick
 
-# what is told once, as a message, is out of an entry when it has been made so often
+# what is told once, as a message, is out of an entry when it has been made so often, or when nothing in it is new
 STEADY = 3
 NO_PODS, PODS = '"pods":[]', '"pods":[{}]'
 Rows = dict[str, list[tuple[int, str, Any]]]
@@ -27,7 +28,8 @@ Rows = dict[str, list[tuple[int, str, Any]]]
 
 @dataclass
 class Steady:
-    """The entry of a pod of which nothing was placed since, its text, and how often it was made."""
+    """The entry of a pod of which nothing was placed since, its text, which is empty where it has none, and how often
+    it was made."""
     entry: Optional[dict[str, Any]] = None
     text: str = ""
     made: int = 0
@@ -46,8 +48,13 @@ class ImportedTimeline(Timeline):
         # a tick is judged where the journal has a round of the eviction manager
         self.tells_rounds = True
         self.steady: dict[str, Steady] = {}
-        # the texts of those that were made often enough
-        self.texts: dict[str, str] = {}
+        # those that were made often enough
+        self.kept: dict[str, Steady] = {}
+        # whether a tick is kept as it was made, which is read again of its line otherwise, and the newest one
+        self.keeps_ticks = False
+        self.newest: tuple[str, dict[str, Any]] = "", {}
+        # the pods whose manifests are those of their owners, or made of lines, by their keys
+        self.templates: dict[str, bool] = {}
         # times of which nothing is known: the seconds between which no tick stands
         self.gaps: list[tuple[int, int]] = []
 
@@ -71,28 +78,47 @@ class ImportedTimeline(Timeline):
         self.gaps = [gap for gap in self.gaps if gap[1] > second]
         return super().lines_of(second, tick, is_silent)
 
+    def pod_line(self, pod: Pod) -> str:
+        """A pod's line. No journal has what it uses, by which the rules would name it, so it is spared. None has the
+        conditions of readiness gates, without which the rules would never take it for Ready, so it has no gate."""
+        fields = pod_fields(pod.known_uid(), without_gates(pod.manifest), pod.is_spared, pod.is_guessed)
+        return line_of({**fields, "spared": True, **({"guessed": [MANIFEST]} if self.templates.get(pod.key) else {})})
+
     def tick_of(self, second: int, tick: Tick, signals: dict[str, int], changed: set[tuple[str, str]] | None) -> str:
         """The line of a tick, put together of the texts of entries."""
         rows = self.rows_due(second)
-        once = {*(place[0] for place in self.results), *self.deleted, *self.failed}
+        once = {*(place[0] for place in self.results), *self.deleted, *self.failed, *self.conditions}
         apart = once | {pod.uid for pod in self.present if pod.key in rows} if rows else once
-        texts = [self.texts[pod.uid] if pod.uid in self.texts and pod.uid not in apart
-                 else self.text_of(pod, rows, pod.uid in once) for pod in self.present]
-        line = self.line_with([], second, tick, signals)
-        return line_of_text(line.replace(NO_PODS, PODS.format(",".join(filter(None, texts))), 1))
+        found = [(None if pod.uid in apart else self.kept.get(pod.uid))
+                 or self.steady_of(pod, rows, pod.uid in once) for pod in self.present]
+        without_pods = self.line_with([], second, tick, signals)
+        texts = ",".join([each.text for each in found if each.text])
+        line = line_of_text(without_pods.replace(NO_PODS, PODS.format(texts), 1))
+        if self.keeps_ticks:
+            self.newest = line, json.loads(without_pods) | {"pods": [each.entry for each in found if each.text]}
+        return line
 
-    def text_of(self, pod: Pod, rows: Rows, is_once: bool) -> str:
-        """The text of a pod's entry, made anew where something stands in it once; empty where it has none."""
+    def record_of(self, line: str) -> dict[str, Any]:
+        """A line of a trace, as its values."""
+        newest, record = self.newest
+        return record if line is newest else json.loads(line)
+
+    def steady_of(self, pod: Pod, rows: Rows, is_once: bool) -> Steady:
+        """A pod's entry, made anew where something stands in it once."""
         found = Steady() if is_once else self.steady.setdefault(pod.uid, Steady())
         if found.made < STEADY:
-            found.made += 1
+            self.guesses.has_news = False
             found.entry = self.entry(pod, None)
             found.text = "" if found.entry is None else shown(found.entry)
-            if found.made == STEADY:
-                self.texts[pod.uid] = found.text
+            found.made = found.made + 1 if self.guesses.has_news else STEADY
+            if found.made == STEADY and not is_once:
+                self.kept[pod.uid] = found
         if is_once:
             self.forget(pod.uid)
-        return shown(self.with_rows(pod.key, found.entry, rows)) if pod.key in rows else found.text
+        if pod.key not in rows:
+            return found
+        entry = self.with_rows(pod.key, found.entry, rows)
+        return Steady(entry, shown(entry))
 
     def mark(self, uid: str, name: str, attempt: int, marks: tuple[str, ...]) -> None:
         """Parts of an instance that were guessed, beside those that were known to be."""
@@ -104,7 +130,7 @@ class ImportedTimeline(Timeline):
 
     def forget(self, uid: str) -> None:
         self.steady.pop(uid, None)
-        self.texts.pop(uid, None)
+        self.kept.pop(uid, None)
 
     def depart(self, pods: list[Pod]) -> None:
         super().depart(pods)

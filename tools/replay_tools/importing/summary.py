@@ -9,7 +9,7 @@ from collections import Counter
 from typing import Any, TYPE_CHECKING
 
 from replay_tools import entry
-from replay_tools.traces import SIGNALS
+from replay_tools.signals import SIGNALS
 
 from .placing import (DOUBTED, FILLED, HOLES, NAMED_LATE, PROBED, RESTARTS, TURNS, UNKNOWN_PHASES,
                       WITHOUT_MANIFEST)
@@ -95,13 +95,13 @@ def lacking(importer: Importer, kinds: Counter[str], placed: Counter[str], has_s
     for what, means in ((WITHOUT_MANIFEST, "they have the containers that lines name; limits and probes are unknown"),
                         (NAMED_LATE, "the trace has them as unnamed, as it did before"),
                         ("containers that no manifest has", "they are left out"),
-                        (UNKNOWN_PHASES, "no line has the code that says whether they succeeded"),
+                        (UNKNOWN_PHASES, "no line has the code that shows whether they succeeded"),
                         ("pods left out", "a trace has at most 256 at once")):
         if placed[what]:
             called = re.sub(r"^(pod|container)s", r"\1", what) if placed[what] == 1 else what
             said.append(f"{placed[what]} {called} ({names_of(importer, what)}): {means}")
     return said + of_holes(importer, placed) + of_thresholds(importer) + [
-        "no journal has what pods use of the node: each is spared, and the rules name none for an eviction"]
+        "no journal has what pods use of the node: each is exempt, and the rules name none for an eviction"]
 
 
 def of_thresholds(importer: Importer) -> list[str]:
@@ -113,7 +113,7 @@ def of_thresholds(importer: Importer) -> list[str]:
                "conditions")
     said = [f"thresholds: {', '.join(limits)}"] if limits else [without]
     if "guessed" in members:
-        said.append(f"as the rounds show, and no line says: {', '.join(members['guessed'])}")
+        said.append(f"as the rounds show, and no line has it: {', '.join(members['guessed'])}")
     if has_others:
         said.append("the kubelet was restarted with other thresholds: a trace alone has those that stayed, with "
                     "--into each has its own")
@@ -133,16 +133,16 @@ def of_holes(importer: Importer, placed: Counter[str]) -> list[str]:
         said.append(f"{entry.counted(placed[RESTARTS], 'time')} the kubelet was restarted")
     if placed[TURNS]:
         said.append(f"{entry.counted(placed[TURNS], 'time')} the clock went back: with --into the next trace has the "
-                    "moments that it said from there on; in a trace alone they go on")
+                    "moments that it had from there on; in a trace alone they go on")
     if placed[HOLES]:
-        said.append(f"{entry.counted(placed[HOLES], 'time')} without a line of the kubelet's, which would have said "
+        said.append(f"{entry.counted(placed[HOLES], 'time')} without a line of the kubelet's, which would have written "
                     "something there: lines are missing")
     if placed[FILLED]:
         said.append(f"{entry.counted(placed[FILLED], 'place')} where lines of a journal are missing, and another one "
                     "has some")
     if placed[DOUBTED]:
-        said.append(f"{entry.counted(placed[DOUBTED], 'pod')} of which no line behind a gap speaks "
-                    f"({names_of(importer, DOUBTED)}): told as before it")
+        said.append(f"{entry.counted(placed[DOUBTED], 'pod')} that no line after a gap names "
+                    f"({names_of(importer, DOUBTED)}): as before it")
     return said
 
 
@@ -152,6 +152,6 @@ def of_counts(counts: Counts) -> list[str]:
             (counts.foreign, "line", "not of the form of the journal, and left out"),
             (counts.suppressed, "place", "where journald left out messages"),
             (counts.holes, "place", "where numbers of the journal's lines are missing"),
-            (counts.forwards, "time", "the clock went forward, or the node stood still"),
-            (counts.back, "line", "whose moment is behind that of the one before, which it is given"))
+            (counts.forwards, "time", "the clock went forward, or the node was suspended"),
+            (counts.back, "line", "whose moment is earlier than the previous line's, which it gets"))
     return [f"{entry.counted(count, what)} {means}" for count, what, means in told if count] + counts.faults

@@ -145,6 +145,8 @@ class Thresholds:
     def __init__(self) -> None:
         self.configurations = [Configuration(0.0)]
         self.round = Round(0.0)
+        # the members that were asked for last, until a line changes them: of which configuration and capacity they are
+        self.asked: Optional[tuple[Configuration, dict[str, int], dict[str, Any]]] = None
         self.readers: dict[type, Callable[[Any], None]] = {
             facts.HardThresholds: self.take_hard, facts.SoftThreshold: self.take_soft, facts.Flag: self.take_flag,
             facts.Below: self.take_below, facts.Pressure: self.take_pressure}
@@ -154,16 +156,19 @@ class Thresholds:
         return self.configurations[-1]
 
     def take(self, fact: facts.Fact) -> None:
+        self.asked = None
         self.readers[type(fact)](fact)
 
     def begin(self, at: float) -> None:
         """A process of the kubelet begins."""
+        self.asked = None
         self.round = Round(0.0)
         if self.newest.has_begun():
             self.configurations.append(Configuration(at))
 
     def pause(self) -> None:
         """Lines are missing: what the rounds before say of conditions is over."""
+        self.asked = None
         self.round = Round(0.0)
         self.newest.met.clear()
 
@@ -195,6 +200,7 @@ class Thresholds:
 
     def end_round(self) -> None:
         """The round is over, as the next one begins."""
+        self.asked = None
         if self.round.signals:
             self.newest.take_round(int(self.round.at), self.round.met, self.round.true)
         self.round = Round(0.0)
@@ -204,7 +210,10 @@ class Thresholds:
     def of(self, second: int, capacity: dict[str, int]) -> dict[str, Any]:
         """The members of a node line of a trace that begins at a second."""
         begun = [each for each in self.configurations if int(each.begun) <= second]
-        return (begun or self.configurations[:1])[-1].fields(capacity)
+        found = (begun or self.configurations[:1])[-1]
+        if self.asked is None or self.asked[0] is not found or self.asked[1] != capacity:
+            self.asked = found, dict(capacity), found.fields(capacity)
+        return self.asked[2]
 
     def of_all(self, capacity: dict[str, int]) -> tuple[dict[str, Any], bool]:
         """Those of one trace of all processes, and whether one of these had other thresholds, which do not stand in

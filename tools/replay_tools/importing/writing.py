@@ -1,4 +1,4 @@
-"""Where the lines go: one trace on standard output, or what folding.py has. What a node line says a journal may tell
+"""Where the lines go: one trace on standard output, or what folding.py has. What a node line reports a journal may tell
 behind what the trace has by then, so it is asked for when it is written."""
 
 from __future__ import annotations
@@ -23,7 +23,7 @@ NodeLine = Callable[[Optional[int]], dict[str, Any]]
 
 
 class Writer:
-    """Takes what a node line says, then the lines of each second."""
+    """Takes what a node line reports, then the lines of each second."""
 
     is_begun = False
 
@@ -38,8 +38,8 @@ class Writer:
 
 
 class Plain(Writer):
-    """One trace, which is held until all that its node line says is known; it ends where it has as many ticks or bytes
-    as a trace may have."""
+    """One trace, which is held until all that its node line reports is known; it ends where it has as many ticks or
+    bytes as a trace may have."""
 
     def __init__(self, output: TextIO) -> None:
         self.output = output

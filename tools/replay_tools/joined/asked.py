@@ -9,12 +9,17 @@ from dataclasses import dataclass
 
 from replay_tools import dates, entry
 
-# words of a tool that takes several traces
+NOTE = """
+Started by itself, as tools/{name}, it asks no cluster and takes no -f. It
+reads a report on standard input; {trace} is the report's trace, and
+--traces TRACES names several traces instead.
+"""
+# options of a tool that takes several traces
 TRACES = "--traces"
 VALUED = ("--node", "--since", "--at")
-# what led to it lies before a moment, what came of it behind
+# what led to it lies before a moment, what came of it after
 SECONDS_BEFORE, SECONDS_BEHIND = 3600, 600
-# how far from a moment events are told
+# how far from a moment events are printed
 NEAR = 600
 MOMENT = re.compile(r"(?:(?P<date>\d{4}-\d\d-\d\d)[T ])?(?P<hour>\d\d):(?P<minute>\d\d)(?::(?P<second>\d\d))?"
                     r"(?P<zone>Z|[+-]\d\d:\d\d)?", re.ASCII)
@@ -24,7 +29,7 @@ SECONDS = {"d": 86400, "h": 3600, "m": 60, "s": 1}
 
 @dataclass
 class Asked:
-    """The traces that are named, and what of them is wanted: those of a node, since a moment, around a moment."""
+    """The traces that are named, and what of them is needed: those of a node, since a moment, around a moment."""
 
     named: list[str]
     node: str | None = None
@@ -33,7 +38,7 @@ class Asked:
     is_utc: bool = False
     """a time was given, and not a number of seconds"""
     is_quiet: bool = False
-    """it is asked again and again, and what is left out is not said"""
+    """it is asked again and again, and what is left out is not reported"""
 
     @property
     def first(self) -> int | None:
@@ -44,8 +49,9 @@ class Asked:
         return None if self.at is None else self.at + SECONDS_BEHIND
 
 
-def add_words(words: entry.Words, takes_trace: bool = True) -> None:
-    """Adds the words of several traces to those of a tool, and that of the trace of a report."""
+def add_words(words: entry.Words, name: str, takes_trace: bool = True) -> None:
+    """Adds the options of several traces to a tool's, and the option of a report's trace."""
+    words.note = NOTE.format(name=name, trace="--trace TRACE" if takes_trace else "TRACE")
     if takes_trace:
         words.files("--trace")
     words.files(TRACES, action="append")
@@ -57,17 +63,17 @@ def asked_of(found: Namespace) -> Asked | None:
     if found.traces is None:
         for word in VALUED:
             if getattr(found, word[2:]) is not None:
-                raise entry.Fault(f"{word} wants --traces too, which says where traces are (--help says more)")
+                raise entry.Fault(f"{word} needs --traces too, which names the traces (see --help)")
         return None
     if found.trace is not None:
-        raise entry.Fault("--trace and --traces exclude each other (--help says more)")
+        raise entry.Fault("--trace and --traces exclude each other (see --help)")
     return asked_at(found.traces, found.node, found.since, found.at, time.time())
 
 
 def asked_at(named: list[str], node: str | None, since: str | None, at: str | None, now: float) -> Asked:
     """What is asked for, by the values of words, of which that of --since may count from now."""
     if since is not None and at is not None:
-        raise entry.Fault("--since and --at exclude each other (--help says more)")
+        raise entry.Fault("--since and --at exclude each other (see --help)")
     is_utc = any(text is not None and not text.isdigit() for text in (since, at))
     return Asked(named, node, None if since is None else since_of(since, now),
                  None if at is None else moment_of(at, "--at", now), is_utc)

@@ -1,4 +1,4 @@
-"""Where one part ends and the next begins: in the same second, or behind a gap of which nothing is known."""
+"""Where one part ends and the next begins: in the same second, or after a gap of which nothing is known."""
 
 from __future__ import annotations
 
@@ -43,7 +43,7 @@ def without_overlaps(found: list[parts.Part], is_quiet: bool) -> list[parts.Part
 
 
 def borders_of(found: list[parts.Part]) -> list[reports.Border]:
-    """The borders of parts in the order of their times, one fewer than there are parts."""
+    """The rotations of parts in the order of their times, one fewer than there are parts."""
     return [border_of(before, part) for before, part in zip(found, found[1:])]
 
 
@@ -64,7 +64,7 @@ def border_of(before: parts.Part, part: parts.Part) -> reports.Border:
         check_order(before, part, follows["at"])
         return reports.Border(max(follows["until"], before.last), follows["at"], name_of(part))
     check_order(before, part, follows["at"])
-    # the one that it follows may be the one before under another name: then its time says so
+    # the one that it follows may be the one before under another name: then its time shows it
     missing = None if follows["until"] <= before.last else follows["trace"]
     return reports.Border(before.last if missing else follows["at"], follows["at"], name_of(part), missing)
 
@@ -92,7 +92,7 @@ def is_of(name: str, before: parts.Part) -> bool:
 
 
 def first_behind(before: parts.Part, part: parts.Part) -> int:
-    """The first moment of a part behind the end of the one before. The first ticks of a recording show what was known
+    """The first moment of a part after the end of the one before. The first ticks of a recording show what was known
     before it, and may lie some seconds before its begin."""
     if part.trace is None:
         check_order(before, part, part.first)

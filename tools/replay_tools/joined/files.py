@@ -23,7 +23,7 @@ MOST_NAMED = 5
 
 @dataclass
 class Source:
-    """A file that is meant; what its name says of its node and its begin, where it says it."""
+    """A file that is meant; what its name shows of its node and its begin, where it shows it."""
 
     path: str
     is_named: bool
@@ -51,7 +51,7 @@ def source_of(path: str, is_named: bool) -> Source:
 
 
 def parts_of(name: str) -> tuple[str | None, int | None, int]:
-    """The node, the begin and the number that a name says; None for what it does not say."""
+    """The node, the begin and the number that a name shows; None for what it does not show."""
     parts = NAME.fullmatch(name)
     begun = None if parts is None else begun_of(parts["stamp"])
     return (None, None, 1) if parts is None or begun is None else (parts["node"], begun, int(parts["number"] or 1))
@@ -63,7 +63,7 @@ def begun_of(stamp: str) -> int | None:
 
 
 def sources_of(asked: asked.Asked) -> list[Source]:
-    """The files that are meant, in their order as far as their names say it. Raises Fault where there are none."""
+    """The files that are meant, in their order as far as their names show it. Raises Fault where there are none."""
     found = []
     for named in asked.named:
         if os.path.isdir(named):
@@ -94,15 +94,15 @@ def below(folder: str, asked: asked.Asked) -> list[Source]:
 
 
 def of_node(found: list[Source], folder: str, node: str | None) -> list[Source]:
-    """Those of a node, by their names; of one that does not say it, what it holds says it later."""
+    """Those of a node, by their names; of one that does not show it, what it holds shows it later."""
     nodes = sorted({source.node for source in found if source.node is not None})
     if node is None and len(nodes) > 1:
-        raise entry.Fault(f"{folder} has traces of {len(nodes)} nodes, {listed(nodes)}: --node says which is meant")
+        raise entry.Fault(f"{folder} has traces of {len(nodes)} nodes, {listed(nodes)}: choose one with --node")
     if node is None or any(source.node is None for source in found):
         return [source for source in found if node is None or source.node in (None, node)]
     kept = [source for source in found if source.node == node]
     if not kept:
-        raise entry.Fault(f"{folder} has no trace of {node}; it has those of {listed(nodes)}")
+        raise entry.Fault(f"{folder} has no trace of {node}; it has traces of {listed(nodes)}")
     return kept
 
 

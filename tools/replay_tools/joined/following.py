@@ -1,4 +1,4 @@
-"""What happens on a node, told as it is recorded: the newest traces of a folder are read again as they grow."""
+"""What happens on a node, reported as it is recorded: the newest traces of a folder are read again as they grow."""
 
 from __future__ import annotations
 
@@ -13,11 +13,11 @@ from replay_tools import (decided, endings, entry, events, kubelet as kubelets, 
                           traces)
 from replay_tools.joined import asked as asking_for, files, join
 
-# seconds between two looks; a replay takes a tenth of the time at most
+# seconds between two polls; a replay takes a tenth of the time at most
 LOOK, SHARE = 1, 10
 # a recorder writes what it saw last at the end of a part, and may write it otherwise for some seconds
 HELD_BACK = 10
-# what is told may be of a trace that began so long before what was told last
+# what is printed may be of a trace that began so long before what was reported last
 SECONDS_BEFORE = 600
 
 Row = tuple[int, str]
@@ -25,18 +25,18 @@ Row = tuple[int, str]
 
 @dataclass
 class Follower:
-    """What was told of a folder so far."""
+    """What was reported of a folder so far."""
 
     folder: str
     node: str | None
     wanted: str | None
     """a pod's key, a namespace with its slash, or None for all"""
     since: int | None
-    """the moment from which on it is told; None for what is behind the end of the traces"""
+    """the moment from which on it is printed; None for what is after the end of the traces"""
     until: int | None = None
-    """up to when it was told"""
+    """up to when it was reported"""
     facts: set[tuple[str, str, int]] = field(default_factory=set)
-    """the decisions that were told, some of which stand in a later tick"""
+    """the decisions that were reported, some of which are in a later tick"""
     faults: set[str] = field(default_factory=set)
 
     def news(self) -> list[Row]:
@@ -54,7 +54,7 @@ class Follower:
         return sorted(rows, key=lambda row: row[0])
 
     def begin(self) -> int | None:
-        """From when on traces are read: those of what was told last, and at first the newest."""
+        """From when on traces are read: those of what was reported last, and at first the newest."""
         if self.until is not None:
             return self.until - SECONDS_BEFORE
         if self.since is not None:
@@ -85,7 +85,7 @@ class Follower:
                     yield decision.at, f"{decision.pod} {kubelets.event_words(decision)}"
 
     def is_wanted(self, key: str | None) -> bool:
-        """Whether something of a pod, or of the node, is told."""
+        """Whether something of a pod, or of the node, is printed."""
         if self.wanted is None or key is None:
             return self.wanted is None
         if self.wanted.endswith("/"):
@@ -95,7 +95,7 @@ class Follower:
 
 
 def asides(trace: traces.Trace, pod: reports.Pod) -> Iterator[Row]:
-    """What the trace says of a pod's deletion and waits."""
+    """What the trace shows of a pod's deletion and waits."""
     yield from readiness.rows(trace, pod)
     deletion = trace.deletions.get(pod.number)
     if deletion is not None:
@@ -105,7 +105,7 @@ def asides(trace: traces.Trace, pod: reports.Pod) -> Iterator[Row]:
 
 
 def of_node(trace: traces.Trace, report: reports.Report) -> Iterator[tuple[int, int, str]]:
-    """What happened to the node itself, which the trace may say later: the moment of the tick that says it first, its
+    """What happened to the node itself, which the trace may show later: the moment of the tick that shows it first, its
     own, and what it was."""
     for reboot in telling.reboots(trace, report):
         yield trace.ticks[reboot.before + 1].at, reboot.at, reboot.words()
@@ -128,7 +128,7 @@ def event_line(event: reports.Event, trace: traces.Trace, is_beside: bool) -> st
 
 
 def follow(follower: Follower, show: Callable[[int], str]) -> None:
-    """Tells what is recorded, until it is interrupted or nobody reads it any more."""
+    """Prints what is recorded, until it is interrupted or nobody reads it any more."""
     before: list[tuple[str, int]] | None = None
     pause: float = LOOK
     while True:
@@ -150,10 +150,10 @@ def tell(follower: Follower, show: Callable[[int], str]) -> None:
         # a folder may have no trace yet, and a part be cut in the middle of a line
         if str(fault) not in follower.faults:
             follower.faults.add(str(fault))
-            entry.say(f"{fault}; it goes on to look")
+            entry.say(f"{fault}; it goes on")
         return
     if is_first and follower.until is not None:
-        entry.say(f"what is recorded behind {show(follower.until)} is told as it comes; an interrupt ends it")
+        entry.say(f"it prints what is recorded after {show(follower.until)}; an interrupt ends it")
     # an interrupt between what is written and what is known to be would have it written once more
     signal.pthread_sigmask(signal.SIG_BLOCK, [signal.SIGINT])
     try:

@@ -1,4 +1,4 @@
-"""Joins what is asked for: reads and replays the parts, and tells what lies between them."""
+"""Joins what is asked for: reads and replays the parts, and shows what lies between them."""
 
 from __future__ import annotations
 
@@ -7,13 +7,13 @@ from dataclasses import dataclass
 from replay_tools import entry, report as reports, summary, traces
 from replay_tools.joined import asked as asking_for, borders as joined_borders, of_reports, of_traces, parts
 
-# a tick stands as far behind the one before at most, as a recorder writes them
+# a tick is as far after the one before at most, as a recorder writes them
 QUIET = 60
 
 
 @dataclass
 class Joined:
-    """What is told of the parts together, and the part of it that was asked for."""
+    """What is printed of the parts together, and the part of it that was asked for."""
 
     asked: asking_for.Asked
     report: reports.Report
@@ -29,7 +29,7 @@ class Joined:
     """the last of them is not written any more"""
 
     def is_near(self, at: int) -> bool:
-        """Whether a moment is told, where one was asked for."""
+        """Whether a moment is printed, where one was asked for."""
         return self.asked.at is None or abs(at - self.asked.at) <= asking_for.NEAR
 
     def is_span_near(self, span: reports.Span) -> bool:

@@ -11,7 +11,7 @@ if TYPE_CHECKING:
 
 
 def tell_known(report: reports.Report, until: int) -> None:
-    """What the report says up to a moment was so before, and what is counted goes on from there."""
+    """What the report shows up to a moment was so before, and what is counted goes on from there."""
     for event in report.events:
         event.was_so = event.at <= until
     for pod in report.pods:
@@ -20,7 +20,7 @@ def tell_known(report: reports.Report, until: int) -> None:
 
 def mark_anew(pod: reports.Pod, until: int) -> None:
     """Of back-offs and restarts, those for which exits before the trace may count: up to a long run, which begins the
-    count anew."""
+    count again."""
     counted, starts = set(), {}
     for event in pod.events:
         name = event.container

@@ -1,5 +1,5 @@
 """The reports of several parts as one: pods go on from one to the next, and what each part shows of what was known
-before is told once."""
+before is printed once."""
 
 from __future__ import annotations
 
@@ -76,7 +76,7 @@ def is_there(part: parts.Part, pod: reports.Pod, border: reports.Border) -> bool
 
 
 def is_same(there: Present, part: parts.Part, pod: reports.Pod, border: reports.Border) -> bool:
-    """Whether a pod of a part is the one of its key that was there at the end of the one before. Where both say their
+    """Whether a pod of a part is the one of its key that was there at the end of the one before. Where both show their
     uids these are the same."""
     uid = uid_in(part, pod)
     is_other = None not in (uid, there.uid) and uid != there.uid
@@ -118,7 +118,7 @@ def take_node(made: reports.Report, part: parts.Part, border: reports.Border | N
             continue
         news.append(replace(event, at=behind(event.at, border)))
     if border is not None:
-        # what a part does not show at its begin is over for it: it counts anew
+        # what a part does not show at its begin is over for it: it counts again
         over = [key for key, state in before.items() if state == STATES[key[0]][0]
                 and not is_shown(part, key)]
         news = [reports.Event(border.at, None, None, key[0], [*key[1:], STATES[key[0]][1]], None, border.at)
@@ -166,8 +166,8 @@ def take_evictions(made: reports.Report, part: parts.Part, border: reports.Borde
 
 def anew_of(made: reports.Report, part: parts.Part, border: reports.Border | None, eviction: reports.Eviction,
             number: int | None, at: int) -> int | None:
-    """The border behind which the grace period of an eviction, or the pause behind the one before, began anew, or
-    behind which the pod was there again that they had evicted; None where none of these lies over it."""
+    """The rotation after which the grace period of an eviction, or the pause after the one before, began again, or
+    after which the pod was there again that they had evicted; None where none of these lies over it."""
     if border is None:
         return None
     if any(one.number == number for one in made.evictions):
@@ -185,7 +185,7 @@ def sorted_report(made: reports.Report) -> reports.Report:
 
 
 def totals_of(made: reports.Report, found: list[parts.Part]) -> tuple[int, int, int]:
-    """Updates as the parts have them; events and orders as they are told."""
+    """Updates as the parts have them; events and orders as they are printed."""
     of_pods = [event for pod in made.pods for event in pod.events if event.word != "evicted"]
     orders = sum(event.word in ("kill", "restart") for event in of_pods)
     return sum(part.report.totals[0] for part in found), len(of_pods), orders

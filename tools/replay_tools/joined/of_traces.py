@@ -13,12 +13,19 @@ if TYPE_CHECKING:
 
 @dataclass
 class Known(traces.Tick):
-    """The tick of a border: what its probes show was known before, and is no result of its own."""
+    """The tick of a rotation: what its probes show was known before, and is no result of its own."""
 
     @property
     def entries(self) -> dict[str, dict[str, Any]]:
-        return {key: {name: value for name, value in entry.items() if name != "probes"}
-                for key, entry in self.lines.entries(self.begin, self.end).items()}
+        return {key: without_probes(entry) for key, entry in self.lines.entries(self.begin, self.end).items()}
+
+    def entry(self, key: str) -> dict[str, Any] | None:
+        found = super().entry(key)
+        return None if found is None else without_probes(found)
+
+
+def without_probes(entry: dict[str, Any]) -> dict[str, Any]:
+    return {name: value for name, value in entry.items() if name != "probes"}
 
 
 def join_traces(found: list[traces.Trace], borders: list[reports.Border],
@@ -40,7 +47,7 @@ def join_traces(found: list[traces.Trace], borders: list[reports.Border],
 
 
 def take_ticks(made: traces.Trace, trace: traces.Trace, border: reports.Border | None) -> int:
-    """Takes the ticks behind a border, and that of the border where no tick stands there; gives how many ticks of the
+    """Takes the ticks after a rotation, and that of the rotation where no tick is there; gives how many ticks of the
     trace come before these."""
     if border is None:
         made.ticks += trace.ticks
@@ -55,7 +62,7 @@ def take_ticks(made: traces.Trace, trace: traces.Trace, border: reports.Border |
 
 
 def take_pods(made: traces.Trace, trace: traces.Trace, of: dict[int, int], begin: int, dropped: int) -> None:
-    """Takes the pods of a trace whose ticks, but the first ones, stand at a place; pods that are not in it have gone by
+    """Takes the pods of a trace whose ticks, but the first ones, are at a place; pods that are not in it have gone by
     its first tick."""
     def place(number: int) -> int:
         return begin + max(number - dropped, 0)
@@ -74,8 +81,8 @@ def take_pods(made: traces.Trace, trace: traces.Trace, of: dict[int, int], begin
 
 
 def take_decisions(made: traces.Trace, trace: traces.Trace, of: dict[int, int]) -> None:
-    """A pod that the kubelet has evicted, and that is still there, is told once more at a border. One that it evicted
-    in a gap has no line behind it, and is the one of its uid before."""
+    """A pod that the kubelet has evicted, and that is still there, is printed once more at a border. One that it
+    evicted in a gap has no line after it, and is the one of its uid before."""
     told = {(one.kind, one.pod, one.at) for one in made.decisions}
     for one in trace.decisions:
         if (one.kind, one.pod, one.at) not in told:
@@ -84,7 +91,7 @@ def take_decisions(made: traces.Trace, trace: traces.Trace, of: dict[int, int]) 
 
 
 def take_words(made: traces.Trace, trace: traces.Trace, of: dict[int, int]) -> None:
-    """A trace that follows another says once more which pods are being deleted, or were ended, in its first ticks."""
+    """A trace that follows another shows once more which pods are being deleted, or were ended, in its first ticks."""
     for number, deletion in trace.deletions.items():
         known = made.deletions.setdefault(of[number], replace(deletion))
         known.by = known.by or deletion.by
@@ -120,7 +127,7 @@ def take_reasons(made: traces.Trace, trace: traces.Trace, of: dict[int, int], bo
 
 
 def take_waits(known: list[reasons.Wait], waits: list[reasons.Wait], border: reports.Border | None) -> None:
-    """Takes the waits of a container; the one that lasts over a border is one."""
+    """Takes the waits of a container; the one that lasts over a rotation is one."""
     for wait in waits:
         since = wait.since if border is None else max(wait.since, border.at)
         before = known[-1] if known else None

@@ -20,13 +20,13 @@ if TYPE_CHECKING:
     from replay_tools.joined import asked
 
 AT_ONCE = 4
-# ticks before the border at most, which show what was known there
+# ticks before the rotation at most, which show what was known there
 MOST_CARRIED = 100
 REFUSED = re.compile(r"line \d+: \d+ .*")
 
 
 class Unusable(Exception):
-    """A file that can't be used; the message says why, `means` what that means, where it is known."""
+    """A file that can't be used; the message shows why, `means` what that means, where it is known."""
 
     def __init__(self, said: str, means: str | None = None) -> None:
         super().__init__(said)
@@ -46,12 +46,12 @@ class Part:
 
     @functools.cached_property
     def follows(self) -> dict[str, Any] | None:
-        """What a trace of a recorder says of the one before it; None where it says nothing of its form."""
+        """What a trace of a recorder shows of the one before it; None where it shows nothing of its form."""
         return None if self.trace is None else self.trace.follows()
 
     @functools.cached_property
     def known_until(self) -> int:
-        """The moment up to which it shows what was known before, as far as that can be told."""
+        """The moment up to which it shows what was known before, as far as that can be reported."""
         if self.follows:
             return self.follows["at"]
         if self.trace is None:
@@ -164,13 +164,13 @@ def replayed(source: files.Source, text: bytes, program: str) -> bytes:
         return done.stdout
     said = done.stderr.decode("utf-8", "replace").split("\n")[0] or f"status {done.returncode}"
     if done.returncode == 2 and REFUSED.fullmatch(said):
-        raise Unusable(f"it is refused: {said}", meaning(text, "--extended" in words))
+        raise Unusable(f"it is rejected: {said}", meaning(text, "--extended" in words))
     status = done.returncode if done.returncode in (1, 127) else 1
     raise entry.Fault(f"{source.shown} can't be replayed: {said}", status)
 
 
 def meaning(text: bytes, is_extended: bool) -> str | None:
-    """What a refusal means, in one line."""
+    """What a rejection means, in one line."""
     from replay_tools.explain import beside
     try:
         with tempfile.NamedTemporaryFile(prefix="trace-") as file:
@@ -182,7 +182,7 @@ def meaning(text: bytes, is_extended: bool) -> str | None:
 
 
 def of_source(source: files.Source, text: bytes | Unusable, made: bytes | Unusable, asked: asked.Asked) -> Part | None:
-    """A part of a file, or None where it is left out, which is said. A file that was named has to be usable."""
+    """A part of a file, or None where it is left out, which is printed. A file that was named has to be usable."""
     try:
         if isinstance(text, Unusable):
             raise text
@@ -208,7 +208,7 @@ def of_source(source: files.Source, text: bytes | Unusable, made: bytes | Unusab
 
 
 def is_of_another_time(part: Part, asked: asked.Asked) -> bool:
-    """Whether a trace of a folder, whose name may not say when it begins, has nothing of the time that is asked for.
+    """Whether a trace of a folder, whose name may not show when it begins, has nothing of the time that is asked for.
     The last one lasts beyond its last tick."""
     return part.source.begun is None and (asked.first is not None and part.last < asked.first
                                           or asked.last is not None and part.first > asked.last)
@@ -231,7 +231,7 @@ def read_part(source: files.Source, text: bytes, made: bytes) -> Part:
     except traces.TraceFault as fault:
         raise Unusable(str(fault)) from None
     except amounts.Wrong:
-        raise Unusable("it has a tick line that is none (kubelet-replay explain says which)") from None
+        raise Unusable("it has a tick line that is none (kubelet-replay explain shows which)") from None
     if not trace.ticks:
         raise Unusable("it has no tick")
     return Part(source, trace, report, trace.ticks[0].at, trace.ticks[-1].at)

@@ -1,4 +1,4 @@
-"""A pod over several parts: what a part says of it that the ones before have not said."""
+"""A pod over several parts: what a part shows of it that the ones before have not reported."""
 
 from __future__ import annotations
 
@@ -16,7 +16,7 @@ OF_INSTANCE = ("started", "died", "startup-passed", "kill", "restart")
 
 @dataclass
 class Seen:
-    """What a part has told of a container so far."""
+    """What a part has reported of a container so far."""
 
     is_other: bool = False
     """of a later instance than the newest of the part before"""
@@ -27,8 +27,8 @@ class Seen:
 
 def begun(pod: reports.Pod, number: int) -> reports.Pod:
     """A pod of a part as the first of a joined one, with a number of its own and no event."""
-    return reports.Pod(number, pod.key, pod.phase, pod.reason, pod.qos, [replace(each) for each in pod.conditions],
-                       [replace(each) for each in pod.containers])
+    return reports.Pod(number, pod.key, pod.phase, pod.reason, pod.qos, [each.copied() for each in pod.conditions],
+                       [each.copied() for each in pod.containers])
 
 
 def is_same(pod: reports.Pod, found: reports.Pod, is_behind_gap: bool) -> bool:
@@ -59,8 +59,8 @@ def go_on(pod: reports.Pod, found: reports.Pod, border: reports.Border, part: pa
         mark_results(news, border)
     before = pod.conditions
     pod.phase, pod.reason = found.phase, found.reason
-    pod.containers = [replace(each) for each in found.containers]
-    pod.conditions = [replace(each) for each in found.conditions]
+    pod.containers = [each.copied() for each in found.containers]
+    pod.conditions = [each.copied() for each in found.conditions]
     tell_conditions(pod, before, border, until)
     if is_told:
         tell_ready(pod)
@@ -78,7 +78,7 @@ def stays_ended(pod: reports.Pod, found: reports.Pod, until: int) -> bool:
 
 
 def news_of(pod: reports.Pod, found: reports.Pod, border: reports.Border, part: parts.Part) -> list[reports.Event]:
-    """The events of a part's pod that say more than what the pod had come to, each of them with its number, and behind
+    """The events of a part's pod that show more than what the pod had come to, each of them with its number, and after
     the border."""
     until = part.known_until
     before = {container.name: container for container in pod.containers}
@@ -104,7 +104,7 @@ def news_of(pod: reports.Pod, found: reports.Pod, border: reports.Border, part: 
 
 def is_known(event: reports.Event, before: reports.Container, seen: Seen, told: set[tuple[str | None, str, str]],
              backed: set[tuple[str, str | None]]) -> bool:
-    """Whether an event of a container says what it had come to before the border."""
+    """Whether an event of a container shows what it had come to before the border."""
     if event.word in ("ready", "unready"):
         is_first, seen.has_readiness = not seen.has_readiness, True
         return is_first and event.word == "ready" and before.ready == "true" and not seen.is_other
@@ -144,8 +144,8 @@ def phases_known(pod: reports.Pod, found: reports.Pod, until: int) -> list[repor
 
 def readiness_of(pod: reports.Pod, found: reports.Pod, border: reports.Border, part: parts.Part,
                  seen: dict[str, Seen]) -> list[reports.Event]:
-    """That a container is ready at a border, or behind a gap is not, where it was otherwise before it. Without a gap it
-    stays ready, though a part that can't show as many results as its probe wants says so later."""
+    """That a container is ready at a rotation, or after a gap is not, where it was otherwise before it. Without a gap
+    it stays ready, though a part that can't show as many results as its probe needs shows it later."""
     news = []
     for before in pod.containers:
         told = [event.word for event in found.events if event.word in ("ready", "unready")
@@ -166,11 +166,11 @@ def phase_lost(pod: reports.Pod, found: reports.Pod, border: reports.Border, unt
     return [reports.Event(border.at, pod.key, None, "phase", ["Pending"], pod.number)]
 
 
-# --- what is counted anew ---
+# --- what is counted again ---
 
 
 def mark_anew(pod: reports.Pod, found: reports.Pod, news: list[reports.Event], border: reports.Border) -> None:
-    """Of back-offs and restarts, those whose exit has another number over the border than in the part alone."""
+    """Of back-offs and restarts, those whose exit has another number over the rotation than in the part alone."""
     if not any(event.word in ("backoff", "restart") for event in news):
         return
     whole, alone, died, fresh = numbers_of(pod), numbers_of(found), {}, set(map(id, news))
@@ -185,7 +185,7 @@ def mark_anew(pod: reports.Pod, found: reports.Pod, news: list[reports.Event], b
 
 def mark_results(news: list[reports.Event], border: reports.Border) -> None:
     """Of each container that ran on over a gap the first change by its probes, whose results before the gap are not
-    known to the part behind it."""
+    known to the part after it."""
     told, died = set(), {(event.container, event.at) for event in news if event.word == "died"}
     for event in news:
         if event.word in ("started", "died"):
@@ -223,7 +223,7 @@ def tell_conditions(pod: reports.Pod, before: list[reports.Condition], border: r
 
 
 def ready_is_told(pod: reports.Pod) -> bool:
-    """Whether the events of a pod tell since when it is Ready or not; of containers that are never ready they don't."""
+    """Whether the events of a pod show since when it is Ready or not; of containers that are never ready they don't."""
     last, final = reports.changes_of_ready(pod)[-1], pod.condition("Ready")
     return (last.value, last.since) == (final.value, final.at)
 

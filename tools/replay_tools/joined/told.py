@@ -1,4 +1,4 @@
-"""What is told above a story of several traces: of which time they are, what is not known between them, and what
+"""What is printed above a story of several traces: of which time they are, what is not known between them, and what
 happened nearest to the moment that was asked for."""
 
 from __future__ import annotations
@@ -32,7 +32,7 @@ def head_lines(several: join.Joined, show: Callable[[int], str]) -> list[str]:
     if anew:
         more = f" and {len(anew) - MOST_LISTED} more" if len(anew) > MOST_LISTED else ""
         lines.append(f"a {what} begins at {', '.join(show(border.at) for border in anew[:MOST_LISTED])}{more}: exits, "
-                     "grace periods and pauses are counted anew from there, which is said where it matters")
+                     "grace periods and pauses count from zero from there; a note shows where it matters")
     return lines
 
 

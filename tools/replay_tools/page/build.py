@@ -20,7 +20,7 @@ SCRIPTS = ("decode.js", "draw.js", "lanes.js", "used.js", "panel.js", "page.js")
 def page_of(report: reports.Report, trace: traces.Trace | None, ticks: why.Ticks, clock: Clock,
             since: int) -> str:
     """The text of the page of a report, and of its trace with its ticks where there is one; pods are ranked by what
-    came behind a moment."""
+    came after a moment."""
     shown = data.data_of(report, trace, ticks, clock, since)
     script = "\n".join(["'use strict';", "(() => {", *map(read, SCRIPTS), "})();"])
     parts = {"title": escape(f"{report.node}: a replay"), "style": read("page.css"), "script": script,

@@ -9,6 +9,7 @@ from replay_tools import (amounts, events, kubelet as kubelets, lanes as made, p
                           report as reports, summary as summing, telling, traces, why, why_text)
 from replay_tools.clock import Clock
 from replay_tools.page import used
+from replay_tools.signals import BYTE_SIGNALS, SIGNALS
 
 RESULTS = ("success", "failure", "unknown")
 # what was said, as an event of its own
@@ -78,14 +79,14 @@ def data_of(report: reports.Report, trace: traces.Trace | None, ticks: why.Ticks
     }
     refused = sorted({one["key"] for one in data["kubelet"]["refused"]} if data["kubelet"] else ())
     if refused:
-        left.append(f"the pods that the kubelet refused under pressure, which never ran: {', '.join(refused)}")
+        left.append(f"the pods that the kubelet rejected under pressure, which never ran: {', '.join(refused)}")
     left += not_known(report, clock)
     if budget.refused:
-        left.append(f"the results of the probes of {budget.refused} containers, behind the first {MOST_RUNS} runs")
+        left.append(f"the results of the probes of {budget.refused} containers, after the first {MOST_RUNS} runs")
     if sayings.refused:
-        left.append(f"what was said of {sayings.refused} pods, behind the first {MOST_SAID} things")
+        left.append(f"what was reported of {sayings.refused} pods, after the first {MOST_SAID} things")
     if samples.refused:
-        left.append(f"what {samples.refused} containers used, behind the first {used.MOST_SAMPLES} samples")
+        left.append(f"what {samples.refused} containers used, after the first {used.MOST_SAMPLES} samples")
     if trace:
         left.append("the pods' usage but at evictions")
     return data | {"left": left}
@@ -96,8 +97,8 @@ def not_known(report: reports.Report, clock: Clock) -> list[str]:
     show = clock.text
     gaps = [f"the time from {show(since)} to {show(at)}, of which nothing was recorded" for since, at in report.gaps]
     anew = [show(border.at) for border in report.borders if not border.is_gap]
-    return gaps + ([f"the exits, grace periods and pauses before {', '.join(anew)}, where traces begin: they are "
-                    "counted anew from there"] if anew else [])
+    return gaps + ([f"the exits, grace periods and pauses before {', '.join(anew)}, where traces begin: they "
+                    "count from zero from there"] if anew else [])
 
 
 def table_of_words(trace: traces.Trace | None) -> dict[str, Any]:
@@ -178,12 +179,12 @@ def signals_of(trace: traces.Trace | None) -> list[dict[str, Any]]:
     if trace is None:
         return []
     found = []
-    for name in traces.SIGNALS:
+    for name in SIGNALS:
         samples = [units(tick.signals.get(name)) for tick in trace.ticks]
         limits = [{"kind": limit.kind, "limit": units(limit.limit), "clear": units(limit.limit + limit.reclaim),
                    "text": limit.text, "grace": limit.grace} for limit in trace.thresholds if limit.signal == name]
         if limits or any(sample is not None for sample in samples):
-            found.append({"name": name, "bytes": name in traces.BYTE_SIGNALS, "thresholds": limits,
+            found.append({"name": name, "bytes": name in BYTE_SIGNALS, "thresholds": limits,
                           "samples": repeated(samples)})
     return found
 
@@ -222,7 +223,7 @@ def evictions_of(report: reports.Report, trace: traces.Trace | None, ticks: why.
             one["around"] = around
         found.append(one)
     if cut:
-        left.append(f"the rows behind the first {MOST_ROWS} of the evictions' tables, {cut} in all; kubelet-replay why "
+        left.append(f"the rows after the first {MOST_ROWS} of the evictions' tables, {cut} in all; kubelet-replay why "
                     "has them")
     return found
 
@@ -282,7 +283,7 @@ def causes_of(causes: list[list[str | int]], span: Span) -> list[list[Any]]:
 
 def around_of(evicted: why.Evicted, span: Span) -> dict[str, Any]:
     """What the trace holds around an eviction, in the words of tools/why."""
-    of_bytes = evicted.signal in traces.BYTE_SIGNALS
+    of_bytes = evicted.signal in BYTE_SIGNALS
     rows = [why_text.candidate_row(place, candidate, of_bytes)
             for place, candidate in enumerate(evicted.candidates[:MOST_ROWS], 1)]
     with_requests = any(candidate.request is not None for candidate in evicted.candidates)
@@ -339,8 +340,8 @@ def waits_of(span: Span, lanes: made.Lanes, words: Words) -> list[list[int | Non
 
 def said_of(trace: traces.Trace | None, span: Span, pod: reports.Pod, lanes: made.Lanes, words: Words,
             budget: Budget) -> dict[str, Any]:
-    """What was said of it, as tools/why tells it: the moment, the container's place (-1 without), and the place of the
-    words; and what stands beside the words of an event, by its place."""
+    """What was reported of it, as tools/why has it: the moment, the container's place (-1 without), and the place of
+    the words; and what follows the words of an event, by its place."""
     if trace is None:
         return {}
     is_kept = budget.takes(sum(map(len, lanes.said.values())))

@@ -158,7 +158,7 @@ function causesWords(causes) {
 }
 
 function rulesWords(fact) {
-  if (!fact.judged && fact.rules === null) return `the rules have nothing to say of it${causesWords(fact.causes)}`;
+  if (!fact.judged && fact.rules === null) return `the rules can't judge it${causesWords(fact.causes)}`;
   const does = `the rules, over the recorded samples, ${fact.agrees ? 'agree' : 'differ'}: they `;
   const verb = data.kubelet.names ? 'name' : 'evict';
   if (fact.rules === null) return `${does}do not ${verb} it${causesWords(fact.causes)}`;

@@ -291,7 +291,7 @@ function sampleParts(name, around, at) {
     return [...cells, after.has(tickMoments[one]) ? amount(after.get(tickMoments[one]), signal.bytes) : '-'];
   }))];
   const count = found.length - kept.length;
-  if (count) parts.push(said(`${count} samples behind the first are left out.`));
+  if (count) parts.push(said(`${count} samples after the first are left out.`));
   return parts;
 }
 

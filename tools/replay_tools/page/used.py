@@ -8,6 +8,7 @@ if TYPE_CHECKING:
     from replay_tools import traces, why
     from replay_tools.fields import Bounds
     from replay_tools.page.data import Budget, Span
+    from replay_tools.pods import Container
 
 # a page has so many samples
 MOST_SAMPLES = 200000
@@ -21,7 +22,7 @@ def used_of(span: Span, pod: traces.Pod, ticks: why.PodTicks, budget: Budget) ->
     return {"used": found} if any(found) else {}
 
 
-def of_container(span: Span, pod: traces.Pod, container: traces.Container, used: why.UseOverTime,
+def of_container(span: Span, pod: traces.Pod, container: Container, used: why.UseOverTime,
                  budget: Budget) -> dict[str, Any] | None:
     if not used.uses or not budget.takes(len(used.uses)):
         return None

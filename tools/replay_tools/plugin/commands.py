@@ -34,7 +34,7 @@ def run(given: list[str], caller: Caller) -> int:
         return 0 if given else 2
     name, *rest = given
     if name not in tree.COMMANDS:
-        raise entry.Fault(f"{name} is no command of it: {', '.join(tree.COMMANDS)} (--help says more)")
+        raise entry.Fault(f"{name} is no known command: {', '.join(tree.COMMANDS)} (see --help)")
     if "--help" in rest or "-h" in rest:
         return show_help(name, caller)
     if rest in (["--version"], ["-V"]):
@@ -44,7 +44,7 @@ def run(given: list[str], caller: Caller) -> int:
         return tree.run(name, rest)
     found = words.words_of(name, rest, caller.is_of_kubectl)
     if found.waiting:
-        raise entry.Fault(f"{found.waiting} wants a value (--help says more)")
+        raise entry.Fault(f"{found.waiting} needs a value (see --help)")
     found.files = [files.kept_input() if file == "-" else file for file in found.files]
     if not tree.is_tool(name):
         return run_program(name, found, caller)
@@ -55,7 +55,7 @@ def run(given: list[str], caller: Caller) -> int:
     if command.takes_several and not found.files and is_of_cluster(name, found, caller):
         return run_of_cluster(name, found, caller)
     if command.pods == "none" and found.namespace is not None:
-        raise entry.Fault(f"{words.NAMESPACE[0]} is for a workload, as {name} deploy/web (--help says more)")
+        raise entry.Fault(f"{words.NAMESPACE[0]} is for a workload, as {name} deploy/web (see --help)")
     if command.takes_several and several.is_meant(found):
         return several.run(name, command, found)
     return run_tool(name, command, found)
@@ -84,25 +84,12 @@ def show_help(name: str, caller: Caller) -> int:
 
 
 def help_of(name: str, caller: Caller) -> str:
-    """A tool's help, with its name as it is typed here, and with what it takes here of a cluster."""
-    of_cluster = help.of_cluster(name) if tree.COMMANDS[name].takes_several else ""
-    return named(tree.help_of(name), name, caller.typed) + of_cluster
-
-
-def named(text: str, name: str, typed: str) -> str:
-    """A tool's help in which the commands are named as they are typed; the usage stays in its columns."""
-    usage, blank, rest = text.partition("\n\n")
-    further = " " * (len(f"{typed} {name}") - len(f"tools/{name}"))
-    lines = [line if not line.startswith("        ") else further + line for line in usage.split("\n")]
-    commands = "|".join(tree.COMMANDS)
-    text = re.sub(rf"\btools/({commands})\b(?![-/])", rf"{typed} \1", "\n".join(lines) + blank + rest)
-    # the program stands behind the command that is typed
-    return text.replace("./kubelet_replay (KUBELET_REPLAY", "the program (KUBELET_REPLAY") \
-        .replace("names another program)", "names another one)").replace("./kubelet_replay", f"{typed} run")
+    """A tool's help, with the commands as they are typed here."""
+    return re.sub(rf"\bkubelet-replay (?=(?:{'|'.join(tree.COMMANDS)})\b)", f"{caller.typed} ", tree.help_of(name))
 
 
 def run_program(name: str, found: words.Words, caller: Caller) -> int:
-    """Runs the program, with the option for the format that the node line of the trace says; its status."""
+    """Runs the program, with the option for the format that the node line of the trace shows; its status."""
     from replay_tools.plugin import failing
     rest, kinds = without_fail_on(found.rest)
     traces, copy = [*([found.file] if found.file else []), *found.plain], None
@@ -117,7 +104,7 @@ def run_program(name: str, found: words.Words, caller: Caller) -> int:
         path = files.path_of(copy) if copy else path
     if kinds:
         if path is None:
-            raise entry.Fault(f"{FAIL_ON} wants one trace, not {len(traces)} (--help says more)")
+            raise entry.Fault(f"{FAIL_ON} needs one trace, not {len(traces)} (see --help)")
         return failing.run([name, *traces, *rest, *option], path, copy, caller.name, kinds)
     return files.run_beside(programs.path(), [name, *traces, *rest, *option], path, copy, caller.name)
 
@@ -156,7 +143,7 @@ def run_tool(name: str, command: tree.Command, found: words.Words) -> int:
 
 
 def keys(command: tree.Command, found: words.Words, report: IO[bytes]) -> tuple[list[str], IO[bytes]]:
-    """The pods that are meant, and the report, which was read where a namespace alone says which."""
+    """The pods that are meant, and the report, which was read where a namespace alone shows which."""
     named = words.pods_meant(command, found)
     if named is not None or found.namespace is None:
         return named or [], report
@@ -168,7 +155,7 @@ def keys(command: tree.Command, found: words.Words, report: IO[bytes]) -> tuple[
 
 
 def trace_words(name: str, found: words.Words, pods: list[str]) -> list[str]:
-    """The words that hand the trace on to a tool that looks into it, or that tells what the kubelet did."""
+    """The words that pass the trace on to a tool that looks into it, or that shows what the kubelet did."""
     if found.file is None or files.is_report(found.file):
         return []
     if name == "story" and "--trace" not in found.rest:
@@ -181,5 +168,5 @@ def trace_words(name: str, found: words.Words, pods: list[str]) -> list[str]:
 
 def open_trace(path: str) -> IO[bytes]:
     if files.is_report(path):
-        raise entry.Fault(f"{path} is a report, and it wants a trace")
+        raise entry.Fault(f"{path} is a report, and it needs a trace")
     return open(path, "rb")

@@ -52,7 +52,7 @@ def candidates(given: list[str], is_of_kubectl: bool) -> tuple[list[str], int]:
 
 
 def options(command: tree.Command, parser: entry.Words, is_of_kubectl: bool) -> Iterable[str]:
-    """The words of a command that begin with a dash: its own, and those that say which pods and which file."""
+    """The words of a command that begin with a dash: its own, and those that show which pods and which file."""
     of_pods = words.NAMESPACE + (words.EVERYWHERE + (options_of_kubectl.CONTEXT,)) * is_of_kubectl
     yield from of_pods * (command.pods != "none") + words.FILE * command.takes_file
     yield from (*parser.names(with_value=True), *parser.names(with_value=False))
@@ -74,7 +74,7 @@ def namespaces(found: words.Words) -> list[str]:
 
 
 def pods(found: words.Words, last: str) -> list[str]:
-    """Names in the namespace; with a slash in the word, names behind one."""
+    """Names in the namespace; with a slash in the word, names after one."""
     head, slash, _ = last.partition("/")
     named = keys(found)
     if slash and head not in words.POD_TYPES:

@@ -16,14 +16,14 @@ from replay_tools.plugin import words, workload
 if TYPE_CHECKING:
     from replay_tools.cluster import told
 
-# options that say which traces are fetched, and not what the tool makes of them
+# options that show which traces are fetched, and not what the tool makes of them
 OF_FETCHING = (*words.SELECTOR, *words.OF_CLUSTER, *asked.VALUED)
 
 
 def run(name: str, found: words.Words, is_of_kubectl: bool) -> int:
     """Runs a tool on what was recorded of a workload; the status."""
     if "--sqlite" in found.rest:
-        raise entry.Fault("--sqlite is for traces that are here: kubectl replay fetch copies those of nodes")
+        raise entry.Fault("--sqlite is for traces that are here: kubectl replay fetch copies the traces of nodes")
     with workload.gathering(found, is_of_kubectl) as (story, folder, time):
         if not story.recorded:
             raise entry.Fault(f"{story.members.target.words()}: no trace has a pod of it; kubectl replay story prints "

@@ -29,7 +29,7 @@ def kinds_of(value: str) -> dict[str, None]:
 
 
 def run(words: list[str], path: str, given: IO[bytes] | None, caller: str, kinds: Iterable[str]) -> int:
-    """Runs the program on a trace, writes its report, and says what of these kinds is in it; the status."""
+    """Runs the program on a trace, writes its report, and shows what of these kinds is in it; the status."""
     report = files.temporary()
     status = files.run_beside(programs.path(), words, path, given, caller, report)
     if status == 1 and os.fstatvfs(report.fileno()).f_bavail == 0:
@@ -50,7 +50,7 @@ def run(words: list[str], path: str, given: IO[bytes] | None, caller: str, kinds
 
 
 def kubelet_of(report: reports.Report, path: str) -> kubelets.Kubelet | None:
-    """What the kubelet did, where the trace says it and can be read as the tools read one."""
+    """What the kubelet did, where the trace shows it and can be read as the tools read one."""
     try:
         return asking.kubelet_beside(asking.trace_of(report, path), report)
     except (entry.Fault, traces.TraceFault):
@@ -63,7 +63,7 @@ def named(pods: list[str]) -> str:
 
 
 def evicted(report: reports.Report, kubelet: kubelets.Kubelet | None) -> list[str]:
-    """Pods that the kubelet evicted, where the trace says what it did, else those that the rules evict."""
+    """Pods that the kubelet evicted, where the trace shows what it did, else those that the rules evict."""
     if kubelet is None:
         return list(dict.fromkeys(eviction.pod for eviction in report.evictions))
     return list(dict.fromkeys(fact.decision.pod for fact in kubelet.evicted))

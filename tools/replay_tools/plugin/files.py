@@ -52,7 +52,7 @@ def open_report(path: str | None) -> IO[bytes]:
     if path is None:
         given = entry.standard_input()
         if given.isatty():
-            raise entry.Fault("it wants -f FILE, a trace or a report, or a report on standard input")
+            raise entry.Fault("it needs -f FILE, a trace or a report, or a report on standard input")
         return given
     if is_report(path):
         return open(plain(path), "rb")
@@ -88,14 +88,14 @@ def replayed(path: str) -> IO[bytes]:
         if said == "write failed":
             raise no_room("it takes no more")
         if done.returncode == 2:
-            raise entry.Fault(f"{named} is refused: {said}", means=meaning(path, bool(option)))
+            raise entry.Fault(f"{named} is rejected: {said}", means=meaning(path, bool(option)))
         raise entry.Fault(f"{named} can't be replayed: {said}", done.returncode if done.returncode == 127 else 1)
     report.seek(0)
     return report
 
 
 def meaning(path: str, is_extended: bool) -> str | None:
-    """What a refusal of a file means, in one line."""
+    """What a rejection of a file means, in one line."""
     from replay_tools.explain import beside
     return beside.meaning(path, is_extended)
 
@@ -114,7 +114,7 @@ def format_words_of(file: IO[bytes]) -> list[str]:
 
 def with_format(path: str) -> tuple[str, IO[bytes] | None, list[str]]:
     """The path of a trace, a copy of it that is to be standard input where it can be read but once, and the words for
-    its format. What can't be read the program has to say."""
+    its format. What can't be read the program has to show."""
     try:
         with open(path, "rb") as file:
             if stat.S_ISREG(os.fstat(file.fileno()).st_mode):
@@ -185,7 +185,7 @@ def key_of(line: str) -> str:
 def run_beside(program: str, words: list[str], path: str | None, given: IO[bytes] | None, caller: str,
                output: IO[bytes] | None = None) -> Any:
     """Runs the program on a trace, with a file as its standard input, and one as its standard output where that is not
-    this one's; its status. Where it refuses the trace, what that means is said in one more line."""
+    this one's; its status. Where it rejects the trace, what that means is printed in one more line."""
     if given is not None:
         os.lseek(given.fileno(), 0, os.SEEK_SET)
     to_pipe = output is None and stat.S_ISFIFO(os.fstat(1).st_mode)
@@ -210,7 +210,7 @@ def run_beside(program: str, words: list[str], path: str | None, given: IO[bytes
 
 
 def show_plain(said: IO[bytes]) -> None:
-    """Shows what the program says of words that a terminal would follow: it says them as they are."""
+    """Shows what the program shows of words that a terminal would follow: it shows them as they are."""
     said.seek(0)
     for line in said.read().decode("utf-8", "replace").splitlines():
         print(outside.visible(line), file=sys.stderr)
@@ -228,7 +228,7 @@ def can_be_read(path: str) -> bool:
 
 def hand_on(source: IO[bytes]) -> None:
     """Writes what the program writes; what a reader that has gone, as head, does not take is let go, where the program
-    would say that it can't write."""
+    would show that it can't write."""
     is_read = True
     while piece := os.read(source.fileno(), PIECE):
         while piece and is_read:
@@ -255,7 +255,7 @@ def kept_input() -> str:
     """Standard input as a file that can be read twice."""
     given = entry.standard_input()
     if given.isatty():
-        raise entry.Fault("-f - wants a trace or a report on standard input")
+        raise entry.Fault("-f - needs a trace or a report on standard input")
     return path_of(whole(given, "standard input"))
 
 

@@ -1,4 +1,4 @@
-"""A tool that is to tell of several traces: those of files and folders, or those that a cluster's recorder holds."""
+"""A tool that is to report several traces: those of files and folders, or those that a cluster's recorder holds."""
 
 from __future__ import annotations
 
@@ -35,7 +35,7 @@ def run(name: str, command: tree.Command, found: words.Words) -> int:
         return tree.run(name, [*rest, *pods, *named])
     node = found.value("--node")
     if node is None:
-        raise entry.Fault("it wants -f FILE or FOLDER for traces that are here, or --node NODE for those of a cluster")
+        raise entry.Fault("it needs -f FILE or FOLDER for traces that are here, or --node NODE for a cluster's")
     before = [*without(without(rest, words.RECORDERS), words.TIMEOUT), *pods, asked.TRACES]
     return run_fetched(found, node, lambda folder: tree.run(name, [*before, folder]))
 

@@ -15,7 +15,7 @@ from replay_tools.joined import asked
 from replay_tools.plugin import words
 
 OF_FILES = ("--trace", asked.TRACES, words.FOLLOW)
-# a report that takes longer to come is said to be waited for
+# a report that takes longer to come is reported to be waited for
 SECONDS_UNSAID = 5
 
 
@@ -72,7 +72,7 @@ def target_of(found: words.Words) -> workloads.Target:
     """What the arguments name. Each part of it is a name of Kubernetes, so that kubectl reads none as an option."""
     selector, given = next(filter(None, map(found.value, words.SELECTOR)), None), plain_of(found)
     if len(given) + (selector is not None) > 1:
-        raise entry.Fault("it takes one workload, pod or label (--help says more)")
+        raise entry.Fault("it takes one workload, pod or label (see --help)")
     if not given:
         return workloads.Target(None if found.is_everywhere else namespace_of(found), selector=selector)
     [word] = given
@@ -82,10 +82,10 @@ def target_of(found: words.Words) -> workloads.Target:
         namespace, _, name = key.partition("/")
         named = "pod", name
     elif not named[1]:
-        raise entry.Fault(f"{word} names none: {word}NAME (--help says more)")
+        raise entry.Fault(f"{word} names none: {word}NAME (see --help)")
     else:
         namespace = namespace_of(found)
-    # a pod's name may be cut, also behind a dash
+    # a pod's name may be cut, also after a dash
     if not outside.is_name(named[1].rstrip("-.") if named[0] == "pod" else named[1]):
         raise entry.Fault(f"'{named[1]}' is no name of a {named[0]}")
     return workloads.Target(checked(namespace), *named)

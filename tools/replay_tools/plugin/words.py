@@ -38,13 +38,13 @@ class Words:
     plain: list[str] = field(default_factory=list)
     rest: list[str] = field(default_factory=list)
     waiting: str | None = None
-    """the last word, where it wants a value"""
+    """the last word, where it needs a value"""
 
     @property
     def file(self) -> str | None:
         """The one file that is named, or None."""
         if len(self.files) > 1:
-            raise entry.Fault(f"it takes one file, not {len(self.files)} (--help says more)")
+            raise entry.Fault(f"it takes one file, not {len(self.files)} (see --help)")
         return self.files[0] if self.files else None
 
     def value(self, name: str) -> str | None:
@@ -53,7 +53,7 @@ class Words:
 
 
 def parser_of(name: str, given: list[str]) -> entry.Words:
-    """The words that a command takes here, with those that it has beside its tool's own."""
+    """The words that a command takes here, with those that it has next to its tool's own."""
     command, parser = tree.COMMANDS[name], tree.parser_of(name, given)
     if command.takes_several:
         parser.valued(RECORDERS)
@@ -80,7 +80,7 @@ def words_of(name: str, given: list[str], is_of_kubectl: bool = True, is_typed: 
     if not is_of_kubectl and not is_typed:
         if found.kubectl or found.waiting in options.NAMES:
             option = found.kubectl[0].partition("=")[0] if found.kubectl else found.waiting
-            raise entry.Fault(f"{option} is no word of it: kubectl replay takes kubectl's options (--help says more)")
+            raise entry.Fault(f"{option} is no known argument: kubectl replay takes kubectl's options (see --help)")
     if not is_of_kubectl:
         found.is_everywhere = found.is_everywhere or found.namespace is None
     return found

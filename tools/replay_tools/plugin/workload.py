@@ -1,5 +1,5 @@
 """The story of a workload of a cluster: its pods and nodes are found, the nodes' traces fetched and replayed, and it is
-told over all of them, with what the API server has of pods that no trace has."""
+reported over all of them, with what the API server has of pods that no trace has."""
 
 from __future__ import annotations
 
@@ -73,8 +73,8 @@ def run(found: words.Words, is_of_kubectl: bool) -> int:
 def gathering(found: words.Words, is_of_kubectl: bool) -> Iterator[tuple[told.Story, str, Time]]:
     """What is known of what the words name, with the folder of its traces, which goes again, and the time."""
     if not is_of_kubectl and found.namespace is None and not targets.plain_of(found):
-        raise entry.Fault("it wants -f FILE or FOLDER for traces that are here, or --node NODE for those of a node of "
-                          "a cluster, or -n NAMESPACE for those of a namespace")
+        raise entry.Fault("it needs -f FILE or FOLDER for traces that are here, or for a cluster --node NODE or -n "
+                          "NAMESPACE")
     cluster, target, time = cluster_of(found), targets.target_of(found), time_of(found)
     with Waiting(cluster.seconds) as waiting, folder_for_traces() as folder:
         of_target = gathered(cluster, target, found.value("--node"), time, waiting)
@@ -103,7 +103,7 @@ def time_of(found: words.Words) -> Time:
     from replay_tools.cluster import fetching
     at = found.value("--at")
     time = Time(found.value("--since") or (SINCE if at is None else None), at, fetching.now())
-    # what is no time is refused before anything is asked
+    # what is no time is rejected before anything is asked
     asked.span_of(found.value("--since") or time.since, at, time.now)
     return time
 

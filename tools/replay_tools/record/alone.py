@@ -43,7 +43,7 @@ def container_of(item: Any) -> Optional[tuple[int, tuple[str, str, str], str]]:
 
 class RuntimeAlone:
     """Makes a list of pods of the runtime's list of containers. A pod that comes later than the first list is there
-    once no container of it has come for some seconds; what comes behind that is no part of its manifest."""
+    once no container of it has come for some seconds; what comes after that is no part of its manifest."""
 
     answers = ANSWERS
 

@@ -1,5 +1,5 @@
 """A file of the folder of traces whose age says since when the runtime or the kubelet gives no answer, for a probe that
-starts the recorder anew. Who probes it makes it; where it is not there nothing is touched."""
+starts the recorder again. Who probes it makes it; where it is not there nothing is touched."""
 
 from __future__ import annotations
 
@@ -9,12 +9,12 @@ from collections.abc import Callable
 from typing import Optional
 
 NAME = ".answered"
-# a probe of some minutes wants it no more often
+# a probe of some minutes needs it no more often
 TOUCH_SECONDS = 30
 
 
 class Answered:
-    """Touches the file while both answer; `say` takes what is said where it can't."""
+    """Touches the file while both answer; `say` takes what is reported where it can't."""
 
     def __init__(self, folder: str, say: Callable[..., None]) -> None:
         self.path = os.path.join(folder, NAME)

@@ -1,4 +1,4 @@
-"""Reads answers. A long one is an object with a list of many values, of which one at a time is held beside its
+"""Reads answers. A long one is an object with a list of many values, of which one at a time is held next to its
 bytes."""
 
 from __future__ import annotations
@@ -113,7 +113,7 @@ class Text:
         return mark
 
     def value(self) -> Any:
-        """Takes the next value. One that ends with the window may go on behind it."""
+        """Takes the next value. One that ends with the window may go on after it."""
         self.mark()
         while True:
             try:

@@ -91,10 +91,10 @@ class Asides:
     def of_waits(self, pod: Pod, listings: dict[str, Listing]) -> list[dict[str, Any]] | None:
         """The member of an entry: the containers that wait, but for those that have begun to run since; None where none
         does."""
-        waits = {name: wait for name, wait in self.waits.get(pod.uid, {}).items()
-                 if not is_over(wait, listings.get(name))}
-        if pod.uid in self.waits:
-            self.waits[pod.uid] = waits
+        if pod.uid not in self.waits:
+            return None
+        waits = self.waits[pod.uid] = {name: wait for name, wait in self.waits[pod.uid].items()
+                                       if not is_over(wait, listings.get(name))}
         waiting = [name for name in pod.containers() if name in waits and stands(waits[name], listings.get(name))]
         for name in set(pod.containers()).difference(waiting):
             self.told.pop((pod.uid, name, "waits"), None)

@@ -21,8 +21,8 @@ if TYPE_CHECKING:
     from .lines import Format
     from .sources import Sources
 
-PROXY = "it wants the permission to get nodes/proxy, and the node's name in the cluster as --node"
-PORT = "it is at the kubelet's port 10250, and wants the permission to get nodes/{what}"
+PROXY = "it needs the permission to get nodes/proxy, and the node's name in the cluster as --node"
+PORT = "it is at the kubelet's port 10250, and needs the permission to get nodes/{what}"
 # rights of their own that a kubelet has for what nodes/proxy opens too
 FINER = ("pods", "configz")
 BEFORE = ", which a kubelet knows from Kubernetes 1.33 on; before it nodes/proxy (deploy/rights-before-1.33.yaml)"
@@ -35,11 +35,11 @@ DO = "; the rights of deploy/daemonset.yaml do here"
 
 
 class NotAsked(Exception):
-    """A source that can't be asked; its text says why."""
+    """A source that can't be asked; its text shows why."""
 
 
 class Without(Exception):
-    """A source without which all else is recorded; its text says why it does not work."""
+    """A source without which all else is recorded; its text shows why it does not work."""
 
 
 def counted(count: int, what: str) -> str:
@@ -53,7 +53,7 @@ def wish(sources: Sources, what: str) -> str:
 
 def runtime_checks(sources: Sources) -> list[tuple[str, Callable[..., Any], str]]:
     """What asks the runtime: its list, and then the newest container of it."""
-    wanted = "it wants root, on the node, and the runtime's socket (crictl --runtime-endpoint, /etc/crictl.yaml)"
+    wanted = "it needs root, on the node, and the runtime's socket (crictl --runtime-endpoint, /etc/crictl.yaml)"
     listed = []
 
     def list_them() -> str:
@@ -125,8 +125,8 @@ def api_checks(sources: Sources) -> list[tuple[str, Callable[..., Any], str]]:
 
     wanted = "; the rights of deploy/rights-events.yaml do"
     return [] if sources.api is None else [
-        (EVENTS, listed, f"it wants the permission to list events{wanted}"),
-        (NODE, read, f"it wants the permission to get nodes{wanted}")]
+        (EVENTS, listed, f"it needs the permission to list events{wanted}"),
+        (NODE, read, f"it needs the permission to get nodes{wanted}")]
 
 
 def checks_of(sources: Sources, node: str, trace_format: Format,
@@ -134,7 +134,7 @@ def checks_of(sources: Sources, node: str, trace_format: Format,
     """Each source with how it is asked and what it wants: (name, ask, wish)."""
     if sources.alone is not None:
         return runtime_checks(sources)
-    pods = wish(sources, "pods") if sources.kubelet else "it wants the permission to list pods of all namespaces"
+    pods = wish(sources, "pods") if sources.kubelet else "it needs the permission to list pods of all namespaces"
     return [*runtime_checks(sources),
             (sources.pods_name(), lambda: counted(len(pods_of(sources.pods(), sources.pods_name())), "pod"), pods),
             ("/metrics/probes", lambda: f"{counted(len(counters_of(sources.probes())), 'probe')} with results",
@@ -163,7 +163,7 @@ def check(sources: Sources, node: str, trace_format: Format, show: Callable[[str
 
 
 def show_rights(sources: Sources, works: bool, show: Callable[[str], None]) -> None:
-    """Shows whether the token or certificate may do more at the kubelet than is wanted, where that can be known."""
+    """Shows whether the token or certificate may do more at the kubelet than is needed, where that can be known."""
     if sources.kubelet is None or sources.keeps is None or not sources.kubelet.startswith("https:"):
         return
     try:
@@ -174,5 +174,5 @@ def show_rights(sources: Sources, works: bool, show: Callable[[str], None]) -> N
         if said is not None:
             show(f"rights   {said.format(who=who)}")
     except Failed:
-        # why is said of the others
+        # why is reported of the others
         pass

@@ -39,7 +39,7 @@ NOT_CHECKED = ('; what the kubelet signed itself is checked by its own file, as 
 
 
 class NotRead(Exception):
-    """A file of curl's settings that has more than is read here; its text says what."""
+    """A file of curl's settings that has more than is read here; its text shows what."""
 
 
 @dataclass
@@ -113,7 +113,7 @@ def says_insecure(curl_file: str | None) -> bool:
 
 
 class Kept:
-    """One connection that is kept from one answer to the next, and opened anew where it was closed."""
+    """One connection that is kept from one answer to the next, and opened again where it was closed."""
 
     def __init__(self, connect: Callable[..., Any]) -> None:
         self.connect = connect
@@ -152,7 +152,7 @@ class Kept:
         return Failed(f"gave no answer: {said}{NOT_CHECKED if unchecked else ''}")
 
     def asked(self, path: str, headers: dict[str, str], take: Callable[[bytes], None] | None = None) -> bytearray:
-        """The body of an answer, or nothing where `take` is given it; what a refusal says is not."""
+        """The body of an answer, or nothing where `take` is given it; what a refusal shows is not."""
         until = time.monotonic() + ENDPOINT_SECONDS
         if self.connection is None:
             self.connection = self.connect()
@@ -276,7 +276,7 @@ class Kubelet:
 
 
 class Unasked:
-    """A kubelet that is not asked; why stands in place of each answer."""
+    """A kubelet that is not asked; why is in place of each answer."""
 
     def __init__(self, reason: str) -> None:
         self.reason = reason
@@ -323,7 +323,7 @@ def dies_with_its_parent() -> None:
 
 @contextmanager
 def interrupts_held_back() -> Iterator[None]:
-    """What is started hears no interrupt, and the recorder hears it behind the start."""
+    """What is started hears no interrupt, and the recorder hears it after the start."""
     before = signal.pthread_sigmask(signal.SIG_BLOCK, [signal.SIGINT])
     try:
         yield
@@ -386,7 +386,7 @@ class Proxy:
             time.sleep(0.02)
 
     def works(self) -> bool:
-        """Whether it is asked: not where it did not start at first, which is said."""
+        """Whether it is asked: not where it did not start at first, which is reported."""
         if self.does_start is None:
             try:
                 self.start()

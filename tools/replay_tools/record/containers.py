@@ -32,7 +32,7 @@ class Containers:
         self.listed_at: float = 0
 
     def take(self, instances: dict[str, list[Instance]], moment: float, followed: Iterable[Recorded]) -> None:
-        """Takes what the runtime listed at a look."""
+        """Takes what the runtime listed at a poll."""
         self.listed_at = moment
         for recorded in followed:
             self.follow(recorded, instances, moment)
@@ -66,8 +66,8 @@ class Containers:
                 or each.finished is None or each.finished >= self.course.begun]
 
     def follow_to_the_end(self, recorded: Recorded, instances: dict[str, list[Instance]], moment: float) -> None:
-        """What became of the containers of a pod that goes. That one is no longer listed is said by that its pod goes,
-        but for a code that is lost: a line of a pod that goes ends no container."""
+        """What became of the containers of a pod that goes. That one is no longer listed is reported by that its pod
+        goes, but for a code that is lost: a line of a pod that goes ends no container."""
         self.follow(recorded, instances, moment)
         recorded.changes = {name: [change for change in changes if self.is_told(change)]
                             for name, changes in recorded.changes.items()}
@@ -89,7 +89,7 @@ class Containers:
             self.timeline.place_end(recorded.pod, second_of_end(recorded, self.timeline), recorded.ended)
 
     def awaits_reason(self, recorded: Recorded, moment: float) -> bool:
-        """Whether an Event may yet say why the node has ended a pod, of which its status does not."""
+        """Whether an Event may yet show why the node has ended a pod, of which its status does not."""
         is_guessed = recorded.ended is not None and recorded.ended.is_guessed
         return is_guessed and self.course.asks_events and moment - recorded.ended_at < REASON_SECONDS
 

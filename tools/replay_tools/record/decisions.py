@@ -1,5 +1,5 @@
-"""What the kubelet did to a pod, as the pod's status says it: it evicted it, refused to run it under pressure, or ended
-it for another reason, as that its deadline was over."""
+"""What the kubelet did to a pod, as the pod's status reports it: it evicted it, refused to run it under pressure, or
+ended it for another reason, as that its deadline was over."""
 
 from __future__ import annotations
 
@@ -24,24 +24,25 @@ if TYPE_CHECKING:
 EVICTED, REFUSED, ENDED = "evicted", "refused", "ended"
 # the reason that a kubelet gives for both of the first
 EVICTION = "Evicted"
-# what a kubelet says of a pod that it did not admit while the node was under pressure
+# what a kubelet shows of a pod that it did not admit while the node was under pressure
 PRESSURE = re.compile(r"The node had condition: \[")
 LONGEST_OF_EVICTION = 4096
-# what a kubelet says as it does not admit a pod, so that it never ran, or runs no more after the kubelet's start
+# what a kubelet shows as it does not admit a pod, so that it never ran, or runs no more after the kubelet's start
 ADMISSION = ("UnexpectedAdmissionError", "NodeAffinity", "NodePorts", "NodeUnschedulable", "NodeName", "NodeTaint",
              "TaintToleration", "PodOSNotSupported", "PodOSSelectorNodeLabelDoesNotMatch", "TopologyAffinityError",
              "PodFeatureUnsupported", "AppArmor", "SysctlForbidden", "Forbidden", "InvalidNodeInfo")
 NOT_ADMITTED = re.compile("Pod was rejected|Predicate [A-Za-z]+ failed|not admitting any new pods"
                           "|rejected as the node")
-# what a tick may say that the node has ended a pod for, and what it says of any other reason
+# what a tick may show that the node has ended a pod for, and what it shows of any other reason
 WORD = re.compile(r"[A-Za-z][-A-Za-z0-9_./]{0,62}")
 OTHER = "Other"
 
 
 @dataclass(frozen=True)
 class Decision:
-    """What was done, and why; its moment in seconds since 1970, where the status says one, as from Kubernetes 1.26 on.
-    A pod that was refused never ran, or not since the kubelet was started. `is_guessed` is that no reason is known."""
+    """What was done, and why; its moment in seconds since 1970, where the status reports one, as from Kubernetes 1.26
+    on. A pod that was refused never ran, or not since the kubelet was started. `is_guessed` is that no reason is
+    known."""
     kind: str
     moment: Optional[float]
     reason: str
@@ -80,8 +81,9 @@ class Told:
 
 
 def end_of(status: dict[str, Any], is_restarted: bool = False, seen_at: float | None = None) -> Decision | None:
-    """What a pod's status says that the kubelet did to it, or None. A pod that failed by itself has no reason; one that
-    is always restarted does not fail by itself. `seen_at` is when the kubelet took the pod last, if that is known."""
+    """What a pod's status shows that the kubelet did to it, or None. A pod that failed by itself has no reason; one
+    that is always restarted does not fail by itself. `seen_at` is when the kubelet took the pod last, if that is
+    known."""
     reason, message = status.get("reason"), str(status.get("message") or "")
     if status.get("phase") != "Failed":
         return None
@@ -101,7 +103,7 @@ def end_of(status: dict[str, Any], is_restarted: bool = False, seen_at: float | 
 
 
 def is_refusal(reason: str, message: str) -> bool:
-    """Whether a status says that the kubelet did not admit a pod."""
+    """Whether a status shows that the kubelet did not admit a pod."""
     return reason.startswith("OutOf") or reason in ADMISSION or NOT_ADMITTED.search(message) is not None
 
 
@@ -122,7 +124,7 @@ def moment_in(status: dict[str, Any]) -> float | None:
 
 
 class Decisions:
-    """What the kubelet was seen to decide, each of which is written once; `say` takes what is said."""
+    """What the kubelet was seen to decide, each of which is written once; `say` takes what is reported."""
 
     def __init__(self, timeline: Ticks, course: Course, sampling: Sampling, say: Callable[..., None]) -> None:
         self.timeline = timeline
@@ -130,9 +132,9 @@ class Decisions:
         self.sampling = sampling
         self.say = say
         self.uids: set[str] = set()
-        # the second up to which a recording before this one says what the kubelet did
+        # the second up to which a recording before this one shows what the kubelet did
         self.told_until: float | None = None
-        # the look that showed the last decision
+        # the poll that showed the last decision
         self.looked_at: float | None = None
         # the pods that had gone by the time at which the kubelet evicted them
         self.behind: list[Recorded] = []
@@ -142,7 +144,7 @@ class Decisions:
 
     def take(self, pod: Pod, recorded: Recorded | None, seen: Seen) -> None:
         """The kubelet evicted or refused a pod, which is recorded or not. That is written, unless it was before the
-        recording and may be told by one before. What an evicted pod was running exits behind it."""
+        recording and may be told by one before. What an evicted pod was running exits after it."""
         decision = pod.decision
         if decision is None or self.has(pod):
             return
@@ -161,7 +163,7 @@ class Decisions:
             self.timeline.place_past_decision(pod, decision, int(decision.moment), seen.moment)
 
     def take_event(self, recorded: Recorded, said: Said, seen: Seen) -> None:
-        """What an Event says that the kubelet did to a pod, where no list has shown it: it evicted it, or ended it for
+        """What an Event shows that the kubelet did to a pod, where no list has shown it: it evicted it, or ended it for
         a reason that its status has not."""
         if said.reason == EVICTION and not self.has(recorded.pod):
             end = end_of({"phase": "Failed", "reason": EVICTION, "message": said.message})
@@ -181,8 +183,8 @@ class Decisions:
             recorded.ended = end
 
     def moment_of(self, pod: Pod, decision: Decision, seen: Seen) -> float:
-        """When the kubelet decided: as the pod's status says, else with the sample by which it did, or when that or an
-        exit that it led to was seen."""
+        """When the kubelet decided: as the pod's status reports, else with the sample by which it did, or when that or
+        an exit that it led to was seen."""
         if decision.moment is not None:
             return min(seen.end, decision.moment)
         exits = [each.finished for each in (seen.instances or {}).get(pod.uid, [])
@@ -206,7 +208,7 @@ class Decisions:
 
     def see_behind(self, gone_at: dict[str, int]) -> None:
         """Of a pod that was deleted and had ended the kubelet's sample has none, and until it knows of that end the
-        kubelet evicts such a pod first. So that is said where the sample is from before the pod has gone."""
+        kubelet evicts such a pod first. So that is reported where the sample is from before the pod has gone."""
         second = int(max(self.sampling.newest, 0))
         for recorded in self.behind:
             is_open = self.timeline.next_second <= second <= gone_at.get(recorded.pod.key, -1)

@@ -1,6 +1,6 @@
 """When the node has ended a pod: a kubelet 1.20 says so as it begins to stop the containers, later ones once they have
-stopped. So the end stands with the first of the exits that it may have led to, and what is behind such an exit waits
-for a list of pods that says whether it has."""
+stopped. So the end is with the first of the exits that it may have led to, and what is behind such an exit waits
+for a list of pods that shows whether it has."""
 
 from __future__ import annotations
 
@@ -17,7 +17,7 @@ if TYPE_CHECKING:
 
 
 def open_exits(recorded: Recorded) -> dict[str, float]:
-    """The moments of the exits behind which a pod's policy wants a start, and neither one has come nor has the pod's
+    """The moments of the exits after which a pod's policy needs a start, and neither one has come nor has the pod's
     status said that the container waits for one: {container: moment}. The kubelet does not go on there, or not yet."""
     newest = {name: container.newest for name, container in recorded.containers.items()}
     return {name: each.finished for name, each in newest.items()
@@ -26,14 +26,14 @@ def open_exits(recorded: Recorded) -> dict[str, float]:
 
 
 def wants_start(recorded: Recorded, name: str) -> bool:
-    """Whether the pod's policy wants a start behind the exit of a container's newest instance."""
+    """Whether the pod's policy needs a start after the exit of a container's newest instance."""
     newest = recorded.containers[name].newest
     return newest is not None and newest.exit_code is not None and recorded.pod.is_restarted(name, newest.exit_code)
 
 
 def second_of_end(recorded: Recorded, timeline: Ticks) -> int:
     """The second in which the node has ended a pod: that of its eviction; else of the first exit that the end led to,
-    if that is before it was seen. Where none of them wants a start it is the last one, if all have exited."""
+    if that is before it was seen. Where none of them needs a start it is the last one, if all have exited."""
     if recorded.evicted_at is not None:
         return recorded.evicted_at
     seconds = [timeline.listed_in(recorded.pod, name) for name in open_exits(recorded)]
@@ -45,9 +45,9 @@ def second_of_end(recorded: Recorded, timeline: Ticks) -> int:
 
 
 def settled_before(followed: Iterable[Recorded], with_status: set[str], listed_at: float, moment: float) -> int:
-    """The second from which on a list of pods may yet say that a pod is being deleted, or was ended: that of the newest
-    list, of the first that lacks a pod, or of an exit behind which nothing has shown so far that the kubelet goes on.
-    None waits for longer than for a silent source."""
+    """The second from which on a list of pods may yet show that a pod is being deleted, or was ended: that of the
+    newest list, of the first that lacks a pod, or of an exit after which nothing has shown so far that the kubelet goes
+    on. None waits for longer than for a silent source."""
     followed = list(followed)
     absent = [recorded.absent_since for recorded in followed
               if recorded.absent_since is not None and not recorded.is_deleting]

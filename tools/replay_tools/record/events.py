@@ -1,4 +1,4 @@
-"""What the API server says beside a kubelet, where it is asked: what Events say of a pod, of which something happened
+"""What the API server says next to a kubelet, where it is asked: what Events show of a pod, of which something happened
 some seconds ago; and whether the node is Ready."""
 
 from __future__ import annotations
@@ -23,7 +23,7 @@ if TYPE_CHECKING:
 
 # an Event is there some moments behind what it tells, and a pod is asked for again after so long
 BEHIND_SECONDS, AGAIN_SECONDS = 3, 10
-# so many pods are asked for at a look
+# so many pods are asked for at a poll
 MOST_AT_ONCE = 5
 MOST_COUNT = 10 ** 6
 STATUSES = ("True", "False", "Unknown")
@@ -77,7 +77,7 @@ def ready_in(text: Answer) -> Ready | None:
 
 @reads("events")
 def said_in(text: Answer, what: str) -> list[Said]:
-    """The Events of an answer that say when they were, in their order."""
+    """The Events of an answer that show when they were, in their order."""
     answer = read_parts(text, what, "items", said_of)
     items = answer.get("items") if isinstance(answer, dict) else None
     if not isinstance(items, list):

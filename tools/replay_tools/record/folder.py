@@ -1,4 +1,4 @@
-"""The folder of the traces that stand one behind the other: their names, who may write there, and what goes."""
+"""The folder of the traces that stand one after the other: their names, who may write there, and what goes."""
 
 from __future__ import annotations
 
@@ -25,7 +25,7 @@ PACKED, PACKING = "gz", "gz.part"
 # that much of the file system stays free, at most so many bytes
 FREE_SHARE = 50
 MOST_FREE = 256 << 20
-# more than a border makes is not taken away for its age at once: a clock may be wrong
+# more than a rotation makes is not taken away for its age at once: a clock may be wrong
 OLD_AT_ONCE = 2
 PIECE = 1 << 18
 # the user of the node itself
@@ -33,7 +33,7 @@ ROOT = 0
 
 
 class Refused(Exception):
-    """The folder can't be used; its text says why."""
+    """The folder can't be used; its text shows why."""
 
 
 @dataclass(frozen=True)
@@ -66,7 +66,7 @@ def made(path: str) -> None:
 
 class Folder:
     """A folder that one recorder writes into, and the traces of its node there; it keeps them for some seconds, and
-    some bytes of them. `say` takes what is said."""
+    some bytes of them. `say` takes what is reported."""
 
     def __init__(self, path: str, node: str, keep: int, most: int, say: Callable[..., None]) -> None:
         self.path = path
@@ -174,7 +174,7 @@ class Folder:
     # --- room ---
 
     def lacking(self, wanted: int) -> int:
-        """How many bytes are lacking where so many are written, and some of the file system stays free behind them."""
+        """How many bytes are lacking where so many are written, and some of the file system stays free after them."""
         free, left = self.room()
         return max(left + wanted - free, 0)
 
@@ -199,7 +199,7 @@ class Folder:
 
     def prune(self, second: int, longest: int, room: int) -> None:
         """Takes away what is older than is kept, of traces that have at most so many seconds, and then the oldest ones
-        until so many bytes have room beside the others."""
+        until so many bytes have room next to the others."""
         traces = self.traces()
         old = [trace for trace in traces if trace.begun + longest < second - self.keep][:OLD_AT_ONCE]
         left = [trace for trace in traces if trace not in old]

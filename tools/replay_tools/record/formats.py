@@ -1,4 +1,4 @@
-"""What the formats of a trace take (docs/formats.md). Each `.._fault` says what is wrong with a value, and is None
+"""What the formats of a trace take (docs/formats.md). Each `.._fault` shows what is wrong with a value, and is None
 where nothing is."""
 
 from __future__ import annotations

@@ -1,4 +1,4 @@
-"""A run of the recorder that writes traces of one node into a folder, one behind the other: `--into FOLDER`. Each is
+"""A run of the recorder that writes traces of one node into a folder, one after the other: `--into FOLDER`. Each is
 whole by itself, and begins in the second in which the one before it ends."""
 
 from __future__ import annotations
@@ -22,7 +22,7 @@ if TYPE_CHECKING:
 
 # a clock that goes back by less stands still until its time comes again
 BACK_SECONDS = 60
-# two looks are that far apart where the clock went forward, or the recorder stood still
+# two polls are that far apart where the clock went forward, or the recorder stood still
 FORWARD_SECONDS = 120
 
 
@@ -73,7 +73,7 @@ class LastingRecording(Recording):
                     self.shipping.look()
 
     def see_clock(self, before: float, moment: float) -> None:
-        """What the clock says at a look, behind the look before."""
+        """What the clock says at a poll, after the look before."""
         if moment < before - BACK_SECONDS:
             say_again(self.say, f"{int(before)}: the clock went back by {round(before - moment)} s, and the next trace "
                                 f"begins at {int(moment)}")
@@ -83,11 +83,11 @@ class LastingRecording(Recording):
             self.begun -= before - moment
             set_back(self.observer, moment)
         elif moment > before + self.words.look + FORWARD_SECONDS:
-            say_again(self.say, f"{int(moment)}: the look before was {round(moment - before)} s ago: the clock went "
-                                "forward, or the recorder stood still")
+            say_again(self.say, f"{int(moment)}: the last poll was {round(moment - before)} s ago: the clock went "
+                                "forward, or the recorder was suspended")
 
     def forget(self) -> None:
-        """Behind each border what is over is forgotten, so that the recorder stays as small as it is."""
+        """Behind each rotation what is over is forgotten, so that the recorder stays as small as it is."""
         if self.output.has_turned:
             self.output.has_turned = False
             self.recorder.forget()
@@ -120,7 +120,7 @@ class LastingRecording(Recording):
 
 
 def recorded_into(words: Words, into: Into, sources: Sources, clock: Any, say: Callable[..., None]) -> int:
-    """Records traces one behind the other; the status."""
+    """Records traces one after the other; the status."""
     try:
         made(into.folder)
         folder = Folder(into.folder, words.node, into.keep, into.most, say)

@@ -3,9 +3,10 @@ has just started lists no pod, then some, then all."""
 
 from __future__ import annotations
 
+import contextlib
 import re
 from collections.abc import Callable, Iterable
-from typing import Any, TYPE_CHECKING
+from typing import TYPE_CHECKING
 
 from replay_tools import outside
 
@@ -27,8 +28,10 @@ MOST_BYTES = 64 << 20
 LONGEST_LINE = 100
 # the clock of the system's start, which the moment is counted from, is exact to about a second
 FUZZ_SECONDS = 2
-# a kubelet that gives no moment is asked so often after each sign of a restart
-MOST_TRIES = 3
+# after each sign of a restart a kubelet is asked so often for its moment, each time twice as long after the one before,
+# and one that has never given it less often
+MOST_TRIES = 7
+FEW_TRIES = 3
 # a source of pods is whole some seconds after its first pod; one that shows none is waited for so long
 SETTLE_SECONDS = 5
 EMPTY_SECONDS = 60
@@ -89,15 +92,22 @@ class KubeletStart:
         self.started: float | None = None
         # when it answered last, in a look before
         self.answered_at: float | None = None
+        # how often it may be asked yet, and when next
         self.tries = 0
+        self.pause: float = 1
+        self.next_at = float("-inf")
         self.has_fallen = False
         # a start that is not told yet, and since when the new kubelet is watched
         self.news: float | None = None
         self.since: float | None = None
 
     def begin(self, probes: Answer, moment: float) -> None:
-        """The answer of the first look."""
+        """The answer of the first look. A kubelet that does not say with it when it was started is asked."""
         self.started, self.answered_at = started_in(probes), moment
+        if self.started is None and self.sources.alone is None:
+            # one that won't say it is known by the counts of its probes alone, which is said at the first sign
+            with contextlib.suppress(Failed):
+                self.started = asked(self.sources)
 
     def see_probes(self, text: Answer, moment: float) -> None:
         """Newer kubelets say it with the counts of probes."""
@@ -115,18 +125,35 @@ class KubeletStart:
 
     def suspect(self) -> None:
         """There is a sign of a start."""
-        self.tries = MOST_TRIES
+        self.tries = MOST_TRIES if self.is_known() else FEW_TRIES
+        self.pause, self.next_at = 1, float("-inf")
 
     def check(self, moment: float) -> None:
         """Asks the kubelet, where there is a sign of a start."""
-        if self.tries and self.sources.alone is None:
-            self.tries -= 1
-            try:
-                self.see(asked(self.sources), moment)
-                self.tries = 0
-            except Failed as failed:
-                self.say(f"{failed}; {REMAINS}", "kubelet start")
-                self.guess(moment)
+        if self.tries and moment >= self.next_at:
+            self.ask(moment)
+
+    def ask(self, moment: float) -> bool:
+        """Asks the kubelet; whether it says when it was started."""
+        if self.sources.alone is not None:
+            return False
+        try:
+            self.see(asked(self.sources), moment)
+        except Failed as failed:
+            self.tries = max(self.tries - 1, 0)
+            self.next_at, self.pause = moment + self.pause, self.pause * 2
+            self.say(f"{failed}; {REMAINS}", "kubelet start")
+            self.guess(moment)
+            return False
+        self.tries = 0
+        return True
+
+    def is_same(self, moment: float) -> bool | None:
+        """Whether the kubelet says that it has not restarted since it was asked last; None where it won't say."""
+        has_said = self.ask(moment)
+        if self.news is not None:
+            return False
+        return True if has_said else None
 
     def see(self, started: float, moment: float) -> None:
         """The kubelet says when it was started, which is none where that is to come."""
@@ -172,39 +199,51 @@ class ListOfPods:
 
     def __init__(self) -> None:
         self.pods: dict[str, Pod] = {}
-        # since when a list may lack pods, and since when each of the kubelet's sources has shown some
+        # since when a list may lack pods, and since when each of the kubelet's sources shows some
         self.since: float | None = None
         self.shown_at: dict[str, float] = {}
+        # since when lists have lacked each pod that is kept
+        self.lacked_at: dict[str, float] = {}
 
     def begin_anew(self, moment: float) -> None:
         """The kubelet restarted, and learns its pods again."""
         self.since, self.shown_at = moment, {}
 
-    def lost(self, listed: Iterable[Pod]) -> list[Pod]:
-        """The pods that a list has no more, though they were neither told to go nor ended."""
-        uids = {pod.uid for pod in listed}
-        return [pod for uid, pod in self.pods.items() if uid not in uids and not pod.is_deleted and pod.ended is None]
+    def show(self, listed: list[Pod], moment: float) -> None:
+        """Takes which sources of the kubelet a list has pods of."""
+        self.shown_at = {source: self.shown_at.get(source, moment) for source in sorted(set(map(source_of, listed)))}
 
-    def take(self, listed: list[Pod], running: set[str], moment: float) -> list[Pod]:
-        """The pods of a list with those that it lacks too soon."""
-        for pod in listed:
-            self.shown_at.setdefault(source_of(pod), moment)
-        keys = {pod.key for pod in listed}
-        kept = [] if self.since is None else [pod for pod in self.lost(listed) if pod.key not in keys
-                                              and self.is_early(pod, running, moment)]
+    def lost(self, listed: list[Pod]) -> list[Pod]:
+        """The pods that a list has no more, though they were not told to go, and no other pod has their name."""
+        uids, keys = {pod.uid for pod in listed}, {pod.key for pod in listed}
+        return [pod for uid, pod in self.pods.items() if uid not in uids and pod.key not in keys and not pod.is_deleted]
+
+    def early(self, lost: list[Pod], there: Iterable[str], moment: float) -> list[Pod]:
+        """Those of some lost pods that are lost too soon after a start, where the runtime has containers of some."""
+        return [] if self.since is None else [pod for pod in lost if self.is_early(pod, there, moment)]
+
+    def is_early(self, pod: Pod, there: Iterable[str], moment: float) -> bool:
+        """Whether a list that lacks a pod says nothing of it, since its source has yet to show its pods. The kubelet
+        takes away the containers of pods that it knows to be gone, once all its sources have shown theirs."""
+        shown_at = self.shown_at.get(source_of(pod))
+        if shown_at is not None:
+            return moment - shown_at < SETTLE_SECONDS
+        return pod.uid in there or moment - (self.since or 0) < EMPTY_SECONDS
+
+    def doubtful(self, lost: list[Pod], moment: float) -> list[Pod]:
+        """Those of some lost pods that lists have not lacked for long, where the kubelet may have restarted."""
+        return [pod for pod in lost if moment - self.lacked_at.get(pod.uid, moment) < EMPTY_SECONDS]
+
+    def take(self, listed: list[Pod], kept: list[Pod], moment: float) -> list[Pod]:
+        """The pods of a list with those that are kept though it lacks them."""
         self.pods = {pod.uid: pod for pod in (*listed, *kept)}
+        self.lacked_at = {pod.uid: self.lacked_at.get(pod.uid, moment) for pod in kept}
         if self.since is not None and not kept and moment - self.since > EMPTY_SECONDS:
             self.since = None
         return sorted(self.pods.values(), key=lambda pod: pod.key)
 
-    def is_early(self, pod: Pod, running: set[str], moment: float) -> bool:
-        """Whether a list that lacks a pod says nothing of it, since its source has yet to show its pods."""
-        shown_at = self.shown_at.get(source_of(pod))
-        if shown_at is not None:
-            return moment - shown_at < SETTLE_SECONDS
-        return pod.uid in running or moment - (self.since or 0) < EMPTY_SECONDS
-
-    def vanished(self, lost: list[Pod], listed: Iterable[Pod]) -> bool:
+    @staticmethod
+    def vanished(lost: list[Pod], listed: Iterable[Pod]) -> bool:
         """Whether a source of which pods are gone shows none any more."""
         return bool({source_of(pod) for pod in lost} - {source_of(pod) for pod in listed})
 
@@ -213,7 +252,3 @@ def source_of(pod: Pod) -> str:
     """The source of the kubelet that a pod comes by: the node's files, or the API server."""
     return STATIC if pod.is_static else FROM_API
 
-
-def uids_running(instances: dict[str, list[Any]] | None, state: str) -> set[str]:
-    """The pods of which an instance is in a state."""
-    return {uid for uid, of_pod in (instances or {}).items() if any(each.state == state for each in of_pod)}

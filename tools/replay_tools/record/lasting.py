@@ -43,7 +43,7 @@ class LastingTimeline(Timeline):
         self.successes = {place: run for place, run in self.successes.items() if place[0] in uids}
 
     def begin_at(self, second: Any) -> None:
-        """All is written, and what comes stands behind a second, which may be an earlier one."""
+        """All is written, and what comes is after a second, which may be an earlier one."""
         self.ticks, self.last_placed = {}, {}
         self.next_second, self.latest = second + 1, second
 

@@ -17,7 +17,7 @@ from .part import PART, fields_of, opened, put
 
 NODE_LINE = b'{"kind":"node"'
 DAMAGES = (OSError, EOFError, zlib.error)
-# so much is unpacked at a look, to see whether what lies there is whole
+# so much is unpacked at a poll, to see whether what lies there is whole
 AT_ONCE = 1 << 20
 
 
@@ -30,7 +30,7 @@ class Scan:
 
 
 def scan_of(file: BinaryIO, until: float = float("inf")) -> Scan | None:
-    """A part up to a second, and what goes behind it; None where it is no trace: what was cut within its first line
+    """A part up to a second, and what goes after it; None where it is no trace: what was cut within its first line
     still begins as one."""
     found = Scan(os.fstat(file.fileno()).st_size)
     place = 0
@@ -46,7 +46,7 @@ def scan_of(file: BinaryIO, until: float = float("inf")) -> Scan | None:
             if second > until:
                 break
             found.last = second
-        # the pods of a second stand before its tick
+        # the pods of a second are before its tick
         if fields["kind"] != "pod" or until == float("inf"):
             found.whole = place
     return found
@@ -65,7 +65,7 @@ class Left:
         self.say = folder.say
 
     def end(self, is_stopped: Callable[[], bool] = lambda: False) -> None:
-        """Ends the traces that a recorder has left, and says what else lies there that is no whole trace. One that is
+        """Ends the traces that a recorder has left, and shows what else lies there that is no whole trace. One that is
         stopped ends the one that it is at."""
         self.put_ahead()
         with contextlib.suppress(OSError):
@@ -88,7 +88,7 @@ class Left:
             self.end_one(entry.removesuffix(f".{PART}"))
 
     def end_one(self, name: str) -> None:
-        """Ends one trace behind its last whole line."""
+        """Ends one trace after its last whole line."""
         path = self.folder.place(name, PART)
         found = scanned(path)
         if found is None:
@@ -101,7 +101,7 @@ class Left:
             if more:
                 cut_at(path, found.whole)
             made = self.ended(name, found.whole)
-            cut = f", without the {more} bytes behind its last whole line" if more else ""
+            cut = f", without the {more} bytes after its last whole line" if more else ""
             self.say(f"{name}.{PART} was left by a recorder that did not end: it is {made} now{cut}")
 
     def ended(self, name: str, size: int) -> str:
@@ -173,7 +173,7 @@ def scanned(path: str, until: float = float("inf")) -> Scan | None:
 
 
 def is_behind_a_line(file: BinaryIO, place: int) -> bool:
-    """Whether a place of a file, which is read from there on, is its begin or comes behind a line."""
+    """Whether a place of a file, which is read from there on, is its begin or comes after a line."""
     if place < 0 or place > os.fstat(file.fileno()).st_size:
         return False
     file.seek(max(place - 1, 0))
@@ -187,7 +187,7 @@ def last_of(data: bytes) -> float:
 
 
 def follows_of(folder: Folder, trace: Trace) -> dict[str, Any]:
-    """What the node line of a trace says that it follows."""
+    """What the node line of a trace shows that it follows."""
     try:
         with opened(os.path.join(folder.path, trace.name)) as file:
             packed = gzip.GzipFile(fileobj=file) if trace.name.endswith(PACKED) else None

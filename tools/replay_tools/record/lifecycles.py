@@ -1,12 +1,15 @@
-"""The pods of a trace from their coming until they have gone: which of them have a line, and what is said of them."""
+"""The pods of a trace from their coming until they have gone: which of them have a line, and what is reported of
+them."""
 
 from __future__ import annotations
 
 from collections.abc import Callable
+from dataclasses import replace
 from typing import TYPE_CHECKING
 
 from .decisions import EVICTED, REFUSED
 from .formats import MOST_PODS
+from .gates import turned, types_in
 from .runtime import EXITED, RUNNING
 from .seen import Recorded
 from .statuses import turns_between
@@ -26,15 +29,16 @@ GOING_SECONDS = 30
 ABSENCES = 2
 # for these a container waits that has not run yet
 INITIAL = ("ContainerCreating", "PodInitializing")
-# these last for longer than from one tick to the next, or are told by other things; others may be over by then
+# these last for longer than from one tick to the next, or are reported by other things; others may be over by then
 LASTING = (*INITIAL, "CrashLoopBackOff", "ImagePullBackOff")
-ANEW = "was made anew under its name, and is left out from here on"
+ANEW = "came again under its name, and is left out from here on"
 LEFT_OUT = {EVICTED: "the kubelet had evicted it before it was seen",
-            REFUSED: "the kubelet refused it, so it never ran"}
+            REFUSED: "the kubelet rejected it, so it never ran"}
 
 
 class Lifecycles:
-    """Follows the pods that come, and those that go until their containers have exited; `say` takes what is said."""
+    """Follows the pods that come, and those that go until their containers have exited; `say` takes what is
+    reported."""
 
     def __init__(self, timeline: Ticks, course: Course, containers: Containers, decisions: Decisions,
                  sampling: Sampling, say: Callable[..., None]) -> None:
@@ -58,7 +62,7 @@ class Lifecycles:
         self.deleted: set[str] = set()
         # when the kubelet was started last
         self.started_at: float = 0
-        # the second behind which the last pod of a name is no more
+        # the second after which the last pod of a name is no more
         self.gone_at: dict[str, int] = {}
 
     def followed(self) -> list[Recorded]:
@@ -69,7 +73,7 @@ class Lifecycles:
         return {pod.uid for pod in (*self.listed, *(recorded.pod for recorded in self.followed()))}
 
     def take(self, seen: Seen) -> None:
-        """Takes the pods of a look: those that are followed first, then those that come."""
+        """Takes the pods of a poll: those that are followed first, then those that come."""
         self.started_at = self.started_at if seen.kubelet_started is None else seen.kubelet_started
         if seen.pods is not None:
             self.listed, self.listed_at = seen.pods, seen.moment
@@ -85,7 +89,7 @@ class Lifecycles:
             self.decisions.take(pod, self.recorded.get(pod.uid), seen)
 
     def follow(self, recorded: Recorded, pod: Pod | None, seen: Seen) -> None:
-        """What a look shows of a pod that is there: it as it is listed, or that it is not."""
+        """What a poll shows of a pod that is there: it as it is listed, or that it is not."""
         if pod is None:
             if self.is_absent(recorded, seen):
                 self.see_deletion(recorded, None, seen)
@@ -97,15 +101,15 @@ class Lifecycles:
         self.see_status(recorded, pod, seen)
         if pod.is_deleted:
             self.see_deletion(recorded, pod, seen)
-        # the status of a pod that was evicted may be written anew
+        # the status of a pod that was evicted may be written again
         if pod.is_deleted or self.decisions.has(pod):
             self.see_going(recorded, pod, seen)
 
     # --- a pod comes ---
 
     def arrive(self, pod: Pod, seen: Seen) -> None:
-        """A pod comes: it is recorded, or left out, which is said once. It waits for the one before it under its name
-        to go."""
+        """A pod comes: it is recorded, or left out, which is reported once. It waits for the one before it under its
+        name to go."""
         reason = self.reason_to_leave_out(pod)
         before = next((each for each in self.followed() if each.pod.key == pod.key), None)
         if before is not None and not self.says_gone:
@@ -122,6 +126,7 @@ class Lifecycles:
             self.see_waits(recorded, pod.waits, seen)
             self.see_end(recorded, pod, seen)
             self.see_beside(recorded, pod, seen)
+            self.see_gates(recorded, pod, seen)
             self.see_ready(recorded, pod, seen)
             self.texts_left_out += pod.beside.left_out
             for name in pod.ruled:
@@ -150,7 +155,7 @@ class Lifecycles:
         created = [each.created / 1e9 for each in (seen.instances or {}).get(pod.uid, []) if each.created]
         return min([seen.moment, *created])
 
-    # --- what its status says ---
+    # --- what its status reports ---
 
     def see_status(self, recorded: Recorded, pod: Pod, seen: Seen) -> None:
         """What a list of pods says of one that is followed."""
@@ -159,6 +164,7 @@ class Lifecycles:
         self.decisions.take(pod, recorded, seen)
         self.see_end(recorded, pod, seen)
         self.see_beside(recorded, pod, seen)
+        self.see_gates(recorded, pod, seen)
         self.see_ready(recorded, pod, seen)
 
     def see_waits(self, recorded: Recorded, waits: dict[str, Reason], seen: Seen) -> None:
@@ -184,10 +190,23 @@ class Lifecycles:
             recorded.ended = pod.ended
 
     def see_beside(self, recorded: Recorded, pod: Pod, seen: Seen) -> None:
-        """What the object says beside what the formats read, where that is another than before."""
-        if pod.beside != recorded.beside:
-            recorded.beside = pod.beside
-            self.timeline.place_beside(recorded.pod, seen.moment, pod.beside)
+        """What the object reports next to what the formats read, where that is another than before. The extended format
+        reads the gates themselves."""
+        beside = replace(pod.beside, gates={}) if self.says_gone else pod.beside
+        if beside != recorded.beside:
+            recorded.beside = beside
+            self.timeline.place_beside(recorded.pod, seen.moment, beside)
+
+    def see_gates(self, recorded: Recorded, pod: Pod, seen: Seen) -> None:
+        """How the conditions of a pod's readiness gates have turned, each at its own moment. The status of a pod that
+        the node has ended may have lost its conditions."""
+        if not self.says_gone or pod.ended is not None:
+            return
+        for name, status in turned(types_in(recorded.pod.manifest), recorded.gates, pod.conditions).items():
+            # who sets the condition may have another clock
+            moment = seen.moment if status.at is None else min(status.at, seen.end)
+            recorded.gates[name] = status.is_true
+            self.timeline.place_condition(recorded.pod, name, moment, status.is_true, recorded.arrived)
 
     def see_ready(self, recorded: Recorded, pod: Pod, seen: Seen) -> None:
         """How the condition Ready of its status has turned. The first list that shows it has how it is."""
@@ -223,8 +242,8 @@ class Lifecycles:
         return any(exit_at >= since - 1 for exit_at in exits) or all(each.state != RUNNING for each in instances)
 
     def take_back(self, recorded: Recorded, pod: Pod, seen: Seen) -> None:
-        """A pod that was absent is listed again. Where it was taken for deleted that is taken back: where a line says
-        so, the pod has gone with it, and comes again."""
+        """A pod that was absent is listed again. Where it was taken for deleted that is taken back: where a line
+        reports so, the pod has gone with it, and comes again."""
         recorded.absences, recorded.absent_since = 0, None
         if not (recorded.went_absent and recorded.is_deleting) or pod.is_deleted:
             return
@@ -243,13 +262,24 @@ class Lifecycles:
     # --- a pod goes ---
 
     def see_deletion(self, recorded: Recorded, pod: Pod | None, seen: Seen) -> None:
-        """A pod was told to go, or is no longer listed: nothing of it is restarted from then on, which is said once."""
+        """A pod was told to go, or is no longer listed: nothing of it is restarted from then on, which is reported
+        once."""
         if self.says_gone and not recorded.is_deleting:
             recorded.is_deleting, recorded.went_absent = True, pod is None and recorded.pod.uid not in self.deleted
-            told_at = recorded.absent_since if pod is None else pod.deleted_at
+            told_at = self.missed_from(recorded, seen) if pod is None else pod.deleted_at
             moment = seen.moment if told_at is None else min(told_at, seen.end)
             deletion = {} if pod is None else pod.deletion
             self.timeline.place_deletion(recorded.pod, max(moment, recorded.arrived), deletion)
+
+    @staticmethod
+    def missed_from(recorded: Recorded, seen: Seen) -> float | None:
+        """Since when a pod is no longer listed: it went before its containers were stopped, so before the first exit
+        behind the last list that had it, and behind each start."""
+        last = recorded.absent_since
+        instances = (seen.instances or {}).get(recorded.pod.uid, [])
+        first = max([recorded.seen_at, *(each.started for each in instances if each.started is not None)])
+        exits = [each.finished for each in instances if each.finished is not None]
+        return min([at for at in exits if recorded.seen_at and last and first < at < last], default=last)
 
     def see_going(self, recorded: Recorded, pod: Pod | None, seen: Seen) -> None:
         """A pod is no longer listed, was told to go, or the kubelet ended it. It is gone once each of its containers
@@ -269,7 +299,7 @@ class Lifecycles:
             self.depart(recorded, seen, went_at(recorded, pod))
 
     def is_cleaned_up(self, recorded: Recorded) -> bool:
-        """Whether the kubelet has gone on behind the pod's eviction, which it does once the pod is cleaned up: by a new
+        """Whether the kubelet has gone on after the pod's eviction, which it does once the pod is cleaned up: by a new
         sample."""
         return recorded.evicted_at is None or self.sampling.newest > recorded.evicted_at
 
@@ -314,7 +344,7 @@ class Lifecycles:
 
 def went_at(recorded: Recorded, pod: Pod | None) -> float | None:
     """When a pod was told to go of which nothing ran then, so that the kubelet takes it for none that it may evict; a
-    list of pods may say that late. None of any other one."""
+    list of pods may show that late. None of any other one."""
     if pod is None or pod.deleted_at is None or recorded.evicted_at is not None:
         return None
     newest = [container.newest for container in recorded.containers.values()]

@@ -24,8 +24,8 @@ class TooLong(Exception):
 
 @dataclass(frozen=True)
 class Format:
-    """A version of the formats: whether it says that a pod goes, has gone, was ended or has no sample, and for how many
-    seconds no pod is evicted after an eviction unless the evicted one has ended (None where it can't say so); and
+    """A version of the formats: whether it shows that a pod goes, has gone, was ended or has no sample, and for how
+    many seconds no pod is evicted after an eviction unless the evicted one has ended (None where it can't say so); and
     whether the rules are to evict pods by themselves, or end those alone that the node has ended."""
     version: int
     says_gone: bool
@@ -59,13 +59,20 @@ def line_of_text(text: str) -> str:
     return text
 
 
-def pod_line(pod: Pod, says_spared: bool = True) -> str:
-    return line_of(pod_fields(pod.known_uid(), pod.manifest, says_spared and pod.is_spared, pod.is_guessed))
+def pod_line(pod: Pod, is_extended: bool = True) -> str:
+    """The line of a pod. In the standard format it has neither that the pod is exempt nor its readiness gates."""
+    manifest = pod.manifest if is_extended else without_gates(pod.manifest)
+    return line_of(pod_fields(pod.known_uid(), manifest, is_extended and pod.is_spared, pod.is_guessed))
+
+
+def without_gates(manifest: dict[str, Any]) -> dict[str, Any]:
+    spec = {name: value for name, value in manifest["spec"].items() if name != "readinessGates"}
+    return {**manifest, "spec": spec}
 
 
 def pod_fields(uid: str | None, manifest: dict[str, Any], is_spared: bool = False,
                is_guessed: bool = False) -> dict[str, Any]:
-    """The line of a pod, with its uid, which the formats don't read, where it is known, whether it is spared, and
+    """The line of a pod, with its uid, which the formats don't read, where it is known, whether it is exempt, and
     whether its manifest is made up."""
     return without_nones({"kind": "pod", "uid": uid, "pod": manifest, "spared": is_spared or None,
                           "guessed": ["manifest"] if is_guessed else None})
@@ -88,12 +95,12 @@ def container_fields(name: str, listing: Listing) -> dict[str, int | str]:
 
 def entry_of(pod: Pod, listings: dict[str, Listing], results: dict[tuple[str, str], str], usage: dict[str, int] | None,
              is_unsampled: bool, deletion: dict[str, Any] | None, asides: Asides,
-             failed: str | None = None, events: Sequence[Said] = (),
-             turns: Sequence[ReadyTurn] = ()) -> dict[str, Any] | None:
-    """One pod's entry of a tick: {container: listing}, {(container, probe): result}, its usage or None, whether it has
-    no sample from here on, what is known of its deletion where it is being deleted from here on, what stands beside,
-    for what the node has ended it here, what Events say of it, and how its condition Ready has turned; None where there
-    is nothing to say of it."""
+             failed: str | None = None, events: Sequence[Said] = (), turns: Sequence[ReadyTurn] = (),
+             conditions: dict[str, bool] | None = None) -> dict[str, Any] | None:
+    """One pod's entry of a tick: {container: listing}, {(container, probe): result}, its usage or None, and whether it
+    has no sample from here on. It also takes what is known of its deletion from here on, what else is known, for what
+    the node has ended it here, its Events, the turns of its condition Ready, and the statuses of its gates' conditions.
+    None if there is nothing to write."""
     containers = [container_fields(name, listing) | asides.of_container(pod, name)
                   | asides.of_listing(pod.uid, name, listing) for name, listing in sorted(listings.items())]
     probes = [{"container": name, "probe": probe, "result": results[name, probe]}
@@ -102,7 +109,8 @@ def entry_of(pod: Pod, listings: dict[str, Listing], results: dict[tuple[str, st
     waiting = asides.of_waits(pod, listings)
     said = without_nones({"probes": probes or None, "usage": usage or None, "unsampled": is_unsampled or None,
                           "deleting": None if deletion is None else True, "deletion": deletion or None,
-                          "failed": failed, "readinessGates": asides.of_gates(pod.uid), "waiting": waiting,
+                          "failed": failed, "conditions": conditions or None,
+                          "readinessGates": asides.of_gates(pod.uid), "waiting": waiting,
                           "readyTurns": [each.told() for each in turns[-MOST_EVENTS:]] or None,
                           "said": [each.told() for each in events[:MOST_EVENTS]] or None})
     return {"pod": pod.key, "containers": containers, **said} if containers or said else None

@@ -20,7 +20,7 @@ def compiled(*patterns: str) -> tuple[re.Pattern[str], ...]:
     return tuple(map(re.compile, patterns))
 
 
-# what stands in quotes behind one of these words is an image's name, which may say a user and a password
+# what is in quotes after one of these words is an image's name, which may say a user and a password
 OF_IMAGE = re.compile(r"""\b(?:image|reference|digest|ref) \\*["']([^"'\\\s]{1,255})\\*["']""")
 IMAGE = re.compile(r"[A-Za-z0-9][A-Za-z0-9._:/@-]{0,254}")
 # these have no words of others in them
@@ -37,7 +37,7 @@ BACK_OFF = compiled(rf"^[Bb]ack-off {SECONDS} restarting failed container"
                     rf"(?:={NAME}(?: pod={NAME}_{NAME}\([-0-9a-f]{{1,64}}\))?)?$")
 CONFIGURATION = compiled(rf"^(?:secret|configmap) \"{NAME}\" not found$",
                          rf"^couldn't find key {KEY} in (?:Secret|ConfigMap) {NAME}/{NAME}$")
-# what a volume lacks stands behind its name
+# what a volume lacks is after its name
 MOUNTS = compiled(rf"(?<= : )(?:secret|configmap) \"{NAME}\" not found$", r"timed out waiting for the condition$",
                   r"references non-existent (?:secret|config) key(?=: )")
 ENDED = compiled(
@@ -58,7 +58,7 @@ STOPPED = compiled(
     r"(?:Pod was rejected: )?Predicate [A-Za-z]{1,63} failed")
 STOPS = ("DeadlineExceeded", "Preempting", "Shutdown", "NodeShutdown", "Terminated", "NodeAffinity", "OutOfcpu",
          "OutOfmemory", "OutOfephemeral-storage", "OutOfpods")
-# what a kubelet says by an Event; a probe's output is the container's own words, but for a server's status
+# what a kubelet shows by an Event; a probe's output is the container's own words, but for a server's status
 PROBED = compiled(r"(?:Liveness|Readiness|Startup) probe (?:failed|errored)",
                   r"HTTP probe failed with statuscode: [0-9]{3}",
                   r"service unhealthy \(responded with \"NOT_SERVING\"\)",
@@ -87,10 +87,10 @@ KNOWN = {**dict.fromkeys(STARTS, FIXED), **dict.fromkeys(PULLS, FIXED), "CrashLo
 
 
 def image_kept(name: str) -> str | None:
-    """An image's name without the user and the password that may stand before its registry; None where it is none."""
+    """An image's name without the user and the password that may be before its registry; None where it is none."""
     name = re.sub(r"^[a-z]+://", "", name)
     host, slash, rest = name.partition("/")
-    # a digest has the sign too, behind the last slash alone
+    # a digest has the sign too, after the last slash alone
     if slash and "@" in host:
         name = host.rpartition("@")[2] + slash + rest
     elif not slash and "@" in name and not re.search(r"@sha256:[0-9a-f]{64}$", name):

@@ -1,5 +1,5 @@
 """What a recorder has seen of its node since it began, as OpenMetrics text in a file that a node exporter reads. It is
-made of the lines that are written, by what is known at a border between traces. What only rises is a counter, which
+made of the lines that are written, by what is known at a rotation between traces. What only rises is a counter, which
 begins at 0 again with the recorder; all else is a gauge."""
 
 from __future__ import annotations
@@ -44,7 +44,7 @@ Labels = tuple[tuple[str, str], ...]
 
 
 class Metrics:
-    """Counts what the lines say, and writes that into a file; `say` takes what is said where it can't."""
+    """Counts what the lines show, and writes that into a file; `say` takes what is reported where it can't."""
 
     def __init__(self, path: str, say: Callable[..., None]) -> None:
         self.path = path
@@ -73,7 +73,7 @@ class Metrics:
                 self.take_tick(record, {} if since is None else dict.fromkeys(unready, record["at"] - since))
 
     def assume(self, probed: dict[str, Any]) -> None:
-        """Takes what the pods' statuses say at the first tick."""
+        """Takes what the pods' statuses report at the first tick."""
         self.standing.assume(probed)
 
     def take_tick(self, tick: dict[str, Any], unready: dict[str, int]) -> None:
@@ -92,7 +92,7 @@ class Metrics:
                 self.counts["ended"][("reason", entry["failed"]),] += 1
 
     def take_container(self, key: str, name: str, container: Container, ended: dict[str, Any] | None) -> None:
-        """What has become of a container since the tick before: another instance, behind one that ended so, an exit, a
+        """What has become of a container since the tick before: another instance, after one that ended so, an exit, a
         kill that is ordered."""
         listing = container.listing
         if listing is None:
@@ -191,7 +191,7 @@ def lasting(pod: Pod) -> list[Container]:
 
 def is_ready(pod: Pod) -> bool:
     """Whether all its containers run and have passed what their probes want, and its readiness gates are true."""
-    return all(map(is_container_ready, lasting(pod))) and all((pod.gates or {}).values()) and pod.failed is None
+    return all(map(is_container_ready, lasting(pod))) and pod.are_gates_true() and pod.failed is None
 
 
 def is_container_ready(container: Container) -> bool:

@@ -5,7 +5,7 @@ from __future__ import annotations
 from typing import Any
 
 from replay_tools import amounts
-from replay_tools.traces import Threshold, thresholds_of
+from replay_tools.signals import Threshold, thresholds_of
 
 # a signal below this many times its threshold is near it
 NEAR_TIMES = 2

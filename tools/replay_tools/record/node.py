@@ -9,7 +9,7 @@ from dataclasses import dataclass
 from fractions import Fraction
 from typing import Any, TYPE_CHECKING
 
-from replay_tools.traces import SIGNALS
+from replay_tools.signals import SIGNALS
 
 from .answers import read_json
 from .formats import (at_place, duration_fault, first_fault, is_percentage, limit_fault, name_fault, percentage_fault,
@@ -36,7 +36,7 @@ GO_UNITS = {"h": Fraction(3600), "m": Fraction(60), "s": Fraction(1), "ms": Frac
 
 @dataclass
 class NodeLine:
-    """A node line, and what is to be said of it."""
+    """A node line, and what is to be reported of it."""
     fields: dict
     notes: list
 

@@ -8,7 +8,7 @@ from dataclasses import replace
 from typing import Any, TYPE_CHECKING
 
 from .events import Asking, failing, has_changed, ready_in, said_in
-from .kubelet_start import KubeletStart, ListOfPods, uids_running
+from .kubelet_start import KubeletStart, ListOfPods
 from .logs import kept_of, lines_of
 from .near import Nearness
 from .pods import pods_of
@@ -55,9 +55,9 @@ KUBELETS = {PROBES, PODS, SUMMARY}
 MEANWHILE = {
     RUNTIME: "ticks wait for it up to 30 s, and then list containers as unknown",
     PROBES: "ticks wait for it up to 30 s; its results are written once it answers",
-    PODS: "the pods stand as they were",
-    SUMMARY: "signals stand as last sampled, up to 60 s",
-    EVENTS: "what they would say is left out",
+    PODS: "the pods remain as they were",
+    SUMMARY: "signals remain as last sampled, up to 60 s",
+    EVENTS: "their content is left out",
     NODE: "whether it is Ready is left out",
 }
 
@@ -176,19 +176,33 @@ class Observer:
         self.start.see_counts(self.counters, counters)
         if was_silent:
             self.start.suspect()
-            self.list.begin_anew(moment)
         self.start.check(moment)
+        # the list of pods may be silent yet
+        if was_silent or self.start.news is not None:
+            self.list.begin_anew(moment)
 
     def whole_list(self, listed: list[Pod], moment: float) -> list[Pod]:
-        """The pods of a list of the kubelet's. One that lacks pods too soon after a start lacks none of them."""
-        lost = self.list.lost(listed)
-        if lost:
-            self.start.suspect()
-            self.start.check(moment)
-        is_unknown = not self.start.is_known() and self.list.since is None
-        if self.start.news is not None or (lost and is_unknown and self.list.vanished(lost, listed)):
-            self.list.begin_anew(moment)
-        return self.list.take(listed, uids_running(self.instances, RUNNING), moment)
+        """The pods of a list, with those that it lacks though they may be there: too soon after a start of the kubelet,
+        or where the kubelet may have restarted since it listed them."""
+        self.list.show(listed, moment)
+        there, lost = self.instances or {}, self.list.lost(listed)
+        kept = self.list.early(lost, there, moment)
+        if len(kept) < len(lost):
+            if self.is_same_kubelet(lost, listed, moment):
+                return self.list.take(listed, kept, moment)
+            if self.start.news is not None:
+                self.list.begin_anew(moment)
+                self.list.show(listed, moment)
+            kept = [*self.list.early(lost, there, moment), *self.list.doubtful(lost, moment)]
+        return self.list.take(listed, kept, moment)
+
+    def is_same_kubelet(self, lost: list[Pod], listed: list[Pod], moment: float) -> bool:
+        """Whether the kubelet, asked after a list that lacks pods, is the one that listed them: by its own word, or if
+        it has never given that, as it was never silent, counts did not fall, and each of its sources shows pods."""
+        is_same = self.start.is_same(moment)
+        if is_same is not None or self.start.is_known():
+            return bool(is_same)
+        return not self.silent.keys() & KUBELETS and not self.list.vanished(lost, listed)
 
     def events(self, moment: float) -> dict[str, list[Said]]:
         """The Events of pods in which something has happened some moments ago, by their uids."""
@@ -284,7 +298,7 @@ class Observer:
     def take_pods(self, moment: float) -> list[Pod]:
         self.asked_at[PODS] = moment
         pods = pods_of(self.sources.pods(), self.sources.pods_name())
-        if self.sources.kubelet is not None:
+        if self.sources.alone is None:
             pods = self.whole_list(pods, moment)
         self.lacks_pods = not self.lacks_pods and not self.listed_pods.keys() <= {pod.uid for pod in pods}
         if self.pods_answers:

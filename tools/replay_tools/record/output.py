@@ -32,7 +32,7 @@ class Output:
         self.is_stopped = False
 
     def interrupt(self, *_: object) -> None:
-        """The first one ends what is done, those behind it do not end that end."""
+        """The first one ends what is done, those after it do not end that end."""
         is_first, self.is_stopped = not self.is_stopped, True
         if is_first and not self.is_busy:
             raise Stopped

@@ -12,12 +12,12 @@ if TYPE_CHECKING:
     from .folder import Folder
     from .part import Part
 
-# where these are said there is no room
+# where these are reported there is no room
 FULL = (errno.ENOSPC, errno.EDQUOT)
 
 
 class Packing:
-    """Packs traces that have at most so many seconds; `room` is what stays beside them for those that are written."""
+    """Packs traces that have at most so many seconds; `room` is what stays next to them for those that are written."""
 
     def __init__(self, folder: Folder, longest: int, room: int, say: Callable[..., None]) -> None:
         self.folder = folder

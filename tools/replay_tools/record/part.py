@@ -106,7 +106,8 @@ class Part:
             else:
                 self.ahead.keep(self.name, self.size, data)
                 # whoever reads it meanwhile finds whole lines
-                os.ftruncate(self.descriptor, self.size)
+                if self.tail:
+                    os.ftruncate(self.descriptor, self.size)
                 put(self.descriptor, data, self.size)
         except OSError:
             # where this fails too, what is packed ends before it

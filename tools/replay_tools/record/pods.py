@@ -3,6 +3,7 @@ read and no others, so neither its status nor what a container is told in its en
 
 from __future__ import annotations
 
+import functools
 import re
 from collections.abc import Iterator
 from dataclasses import dataclass, field
@@ -12,10 +13,11 @@ from .answers import read_parts
 from .decisions import ENDED, Decision, end_of
 from .formats import (at_place, first_fault, is_whole, label_fault, name_fault, quantity_fault, whole_fault,
                       without_nones)
+from .gates import gates_of, pod_resources, statuses_in
 from .reasons import reason_of, waits_in
 from .runtime import End, code_fault, moment_of
 from .sources import Failed, reads
-from .statuses import Beside, ReadyTurn, beside_in, deletion_in, picked, ready_turn_in, resources_of, with_quantities
+from .statuses import Beside, ReadyTurn, beside_in, deletion_in, picked, ready_turn_in, resources_of
 
 if TYPE_CHECKING:
     from .answers import Answer
@@ -40,8 +42,8 @@ class Pod:
     and whether it is ready. `ended` is the decision by which the node has ended it, of whatever kind, and `is_spared`
     whether a kubelet evicts it for no lack of the node's. `ruled` names its containers whose own rules of restarts are
     left out, and `deletion` has by whom it is deleted, and its grace. `is_static` is whether the kubelet has it of a
-    file, `is_guessed` that its manifest is made up, and `ready` its condition Ready with the moment at which that
-    turned."""
+    file, `is_guessed` that its manifest is made up, `ready` its condition Ready with the moment at which that turned,
+    and `conditions` the statuses of its conditions by their types, if it has readiness gates."""
     key: str
     uid: str
     manifest: dict
@@ -61,6 +63,7 @@ class Pod:
     is_static: bool = False
     is_guessed: bool = False
     ready: Optional[ReadyTurn] = field(default=None, compare=False)
+    conditions: dict = field(default_factory=dict, compare=False)
 
     def known_uid(self) -> str | None:
         """Its uid as a trace has it; None where its source says none, or one that no cluster gives."""
@@ -68,7 +71,11 @@ class Pod:
 
     def containers(self) -> list[str]:
         """The names of its containers, init containers first."""
-        return [container["name"] for container in all_containers(self.manifest)]
+        return list(self.names_in_order)
+
+    @functools.cached_property
+    def names_in_order(self) -> tuple[str, ...]:
+        return tuple(container["name"] for container in all_containers(self.manifest))
 
     def probe(self, container_name: str, probe: str) -> dict[str, int]:
         """The fields of a container's probe; none where it has none."""
@@ -129,7 +136,7 @@ def pod_of(item: Any) -> Pod:
                metadata.get("deletionTimestamp") is not None, deleted_at(metadata), ends_in(status), waits_in(item),
                probed_in(status), ended, is_spared(metadata, item.get("spec") or {}), tuple(ruled),
                beside_in(item, RESOURCES), deletion_in(item), is_static(metadata), item.get("guessed") == ["manifest"],
-               ready_turn_in(status))
+               ready_turn_in(status), statuses_in(item))
 
 
 def is_spared(metadata: dict[str, Any], spec: dict[str, Any]) -> bool:
@@ -220,15 +227,9 @@ def manifest_of(item: Any) -> dict[str, dict[str, Any]]:
             "spec": without_nones({
                 "restartPolicy": spec.get("restartPolicy"), "priority": spec.get("priority"),
                 "terminationGracePeriodSeconds": spec.get("terminationGracePeriodSeconds"),
-                "resources": pod_resources(spec),
+                "resources": pod_resources(spec), "readinessGates": gates_of(spec),
                 "initContainers": None if inits is None else [container_of(each, True) for each in inits],
                 "containers": [container_of(each, False) for each in spec["containers"]]})}
-
-
-def pod_resources(spec: dict[str, Any]) -> dict[str, Any] | None:
-    """The requests and limits of all containers together, which the formats do not read."""
-    found = resources_of(spec.get("resources"), RESOURCES)
-    return None if found is None else with_quantities(found)
 
 
 def with_own_rules(item: Any) -> list[str]:

@@ -20,7 +20,7 @@ PROBES = ("startup", "liveness", "readiness")
 RESULTS = ("failure", "success", "unknown")
 # what a kubelet takes a probe to find before its first result
 FIRST = {"startup": "failure", "liveness": "success", "readiness": "failure"}
-# results of a probe beside one each period: at its begin, and at both ends of what is counted
+# results of a probe next to one each period: at its begin, and at both ends of what is counted
 MOST_BESIDE = 3
 PROBE_WORDS = {"Startup": "startup", "Liveness": "liveness", "Readiness": "readiness"}
 RESULT_WORDS = {"successful": "success", "failed": "failure", "unknown": "unknown"}
@@ -30,7 +30,7 @@ LABEL = re.compile(r'([a-z_]+)="([^"]*)"')
 
 @dataclass(frozen=True)
 class Result:
-    """One result of a container's probe; its moment is inferred where there are several between two looks."""
+    """One result of a container's probe; its moment is inferred where there are several between two polls."""
     moment: float
     probe: str
     result: str
@@ -55,7 +55,8 @@ def most_results(period: int, seconds: float) -> float:
 
 
 def have_begun_anew(before: dict[str, int], now: dict[str, int], most: float) -> bool:
-    """Whether the counts of one probe began anew, as they do with the kubelet: one fell, and there was time for all."""
+    """Whether the counts of one probe began again, as they do with the kubelet: one fell, and there was time for
+    all."""
     return any(now.get(result, 0) < count for result, count in before.items()) and sum(now.values()) <= most
 
 
@@ -66,7 +67,7 @@ def grown(before: dict[str, int], now: dict[str, int]) -> dict[str, int]:
 
 def results_of(probe: str, growth: dict[str, int], period: int, since: float, until: float,
                last: Optional[str] = None) -> list[Result]:
-    """The results of one probe between two looks, in an order: those that equal the last one before them first, as a
+    """The results of one probe between two polls, in an order: those that equal the last one before them first, as a
     probe goes on with what it found, then failures before a success; the last at the later look and each other one a
     period before the next, but none before the earlier look."""
     last = FIRST[probe] if last is None else last

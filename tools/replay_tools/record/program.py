@@ -27,7 +27,7 @@ if TYPE_CHECKING:
     from .sources import Sources
     from .words import Words
 
-# a recorder that goes on for ever does not grow by what it has said
+# a recorder that goes on for ever does not grow by what it has reported
 MOST_REMEMBERED = 10000
 # the next look comes so soon where the kubelet may evict, was just started, or a container has just failed
 SOON_SECONDS = 1
@@ -81,7 +81,7 @@ class Recording:
             first = self.recorder.begin(node_line)
             self.observer.near.know(node_line.fields)
         except (Failed, TooLong) as failed:
-            raise Ended(1, f"nothing recorded: {failed} (--check says which sources work)") from None
+            raise Ended(1, f"nothing recorded: {failed} (--check shows which sources work)") from None
         with self.output.undisturbed():
             self.output.write([first])
             self.recorder.take(seen)
@@ -90,7 +90,7 @@ class Recording:
                 self.metrics.take([first])
 
     def count(self, due: list[Any]) -> None:
-        """Counts what was settled at a look, for the file of metrics."""
+        """Counts what was settled at a poll, for the file of metrics."""
         if self.metrics is not None and due:
             is_first = self.metrics.standing.at is None
             for lines, _ in due:
@@ -168,7 +168,7 @@ def recorded(words: Words, sources: Sources, clock: Any, say: Callable[..., None
 
 
 def watch(output: Traces | Output, recording: LastingRecording | Recording, say: Callable[..., None]) -> int:
-    """Runs a recording until its end or an interrupt, behind which none is heard any more; the status."""
+    """Runs a recording until its end or an interrupt, after which none is heard any more; the status."""
     try:
         for number in INTERRUPTS:
             signal.signal(number, output.interrupt)
@@ -200,7 +200,7 @@ def checked(words: Words, sources: Sources) -> int:
 
 
 def main(arguments: list[str], clock: Any = None, make_sources: Callable[..., Any] | None = None) -> int:
-    """The program, with a clock and sources that tests can stand in for; its status."""
+    """The program, with a clock and sources that tests can replace; its status."""
     say = Says()
     if "--help" in arguments or "-h" in arguments:
         print(help_text(), end="")
@@ -208,7 +208,7 @@ def main(arguments: list[str], clock: Any = None, make_sources: Callable[..., An
     try:
         words = words_of(arguments)
     except BadWord as bad:
-        say(f"{bad} (--help says more)")
+        say(f"{bad} (see --help)")
         return 2
     asked = words.node, words.kubelet, words.curl_file
     sources = kept_sources(*asked, say) if make_sources is None else make_sources(*asked)

@@ -10,12 +10,12 @@ from .formats import whole_fault, without_nones
 from .messages import message_kept
 
 OUT_OF_MEMORY = "OOMKilled"
-# what a runtime says where it knows no more than the code
+# what a runtime shows where it knows no more than the code
 PLAIN = ("Error", "")
 LONGEST_REASON = 64
 MOST_ATTEMPTS = 2 ** 31 - 1
 WORD = re.compile(rf"[A-Za-z][A-Za-z0-9]{{0,{LONGEST_REASON - 1}}}")
-# a reason with its message behind it, as a kubelet writes that of a hook
+# a reason with its message after it, as a kubelet writes that of a hook
 WITH_MESSAGE = re.compile(rf"(?P<word>[A-Za-z][A-Za-z0-9]{{0,{LONGEST_REASON - 1}}}Error): (?P<message>.*)", re.DOTALL)
 # in place of a reason that is no word of the runtime's or the kubelet's
 OTHER = "Other"
@@ -23,8 +23,8 @@ OTHER = "Other"
 
 @dataclass(frozen=True)
 class Reason:
-    """One word of why, and what is kept of the message that stood beside it; whether a message was left out, since
-    nothing of it is known to have no secret; of a wait the attempt behind which it is, if that is known; and of an exit
+    """One word of why, and what is kept of the message that stood next to it; whether a message was left out, since
+    nothing of it is known to have no secret; of a wait the attempt after which it is, if that is known; and of an exit
     what is kept of the last lines that its container wrote, and of how many nothing is."""
     word: str
     message: Optional[str] = None
@@ -68,7 +68,7 @@ def waits_of(statuses: list[dict[str, Any]] | None) -> dict[str, Reason]:
 
 
 def better(ours: Reason | None, theirs: Reason | None) -> Reason | None:
-    """The reason that says more: the runtime's own, but for a plain one."""
+    """The reason that shows more: the runtime's own, but for a plain one."""
     is_plain = ours is None or ours.word in PLAIN
     if not is_plain or theirs is None or theirs.word in PLAIN:
         return ours

@@ -1,4 +1,4 @@
-"""The core of the recorder: from what was seen at each look to the lines of a trace. It asks nothing itself."""
+"""The core of the recorder: from what was seen at each poll to the lines of a trace. It asks nothing itself."""
 
 from __future__ import annotations
 
@@ -25,7 +25,7 @@ HELD_SECONDS = 4
 
 
 class Recorder:
-    """Makes the lines of a trace in a format, with a tick at least every some seconds; `say` takes what is said."""
+    """Makes the lines of a trace in a format, with a tick at least every some seconds; `say` takes what is reported."""
 
     def __init__(self, trace_format: Format, every: int, say: Callable[..., None],
                  timeline: Timeline | None = None) -> None:
@@ -56,7 +56,7 @@ class Recorder:
     # --- what is seen ---
 
     def take(self, seen: Seen) -> None:
-        """Takes what a look saw; what happened is planned once the runtime and the probes have both answered."""
+        """Takes what a poll saw; what happened is planned once the runtime and the probes have both answered."""
         self.check_clock(seen.moment)
         if self.course.is_first:
             self.take_first(seen)
@@ -78,15 +78,15 @@ class Recorder:
         self.course.is_first = False
 
     def take_first(self, seen: Seen) -> None:
-        """The recording begins with the first look, which wants a tick."""
+        """The recording begins with the first look, which needs a tick."""
         self.course.begun = self.course.planned_at = seen.moment
         self.containers.listed_at = self.sampling.sampled_at = seen.moment
         self.counts.begin(seen.counters or {}, seen.moment)
         self.timeline.place_look(seen.moment)
 
     def take_events(self, seen: Seen) -> None:
-        """Whether the node is Ready; and what is said of pods, once of each time that an Event was. What was said
-        before the recording is not."""
+        """Whether the node is Ready; and what is reported of pods, once of each time that an Event was. What was
+        reported before the recording is not."""
         begun = self.course.begun
         if seen.ready is not None and seen.ready != self.ready:
             self.ready = seen.ready
@@ -105,8 +105,8 @@ class Recorder:
     def check_clock(self, moment: float) -> None:
         is_behind = int(moment) < self.timeline.next_second - 1
         if is_behind and not self.is_behind:
-            self.say(f"{int(moment)}: the clock is behind the last tick: until it has passed that, what happens is "
-                     "written a second after what came before")
+            self.say(f"{int(moment)}: the last tick is later than the clock: until the clock has passed it, each event "
+                     "is written a second after the one before")
         self.is_behind = is_behind
 
     def plan(self, moment: float) -> None:

@@ -11,7 +11,7 @@ if TYPE_CHECKING:
     from .summary import Sample
 
 MEMORY = "memory.available"
-# behind an eviction the kubelet waits so long at most for the pod to end, and others have a sample taken then
+# after an eviction the kubelet waits so long at most for the pod to end, and others have a sample taken then
 WAIT_SECONDS = 30
 # a round in which it evicts is followed by the next one sooner than any other, once the pod has ended
 SOON_SECONDS = 8
@@ -29,7 +29,7 @@ class Rounds:
 
     def __init__(self) -> None:
         self.moments: dict[str, float] = {}
-        # a sample within the wait behind an eviction, which is a round if another follows soon
+        # a sample within the wait after an eviction, which is a round if another follows soon
         self.pending: float | None = None
 
     def of(self, samples: dict[str, Sample], below: frozenset[str], evicted_at: int | None) -> Iterator[float]:

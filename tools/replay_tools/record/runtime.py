@@ -41,7 +41,7 @@ class Instance:
 
 @dataclass(frozen=True)
 class End:
-    """How an instance ended, as its pod's status says it; moments as those of an instance."""
+    """How an instance ended, as its pod's status reports it; moments as those of an instance."""
     started: Optional[float]
     finished: Optional[float]
     exit_code: int

@@ -42,7 +42,7 @@ class Sampling:
         self.rounds = rounds.Rounds()
 
     def take(self, seen: Seen, followed: Iterable[Recorded]) -> None:
-        """Samples of the kubelet's that are new stand at their own moments. Those of signals want a tick, but for one
+        """Samples of the kubelet's that are new are at their own moments. Those of signals want a tick, but for one
         that is counted when it is asked, where it is not near its threshold; usage is in the next one."""
         self.take_throttled(seen, followed)
         summary = seen.summary
@@ -78,7 +78,7 @@ class Sampling:
 
     def see_first_sample(self, recorded: Recorded, usage: dict[str, Sample], seen: Seen) -> None:
         """The first sample of a pod that came late: until its moment the kubelet had none, and evicts it before all
-        others. That is said where it may evict."""
+        others. That is reported where it may evict."""
         sample = usage.get(MEMORY)
         is_late = not self.course.is_first and recorded.arrived > int(self.course.begun) and not recorded.sampled_at
         if self.says_gone and is_late and not recorded.usage and recorded.unsampled_at is None and sample is not None \
@@ -118,8 +118,8 @@ class Sampling:
 
     def see_unsampled(self, recorded: Recorded, seen: Seen) -> None:
         """A summary without a pod that has run: the kubelet has no sample of it, and evicts it before all others. That
-        is said once, until a sample comes, and from the newest sample of the node on, by which the kubelet decides; but
-        behind an exit since, as an eviction leads to."""
+        is reported once, until a sample comes, and from the newest sample of the node on, by which the kubelet decides;
+        but after an exit since, as an eviction leads to."""
         if recorded.pod.uid in self.sampled:
             recorded.sampled_at, recorded.unsampled_at = seen.moment, None
             return
@@ -160,7 +160,7 @@ class Sampling:
             self.timeline.place_round(max(self.course.begun, confirmed))
 
     def sampled_for(self, seen: Seen) -> float | None:
-        """When the kubelet took the sample by which it evicted a pod that a look shows as evicted: the newest of its
+        """When the kubelet took the sample by which it evicted a pod that a poll shows as evicted: the newest of its
         memory. None where that is not known, or long ago."""
         samples = self.samples if seen.summary is None else seen.summary.signals
         sample = samples.get(rounds.MEMORY)

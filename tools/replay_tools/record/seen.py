@@ -1,4 +1,4 @@
-"""What a look of the recorder saw, what is known of a pod that it follows, and how far the recording has come."""
+"""What a poll of the recorder saw, what is known of a pod that it follows, and how far the recording has come."""
 
 from __future__ import annotations
 
@@ -51,14 +51,15 @@ class Seen:
 class Recorded:
     """A pod of the trace, the second of its line, that from which on its containers change, what was seen of them, and
     what is not planned yet. `usage` has its newest samples, `sampled_at` is when a summary had it last, `unsampled_at`
-    since when none has it; `waits` says why its containers wait, `waited` behind which attempts they have, and `found`
+    since when none has it; `waits` shows why its containers wait, `waited` after which attempts they have, and `found`
     what each of their probes found last. `ended` is the decision by which the node has ended it, `ended_at` when that
-    was seen; `beside` is what was placed of what its object says beside, `used_at` has the moments of the newest
+    was seen; `beside` is what was placed of what else its object reports, `used_at` has the moments of the newest
     samples of its containers, `throttled` for how long the newest instances were throttled, by the ids of these, and
     `said` how often each Event was by then. `absent_since` is when the first of the last lists was taken that lack it,
     `absences` how many these are, and `went_absent` that it was taken for deleted by them alone; `ready` is its
-    condition Ready as it was placed last, and `seen_at` when a list had it last; `probed` has what its status says of
-    its probes, and `shown` of which instances that was taken for results."""
+    condition Ready as it was placed last, and `seen_at` when a list had it last; `probed` has what its status reports
+    of its probes, and `shown` of which instances that was taken for results; `gates` has the statuses of its readiness
+    gates' conditions as they were placed last."""
     pod: Pod
     arrived: int
     changes_from: int
@@ -88,6 +89,7 @@ class Recorded:
     seen_at: float = 0
     probed: dict[str, tuple] = field(default_factory=dict)
     shown: dict[str, tuple] = field(default_factory=dict)
+    gates: dict[str, bool] = field(default_factory=dict)
 
 
 @dataclass

@@ -1,5 +1,5 @@
 """Takes traces away from the node: a command of the operator's is run for each whole trace, one at a time and in their
-order, beside the recording. One that fails, or takes too long, is run again; what was taken is kept in a file of the
+order, next to the recording. One that fails, or takes too long, is run again; what was taken is kept in a file of the
 folder."""
 
 from __future__ import annotations
@@ -45,7 +45,7 @@ class Shipment:
         said = b""
         if self.process.stderr is not None:
             with contextlib.suppress(BlockingIOError):
-                # one that never ends to say something is not listened to for longer at a look
+                # one that never ends to say something is not listened to for longer at a poll
                 for _ in range(MOST_PARTS):
                     part = os.read(self.process.stderr.fileno(), PART_BYTES)
                     said += part
@@ -64,7 +64,7 @@ class Shipment:
 
 
 class Shipping:
-    """Runs a command for each trace of a folder that has ended; `say` takes what is said."""
+    """Runs a command for each trace of a folder that has ended; `say` takes what is reported."""
 
     def __init__(self, words: tuple[str, ...], folder: Folder, say: Callable[..., None],
                  now: Callable[[], float] = time.monotonic) -> None:
@@ -76,7 +76,7 @@ class Shipping:
         # the names of the traces that were taken away, of those that are still there
         self.taken = self.read()
         self.shipment: Optional[Shipment] = None
-        # the begin of what the command says
+        # the begin of what the command shows
         self.said = b""
         self.again_at = 0.0
         self.failures = 0
@@ -130,7 +130,7 @@ class Shipping:
             self.fail(trace, f"can't be started: {why(error)}")
 
     def see_end(self, shipment: Shipment) -> None:
-        """Takes what the command says, and its end."""
+        """Takes what the command shows, and its end."""
         status = shipment.process.poll()
         self.said = (self.said + shipment.listen())[:MOST_SAID]
         if status is None:
@@ -187,5 +187,5 @@ class Shipping:
 
 
 def place_of(trace: Trace) -> tuple[int, int]:
-    """Where a trace stands in the order of the folder's."""
+    """Where a trace is in the order of the folder's."""
     return trace.begun, trace.number

@@ -25,7 +25,7 @@ ENDPOINT_SECONDS = 10
 # the longest answer that is read
 MOST_BYTES = 32 << 20
 PART_BYTES = 1 << 16
-# what is kept of what a command says on standard error
+# what is kept of what a command shows on standard error
 MOST_SAID = 1 << 12
 MOST_SHOWN = 300
 
@@ -38,7 +38,7 @@ PACKAGE = os.path.dirname(os.path.dirname(os.path.realpath(__file__)))
 
 
 class Failed(Exception):
-    """A source that gave no answer, or none that can be read; its text says which source, and why."""
+    """A source that gave no answer, or none that can be read; its text shows which source, and why."""
 
 
 class Refused(Failed):
@@ -121,7 +121,7 @@ def read_outputs(process: subprocess.Popen[bytes], until: float, take: Callable[
 
 
 def in_a_thread(work: Callable[[], None]) -> None:
-    """Begins some work beside what goes on; Failed where it can't be begun. It hears no interrupt."""
+    """Begins some work next to what goes on; Failed where it can't be begun. It hears no interrupt."""
     before = signal.pthread_sigmask(signal.SIG_BLOCK, INTERRUPTS)
     try:
         threading.Thread(target=work, daemon=True).start()
@@ -146,7 +146,7 @@ def reads(what: str) -> Callable[..., Any]:
 
 def place_of(fault: BaseException) -> str:
     """Which fault it is, and where in these tools it came up, so that one of the tools themselves is found. The fault's
-    own text may have words of the answer, which are told to nobody."""
+    own text may have words of the answer, which are reported to nobody."""
     place, step = "", fault.__traceback__
     while step is not None:
         path = step.tb_frame.f_code.co_filename
@@ -190,7 +190,7 @@ class Sources:
     curl_file: Optional[str] = None
     run: Callable[[list[str], float], Answer] = run_command
     read: Callable[[list[str], float, Callable[[bytes], None]], None] = read_command
-    # begins what is asked beside the looks
+    # begins what is asked in parallel with the polls
     beside: Callable[[Callable[[], None]], None] = in_a_thread
     keeps: Optional[KubeletConnection] = None
     crictl: tuple[str, ...] = ("crictl",)
@@ -215,7 +215,7 @@ class Sources:
 
     @staticmethod
     def answer(what: str, ask: Callable[..., Any]) -> Answer:
-        """An answer; where none comes it is said of what."""
+        """An answer; where none comes it is reported of what."""
         try:
             return ask()
         except Failed as failed:
@@ -234,12 +234,12 @@ class Sources:
             return self.alone.pods(self.listed()) if path == "pods" else self.alone.answers[path]
         if self.keeps is not None and self.keeps.works():
             return self.answer(f"/{path}", functools.partial(self.keeps.endpoint, path))
-        # the command's own time-out comes first, and says more
+        # the command's own time-out comes first, and shows more
         return self.ask(f"/{path}", self.endpoint_words(path), ENDPOINT_SECONDS + 5)
 
     def stream(self, path: str, take: Callable[[bytes], None]) -> None:
-        """Gives an answer of the kubelet's to `take`, part by part; Failed where none comes. It may be asked beside the
-        other ones."""
+        """Gives an answer of the kubelet's to `take`, part by part; Failed where none comes. It may be asked next to
+        the other ones."""
         if self.keeps is not None and self.keeps.works():
             self.answer(f"/{path}", functools.partial(self.keeps.read, path, take))
         else:

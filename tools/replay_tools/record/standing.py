@@ -1,4 +1,4 @@
-"""What is known at a border between two traces. It is read from the lines that were written, by the rules that the
+"""What is known at a rotation between two traces. It is read from the lines that were written, by the rules that the
 replay has for them, so that the next trace begins where the replay of the one before it ends."""
 
 from __future__ import annotations
@@ -7,13 +7,16 @@ from collections.abc import Iterator
 from typing import Any
 
 from .formats import without_nones
+from .gates import types_in
 from .lines import line_of, pod_fields
 from .runtime import EXITED, LOST_CODE, RUNNING, UNKNOWN
 
 FIELDS = {"startup": "startupProbe", "liveness": "livenessProbe", "readiness": "readinessProbe"}
 DELAY = "initialDelaySeconds"
-# members of a listing that are told once
+# members of a listing that are reported once
 OF_TICKS = ("ended", "used", "log", "logLeftOut")
+# the entry of a pod of which a tick has none
+NOTHING: dict[str, Any] = {}
 # a run of results that is longer counts as one of so many
 MOST_CARRIED = 100
 
@@ -47,7 +50,7 @@ class Run:
 
     def results(self, probe: str) -> list[str]:
         """The fewest results that show the same once more. A kill that was ordered stands until the next instance, so
-        that failures behind it order none."""
+        that failures after it order none."""
         if self.is_over:
             return ["failure"] * self.failures_wanted
         if probe == "startup":
@@ -164,12 +167,12 @@ class Container:
             self.passed = second
 
     def go_over(self) -> None:
-        """A border is passed: what runs has its start before it, so no delay counts any more."""
+        """A rotation is passed: what runs has its start before it, so no delay counts any more."""
         for run in self.runs.values() if self.is_running() else ():
             run.delay = 0
 
     def assume(self, restarts: Any, is_started: bool, is_ready: bool, second: int) -> bool:
-        """What its pod's status says of it where it is met running, whose results were before the recording; whether
+        """What its pod's status reports of it where it is met running, whose results were before the recording; whether
         that changes what is known."""
         if self.listing is None or not self.is_running() or self.listing["attempt"] != restarts:
             return False
@@ -182,7 +185,7 @@ class Container:
         return bool(held) or any(run.delay for run in self.runs.values())
 
     def carried(self) -> list[dict[str, str]]:
-        """The results that show once more what is known, one behind the other: a list of {probe: result}."""
+        """The results that show once more what is known, one after the other: a list of {probe: result}."""
         before: list[dict[str, Any]] = [{} for _ in self.history()]
         if before and "startup" in self.runs:
             before[0] = {"startup": "success"}
@@ -194,7 +197,7 @@ class Container:
             return []
         found = {probe: run.results(probe)[-MOST_CARRIED:] for probe, run in self.runs.items()}
         early, has_startup = found.pop("startup", []), "startup" in self.runs
-        # the others count in the ticks behind the one in which startup passed
+        # the others count in the ticks after the one in which startup passed
         late = {} if has_startup and not self.runs["startup"].holds else found
         count = max(map(len, late.values()), default=0)
         rows = [{probe: results[place - count + len(results)] for probe, results in late.items()
@@ -202,8 +205,8 @@ class Container:
         return [{"startup": result} for result in early] + rows
 
     def listed(self, second: int, back: int) -> dict[str, Any] | None:
-        """What a tick that stands so many before the border lists of it: what was before where that counts. None where
-        it was never listed."""
+        """What a tick that stands so many before the rotation lists of it: what was before where that counts. None
+        where it was never listed."""
         if self.listing is None:
             return None
         before, place = self.history(), back - max(len(self.carried_of_newest()), 1)
@@ -237,8 +240,10 @@ class Pod:
         self.usage: dict[str, Any] = {}
         self.is_unsampled = False
         self.is_deleting = False
-        # members that the formats do not read: what is known of its deletion, its readiness gates, and since when its
-        # condition Ready has its value
+        # the statuses of its readiness gates' conditions
+        self.conditions: dict[str, bool] = {}
+        # members that the formats do not read: what is known of its deletion, its readiness gates as the standard
+        # format has them, and since when its condition Ready has its value
         self.deletion: dict[str, Any] | None = None
         self.turn: dict[str, Any] | None = None
         self.gates: dict[str, bool] | None = None
@@ -268,13 +273,19 @@ class Pod:
         self.is_deleting = self.is_deleting or entry.get("deleting") is True
         self.failed = self.failed or entry.get("failed")
         self.deletion = self.deletion or entry.get("deletion")
+        self.conditions |= entry.get("conditions") or {}
         self.gates = entry.get("readinessGates") or self.gates
         self.turn = (entry.get("readyTurns") or [self.turn])[-1]
-        # a message stands in the first tick alone
+        # a message is in the first tick alone
         before, self.waiting = self.waiting, {}
         for each in entry.get("waiting") or []:
             known = before.get(each["container"], {})
             self.waiting[each["container"]] = known | each if known.get("reason") == each.get("reason") else each
+
+    def are_gates_true(self) -> bool:
+        """Whether the conditions of all its readiness gates are True."""
+        of_manifest = types_in(self.fields)
+        return all(self.conditions.get(name, False) for name in of_manifest) and all((self.gates or {}).values())
 
     def manifest(self) -> dict[str, dict[str, Any]]:
         spec = self.fields["spec"]
@@ -283,15 +294,16 @@ class Pod:
         return {**self.fields, "spec": {**spec, **made}}
 
     def entry(self, second: int, back: int) -> dict[str, Any] | None:
-        """Its entry of a tick that stands so many before the border: usage, and why it waits, are in that of the border
-        alone; that it is being deleted, or was ended, is in each."""
+        """Its entry of a tick that stands so many before the rotation: usage, and why it waits, are in that of the
+        rotation alone; that it is being deleted, or was ended, and its gates' conditions are in each."""
         listings = [each.listed(second, back) for _, each in sorted(self.containers.items())]
         containers = [listing for listing in listings if listing is not None]
         rows = [(name, each.carried()) for name, each in self.containers.items()]
         probes = [{"container": name, "probe": probe, "result": result} for name, carried in rows
                   if len(carried) > back for probe, result in carried[-1 - back].items()]
         said: dict[str, Any] = {"probes": probes or None, "deleting": self.is_deleting or None,
-                                "deletion": self.deletion, "failed": self.failed, "readinessGates": self.gates}
+                                "deletion": self.deletion, "failed": self.failed,
+                                "conditions": self.conditions or None, "readinessGates": self.gates}
         if back == 0:
             said |= {"usage": self.usage or None, "unsampled": self.is_unsampled or None,
                      "waiting": list(self.waiting.values()) or None,
@@ -309,9 +321,9 @@ class Standing:
         self.node: dict[str, Any] = {}
         self.pods: dict[str, Pod] = {}
         self.signals: dict[str, Any] = {}
-        # what the last tick says that the kubelet did to pods that are left out
+        # what the last tick shows that the kubelet did to pods that are left out
         self.left_out: list[Any] = []
-        # the second of the last tick, whether it is judged, and whether any is said not to be
+        # the second of the last tick, whether it is judged, and whether any is reported not to be
         self.at: int | None = None
         self.judged: bool | None = None
         self.node_ready: dict[str, Any] | None = None
@@ -337,7 +349,9 @@ class Standing:
         self.tells_rounds = self.tells_rounds or self.judged is False
         entries = {entry["pod"]: entry for entry in tick["pods"]}
         for key, pod in self.pods.items():
-            pod.take(entries.get(key, {}), second)
+            entry = entries.get(key, NOTHING)
+            if entry is not pod.newest or "probes" in entry:
+                pod.take(entry, second)
         for kind, decisions in (tick.get("kubelet") or {}).items():
             for decision in decisions:
                 if decision.get("leftOut"):
@@ -346,7 +360,7 @@ class Standing:
                     self.pods[decision["pod"]].decisions.append((kind, decision))
 
     def assume(self, probed: dict[str, dict[str, tuple[None, bool, bool]]]) -> bool:
-        """Takes what the statuses of the pods say at the first tick, {key: {container: (restarts, started, ready)}};
+        """Takes what the statuses of the pods report at the first tick, {key: {container: (restarts, started, ready)}};
         whether that is more than the tick shows."""
         second = self.at or 0
         for pod in self.pods.values():
@@ -355,9 +369,9 @@ class Standing:
                     for name, container in pod.containers.items() if name in probed.get(key, {})])
 
     def beginning(self, second: int, follows: dict[str, Any] | None) -> Iterator[str]:
-        """The lines that a trace begins with at a border, or at the first tick of all: its node and pods, and the ticks
-        that show what is known, the last of which is that of the border. It has one, but where what probes have shown
-        wants more."""
+        """The lines that a trace begins with at a rotation, or at the first tick of all: its node and pods, and the
+        ticks that show what is known, the last of which is that of the border. It has one, but where what probes have
+        shown needs more."""
         containers = [each for pod in self.pods.values() for each in pod.containers.values()]
         for container in containers:
             container.go_over()
@@ -365,7 +379,7 @@ class Standing:
         yield line_of(without_nones({**self.node, "follows": follows}))
         for pod in self.pods.values():
             yield line_of(pod_fields(pod.uid, pod.manifest(), pod.is_spared, pod.is_guessed))
-        # of a pod without a line it is told once
+        # of a pod without a line it is reported once
         did = [each for pod in self.pods.values() for each in pod.decisions] + ([] if follows else self.left_out)
         for back in reversed(range(count)):
             # what is known was judged before

@@ -1,4 +1,4 @@
-"""What an object of a pod says beside what the formats read: its readiness gates, by whom it is deleted, and the
+"""What an object of a pod says next to what the formats read: its readiness gates, by whom it is deleted, and the
 resources that its containers have by now."""
 
 from __future__ import annotations
@@ -17,6 +17,7 @@ READY, TRUE, FALSE = "Ready", "True", "False"
 STATUSES = (TRUE, FALSE, "Unknown")
 # the condition of a pod that is to end for the sake of others, and its reasons
 DISRUPTED = "DisruptionTarget"
+SIDES = ("requests", "limits")
 WORD = re.compile(r"[A-Za-z][A-Za-z0-9]{0,63}")
 # a condition's type, as the API takes it: a qualified name, whose prefix is a DNS subdomain
 SUBDOMAIN = r"(?=.{1,253}/)[a-z0-9]([-a-z0-9]*[a-z0-9])?([.][a-z0-9]([-a-z0-9]*[a-z0-9])?)*"
@@ -26,7 +27,7 @@ TYPE = re.compile(rf"({SUBDOMAIN}/)?[A-Za-z0-9]([-A-Za-z0-9_.]{{0,61}}[A-Za-z0-9
 @dataclass(frozen=True)
 class Beside:
     """Whether each readiness gate of a pod is true, by its condition's type; and by container the resources that the
-    status says, where it does."""
+    status reports, where it does."""
     gates: dict = field(default_factory=dict)
     resources: dict = field(default_factory=dict)
     left_out: int = 0
@@ -64,7 +65,7 @@ def turns_between(before: ReadyTurn | None, now: ReadyTurn, unseen_at: float) ->
 
 
 def beside_in(item: Any, resources: tuple[str, ...]) -> Beside:
-    """What an object says so, of these resources; a gate of which no condition is there yet is not true."""
+    """What an object reports so, of these resources; a gate of which no condition is there yet is not true."""
     status, gates = item.get("status") or {}, (item.get("spec") or {}).get("readinessGates") or []
     values = {each.get("type"): each.get("status") for each in status.get("conditions") or []}
     types = [each.get("conditionType") for each in gates]
@@ -99,7 +100,7 @@ def resources_of(amounts_of: dict[str, Any] | None, resources: tuple[str, ...]) 
     """The requests and limits of these resources."""
     if amounts_of is None:
         return None
-    return without_nones({side: picked(amounts_of.get(side), resources) for side in ("requests", "limits")})
+    return without_nones({side: picked(amounts_of.get(side), resources) for side in SIDES})
 
 
 def with_quantities(found: dict[str, Any]) -> dict[str, Any]:
@@ -114,7 +115,7 @@ def faulty_amounts(found: dict[str, Any]) -> int:
 
 
 def changed(said: dict[str, Any], declared: dict[str, Any]) -> bool:
-    """Whether a container's status says other resources than its pod's manifest did as it came."""
+    """Whether a container's status reports other resources than its pod's manifest did as it came."""
     return any(amount_of(of_side.get(resource)) != amount_of((declared.get(side) or {}).get(resource))
                for side, of_side in said.items() for resource in of_side)
 

@@ -1,4 +1,4 @@
-"""What the kubelet's /stats/summary says in a trace's words. A value that is not there is None or left out."""
+"""What the kubelet's /stats/summary reports in a trace's words. A value that is not there is None or left out."""
 
 from __future__ import annotations
 
@@ -56,7 +56,7 @@ class Summary:
 
     def usage(self, pod: Pod, has_running: bool) -> dict[str, Sample]:
         """The samples of what a recorded pod uses, by resource. A kubelet 1.20 counts no process of any container, so 0
-        of them beside a container that runs is no count."""
+        of them next to a container that runs is no count."""
         samples = usage_of(self.pods.get(pod.uid, {}), pod.local_volumes)
         if has_running and "pids" in samples and samples["pids"].value == 0:
             del samples["pids"]

@@ -1,5 +1,6 @@
 """For how long the processors of containers were throttled, of the kubelet's /metrics/cadvisor. An answer may have tens
-of MB, of which the lines of one metric are kept; it is asked for beside the looks, and none of them waits for it."""
+of MB, of which the lines of one metric are kept; it is asked for in parallel with the polls, and none of them waits for
+it."""
 
 from __future__ import annotations
 
@@ -29,8 +30,8 @@ ABSENT = f"no {METRIC} in the answer"
 MOST_BYTES = 64 << 20
 LONGEST_LINE = 1 << 14
 MOST_SERIES = 1 << 14
-# it is asked for as often as what containers use is told; more seldom where an answer takes longer than a twentieth of
-# that, and where none came
+# it is asked for as often as what containers use is reported; more seldom where an answer takes longer than a twentieth
+# of that, and where none came
 ASKED_SECONDS = 10
 SHARE = 20
 AGAIN_SECONDS = 60
@@ -62,7 +63,7 @@ class Series:
 
     def __init__(self) -> None:
         self.size = 0
-        # the begin of a line, behind the end of the one before
+        # the begin of a line, after the end of the one before
         self.rest = b"\n"
         self.is_there = False
         self.found: dict[str, Throttled] = {}
@@ -98,7 +99,7 @@ class Series:
 
 
 def series_of(line: str) -> tuple[str, Throttled] | None:
-    """The id of an instance, and what a line says of it."""
+    """The id of an instance, and what a line shows of it."""
     parts = LINE.fullmatch(line)
     labels = None if parts is None else labels_of(parts["labels"])
     if parts is None or labels is None:
@@ -153,7 +154,8 @@ class Absent(Failed):
 
 
 class Throttling:
-    """Asks for it beside the looks, one time after the other; `say` takes what is said of answers that do not come."""
+    """Asks for it in parallel with the polls, one time after the other; `say` takes what is reported of answers that do
+    not come."""
 
     def __init__(self, sources: Sources, say: Callable[..., None]) -> None:
         self.sources = sources
@@ -166,7 +168,7 @@ class Throttling:
         self.come: Any = None
 
     def begin(self, moment: float) -> None:
-        """Begins to ask at a look, where it is due."""
+        """Begins to ask at a poll, where it is due."""
         is_due = self.asked_at is None or not 0 <= int(moment) - int(self.asked_at) < self.wait
         if self.is_asking or not is_due:
             return

@@ -1,11 +1,11 @@
 """Puts what happened on the seconds of a trace.
 
 A tick lists one instance of a container and one result of a probe, and the moments of ticks rise by whole seconds. So
-what happened stands at the second of its moment, with all else of that second, or at the first later one at which the
+what happened is at the second of its moment, with all else of that second, or at the first later one at which the
 formats read it as it was: a start before its exit, a result before the exit that it led to, a startup's result before
 the others, and each result of one probe at a second of its own.
 
-A success behind as many as its probe wants changes nothing, so it wants no tick: the next one has it, once."""
+A success behind as many as its probe wants changes nothing, so it needs no tick: the next one has it, once."""
 
 from __future__ import annotations
 
@@ -34,7 +34,7 @@ ROUNDING_SECONDS = 2
 
 @dataclass
 class Tick:
-    """What changes at one second; it is written as a tick if it is wanted, else with the next one. `is_judged` is
+    """What changes at one second; it is written as a tick if it is needed, else with the next one. `is_judged` is
     whether it is a round of the kubelet's eviction manager."""
     is_wanted: bool = False
     is_judged: bool = False
@@ -55,14 +55,15 @@ class Tick:
     ready: Optional[Ready] = None
     started: Optional[int] = None
     turns: dict = field(default_factory=dict)
+    conditions: dict = field(default_factory=dict)
     decisions: list = field(default_factory=list)
     departures: list = field(default_factory=list)
 
     def forget(self, uid: str) -> None:
-        """What stands beside of a pod that has gone by then is no more."""
+        """The other members of a pod that has gone by then are no more."""
         of_pods: dict
-        for of_pods in (self.usages, self.deleted, self.failed, self.waits, self.beside, self.said,
-                        self.turns):
+        for of_pods in (self.usages, self.deleted, self.failed, self.waits, self.beside, self.said, self.turns,
+                        self.conditions):
             of_pods.pop(uid, None)
         for of_pods in (self.used, self.throttled):
             for place in [place for place in of_pods if place[0] == uid]:
@@ -77,7 +78,7 @@ class Ticks:
         self.format = trace_format
         self.ticks: dict[int, Tick] = {}
         self.next_second: float = 0
-        # the second of the last tick that is wanted
+        # the second of the last tick that is needed
         self.latest = float("-inf")
         self.last_placed: dict[tuple[str, ...], int] = {}
         self.successes: dict[tuple[str, ...], Any] = {}
@@ -100,7 +101,7 @@ class Ticks:
     # --- what is placed ---
 
     def place_look(self, moment: float) -> None:
-        """A tick that is wanted where nothing happened."""
+        """A tick that is needed where nothing happened."""
         self.tick(self.second_of(moment), True)
 
     def place_arrival(self, pod: Pod, moment: float) -> int:
@@ -114,8 +115,8 @@ class Ticks:
         return self.arrived < MOST_PODS
 
     def place_departure(self, pod: Pod, moment: float) -> int:
-        """A pod goes, after all that happened in it; the second behind which it is no more."""
-        # where no line says it, the pod is in no tick of that second any more
+        """A pod goes, after all that happened in it; the second after which it is no more."""
+        # if no line shows it, the pod is in no tick of that second any more
         behind = 0 if self.format.says_gone else 1
         last = [second + behind for (uid, *_), second in self.last_placed.items() if uid == pod.uid]
         second = self.second_of(moment, *last)
@@ -149,11 +150,11 @@ class Ticks:
         self.tick(self.second_of(moment), True).is_judged = True
 
     def place_waits(self, pod: Pod, moment: float, waits: dict[str, Reason], is_short: bool = False) -> None:
-        """Why the containers of a pod wait from a moment on; that wants no tick, but where it may be over soon."""
+        """Why the containers of a pod wait from a moment on; that needs no tick, but where it may be over soon."""
         self.tick(self.second_of(moment), is_short and self.format.says_gone).waits[pod.uid] = waits
 
     def place_beside(self, pod: Pod, moment: float, beside: Beside) -> None:
-        """What a pod's object says beside from a moment on; that wants no tick."""
+        """What else a pod's object reports from a moment on; that needs no tick."""
         self.tick(self.second_of(moment), False).beside[pod.uid] = beside
 
     def place_ready(self, moment: float, ready: Ready) -> None:
@@ -161,23 +162,29 @@ class Ticks:
         self.tick(self.second_of(moment), True).ready = ready
 
     def place_start(self, moment: float) -> None:
-        """The kubelet was started anew at a moment."""
+        """The kubelet was started again at a moment."""
         self.tick(self.second_of(moment), True).started = int(moment)
 
     def place_turn(self, pod: Pod, turn: ReadyTurn, arrived: int) -> None:
-        """The condition Ready of a pod's status has turned, which stands in the first tick from then on."""
+        """The condition Ready of a pod's status has turned, which is in the first tick from then on."""
         self.tick(self.second_of(turn.at, arrived), False).turns.setdefault(pod.uid, []).append(turn)
 
+    def place_condition(self, pod: Pod, name: str, moment: float, is_true: bool, arrived: int) -> None:
+        """The condition of a readiness gate has this status from a moment on, in no tick before its last one."""
+        second = self.second_of(moment, arrived, self.last_placed.get((pod.uid, name, "condition"), 0))
+        self.tick(second, True).conditions.setdefault(pod.uid, {})[name] = is_true
+        self.last_placed[pod.uid, name, "condition"] = second
+
     def place_said(self, pod: Pod, moment: float, said: Said) -> None:
-        """What was said of a pod, which stands in the first tick from then on."""
+        """What was reported of a pod, which is in the first tick from then on."""
         self.tick(self.second_of(moment), False).said.setdefault(pod.uid, []).append(said)
 
     def place_used(self, pod: Pod, container: str, used: Used, arrived: int) -> None:
-        """What a container used at a moment; that wants no tick."""
+        """What a container used at a moment; that needs no tick."""
         self.tick(self.second_of(used.moment, arrived), False).used[pod.uid, container] = used
 
     def place_throttled(self, pod: Pod, container: str, moment: float, value: int, arrived: int) -> None:
-        """For how long a container was throttled by a moment; that wants no tick."""
+        """For how long a container was throttled by a moment; that needs no tick."""
         self.tick(self.second_of(moment, arrived), False).throttled[pod.uid, container] = moment, value
 
     def place_usage(self, pod: Pod, moment: float, resource: str, value: Any) -> None:
@@ -192,16 +199,16 @@ class Ticks:
         tick.unsampled.add(pod.uid)
 
     def place_deletion(self, pod: Pod, moment: float, deletion: dict[str, Any] | None = None) -> None:
-        """From this moment on a pod is being deleted, which stands in the first tick that is written then, with what is
+        """From this moment on a pod is being deleted, which is in the first tick that is written then, with what is
         known of that."""
         self.tick(self.second_of(moment), False).deleted[pod.uid] = deletion or {}
 
     def take_back_deletion(self, pod: Pod) -> bool:
-        """A pod is not being deleted after all; whether no line says so yet."""
+        """A pod is not being deleted after all; whether no line reports so yet."""
         return any([tick.deleted.pop(pod.uid, None) is not None for tick in self.ticks.values()])
 
     def place_end(self, pod: Pod, second: int, decision: Decision) -> None:
-        """The node has ended a pod in a second. What it says of an eviction stands with the kubelet's decision."""
+        """The node has ended a pod in a second. What it says of an eviction is with the kubelet's decision."""
         second = self.second_of(second)
         tick = self.tick(second, True)
         tick.failed[pod.uid] = decision.word
@@ -264,5 +271,5 @@ class Ticks:
         return run > pod.successes_wanted(key[1], result.probe)
 
     def planned(self) -> int:
-        """How many ticks are wanted that are not written yet."""
+        """How many ticks are needed that are not written yet."""
         return sum(tick.is_wanted for tick in self.ticks.values())

@@ -36,6 +36,7 @@ class Timeline(Ticks):
         self.failed: dict[str, str] = {}
         self.said: dict[str, list[Said]] = {}
         self.turns: dict[str, list[ReadyTurn]] = {}
+        self.conditions: dict[str, dict[str, bool]] = {}
         self.ready: Ready | None = None
         self.signals: dict[str, int] = {}
         # when the kubelet evicted a pod last, and the signals that were not sampled since
@@ -65,13 +66,14 @@ class Timeline(Ticks):
         copied.deleted, copied.failed = dict(self.deleted), dict(self.failed)
         copied.said = {uid: list(said) for uid, said in self.said.items()}
         copied.turns = {uid: list(turns) for uid, turns in self.turns.items()}
+        copied.conditions = {uid: dict(conditions) for uid, conditions in self.conditions.items()}
         copied.asides = self.asides.copied()
         copied.place_look(moment)
         return list(copied.due(float("inf"), silent_from))
 
     def lines_of(self, second: int, tick: Tick, is_silent: bool) -> list[str]:
         """The lines of a second: the pods that come, the tick if one is wanted, the pods that go."""
-        lines = [pod_line(pod, self.format.says_gone) for pod in tick.arrivals]
+        lines = [self.pod_line(pod) for pod in tick.arrivals]
         self.present += tick.arrivals
         if not self.format.says_gone:
             self.depart(tick.departures)
@@ -88,6 +90,8 @@ class Timeline(Ticks):
             self.said.setdefault(uid, []).extend(said)
         for uid, turns in tick.turns.items():
             self.turns.setdefault(uid, []).extend(turns)
+        for uid, conditions in tick.conditions.items():
+            self.conditions.setdefault(uid, {}).update(conditions)
         for uid, waits in tick.waits.items():
             self.asides.take_waits(uid, waits)
         self.asides.beside.update(tick.beside)
@@ -97,11 +101,15 @@ class Timeline(Ticks):
         if tick.is_wanted:
             lines.append(self.tick_of(second, tick, signals, set(tick.listings) if is_silent else None))
             self.results, self.usages, self.failed, self.deleted, self.unsampled = {}, {}, {}, {}, set()
-            self.said, self.turns = {}, {}
+            self.said, self.turns, self.conditions = {}, {}, {}
         if self.format.says_gone:
             lines += [gone_line(pod) for pod in tick.departures]
             self.depart(tick.departures)
         return lines
+
+    def pod_line(self, pod: Pod) -> str:
+        """The line of a pod that comes."""
+        return pod_line(pod, self.format.says_gone)
 
     def tick_of(self, second: int, tick: Tick, signals: dict[str, int], changed: set[tuple[str, str]] | None) -> str:
         """The line of a tick with all that stands at it."""
@@ -155,7 +163,7 @@ class Timeline(Ticks):
         listings = {name: listing if changed is None or (pod.uid, name) in changed else unknown(listing)
                     for name, listing in self.listings.get(pod.uid, {}).items() if listing is not None}
         of_pod = {(container, probe): result for (uid, container, probe), result in self.results.items()
-                  if uid == pod.uid}
+                  if uid == pod.uid} if self.results else {}
         return entry_of(pod, listings, of_pod, self.usages.get(pod.uid), pod.uid in self.unsampled,
                         self.deleted.get(pod.uid), self.asides, self.failed.get(pod.uid), self.said.get(pod.uid, ()),
-                        self.turns.get(pod.uid, ()))
+                        self.turns.get(pod.uid, ()), self.conditions.get(pod.uid))

@@ -1,4 +1,4 @@
-"""Traces of one node, one behind the other: which lines stand in which, and where the one ends and the next begins."""
+"""Traces of one node, one after the other: which lines are in which, and where the one ends and the next begins."""
 
 from __future__ import annotations
 
@@ -33,7 +33,7 @@ class Traces(Writing):
         self.each = each
         self.most_ticks = most_ticks
         self.most_bytes = most_bytes
-        # what the pods' statuses say at the first look
+        # what the pods' statuses report at the first look
         self.probed: dict[str, Any] = {}
 
     # --- what comes ---
@@ -47,9 +47,9 @@ class Traces(Writing):
         self.take_look(list(due), None, [])
 
     def take_look(self, due: list[Due], second: int | None, ahead: list[Due]) -> None:
-        """Takes what a look settles, all of which is before a second, and what it shows that may still change. First
+        """Takes what a poll settles, all of which is before a second, and what it shows that may still change. First
         all of it is written at once, in place of what the look before showed so: a crash then loses nothing of either,
-        wherever the borders between traces are. Each trace that has ended is packed behind that."""
+        wherever the rotations between traces are. Each trace that has ended is packed after that."""
         self.write_ahead([*due, *ahead])
         for lines, _ in due:
             if lines:
@@ -61,15 +61,19 @@ class Traces(Writing):
 
     def take(self, lines: list[str]) -> None:
         """Takes the lines of a second, one of which is a tick."""
-        records = [json.loads(line) for line in lines]
+        records = [self.record_of(line) for line in lines]
         if self.standing.at is None:
             count = next(place for place, record in enumerate(records) if record["kind"] == "tick") + 1
             self.take_first(records[:count], lines[:count])
             records, lines = records[count:], lines[count:]
         self.take_next(records, "".join(f"{line}\n" for line in lines).encode())
 
+    def record_of(self, line: str) -> dict[str, Any]:
+        """A line as its values."""
+        return json.loads(line)
+
     def take_first(self, records: list[dict[str, Any]], lines: list[str]) -> None:
-        """Takes the lines up to the first tick of all. It shows what was before it too, where the pods' statuses say
+        """Takes the lines up to the first tick of all. It shows what was before it too, where the pods' statuses report
         that."""
         for record in records:
             self.standing.take(record)
@@ -77,7 +81,7 @@ class Traces(Writing):
         self.begin(records[-1]["at"], None if has_past else [line_of(self.standing.node), *lines])
 
     def take_next(self, records: list[dict[str, Any]], data: bytes) -> None:
-        """Takes lines of a second behind the first tick of all."""
+        """Takes lines of a second after the first tick of all."""
         part, at = self.part, self.standing.at
         ticks = [record["at"] for record in records if record["kind"] == "tick"]
         second = ticks[0] if ticks else at or 0
@@ -125,7 +129,7 @@ class Traces(Writing):
     # --- where a trace ends ---
 
     def border(self, part: Part, second: int) -> int | None:
-        """The newest border before a second, behind the begin of a trace; or None."""
+        """The newest rotation before a second, after the begin of a trace; or None."""
         border = (second - 1) // self.each * self.each
         return border if border > part.begun else None
 

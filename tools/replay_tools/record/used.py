@@ -13,11 +13,11 @@ if TYPE_CHECKING:
 
 Place = tuple[str, str]
 
-# how often it is told of a container that runs: a kubelet samples it each 10 s, or somewhat earlier
+# how often it is reported of a container that runs: a kubelet samples it each 10 s, or somewhat earlier
 TOLD_SECONDS = 9
-# a sample that is so old at an exit says nothing of it
+# a sample that is so old at an exit shows nothing of it
 OLD_SECONDS = 60
-# for how long it was throttled is told with a sample that was taken so long before or behind
+# for how long it was throttled is reported with a sample that was taken so long before or behind
 NEAR_SECONDS = 15
 
 
@@ -27,7 +27,7 @@ class UsedByContainers:
     def __init__(self) -> None:
         self.newest: dict[Place, Used] = {}
         self.told: dict[Place, Used] = {}
-        # of a container that has been started anew, the last of the instance before
+        # of a container that has been started again, the last of the instance before
         self.ended: dict[Place, Used] = {}
         # for how long the newest instances were throttled, each by a moment
         self.throttled: dict[Place, tuple[float, int]] = {}

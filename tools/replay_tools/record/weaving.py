@@ -1,4 +1,4 @@
-"""What happened to one container between two looks, in the order in which it is written."""
+"""What happened to one container between two polls, in the order in which it is written."""
 
 from __future__ import annotations
 
@@ -15,7 +15,7 @@ SYNC_SECONDS = 1.0
 
 
 def is_seamless(item: Any, after: Result | Change) -> bool:
-    """An exit with the code 137 whose successor starts in the same sync: the start's tick says that exit and that code
+    """An exit with the code 137 whose successor starts in the same sync: the start's tick shows that exit and that code
     too, since it no longer lists the one before, and shows no moment at which the container was not ready. What ran out
     of memory exits by itself, and another sync starts its successor."""
     return (isinstance(item, Change) and not item.is_out_of_memory and isinstance(after, Change)
@@ -46,9 +46,9 @@ def is_start(change: Change) -> bool:
 
 
 def woven(changes: list[Change], results: list[Result]) -> list[Result | Change]:
-    """Changes and results of one container between two looks, in the order in which they are written. Where an
-    instance exited between the looks a failure stands before that exit, and where another one started any other result
-    stands behind that start."""
+    """Changes and results of one container between two polls, in the order in which they are written. Where an
+    instance exited between the looks a failure is before that exit, and where another one started any other result
+    is after that start."""
     first_exit = next((place for place, change in enumerate(changes) if is_exit(change)), None)
     if first_exit is None:
         return [*changes, *results]

@@ -19,98 +19,41 @@ from .metrics import fault_of
 from .sources import KUBECTL
 
 HELP = """\
-usage: tools/record [--node NAME] [--every SECONDS] [--look SECONDS] [--ticks N] [--for SECONDS]
-                    [--kubelet URL [--curl FILE]] [--crictl WORDS] [--node-line FILE] [--logs N] [--metrics FILE]
-                    [--events URL] [--throttled yes|no]
-                    [--standard | --extended [--eviction-pause N] [--simulate]] > TRACE
-       tools/record --into FOLDER [--each 1h] [--keep 48h] [--most 2Gi] [--ship COMMAND], and the other words but
-                    --standard
-       tools/record --check [--node NAME] [--kubelet URL [--curl FILE]]
+Record a node as a trace.
 
-Records a node as the lines of a trace (docs/formats.md). It looks at the container runtime and at the results of probes
-every --look seconds (1), and writes a tick for each second in which something happened, and else after --every seconds
-(10). It ends after N ticks (20000, the most that a trace takes), after --for seconds, or at an interrupt, at the end
-of a line. NAME is the node's name in the cluster (uname -n). --check asks each source once, those too whose command
-is there where another one is missing, says what works and what is missing, and ends.
---crictl has the words that start crictl, as 'chroot /host crictl'. With --logs N the last N lines of each container
-that exits with another code than 0 are asked for (crictl logs), and what of them is known to have no secret is told.
-With --events https://kubernetes.default.svc the Events of a pod are asked for at the API server, after an exit, a
-probe that fails and a wait, with the token of --curl; that needs the right to list events. Without a token use
---events kubectl: it takes 2.2 s of a processor in a minute, where the URL takes 0.1. With --metrics FILE has what was
-recorded so far as OpenMetrics text: restarts, deaths, kills, readiness, pressure. With --throttled yes the kubelet's
-/metrics/cadvisor is asked for how long processors were throttled, with no leaves it out. It is asked by default where
-the kubelet is asked at its port, since an answer, of some MB where many pods run, goes through the API server
-otherwise, and in no case where no container that runs has a limit of its processor. It is read beside the looks, which
-do not wait for it, line by line, up to 64 MiB.
+Usage:
+  kubelet-replay record [--for N] [options] > TRACE
+  kubelet-replay record --into FOLDER [options]
+  kubelet-replay record --check [options]
 
---into FOLDER writes traces of the extended format one behind the other, as NODE.2026-11-27T05-00-00Z.trace.gz, until it
-is interrupted (docs/recorder.md). Each begins where the one before it ends: after --each (1h, by UTC), or earlier at
---ticks, 64 MiB or 256 pods. While it is written it is .trace.part; what a crash leaves is ended at the next start. It
-keeps traces for --keep (48h), and at most --most bytes of them (2Gi), of which 128Mi, or half where --most is below
-256Mi, are left for what is not packed yet; and it takes the oldest away where the disk is full. Where none is left it
-waits for room. A second recorder of one folder is refused. --ship has a command, as 'rclone copy {} far:traces', that
-is run for each whole trace, with its path for {} or behind its words, one at a time; where it fails or takes longer
-than ten minutes it is run again, after 10 s and then after longer.
+Examples:
+  # What works, and which permission is missing
+  kubelet-replay record --check --node worker-3
+  # Always, a trace an hour, for two days
+  kubelet-replay record --node worker-3 --into /var/lib/kubelet-replay
 
-It needs python3, crictl (as root, on the node) and
-  kubectl  that may get nodes/proxy and list pods, which it starts once, as a proxy on a socket of its own; or
-  a kubelet's port, with --kubelet URL, as https://127.0.0.1:10250, and a token that may get nodes/pods, nodes/configz,
-           nodes/metrics and nodes/stats (before Kubernetes 1.33 nodes/proxy in place of the first two). FILE is a curl
-           configuration, with a line for the token, as in: header = "Authorization: Bearer ..", and one for what the
-           kubelet's certificate is checked by: cacert = "..". The line insecure takes any, and gives the token to
-           whoever answers. Where it has more than these, cert, key and resolve, curl is started for each answer
-With --kubelet none it asks neither, and records what the runtime alone shows: starts, exits, their codes and reasons,
-as of pods that always restart, without probes, signals, usage, evictions and why containers wait. A pod is there once
-no container of it has come for 20 s; one that comes later is left out, as behind a long init container.
-/configz is served at port 10250, which wants a permission, and by the API server's proxy; the read-only port 10255 does
-not serve it. --node-line FILE has a node line in its place.
+Options:
+  --node NAME           the node's name in the cluster (uname -n)
+  --kubelet URL         ask the kubelet there, not kubectl; none: ask neither
+  --curl FILE           the token, and how to check the kubelet's certificate
+  --crictl COMMAND      how to start crictl ('chroot /host crictl')
+  --node-line FILE      a node line, if the kubelet serves no /configz
+  --for N, --ticks N    end after N seconds, or after N ticks (20000)
+  --look N, --every N   seconds between two polls (1), between two ticks (10)
+  --logs N              keep safe parts of a failed container's last N lines
+  --events URL          ask the API server for Events; kubectl: ask by kubectl
+  --metrics FILE        also write OpenMetrics text
+  --throttled yes|no    ask how long processors were throttled
+  --standard, --extended  the trace's format (--{default})
+  --eviction-pause N    the longest pause after an eviction, in seconds (30)
+  --simulate            let the rules evict pods by themselves
+  --into FOLDER         one trace after the other, each for --each TIME (1h)
+  --keep TIME, --most SIZE  remove older traces (48h), keep at most SIZE (2Gi)
+  --ship COMMAND        run COMMAND for each whole trace ('rclone copy {} x:')
+  --check               test each source once, and end
 
-It asks                                  how often              for
-  crictl ps -a -o json                   --look; where nothing  attempts and states
-                                         happens twice that
-  crictl inspect                         once a start, an exit  startedAt, finishedAt, exitCode, reason, message
-  /metrics/probes                        --look                 results of probes, as what the counters grew by
-  kubectl get pods -o json, or /pods     10 s, where an         the pods, without their environment; whom the kubelet
-                                         instance exited or     evicted or refused; the codes of what the runtime has
-                                         went, and for 30 s     removed; why containers wait; how Ready has turned
-                                         after a restart
-  /stats/summary                         10 s, or --every; at   capacity, signals and usage, at the moments at which the
-                                         each look where the    kubelet sampled them
-                                         kubelet may evict
-  /configz                               once                   thresholds, graces and periods
-  /metrics                               after a sign of a      when the kubelet was started
-                                         restart
-  /metrics/cadvisor                      10 s, or 20 times as   for how long processors were throttled, as far as the
-                                         long as an answer      kubelet has it
-                                         takes
-
-It looks each second, whatever --look is, where the kubelet may evict, for 30 s after the kubelet restarted, and for 3 s
-after a container failed. The kubelet may evict while a signal is below twice its threshold, and while the node is under
-pressure. What it did,
-why instances ended and why containers wait stands in the ticks, for the tools; the program does not read it.
-
---standard writes version 2, --extended version 3 with a line for a pod that goes, its new line where its name comes
-again, evictionPauseSeconds (30, or --eviction-pause) until the evicted pod has ended, and which pods a summary has no
-sample of, which a kubelet evicts first; without either it is --{default}. It says whom the node has ended, so the rules
-end these and name whom they would evict; with --simulate they evict by themselves.
-
-It leaves out
-  - an instance that came and went between two looks and was removed by then, and the code of an exit that neither the
-    runtime nor the pod's status knows, which counts as 137: standard error names it;
-  - the order of several results of one probe between two looks: those like its last one before them stand first, and
-    then failures before a success;
-  - afterReclaim, so no threshold is reclaimed in the replay; thresholds on other signals, and percentages of a signal
-    without a capacity; mergeDefaultEvictionSettings;
-  - ephemeral containers, and of a pod's manifest every field that the formats do not read, as its environment;
-  - the pods that a kubelet does not list yet since it has just restarted: they stay as they were;
-  - a pod that the formats refuse, the 257th pod, one that the kubelet refused or had evicted before it was seen; in the
-    standard format that a pod has gone, and a pod from the moment on that it was made anew under its name.
-A file system for images of the same size as the node's is taken for the same one. On standard error it says what it
-leaves out, writes otherwise or infers, and each source that gives no answer with what stands in its place.
-
-Status 0: ended as asked, or all that --check asked works; 1: nothing could be recorded, or not written, as where the
-folder of --into can't be, has its recorder, is another user's than root or the recorder's, or may be written by its
-group or others; or a source of --check does not work; 2: a bad word; 127: a command is missing.
+Exit status: 0 done, 1 nothing recorded or a check failed, 2 bad input.
+More: man kubelet-replay-record, docs/recorder.md
 """
 
 # word: what its value is
@@ -178,9 +121,9 @@ def split(arguments: list[str]) -> dict[str, Any]:
             given[word] = True
         elif word not in TEXTS:
             from replay_tools import nearest
-            raise BadWord(f"{word} is no word of it{nearest.option_words(word, [*SWITCHES, *TEXTS])}")
+            raise BadWord(f"{word} is no known argument{nearest.option_words(word, [*SWITCHES, *TEXTS])}")
         elif not rest:
-            raise BadWord(f"{word} wants a value")
+            raise BadWord(f"{word} needs a value")
         else:
             given[word] = rest.pop(0)
     return given
@@ -261,7 +204,7 @@ def into(given: dict[str, Any], node: str) -> Into | None:
     if not os.path.isdir(folder) and not may_be_made(folder):
         raise BadWord(f"--into: '{folder}' is no folder")
     if name_fault(node) is not None:
-        raise BadWord(f"--into wants --node with a name of the formats, not '{node}'")
+        raise BadWord(f"--into needs --node with a name of the formats, not '{node}'")
     return Into(folder, duration(given, "--each", "1h"), duration(given, "--keep", "48h"),
                 size(given, "--most", "2Gi"), command(given, "--ship", "", "rclone copy {} far:traces"))
 

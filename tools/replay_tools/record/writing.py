@@ -28,7 +28,7 @@ def say_again(say: Callable[..., None], text: str) -> None:
 
 
 class Writing(Output):
-    """Whole lines in a trace of a folder, which begins with what is standing then; `say` takes what is said."""
+    """Whole lines in a trace of a folder, which begins with what is standing then; `say` takes what is reported."""
 
     def __init__(self, folder: Folder, packing: Packing, say: Callable[..., None]) -> None:
         super().__init__(float("inf"))
@@ -115,7 +115,7 @@ class Writing(Output):
         then the oldest traces go, and where there is none of these what comes is lost until there is room. What is kept
         free is there for a trace that begins as the one before it has ended."""
         while self.part is not None:
-            lacking, number, reason = 0, errno.ENOSPC, "the file system has no room to spare"
+            lacking, number, reason = 0, errno.ENOSPC, "the file system has no free room"
             try:
                 lacking = 0 if self.packing.ended or self.part.has(data) else self.folder.lacking(len(data))
                 if lacking == 0:

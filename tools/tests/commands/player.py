@@ -52,7 +52,7 @@ class Play:
     throttled   {moment: {container id: [seconds, moment]}}: for how long processors were throttled
     events      [{"at"}]: Events of the API, as they are from a moment on
     ready       [{"at", "status", "reason"}]: the condition Ready of the node's object
-    started     [moments] at which the kubelet was started; its counts of probes begin anew with each
+    started     [moments] at which the kubelet was started; its counts of probes begin again with each
     lists       [{"from", "until", "pods": [keys]}]: when a list of pods has these alone
     fails       {"kind", "from", "until", "text"}: answers that do not come
     slow        {kind: seconds}: how long an answer takes, for which the clock goes on
