@@ -1,16 +1,16 @@
 //! The exits of a tick, and what they make of the back-off.
 
 ghost use Rattle.std.specs.Prelude.{◌≡◌, ◌⊎◌, ◌↔◌, ◌<◌, ◌-◌, ◌++◌, ℕ, List, Option, Some, None, IsTrue, IsSome};
-ghost use Rattle.std.specs.Prelude.{IsSomeAnd, unwrap_or, if◌then◌else◌};
+ghost use Rattle.std.specs.Prelude.{IsSomeAnd, unwrap_or, if◌then◌else◌, option_map};
 ghost use Rattle.quantity.specs.rule.Duration.{end_of_time};
-ghost use Rattle.restarts.specs.rule.Policy.{WantsRestart};
+ghost use Rattle.restarts.specs.rule.Own.{WantsRestartBy};
 ghost use Rattle.restarts.specs.rule.Exits.{Exit};
 ghost use Rattle.restarts.specs.rule.Delays.{IsDelay};
 ghost use Rattle.restarts.specs.state.Backoff.{IsStateOf};
 ghost use Rattle.containers.specs.state.Step.{exits_at};
 
-use manifest::{Policy, Role};
-use restarts::{Backoff, wants_restart};
+use manifest::{OwnRestarts, Policy, Role};
+use restarts::{Backoff, wants_restart_by};
 use state_diff::Seen;
 
 /// For how many seconds an instance ran that exits at this moment, if it does; 0 without a start.
@@ -68,13 +68,19 @@ pub fn count_both(
 }
 
 /// The attempt of the newest instance, if it has exited and is to be started again.
-pub fn to_restart(policy: Policy, role: Role, newest: Option<Seen>) -> Option<u32>
+pub fn to_restart(
+    policy: Policy,
+    own: Option<&OwnRestarts>,
+    role: Role,
+    newest: Option<Seen>,
+) -> Option<u32>
     ensures { (a : ℕ) → ((result ≡ Some a)
-        ↔ IsSomeAnd newest (λ s. (s.attempt ≡ a) × IsSomeAnd s.code (λ code. WantsRestart policy role code))) }
+        ↔ IsSomeAnd newest (λ s. (s.attempt ≡ a)
+        × IsSomeAnd s.code (λ code. WantsRestartBy policy (option_map (λ o. o.now) own.entry) role code))) }
 {
     let newest = newest?;
     let code = newest.code?;
-    if wants_restart(policy, role, code) {
+    if wants_restart_by(policy, own, role, code) {
         Some(newest.attempt)
     } else {
         None

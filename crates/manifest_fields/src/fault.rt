@@ -19,7 +19,7 @@ pub enum Field {
     /// `metadata.namespace`
     Namespace,
     Spec,
-    /// `spec.restartPolicy`
+    /// `spec.restartPolicy` and, in this project's extended format, a container's `restartPolicy`.
     RestartPolicy,
     /// `spec.priority`
     Priority,
@@ -31,6 +31,8 @@ pub enum Field {
     Containers,
     /// A container's `name`.
     ContainerName,
+    /// A container's `restartPolicyRules`, an item of it, and a field of an item. (This project's extended format.)
+    RestartRules,
     /// `resources` of a container or, in this project's extended format, of the pod's `spec`.
     Resources,
     /// A container's `startupProbe`, `livenessProbe` or `readinessProbe`.
@@ -58,9 +60,9 @@ pub enum ManifestFault {
     RequestAboveLimit,
     #[error("two containers have one name")]
     DuplicateContainer,
-    #[error("a container has a restart policy of its own that doesn't make it a sidecar")]
+    #[error("a container has a restart policy, or restart rules, that it may not have")]
     Sidecar,
-    #[error("more than 16 containers or readiness gates")]
+    #[error("more than 16 containers or readiness gates, 20 restart rules or 255 exit codes")]
     TooMany,
     #[error("out of memory")]
     OutOfMemory,

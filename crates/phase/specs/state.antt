@@ -1,4 +1,5 @@
 pub mod Facts
+pub mod Restarts
 pub mod Conditions
 pub mod Views
 pub mod Laws

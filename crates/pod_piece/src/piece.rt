@@ -274,7 +274,7 @@ impl PodPiece {
         make_room(&mut parts.earlier, goes_on)?;
         let observed = parts.history.at(place);
         let had_ended = parts.state.lifecycle().has_ended();
-        let events = parts.state.take(parts.alloc, parts.pod.policy, observed)?;
+        let events = parts.state.take(parts.alloc, &parts.pod, observed)?;
         follow_on(&mut parts.differs, &parts.state, had_ended, observed);
         parts.status.usage = newer_while(!had_ended, parts.status.usage, observed.sampling());
         note_failure(&mut parts.status.failure, !had_ended, observed);

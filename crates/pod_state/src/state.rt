@@ -18,14 +18,14 @@ ghost use Rattle.pod_state.specs.state.States.{before_of, HasContainers, IsState
 
 use crate::events::{PodEvent, events_of, phase_event};
 use crate::following::{
-    all_ready, are_acceptable, first_containers, list, next_containers, show, step, views_of,
+    all_ready, are_acceptable, first_containers, list, next_containers, show, step, view_of, views_of,
 };
 use crate::gates::GateStatuses;
 use crate::lifecycle::Lifecycle;
 use containers::{Container, ContainerEvents, ContainerStatus};
-use manifest::{MaxRestartDelay, PodSpec, Policy};
+use manifest::{MaxRestartDelay, PodSpec};
 use observations::PodObs;
-use phase::ContainerView;
+use phase::RestartView;
 use state_diff::Differ;
 use std::alloc::{AllocError, Global};
 
@@ -78,7 +78,7 @@ impl PodState {
             → IsProgressOf spec.now evicted [] (before_of state)) }
     {
         let containers = first_containers(alloc, spec.containers.as_slice(), max_restart_delay)?;
-        let views = views_of(alloc, &containers)?;
+        let views = views_of(alloc, &containers, spec)?;
         let lifecycle = Lifecycle::new(&views);
         Ok(PodState {
             containers,
@@ -102,19 +102,19 @@ impl PodState {
     pub fn take(
         &mut self,
         alloc: Global,
-        policy: Policy,
+        pod: &PodSpec,
         observed: &PodObs,
     ) -> Result<Vec<PodEvent>, AllocError>
         requires follows { MayFollow self.old observed.now.at observed.now.containers }
         requires bounded { observed.now.at < end_of_time }
-        ensures ok { OnOk result (LeadsTo policy (pod_tick observed.now) self.old self.new) }
+        ensures ok { OnOk result (LeadsTo pod.now (pod_tick observed.now) self.old self.new) }
         ensures before { OnOk result (before_of self.new ≡ self.old.lifecycle) }
-        ensures events { IfOk result (λ v. MakesEvents policy (pod_tick observed.now) self.old v.items) }
+        ensures events { IfOk result (λ v. MakesEvents pod.now (pod_tick observed.now) self.old v.items) }
         ensures err { OnErr result (self.new ≡ self.old) }
     {
         let mut lifecycle = self.lifecycle;
         if lifecycle.has_ended() {
-            lifecycle.advance(policy, observed.at(), &[], false, false, false);
+            lifecycle.advance(observed.at(), &[], false, false, false);
             self.before = self.lifecycle;
             self.lifecycle = lifecycle;
             self.deleting = deleting_with(self.deleting, observed);
@@ -124,23 +124,23 @@ impl PodState {
         // Most pods have one or two containers: these take their steps on the stack, and only events take memory.
         if self.containers.len() == 1 {
             let mut next = [self.containers[0]];
-            let made = [step(&mut next[0], policy, observed, 0)];
-            let views = [next[0].view()];
-            return self.settle(alloc, policy, observed, &next, &made, &views);
+            let made = [step(&mut next[0], pod, observed, 0)];
+            let views = [view_of(&next[0], pod, 0)];
+            return self.settle(alloc, pod, observed, &next, &made, &views);
         }
         if self.containers.len() == 2 {
             let mut next = [self.containers[0], self.containers[1]];
             let made = [
-                step(&mut next[0], policy, observed, 0),
-                step(&mut next[1], policy, observed, 1),
+                step(&mut next[0], pod, observed, 0),
+                step(&mut next[1], pod, observed, 1),
             ];
-            let views = [next[0].view(), next[1].view()];
-            return self.settle(alloc, policy, observed, &next, &made, &views);
+            let views = [view_of(&next[0], pod, 0), view_of(&next[1], pod, 1)];
+            return self.settle(alloc, pod, observed, &next, &made, &views);
         }
-        let all = next_containers(alloc, &self.containers, policy, observed)?;
+        let all = next_containers(alloc, &self.containers, pod, observed)?;
         let (next, made) = (&all.containers, &all.made);
-        let views = views_of(alloc, next)?;
-        self.settle(alloc, policy, observed, next, made, &views)
+        let views = views_of(alloc, next, pod)?;
+        self.settle(alloc, pod, observed, next, made, &views)
     }
 
     /// Ends a tick that leaves the containers so, as these views show them, and has made this of them, and gives the
@@ -148,25 +148,25 @@ impl PodState {
     fn settle(
         &mut self,
         alloc: Global,
-        policy: Policy,
+        pod: &PodSpec,
         observed: &PodObs,
         next: &[Container],
         made: &[ContainerEvents],
-        views: &[ContainerView],
+        views: &[RestartView],
     ) -> Result<Vec<PodEvent>, AllocError>
         requires lives { IsTerminal self.old.lifecycle.phase → ⊥ }
         requires count { vec_len self.old.containers ≡ length next.now }
         requires containers { (pod : PodSpec) (max_restart_delay : ℕ) (h : List PodTick)
             → AreContainersOf pod max_restart_delay h self.old.containers.items
             → AreContainersOf pod max_restart_delay (h ++ pod_tick observed.now ∷ []) next.now }
-        requires made { (pod : PodSpec) (max_restart_delay : ℕ) (h : List PodTick)
-            → pod.policy ≡ policy → AreContainersOf pod max_restart_delay h self.old.containers.items
-            → AreMade pod max_restart_delay h (pod_tick observed.now) made.now }
-        requires views { (pod : PodSpec) (max_restart_delay : ℕ) (h : List PodTick)
-            → AreContainersOf pod max_restart_delay h next.now → AreViewsOf pod h views.now }
-        ensures ok { OnOk result (LeadsTo policy (pod_tick observed.now) self.old self.new) }
+        requires made { (max_restart_delay : ℕ) (h : List PodTick)
+            → AreContainersOf pod.now max_restart_delay h self.old.containers.items
+            → AreMade pod.now max_restart_delay h (pod_tick observed.now) made.now }
+        requires views { (max_restart_delay : ℕ) (h : List PodTick)
+            → AreContainersOf pod.now max_restart_delay h next.now → AreViewsOf pod.now h views.now }
+        ensures ok { OnOk result (LeadsTo pod.now (pod_tick observed.now) self.old self.new) }
         ensures before { OnOk result (before_of self.new ≡ self.old.lifecycle) }
-        ensures events { IfOk result (λ v. MakesEvents policy (pod_tick observed.now) self.old v.items) }
+        ensures events { IfOk result (λ v. MakesEvents pod.now (pod_tick observed.now) self.old v.items) }
         ensures err { OnErr result (self.new ≡ self.old) }
     {
         let ready = all_ready(next);
@@ -174,7 +174,6 @@ impl PodState {
         let gates = self.gates.next(observed);
         let failed = says_failed(observed);
         lifecycle.advance(
-            policy,
             observed.at(),
             views,
             ready,

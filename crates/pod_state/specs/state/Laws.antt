@@ -5,7 +5,7 @@ use Rattle.histories.specs.state.Histories.{IsRising}
 use Rattle.manifest.specs.declared.pod.PodSpec.{PodSpec}
 use Rattle.probes.specs.state.Container.{AreInRange}
 use Rattle.phase.specs.declared.phase.Phase.{Phase}
-use Rattle.phase.specs.declared.view.ContainerView.{ContainerView}
+use Rattle.phase.specs.declared.restart_view.RestartView.{RestartView}
 use Rattle.phase.specs.rule.RawPhase.{IsTerminal}
 use Rattle.pod_state.specs.declared.lifecycle.Lifecycle.{Lifecycle}
 use Rattle.containers.specs.declared.status.ContainerStatus.{ContainerStatus}
@@ -20,7 +20,7 @@ use Rattle.pod_state.specs.rule.Containers.{IsContainerStatus, AreStatusesOf}
 
 -- a pod has exactly one raw phase after ticks of which each container has a view
 pub record OneRawPhase : Type 0 where
-  pub some : (pod : PodSpec) (h : List PodTick) (views : List ContainerView) → AreViewsOf pod h views
+  pub some : (pod : PodSpec) (h : List PodTick) (views : List RestartView) → AreViewsOf pod h views
       → (p : Phase) × IsRawPhaseAfter pod h p
   pub no_other : (pod : PodSpec) (h : List PodTick) (p q : Phase) → IsRawPhaseAfter pod h p
       → IsRawPhaseAfter pod h q → p ≡ q
