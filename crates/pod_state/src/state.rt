@@ -18,7 +18,8 @@ ghost use Rattle.pod_state.specs.state.States.{before_of, HasContainers, IsState
 
 use crate::events::{PodEvent, events_of, phase_event};
 use crate::following::{
-    all_ready, are_acceptable, first_containers, list, next_containers, show, step, view_of, views_of,
+    all_ready, are_acceptable, first_containers, list, next_containers, show, step, view_of,
+    views_of,
 };
 use crate::gates::GateStatuses;
 use crate::lifecycle::Lifecycle;
@@ -173,13 +174,7 @@ impl PodState {
         let mut lifecycle = self.lifecycle;
         let gates = self.gates.next(observed);
         let failed = says_failed(observed);
-        lifecycle.advance(
-            observed.at(),
-            views,
-            ready,
-            gates.are_true(),
-            failed,
-        );
+        lifecycle.advance(observed.at(), views, ready, gates.are_true(), failed);
         let change = phase_event(self.lifecycle.phase, lifecycle.phase);
         let deleting = deleting_with(self.deleting, observed);
         let leaving = is_leaving(deleting, failed);

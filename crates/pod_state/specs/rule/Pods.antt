@@ -87,8 +87,8 @@ facts pod h = record {
   was_started = λ container. OfSpec pod container (λ spec. probed.WasStarted spec (ticks_of h container));
 }
 
--- the container with the number is restarted after an exit with this code: by the pod's policy and by what it has of its
--- own
+-- the container with the number is restarted after an exit with this code: by the pod's policy and by what it has of
+-- its own
 abbrev pub WantsRestart : PodSpec → ℕ → ℤ → Type 0
 WantsRestart pod container code =
     OfSpec pod container (λ spec. WantsRestartBy pod.policy spec.own_restarts spec.role code)
