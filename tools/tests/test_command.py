@@ -17,7 +17,8 @@ from checks import HERE, REPLAY, TOOLS, TOP, WRITE, copy_package, expect, expect
 from replay_tools import entry
 from replay_tools.cli import definition, help, options, table
 from replay_tools.cli.statuses import Status
-from replay_tools.record import words as recorder_words
+from replay_tools.importing import files as import_files, program as import_program
+from replay_tools.record import lines, words as recorder_words
 
 load_tests = cases.loaded(__name__)
 
@@ -133,6 +134,21 @@ def test_record_takes_its_options():
            {*recorder_words.TEXTS})
     expect("the options of record without one", {name for name, value in names.items() if not value},
            {*recorder_words.SWITCHES})
+    expect("the default format of record", "(--standard)" in run([COMMAND, "record", "--help"])[1],
+           not lines.DEFAULT.says_gone)
+    with tempfile.TemporaryDirectory() as folder:
+        given = ["--node", "n1", "--into", folder]
+        defaults = [word for option in definition.COMMANDS["record"].options if option.default and option.names != (
+            "--node",) for word in (option.names[0], option.default)]
+        expect("the defaults of record", recorder_words.words_of([*given, *defaults]), recorder_words.words_of(given))
+
+
+def test_import_takes_its_defaults():
+    """The importer applies some defaults itself: those of the specification."""
+    defaults = {option.names[0]: option.kind(option.default) if option.kind else option.default
+                for option in definition.COMMANDS["import"].options if option.default}
+    expect("the defaults of import", defaults, {"--most": import_files.MOST, "--each": 3600,
+                                                "--since": import_program.SINCE, "--timeout": import_program.SECONDS})
 
 
 def test_table_of_commands():
