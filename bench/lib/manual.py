@@ -12,7 +12,7 @@ EXAMPLES = (
     ("kubelet_replay check worker-3.trace", "Whether it is one, or its first faulty line."),
     ("kubelet_replay run --extended worker-3.trace", "That of a trace of version 3, in which pods go."),
     ("zcat worker-3.trace.gz | kubelet_replay", "That of a trace that is packed."),
-    ("kubelet-replay story shop/web < worker-3.report", "The story of one pod of a report."),
+    ("kubelet-replay story -f worker-3.report shop/web", "The story of one pod of a report."),
     ("kubelet-replay story -f /var/lib/kubelet-replay --at 03:10Z shop/web",
      "The same over the traces of a recorder, around a moment."),
 )
@@ -102,8 +102,8 @@ def page(program, top, version, date):
     lines += [".SH OPTIONS", *list_of(items_of(parts.get("Options", [])))]
     lines += [".SH EXIT STATUS", *list_of(statuses(top))]
     lines += [".SH EXAMPLES", *list_of(EXAMPLES)]
-    lines += [".SH DIAGNOSTICS", "kubelet\\-replay explain TRACE says in words why a trace is refused: the field",
-              "that is at fault, the line around it, and what to do."]
+    lines += [".SH DIAGNOSTICS", "kubelet\\-replay explain \\-f TRACE shows why the program rejects a trace: the field",
+              "at fault, the line around it, and what to do."]
     lines += [".SH FILES", "Beside the program docs/rules.md has the rules, docs/formats.md says what a trace is,",
               "docs/report.md what a report is, and examples/ has traces with their reports. The Debian package has",
               "them in /usr/share/doc/kubelet\\-replay."]
