@@ -1,4 +1,4 @@
-"""Writes the manual page of the program to standard output, from what its help says and from the list of statuses in
+"""Writes the manual page of the program to standard output, from its help and from the list of statuses in
 docs/report.md.
 
     manual.py PROGRAM TOP VERSION DATE
@@ -12,7 +12,7 @@ EXAMPLES = (
     ("kubelet_replay check worker-3.trace", "Whether it is one, or its first faulty line."),
     ("kubelet_replay run --extended worker-3.trace", "That of a trace of version 3, in which pods go."),
     ("zcat worker-3.trace.gz | kubelet_replay", "That of a trace that is packed."),
-    ("kubelet-replay story shop/web < worker-3.report", "The story of one pod of a report."),
+    ("kubelet-replay story -f worker-3.report shop/web", "The story of one pod of a report."),
     ("kubelet-replay story -f /var/lib/kubelet-replay --at 03:10Z shop/web",
      "The same over the traces of a recorder, around a moment."),
 )
@@ -26,7 +26,7 @@ def said(program, *words):
 
 
 def parts_of(text):
-    """What a help says: the parts by their titles, the first under none, the usage under Usage."""
+    """The content of a help: the parts by their titles, the first under none, the usage under Usage."""
     parts, title = {"": []}, ""
     for line in text.split("\n"):
         usage = re.match(r"Usage: (.*)", line)
@@ -55,7 +55,7 @@ def items_of(lines):
 
 
 def escaped(text):
-    """The text as groff reads it: a hyphen is that of a word, and a line's first point no request."""
+    """The text as groff reads it: a hyphen belongs to a word, and a line's first point is no request."""
     text = text.replace("\\", "\\e").replace("-", "\\-")
     return "\\&" + text if text[:1] in (".", "'") else text
 
@@ -102,8 +102,8 @@ def page(program, top, version, date):
     lines += [".SH OPTIONS", *list_of(items_of(parts.get("Options", [])))]
     lines += [".SH EXIT STATUS", *list_of(statuses(top))]
     lines += [".SH EXAMPLES", *list_of(EXAMPLES)]
-    lines += [".SH DIAGNOSTICS", "kubelet\\-replay explain TRACE says in words why a trace is refused: the field",
-              "that is at fault, the line around it, and what to do."]
+    lines += [".SH DIAGNOSTICS", "kubelet\\-replay explain \\-f TRACE shows why the program rejects a trace: the field",
+              "at fault, the line around it, and what to do."]
     lines += [".SH FILES", "Beside the program docs/rules.md has the rules, docs/formats.md says what a trace is,",
               "docs/report.md what a report is, and examples/ has traces with their reports. The Debian package has",
               "them in /usr/share/doc/kubelet\\-replay."]

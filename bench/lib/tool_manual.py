@@ -1,5 +1,6 @@
 """Writes the manual pages of the tools into a folder, one for each command of kubelet-replay and two for the commands
-that have them all, from their helps and from the details in tools/replay_tools/manual.
+that have them all, from their specification in tools/replay_tools/cli and from the details in
+tools/replay_tools/manual.
 
     tool_manual.py TOP FOLDER VERSION DATE
 """
@@ -10,11 +11,6 @@ import sys
 
 import script
 from manual import escaped
-
-SECTIONS = ("Usage:", "Options:", "Examples:")
-ABOUT = {"kubelet-replay": "the program and its tools as one command",
-         "kubectl-replay": "the same as a plugin of kubectl"}
-
 
 def paragraphs(lines):
     """The lines of a paragraph: lines without an indent are filled, items are a list, all others stay."""
@@ -52,38 +48,21 @@ def statuses(text):
     return lines
 
 
-def parts_of(text):
-    """The parts of a help by their headings: what precedes the usage is "", and `Usage`, `Examples` and `Options` have
-    the lines below them. Other headings belong to the part in front of them."""
-    parts, heading = {"": []}, ""
-    for line in text.rstrip("\n").split("\n"):
-        if line in SECTIONS:
-            heading = line[:-1]
-            parts[heading] = []
-        elif line.startswith("Exit status: "):
-            break
-        else:
-            parts[heading].append(line)
-    return {heading: "\n".join(lines).strip("\n") for heading, lines in parts.items()}
-
-
-def as_it_is(title, text):
+def as_it_is(title, given):
     """A section whose lines stay as they are."""
-    return [f".SH {title}", ".nf", *(escaped(line.removeprefix("  ")) for line in text.split("\n")), ".fi"]
+    return [f".SH {title}", ".nf", *map(escaped, given), ".fi"]
 
 
-def page(name, about, text, details, version, date):
-    """The page of a command: the parts of its help, with the details as the description."""
-    parts = parts_of(text)
-    usage, _, more = parts["Usage"].partition("\n\n")
+def page(name, about, parts, details, version, date):
+    """The page of a command: the parts that its specification gives, with the details as the description."""
     lines = [f'.TH {name.upper()} 1 "{date}" "kubelet\\-replay {version}"', ".SH NAME",
-             f"{escaped(name)} \\- {escaped(about)}", *as_it_is("SYNOPSIS", usage), ".SH DESCRIPTION"]
-    described = [part for part in (parts[""], *more.split("\n\n"), *details.rstrip("\n").split("\n\n")) if part]
+             f"{escaped(name)} \\- {escaped(about)}", *as_it_is("SYNOPSIS", parts.usage), ".SH DESCRIPTION"]
+    described = [*parts.described, *details.rstrip("\n").split("\n\n")]
     for number, part in enumerate(part for part in described if not part.startswith("Status")):
         lines += ([".PP"] if number else []) + paragraphs(part.split("\n"))
-    for heading in ("Options", "Examples"):
-        if heading in parts:
-            lines += as_it_is(heading.upper(), parts[heading])
+    for heading, given in (("OPTIONS", parts.options), ("EXAMPLES", parts.examples)):
+        if given:
+            lines += as_it_is(heading, given)
     for part in described:
         if part.startswith("Status"):
             lines += [".SH EXIT STATUS", *statuses(part)]
@@ -93,31 +72,28 @@ def page(name, about, text, details, version, date):
 
 
 def details_of(module):
-    return importlib.import_module(f"replay_tools.manual.{module}")
+    return importlib.import_module(f"replay_tools.manual.{module}").TEXT
 
 
-def helps_of(top):
-    """The commands of the tools of a repository by the names of their pages: what each is, its help and its details. The
-    program has a page of its own."""
+def pages_of(top):
+    """The commands of the tools of a repository by the names of their pages: what each is, the parts of its help, and
+    its details. The program has a page of its own."""
     sys.path.insert(0, f"{top}/tools")
-    from replay_tools import tree
-    from replay_tools.plugin import commands, help
-    of_all = {caller.name: (ABOUT[caller.name], help.text_of(caller),
-                            details_of("kubelet_replay").text_of(caller.is_of_kubectl))
-              for caller in (commands.ALONE, commands.OF_KUBECTL)}
-    return of_all | {f"kubelet-replay-{name}": (command.says, commands.help_of(name, commands.ALONE),
-                                                details_of(command.module).TEXT)
-                     for name, command in tree.COMMANDS.items() if tree.is_tool(name)}
+    from replay_tools.cli import definition, help
+    of_all = {entry.name: (entry.about, help.parts_of_entry(entry), details_of(entry.module))
+              for entry in definition.ENTRIES.values() if entry.about}
+    return of_all | {f"kubelet-replay-{name}": (command.says, help.parts_of_command(command),
+                                                details_of(command.module))
+                     for name, command in definition.COMMANDS.items()}
 
 
 def main(words):
     if len(words) != 4:
         raise script.Usage("tool_manual.py TOP FOLDER VERSION DATE")
     top, folder, version, date = words
-    helps = helps_of(top)
-    for name, (about, text, details) in helps.items():
+    for name, (about, parts, details) in pages_of(top).items():
         with open(os.path.join(folder, f"{name}.1"), "w", encoding="utf-8") as file:
-            file.write(page(name, about, text, details, version, date))
+            file.write(page(name, about, parts, details, version, date))
 
 
 if __name__ == "__main__":

@@ -10,6 +10,11 @@ import unittest
 from common import TESTS, TOP, Case, read
 import tool_manual
 
+sys.path.insert(0, f"{TOP}/tools")
+from replay_tools.cli import definition, help  # noqa: E402
+from replay_tools.cli.specification import Command, Example, Group, Option  # noqa: E402
+from replay_tools.cli.statuses import Status  # noqa: E402
+
 HERE = f"{TESTS}/manual"
 KEPT = f"{HERE}/kubelet_replay.1"
 
@@ -38,25 +43,6 @@ class Manual(Case):
         self.assertIn("'/bin/false', 'help'", fault)
 
 
-HELP = """\
-Print a pod.
-
-Usage:
-  tool [--one] POD
-  tool --two FILE
-
-Without POD it prints all.
-
-Examples:
-  # One pod
-  tool web
-
-Options:
-      --one      .only one
-
-Exit status: 0 done, 2 bad input.
-More: man tool
-"""
 DETAILS = """\
 There are
   one(f)   the first
@@ -70,14 +56,18 @@ It leaves out
 
 Status 0: done; 2: a wrong argument, a report; that is none; 127: python3 is missing.
 """
+COMMAND = Command(
+    "tool", "tool", Group.ASK, "prints a pod", sentence="Print a pod.", usage=("[--one] POD", "--two FILE"),
+    notes=("Without POD it prints all.",), examples=(Example("One pod", "{kubelet_replay} tool web"),),
+    lines=(Option(("--one",), says=".only one"),), exits={Status.DONE: "done"})
 PAGE = """\
 .TH KUBELET-REPLAY-TOOL 1 "2026-01-31" "kubelet\\-replay 1.2.3"
 .SH NAME
 kubelet\\-replay\\-tool \\- prints a pod
 .SH SYNOPSIS
 .nf
-tool [\\-\\-one] POD
-tool \\-\\-two FILE
+kubelet\\-replay tool [\\-\\-one] POD
+kubelet\\-replay tool \\-\\-two FILE
 .fi
 .SH DESCRIPTION
 Print a pod.
@@ -101,12 +91,12 @@ is over;
 the rest.
 .SH OPTIONS
 .nf
-    \\-\\-one      .only one
+\\-\\-one                 .only one
 .fi
 .SH EXAMPLES
 .nf
 # One pod
-tool web
+kubelet\\-replay tool web
 .fi
 .SH EXIT STATUS
 .TP
@@ -125,23 +115,35 @@ python3 is missing.
 
 class ToolManual(Case):
     def test_a_page(self):
-        self.assertEqual(tool_manual.page("kubelet-replay-tool", "prints a pod", HELP, DETAILS, "1.2.3", "2026-01-31"), PAGE)
+        parts = help.parts_of_command(COMMAND)
+        self.assertEqual(tool_manual.page("kubelet-replay-tool", "prints a pod", parts, DETAILS, "1.2.3", "2026-01-31"),
+                         PAGE)
 
     def test_the_commands(self):
-        """Each tool has a page, with the help as it is typed, and so have the two commands that have them all."""
-        helps = tool_manual.helps_of(TOP)
-        self.assertEqual(helps["kubelet-replay-why"][0], "show what led to each event of a pod")
-        self.assertIn("\n\nUsage:\n  kubelet-replay why POD ", helps["kubelet-replay-why"][1])
-        self.assertIn("It needs python3", helps["kubelet-replay-why"][2])
-        self.assertEqual({"kubelet-replay", "kubectl-replay", "kubelet-replay-run"} & set(helps),
-                         {"kubelet-replay", "kubectl-replay"})
+        """Each command has a page, with its help as it is typed, and so have the two that have all commands."""
+        pages = tool_manual.pages_of(TOP)
+        about, parts, details = pages["kubelet-replay-why"]
+        self.assertEqual(about, "show what led to each event of a pod")
+        self.assertEqual(parts.usage[0], "kubelet-replay why POD -f FILE [options]")
+        self.assertIn("It needs python3", details)
+        self.assertEqual(set(pages), {"kubelet-replay", "kubectl-replay"} | {
+            f"kubelet-replay-{name}" for name in definition.COMMANDS})
+
+    def test_the_statuses(self):
+        """A page has each exit status of the specification, with what it means in full."""
+        for name, (_, _, details) in tool_manual.pages_of(TOP).items():
+            [statuses] = [part for part in details.split("\n\n") if part.startswith("Status")]
+            exits = (definition.ENTRIES.get(name) or definition.COMMANDS[name.removeprefix("kubelet-replay-")]).exits
+            for status in exits:
+                with self.subTest(page=name, status=status):
+                    self.assertRegex(statuses, rf"(^Status|;)\s{status.value}: |^Status: the tool's")
 
     def test_the_pages_of_all_tools(self):
         with tempfile.TemporaryDirectory() as room:
             subprocess.run([sys.executable, "-B", f"{TOP}/bench/lib/tool_manual.py", TOP, room, "1.2.3", "2026-01-31"],
                            check=True)
             pages = sorted(glob.glob("*.1", root_dir=room))
-            self.assertEqual(len(pages), 14)
+            self.assertEqual(len(pages), 16)
             self.assertIn("kubelet-replay-story.1", pages)
             if shutil.which("groff"):
                 done = subprocess.run(["groff", "-man", "-Tutf8", "-ww", "-z", *pages], cwd=room, capture_output=True,

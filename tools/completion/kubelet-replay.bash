@@ -1,6 +1,6 @@
 # shellcheck shell=bash
-# Completes the words of kubelet-replay in bash. The command itself says what the last word may become: a line for each
-# candidate, and behind them :0 where files may stand there.
+# Completes the arguments of kubelet-replay in bash. The command prints a line for each candidate for the last argument,
+# and then :0 if files are candidates too.
 _kubelet_replay() {
     local said
     mapfile -t said < <("${COMP_WORDS[0]}" __complete "${COMP_WORDS[@]:1:COMP_CWORD}" 2>/dev/null)

@@ -1,5 +1,5 @@
-# Completes the words of kubelet-replay in fish. The command itself says what the last word may become: a line for each
-# candidate, and behind them :0 where files may stand there.
+# Completes the arguments of kubelet-replay in fish. The command prints a line for each candidate for the last argument,
+# and then :0 if files are candidates too.
 function __kubelet_replay_candidates
     set -l words (commandline -opc)
     set -l last (commandline -ct)

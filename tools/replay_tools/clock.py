@@ -22,10 +22,6 @@ class Clock(Enum):
         return reports.moment_text(at, self is not Clock.SECONDS)
 
 
-def add_words(words: entry.Words) -> None:
-    words.flag("--utc", "--local", "--seconds")
-
-
 def clock_of(found: Namespace, last: int | None, is_dated: bool = False) -> Clock:
     """The clock that the words ask for, else that of moments of which the last is known; those of times that were given
     are dated."""

@@ -12,6 +12,7 @@ from collections.abc import Iterable
 from typing import Any
 
 from replay_tools import entry, nearest, packed, program as programs
+from replay_tools.cli.statuses import Status
 from replay_tools.traces import LONGEST_TRACE
 
 # a line that the edit leaves as it is stays, byte for byte; others are written again
@@ -34,13 +35,14 @@ def difference(edit: str, seconds: float) -> str:
     program = os.environ.get("KUBELET_REPLAY") or programs.path()
     for command in ("jq", "diff", program):
         if shutil.which(command) is None:
-            raise entry.Fault(f"{command} is missing", 127)
+            raise entry.Fault(f"{command} is missing", Status.MISSING)
     if entry.standard_input().isatty():
         entry.say("it reads a trace from standard input, which is this terminal (it is meant as: what-if EDIT < TRACE)")
     try:
         folder = tempfile.TemporaryDirectory(dir=folder_of_copies())
     except OSError:
-        raise entry.Fault(f"no folder can be made in {folder_of_copies()} (TMPDIR names another)", 1) from None
+        raise entry.Fault(f"no folder can be made in {folder_of_copies()} (TMPDIR names another)",
+                          Status.FAILED) from None
     with folder as path:
         return Comparison(path, program, seconds).difference(edit)
 
@@ -99,15 +101,15 @@ class Comparison:
 
     def fault_of(self, trace: str, named: str, status: int, said: str, is_extended: bool) -> entry.Fault:
         """What is printed of a trace without a report."""
-        if status == 2:
+        if status == Status.BAD_INPUT:
             return entry.Fault(f"the {named} is rejected: {said}", means=meaning(self.path(trace), is_extended))
-        if status == 127:
-            return entry.Fault(f"the {named} can't be replayed: {said}", 127)
-        if status == 1 and said == "write failed":
+        if status == Status.MISSING:
+            return entry.Fault(f"the {named} can't be replayed: {said}", Status.MISSING)
+        if status == Status.FAILED and said == "write failed":
             return entry.Fault(f"the {named}'s report can't be kept: {folder_of_copies()} takes no more "
-                               f"{OTHER_FOLDER}", 1)
+                               f"{OTHER_FOLDER}", Status.FAILED)
         status = status if status >= 0 else 128 - status
-        return entry.Fault(f"the {named} can't be replayed (status {status}): {said}", 1)
+        return entry.Fault(f"the {named} can't be replayed (status {status}): {said}", Status.FAILED)
 
     def apply(self, edit: str) -> None:
         """Applies the edit to each line, and looks whether what it asks for is there. Raises Fault if that takes longer
@@ -141,7 +143,8 @@ class Comparison:
         done = subprocess.run(["diff", "-U", "0", self.path("report"), self.path("edited_report")],
                               stdin=subprocess.DEVNULL, stdout=subprocess.PIPE, check=False)
         if done.returncode > 1:
-            raise entry.Fault(f"there is no place in {folder_of_copies()} for what differs {OTHER_FOLDER}", 1)
+            raise entry.Fault(f"there is no place in {folder_of_copies()} for what differs {OTHER_FOLDER}",
+                              Status.FAILED)
         lines = done.stdout.decode("utf-8", "replace").split("\n")[2:]
         return "".join(f"{line[0]} {line[1:]}\n" for line in lines if line.startswith(("+", "-")))
 

@@ -10,6 +10,7 @@ import re
 from dataclasses import dataclass
 
 from replay_tools import entry
+from replay_tools.cli.statuses import Status
 
 # a link to that of the documents
 SCHEMA = os.path.join(os.path.dirname(__file__), "report.schema.json")
@@ -110,7 +111,8 @@ def definitions() -> dict:
         with open(SCHEMA, encoding="utf-8") as file:
             return json.load(file)["definitions"]
     except OSError as fault:
-        raise entry.Fault(f"{SCHEMA}, which has the words of events, can't be read: {fault.strerror}", 1) from None
+        raise entry.Fault(f"{SCHEMA}, which has the words of events, can't be read: {fault.strerror}",
+                          Status.FAILED) from None
 
 
 def kind_of(found: dict) -> Kind:

@@ -71,13 +71,13 @@ def instead_of_report(head: bytes, what: str = "standard input") -> str | None:
     if kind in (None, REPORT):
         return None
     if kind in (EMPTY, BLANK):
-        return f"{what} is empty: it needs a whole report, which kubelet-replay run TRACE writes"
+        return f"{what} is empty: it needs a whole report, which kubelet-replay run -f TRACE writes"
     if kind == REFUSAL:
-        return f"{what} is {kind}: kubelet-replay explain TRACE shows what it means"
+        return f"{what} is {kind}: kubelet-replay explain -f TRACE shows what it means"
     if kind == TRACE:
-        return f"{what} is a trace, and it needs the report: run it first, as in: kubelet-replay run TRACE | .."
+        return f"{what} is a trace, and it needs a report: pass the trace with -f TRACE"
     if kind == PACKED[b"\x1f\x8b"][0]:
-        return f"{what} is {kind}, and it needs a report; if it is a trace, --traces FILE replays it"
+        return f"{what} is {kind}, and it needs a report; if it is a trace, -f FILE replays it"
     return f"{what} is {kind}, and it needs a report{how_to_unpack(kind)}"
 
 

@@ -1,4 +1,4 @@
-"""What the kubelet did beside what the rules do: whom it evicted or refused stands in a trace of tools/record, and whom
+"""What the kubelet did beside what the rules do: whom it evicted or refused stands in a trace of the recorder, and whom
 the rules evict over the samples that were recorded in its report."""
 
 from __future__ import annotations

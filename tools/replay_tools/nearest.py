@@ -3,6 +3,7 @@
 from __future__ import annotations
 
 import difflib
+from collections.abc import Sequence
 
 MOST = 10
 
@@ -16,8 +17,13 @@ def words(name: str, names: list[str]) -> str:
     return f"there are {listed}" if names else "there is none"
 
 
+def of(given: str, known: Sequence[str]) -> str | None:
+    """The known name that an unknown one is most like, if one is."""
+    return next(iter(difflib.get_close_matches(given, known, 1)), None)
+
+
 def option_words(given: str, options: list[str]) -> str:
     """The option that an unknown one is most like, in words; an empty text if none is, or if it is no option."""
     name = given.partition("=")[0]
-    near = difflib.get_close_matches(name, options, 1) if name.startswith("-") else []
-    return f"; the nearest is {near[0]}" if near else ""
+    near = of(name, options) if name.startswith("-") else None
+    return f"; the nearest is {near}" if near else ""

@@ -1,4 +1,4 @@
-"""Files as they lie there, plain or packed by gzip, as those that tools/record --into leaves."""
+"""Files as they lie there, plain or packed by gzip, as those that kubelet-replay record --into leaves."""
 
 from __future__ import annotations
 

@@ -9,6 +9,7 @@ import subprocess
 from collections.abc import Iterable
 
 from replay_tools import entry
+from replay_tools.cli.statuses import Status
 
 TOP = os.path.dirname(os.path.dirname(os.path.dirname(os.path.realpath(__file__))))
 # in a release it is aside, so that its users see one command, kubelet-replay
@@ -33,9 +34,9 @@ def checked_path() -> str:
     try:
         done = subprocess.run([found, "run", "/dev/stdin"], input=SMALLEST, stdout=subprocess.PIPE, check=False)
     except OSError as fault:
-        raise entry.Fault(missing(found, fault), 127) from None
+        raise entry.Fault(missing(found, fault), Status.MISSING) from None
     if done.returncode != 0 or not done.stdout.startswith(b"node n1 "):
-        raise entry.Fault(f"{found} writes no report (status {done.returncode})", 127)
+        raise entry.Fault(f"{found} writes no report (status {done.returncode})", Status.MISSING)
     built = os.path.join(TOP, BUILT)
     return built if found == os.path.join(TOP, "kubelet_replay") and os.access(built, os.X_OK) else found
 

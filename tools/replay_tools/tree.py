@@ -1,71 +1,89 @@
-"""The tools by their names: what each command is, its words, its help, and how it is run. Completion, manual pages and
-the helps of kubelet-replay and kubectl replay are made of this."""
+"""Runs a command by its name: its help, its version or its work. What the work needs is imported where it begins, so
+that a help and a wrong argument take no longer than they have to."""
 
 from __future__ import annotations
 
 import importlib
-from dataclasses import dataclass
-from typing import Any
+import sys
+from typing import Any, TYPE_CHECKING
 
 from replay_tools import entry
+from replay_tools.cli.definition import COMMANDS, ENTRIES, OF_ALL
+from replay_tools.cli.specification import Entry
+from replay_tools.cli.statuses import Status
 
+if TYPE_CHECKING:
+    from argparse import Namespace
 
-@dataclass(frozen=True)
-class Command:
-    """One of the commands of kubelet-replay and kubectl replay."""
-
-    module: str
-    """of replay_tools.commands, with its words, its help and its work"""
-    says: str
-    pods: str = "none"
-    """how many it takes: none, one or any"""
-    takes_file: bool = True
-    names_files: bool = False
-    """its words that are no option are files"""
-    lists_pods: bool = False
-    """without a pod it lists those of a namespace"""
-    takes_several: bool = False
-    """it takes several traces, and the traces of a cluster's node"""
-    is_of_program: bool = False
-    """the program does it"""
-    subcommands: tuple[str, ...] = ()
-
-
-COMMANDS = {
-    "record": Command("record", "record a node as a trace", takes_file=False),
-    "run": Command("run", "write the report of a trace", names_files=True, is_of_program=True),
-    "check": Command("check", "test whether a file is a trace, or print its first faulty line", names_files=True,
-                     is_of_program=True),
-    "explain": Command("explain", "explain why the program rejects a trace", names_files=True),
-    "story": Command("story", "show what happened to a pod, and why", "one", lists_pods=True, takes_several=True),
-    "why": Command("why", "show what led to each event of a pod", "one", takes_several=True),
-    "page": Command("page", "make an HTML page of a node", names_files=True, takes_several=True),
-    "timeline": Command("timeline", "draw pods as an SVG picture", "any", takes_several=True),
-    "json": Command("json_lines", "write a report as JSON lines, or as tables of SQLite", takes_several=True),
-    "what-if": Command("what_if", "replay a trace as it is and with an edit"),
-    "import": Command("import_journal", "make a trace from a kubelet's journal",
-                      takes_file=False),
-    "fleet": Command("fleet", "replay the traces of many nodes, and find the worst", takes_file=False, names_files=True,
-                     subcommands=("run", "worst")),
-    "fetch": Command("fetch", "copy the traces of a cluster's nodes into a folder", takes_file=False),
-    "nodes": Command("nodes", "list the nodes of a cluster that record", takes_file=False),
-}
-# what has them all
-ENTRIES = {"kubelet-replay": "kubelet_replay", "kubectl-replay": "kubectl_replay",
-           "kubectl_complete-replay": "kubectl_complete"}
+HELP, VERSION = ("-h", "--help"), ("--version", "-V")
 
 
 def start(given: list[str]) -> int:
-    """The status of a process that was started for a tool, by its name and words; without a name of one all are words
-    of kubelet-replay."""
+    """The status of a process that was started for a command, by its name and arguments; without a name all are
+    arguments of kubelet-replay."""
     is_named = given[:1] != [] and (given[0] in ENTRIES or is_tool(given[0]))
-    name, words = (given[0], given[1:]) if is_named else ("kubelet-replay", given)
+    name, words = (given[0], given[1:]) if is_named else (OF_ALL.name, given)
     return entry.run(name, lambda: run(name, words))
 
 
 def run(name: str, words: list[str]) -> int:
-    """The status of a tool, whose faults are printed under its name."""
-    return entry.answered(name, lambda: module_of(name).main(words), words)
+    """The status of what has all commands, or of one command by itself. Its faults are printed under its name."""
+    return entry.answered(name, lambda: answer(name, words))
+
+
+def answer(name: str, words: list[str]) -> int:
+    """Writes a help or the version, or does the work; the status."""
+    if len(words) == 1 and words[0] in VERSION:
+        return entry.version(name)
+    if name == "kubectl_complete-replay":
+        return shown_help(ENTRIES[name]) if len(words) == 1 and words[0] in HELP else completed(words, True)
+    of_all = ENTRIES.get(name, OF_ALL)
+    given = words if name in ENTRIES else [name, *words]
+    if given[:1] == ["__complete"]:
+        return completed(given[1:], of_all.is_of_kubectl)
+    if given[:1] == ["help"] and len(given) > 1:
+        given = [given[1], "--help"]
+    if not given or given[0] in (*HELP, "help"):
+        return shown_help(of_all, is_fault=not given)
+    if given[0] not in COMMANDS:
+        from replay_tools.cli import parsing
+        raise entry.Fault(parsing.no_command(given[0], list(COMMANDS)))
+    if any(word in HELP for word in given):
+        from replay_tools.cli import help
+        sys.stdout.write(help.of_command(COMMANDS[given[0]], of_all))
+        return Status.DONE
+    if len(given) == 2 and given[1] in VERSION:
+        return version(given[0])
+    from replay_tools.plugin import commands
+    return commands.run(given, commands.Caller(name, of_all.is_of_kubectl))
+
+
+def shown_help(of: Entry, is_fault: bool = False) -> int:
+    """Writes the help of what has all commands, as an error where no command is given; the status."""
+    from replay_tools.cli import help
+    (sys.stderr if is_fault else sys.stdout).write(help.of_entry(of))
+    return Status.BAD_INPUT if is_fault else Status.DONE
+
+
+def version(name: str) -> int:
+    """Writes the version of a command, which of the program is its own; the status."""
+    if is_tool(name):
+        return entry.version(name)
+    from replay_tools import program
+    from replay_tools.plugin import files
+    files.become(program.path(), ["--version"])
+
+
+def completed(words: list[str], is_of_kubectl: bool) -> int:
+    """Writes what the last argument may become; the status."""
+    from replay_tools.cli import completion
+    sys.stdout.write(completion.answer(words, is_of_kubectl))
+    return Status.DONE
+
+
+def work(name: str, found: Namespace | list[str]) -> int:
+    """The status of a command's own module with the values of its arguments. Its faults are printed under its name."""
+    return entry.answered(name, lambda: module_of(name).main(found))
 
 
 def is_tool(name: str) -> bool:
@@ -73,18 +91,5 @@ def is_tool(name: str) -> bool:
     return name in COMMANDS and not COMMANDS[name].is_of_program
 
 
-def help_of(name: str) -> str:
-    """What a tool shows of itself."""
-    return parser_of(name).text
-
-
-def parser_of(name: str, given: list[str] | None = None) -> entry.Words:
-    """The words that a command takes, after a subcommand where it has some."""
-    subcommands = COMMANDS[name].subcommands
-    chosen = [word for word in (given or [])[:1] if word in subcommands] or list(subcommands[:1])
-    return module_of(name).parser(*chosen)
-
-
 def module_of(name: str) -> Any:
-    module = ENTRIES[name] if name in ENTRIES else COMMANDS[name].module
-    return importlib.import_module(f"replay_tools.commands.{module}")
+    return importlib.import_module(f"replay_tools.commands.{COMMANDS[name].module}")

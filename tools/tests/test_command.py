@@ -1,7 +1,6 @@
 """The tests of kubelet-replay, the one command of the program and the tools: its words, its helps, and its completion
 in the shells that are there."""
 
-import argparse
 import gzip
 import importlib
 import os
@@ -13,17 +12,19 @@ import sys
 import tempfile
 
 import cases
-from checks import HERE, REPLAY, TOOLS, TOP, copy_package, expect, expect_refused, read, run
+from checks import HERE, REPLAY, TOOLS, TOP, WRITE, copy_package, expect, expect_refused, read, run
 
-from replay_tools import entry, tree
+from replay_tools import entry
+from replay_tools.cli import definition, help, options, table
+from replay_tools.cli.statuses import Status
+from replay_tools.importing import files as import_files, program as import_program
+from replay_tools.record import lines, words as recorder_words
 
 load_tests = cases.loaded(__name__)
 
 COMMAND = f"{TOOLS}/kubelet-replay"
-# those that a help writes otherwise
-DEFAULTS = {"--most": "(1Gi)", "--each": "(1h)"}
-# what a tool takes instead of -f if it is started by itself, as tools/NAME
-BY_ITSELF = {"--trace", "--traces", "--without-why"}
+# what the plugin adds where it is kubectl's
+CONTEXT = "--context"
 NAMES = ("record", "run", "check", "explain", "story", "why", "page", "timeline", "json", "what-if", "import",
          "fleet", "fetch", "nodes")
 TRACE, REPORT = (f"{TOP}/examples/memory_pressure.{kind}" for kind in ("trace", "report"))
@@ -46,7 +47,7 @@ def test_command_runs_the_tools():
         ("json -f TRACE", run([f"{TOOLS}/json", "--trace", TRACE], report)),
     ):
         expect(f"kubelet-replay {words}", run([COMMAND, *words.replace("TRACE", TRACE).split()], report), wanted)
-    expect_refused("kubelet-replay plot", run([COMMAND, "plot"]), 2, "plot is no known command: record, run, check")
+    expect_refused("kubelet-replay plot", run([COMMAND, "plot"]), 2, "plot is no known command; the nearest is ")
     expect_refused("kubelet-replay story --context far", run([COMMAND, "story", "--context", "far"], report), 2,
                    "--context is no known argument")
     expect_refused("kubelet-replay story of another pod", run([COMMAND, "story", "-f", TRACE, "default/aa"]), 2,
@@ -63,8 +64,9 @@ def test_what_a_start_imports():
         return status, {line.rpartition("|")[2].strip() for line in said.split("\n")}
 
     by_itself = imported("-c", "pass")[1]
-    for words, more in ((["story", "--help"], ("replay_tools.traces", "subprocess")), (["story", "default/a"], ()),
-                        (["json", "--help"], ("replay_tools.traces", "subprocess")), (["json"], ())):
+    of_help = ("replay_tools.traces", "replay_tools.plugin", "replay_tools.fleet", "subprocess", "argparse", "json")
+    for words, more in ((["story", "--help"], of_help), (["fleet", "--help"], of_help), (["--help"], of_help),
+                        (["kubelet-replay", "run", "--help"], of_help), (["json", "--help"], of_help)):
         status, names = imported(f"{TOOLS}/replay_tools/__main__.py", *words)
         expect(f"{' '.join(words)} imports what it needs", (status, "replay_tools.entry" in names, [
             name for name in names - by_itself if name.startswith((*heavy, *more))]), (0, True, []))
@@ -100,38 +102,80 @@ def test_the_package():
     shutil.rmtree(folder)
 
 
-def test_one_tree():
-    """Each option of a tool that its parser takes is completed, and no other. The help has all of them, except those of
-    a tool that is started by itself, which the manual has."""
-    for name, command in tree.COMMANDS.items():
+def test_one_specification():
+    """The parser takes the options of the specification, and no other; completion offers them, and the help has them
+    with their defaults. Older forms of an option are in the manual alone."""
+    for command in definition.COMMANDS.values():
         for subcommand in command.subcommands or (None,):
-            parser = tree.parser_of(name, [subcommand] if subcommand else [])
-            own = {*parser.names(with_value=True), *parser.names(with_value=False)}
-            words = [name, *([subcommand] if subcommand else []), "--"]
-            completed = set(run([COMMAND, "__complete", *words])[1].split()[:-1])
-            beside = {"--filename", "--namespace", "--recorders", "--selector", "--timeout", "--output"} - own | (
-                {"--all"} if name == "story" else set())
-            expect(f"{' '.join(words)} completes its options", completed - beside, own)
-            if not command.is_of_program:
-                details = importlib.import_module(f"replay_tools.manual.{command.module}").TEXT
-                expect(f"the help of {name} has its options",
-                       [each for each in own - BY_ITSELF if each not in parser.text], [])
-                expect(f"the manual of {name} has the others",
-                       [each for each in own & BY_ITSELF if each not in details], [])
-                expect(f"the help of {' '.join(words[:-1])} has its defaults", defaults_left_out(parser), [])
-        if not command.is_of_program:
-            taken = {each for subcommand in command.subcommands or (None,) for with_value in (True, False)
-                     for each in tree.parser_of(name, [subcommand] if subcommand else []).names(with_value)}
-            usage = re.findall(r"--[a-z][a-z-]*", parser.text.split("\n\n")[1])
-            expect(f"the usage of {name} has no other options", sorted({*usage} - taken), [])
+            own = [option for option in command.options_of(subcommand) if not option.is_of_kubectl]
+            words = [command.name, *([subcommand] if subcommand else [])]
+            completed = set(run([COMMAND, "__complete", *words, "--"])[1].split()[:-1]) - {CONTEXT}
+            shown = [option for option in own if not option.is_hidden]
+            expect(f"{words} completes its options", completed, {
+                name for option in shown for name in option.names if name.startswith("--")})
+            told = run([COMMAND, command.name, "--help"])[1]
+            left_out = [name for option in shown for name in option.names if name not in told]
+            defaults = [option.default for option in shown if option.default and f"({option.default})" not in told
+                        and option.default not in told]
+            expect(f"the help of {words} has its options and their defaults", (left_out, defaults), ([], []))
+            details = importlib.import_module(f"replay_tools.manual.{command.module}").TEXT
+            expect(f"the manual of {words} has the others", [
+                option.names for option in own if option.is_hidden and option.names[-1] not in details
+                and option.names != options.EVERYWHERE.names], [])
+        usage = re.findall(r"--[a-z][a-z-]*", " ".join(command.usage))
+        names = {name for option in command.options for name in option.names}
+        expect(f"the usage of {command.name} has no other options", sorted({*usage} - names), [])
 
 
-def defaults_left_out(parser):
-    """The options whose default is not in the help, in brackets."""
-    shown = {action.option_strings[-1]: DEFAULTS.get(action.option_strings[-1], f"({action.default})")
-             for action in parser._actions if action.option_strings and isinstance(action.default, (int, str))
-             and action.default not in (False, argparse.SUPPRESS)}
-    return [option for option, text in shown.items() if text not in parser.text]
+def test_record_takes_its_options():
+    """The recorder takes its arguments itself: the options of the specification, and no other."""
+    names = {name: option.value for option in definition.COMMANDS["record"].options for name in option.names}
+    expect("the options of record with a value", {name for name, value in names.items() if value},
+           {*recorder_words.TEXTS})
+    expect("the options of record without one", {name for name, value in names.items() if not value},
+           {*recorder_words.SWITCHES})
+    expect("the default format of record", "(--standard)" in run([COMMAND, "record", "--help"])[1],
+           not lines.DEFAULT.says_gone)
+    with tempfile.TemporaryDirectory() as folder:
+        given = ["--node", "n1", "--into", folder]
+        defaults = [word for option in definition.COMMANDS["record"].options if option.default and option.names != (
+            "--node",) for word in (option.names[0], option.default)]
+        expect("the defaults of record", recorder_words.words_of([*given, *defaults]), recorder_words.words_of(given))
+
+
+def test_import_takes_its_defaults():
+    """The importer applies some defaults itself: those of the specification."""
+    defaults = {option.names[0]: option.kind(option.default) if option.kind else option.default
+                for option in definition.COMMANDS["import"].options if option.default}
+    expect("the defaults of import", defaults, {"--most": import_files.MOST, "--each": 3600,
+                                                "--since": import_program.SINCE, "--timeout": import_program.SECONDS})
+
+
+def test_table_of_commands():
+    """tools/README.md has the table that is made of the specification."""
+    path = f"{TOOLS}/README.md"
+    text = read(path)
+    begin, end = text.index(table.BEGIN), text.index(table.END)
+    made = text[:begin] + table.text() + text[end:]
+    if WRITE:
+        with open(path, "w", encoding="utf-8") as file:
+            file.write(made)
+        text = made
+    expect("the table of tools/README.md", text, made)
+
+
+def test_exit_statuses():
+    """Each status that a help names is of the one list, and each means the same in all commands."""
+    for command in (*definition.COMMANDS.values(), *definition.ENTRIES.values()):
+        told = help.text_of(help.parts_of_command(command) if hasattr(command, "lines") else
+                            help.parts_of_entry(command))
+        named = re.search(r"\nExit status: ((?:.|\n)*?)\.\n", told)[1].replace("\n", " ")
+        expect(f"the statuses of {command.name}", [int(each) for each in re.findall(r"(?:^|, )(\d+) ", named)],
+               [status.value for status in command.exits])
+    for words, given, status in ((["story", "-f", REPORT], "", Status.DONE), (["story", "--no"], "", Status.BAD_INPUT),
+                                 (["what-if", "."], "{}\n", Status.MISSING)):
+        settings = {"KUBELET_REPLAY": "/nonexistent/program"} if status is Status.MISSING else {}
+        expect(f"status of {words}", run([COMMAND, *words], given, **settings)[0], status)
 
 
 def test_what_cannot_be_read():
@@ -139,7 +183,8 @@ def test_what_cannot_be_read():
     folder = os.fsencode(tempfile.mkdtemp())
     odd = folder + b"/\xff.trace"
     shutil.copy(TRACE, odd)
-    for name in (folder + b"/none", folder, folder + b"/\xfe.trace"):
+    os.mkdir(folder + b"/empty")
+    for name in (folder + b"/none", folder + b"/empty", folder + b"/\xfe.trace"):
         for words in (["run"], ["check"], ["run", "--fail-on", "evicted"]):
             answer = run([COMMAND, *words, name])
             expect(f"kubelet-replay {' '.join(words)} {name}", (answer[0], answer[1], "Traceback" in answer[2]),
@@ -154,7 +199,10 @@ def test_unknown_options():
     """An option that a command does not take is a bad word of status 2, with the nearest that it takes."""
     for words, near in ((["run", "--workrs", "2"], "--workers"), (["check", "--extend"], "--extended"),
                         (["story", "--sinse", "2h"], "--since"), (["why", "--nodee=n1"], "--node"),
-                        (["page", "--trases", "x"], "--traces"), (["nodes", "--recorder", "x"], "--recorders"),
+                        (["page", "--trases", "x"], "--traces"), (["explain", "--lin"], "--line"),
+                        (["run", "--fail-om", "evicted"], "--fail-on"), (["timeline", "--secondz"], "--seconds"),
+                        (["fleet", "worst", "x", "--tops", "3"], "--top"),
+                        (["nodes", "--recorder", "x"], "--recorders"),
                         (["fetch", "n1", "--intoo", "x"], "--into"), (["json", "--sqlit", "x"], "--sqlite"),
                         (["record", "--nodee", "n1"], "--node"), (["import", "--jurnal", "x"], "--journal"),
                         (["fleet", "run", "x", "--outt", "y"], "--out"), (["what-if", "--timout"], "--timeout")):
@@ -163,6 +211,70 @@ def test_unknown_options():
         expect(f"kubelet-replay {' '.join(words)}", (answer[0], answer[1], name in answer[2], answer[2].count("\n"),
                                                      re.search(f"the nearest is {near}[ \n]", answer[2]) is not None),
                    (2, "", True, 1, True))
+
+
+def test_unknown_arguments():
+    """A command, a subcommand or an argument that isn't one is of status 2, and the nearest is named; kubectl replay
+    with a workload asks no cluster then."""
+    for words, given, near in (
+        (["stry"], "stry", "the nearest is story"), (["fetsh", "n1"], "fetsh", "the nearest is fetch"),
+        (["fleet", "rum"], "rum", "the nearest is run"), (["fleet", "plot"], "plot", "there are run, worst"),
+        (["help", "chek"], "chek", "the nearest is check"), (["nodes", "worker-3"], "worker-3", "(see --help)"),
+        (["json", "-f", REPORT, "web"], "web", "(see --help)"), (["zzz"], "zzz", "there are record, import, nodes"),
+    ):
+        for command in (COMMAND, f"{TOOLS}/kubectl-replay"):
+            answer = run([command, *words])
+            expect(f"{command} {words}", (answer[:2], answer[2].count("\n"), f": {given} is no known " in answer[2],
+                                          near in answer[2]), ((2, ""), 1, True, True))
+    for words in ("story deploy/web --sinse 10m", "why sts/db --kubeconfig X --nodee n1",
+                  "page deploy/web --attt 03:10Z", "json -l app=web --recorder x", "timeline deploy/web --utcc"):
+        answer = run([f"{TOOLS}/kubectl-replay", *words.split()], PATH=f"{HERE}/commands:{os.environ['PATH']}")
+        [name] = [word for word in words.split() if word in ("--sinse", "--nodee", "--attt", "--recorder", "--utcc")]
+        expect(f"kubectl replay {words}", (answer[0], answer[1], f"kubectl-replay: {name} is no known argument; the "
+                                           "nearest is --" in answer[2]), (2, "", True))
+    answer = run([COMMAND, "story", "deploy/web", "--context", "far"])
+    expect_refused("kubelet-replay story --context", answer, 2, "kubectl replay takes kubectl's options")
+
+
+def test_one_way_to_name_traces():
+    """Each command takes a file, a folder and standard input by -f; of several traces run, check and explain show
+    each."""
+    folder = tempfile.mkdtemp()
+    names = ("crash_loop", "memory_pressure")
+    for name in names:
+        shutil.copy(f"{TOP}/examples/{name}.trace", folder)
+    reports = [read(f"{TOP}/examples/{name}.report") for name in names]
+    expect("run -f of a file", run([COMMAND, "run", "-f", TRACE]), (0, reports[1], ""))
+    expect("run -f -", run([COMMAND, "run", "-f", "-"], read(TRACE)), (0, reports[1], ""))
+    expect("run of standard input", run([COMMAND, "run"], read(TRACE)), (0, reports[1], ""))
+    expect("run -f of a folder", run([COMMAND, "run", "-f", folder]), (0, "".join(reports), ""))
+    oks = [re.sub(r"node \S+(.*\n)(?:.|\n)*", r"ok\1", report) for report in reports]
+    expect("check -f of a file", run([COMMAND, "check", "-f", TRACE]), (0, oks[1], ""))
+    expect("check -f of a folder", run([COMMAND, "check", "-f", folder]), (0, "".join(
+        f"{folder}/{name}.trace: {ok}" for name, ok in zip(names, oks)), ""))
+    with open(f"{folder}/faulty.trace", "w", encoding="utf-8") as file:
+        file.write("{}\n")
+    status, told, said = run([COMMAND, "check", "-f", folder])
+    expect("check -f of a folder with a file that is no trace", (status, told.count("\n"), said.splitlines()[0]),
+           (2, 2, f"{folder}/faulty.trace: line 1: 33 UnknownKind"))
+    status, told, said = run([COMMAND, "run", "-f", folder, "--fail-on", "evicted"])
+    expect("run -f of a folder with --fail-on", (status, said.splitlines()[-1]), (
+        4, f"kubelet-replay: {folder}/memory_pressure.trace: --fail-on evicted: default/a"))
+    explained = run([COMMAND, "explain", "-f", folder, "--line"])
+    expect("explain -f of a folder", explained, (0, "".join(
+        run([COMMAND, "explain", "-f", f"{folder}/{name}.trace", "--line"])[1]
+        for name in ("crash_loop", "faulty", "memory_pressure")), ""))
+    expect("explain -f -", run([COMMAND, "explain", "-f", "-"], "{}\n"), run([COMMAND, "explain"], "{}\n"))
+    expect("why -f -", run([COMMAND, "why", "-f", "-", "default/a"], read(TRACE)),
+           run([COMMAND, "why", "-f", TRACE, "default/a"]))
+    expect_refused("what-if -f of a folder", run([COMMAND, "what-if", "-f", folder, "."]), 2, "it takes one trace, and")
+    expect("what-if -f -", run([COMMAND, "what-if", "-f", "-", "."], read(TRACE)),
+           run([COMMAND, "what-if", "."], read(TRACE)))
+    for tool in ("story", "why", "timeline", "page", "json"):
+        words = ["default/a"] if tool == "why" else []
+        expect(f"{tool} by itself takes -f", run([f"{TOOLS}/{tool}", "-f", TRACE, *words]),
+               run([COMMAND, tool, "-f", TRACE, *words]))
+    shutil.rmtree(folder)
 
 
 def test_names_that_are_not_utf8():
@@ -221,7 +333,7 @@ def test_command_fails_on():
     for words, said in ((["--fail-on", "killed"], "evicted, restarted, unready, one or more"),
                         (["--fail-on"], "needs a value"), (["--fail-on="], "one or more")):
         expect_refused(f"run {' '.join(words)}", run([COMMAND, "run", TRACE, *words]), 2, said)
-    expect_refused("run --fail-on of no trace", run([COMMAND, "run", "--fail-on", "evicted"]), 2, "needs one trace")
+    expect("run --fail-on of standard input", run([COMMAND, "run", "--fail-on", "evicted"], read(TRACE))[0], 4)
     refused = run([COMMAND, "run", "/dev/null", "--fail-on", "evicted"])
     expect("run --fail-on of a trace that is refused", (refused[0], refused[1]), (2, ""))
 
@@ -264,7 +376,7 @@ def test_what_if_on_a_terminal():
 
 
 def test_command_helps():
-    """Each help names the command as it is typed, and no file of a checkout."""
+    """Each help fits a terminal, names the command as it is typed, and no file of a checkout."""
     said = run([COMMAND, "--help"])
     expect("kubelet-replay --help", (said[0], said[2]), (0, ""))
     expect("kubelet-replay without a word", run([COMMAND]), (2, "", said[1]))
@@ -274,10 +386,32 @@ def test_command_helps():
         status, told, fault = run([COMMAND, name, "--help"])
         expect(f"kubelet-replay {name} --help", (status, fault), (0, ""))
         expect(f"kubelet-replay help {name}", run([COMMAND, "help", name])[1], told)
-        if name not in ("run", "check"):
-            expect(f"the help of {name}: its name", f"\n\nUsage:\n  kubelet-replay {name} " in told, True)
-            expect(f"the help of {name}: no file of a checkout",
-                   re.findall(rf"tools/(?:{'|'.join(NAMES)})\b(?![-/])|\./kubelet_replay", told), [])
+        expect(f"the help of {name}: its name", f"\n\nUsage:\n  kubelet-replay {name} " in told, True)
+        expect(f"the help of {name}: no file of a checkout, and no older form",
+               re.findall(rf"tools/(?:{'|'.join(NAMES)})\b(?![-/])|\./kubelet_replay|--traces?\b", told), [])
+        by_kubectl = run([f"{TOOLS}/kubectl-replay", name, "--help"])[1]
+        expect(f"kubectl replay {name} --help", [line for line in by_kubectl.splitlines() if "kubelet-replay " in line
+                                                 and "man " not in line], [])
+        for text in (told, by_kubectl):
+            lines = text.splitlines()
+            expect(f"the help of {name} fits a terminal", [line for line in lines if len(line) > 80] + lines[40:], [])
+            paragraphs = text.split("\n\n")
+            count = sum(line.startswith("  # ") for line in lines)
+            last = paragraphs[-1]
+            expect(f"the help of {name} has its parts", (
+                "\n" in paragraphs[0], [part.split("\n")[0] for part in paragraphs if part.startswith((
+                    "Usage:", "Examples:", "Options:"))], 2 <= count <= 4, last.startswith("Exit status: 0 ")),
+                (False, ["Usage:", "Examples:", "Options:"], True, True))
+
+
+def test_groups_of_commands():
+    """The list of commands has groups, and fits a terminal."""
+    for command in (COMMAND, f"{TOOLS}/kubectl-replay"):
+        told = run([command, "--help"])[1]
+        heads = [line[:-1] for line in told.splitlines() if re.fullmatch(r"[A-Z][a-z ]+:", line)]
+        expect(f"groups of {command}", heads, ["Usage", "Record", "Ask", "Check", "Many nodes", "Examples"])
+        expect(f"{command} --help fits a terminal",
+               [line for line in told.splitlines() if len(line) > 80] + told.splitlines()[40:], [])
 
 
 def test_command_completion():
@@ -285,9 +419,9 @@ def test_command_completion():
         ([""], [*sorted(NAMES), ":4"]),
         (["story", "-f", TRACE, "d"], ["default/a", "default/b", "default/c", ":4"]),
         (["story", "-f", TRACE, "-n", "default", ""], ["a", "b", "c", ":4"]),
-        (["story", "--"], ["--all", "--at", "--filename", "--follow", "--local", "--namespace", "--node", "--output",
-                           "--recorders", "--seconds", "--selector", "--since", "--timeout", "--trace", "--traces",
-                           "--utc", "--without-why", ":4"]),
+        (["story", "--"], ["--all", "--all-namespaces", "--at", "--filename", "--follow", "--local", "--namespace",
+                           "--node", "--output", "--recorders", "--seconds", "--selector", "--since", "--timeout",
+                           "--utc", ":4"]),
         (["run", ""], [":0"]),
         (["record", "--e"], ["--each", "--events", "--every", "--eviction-pause", "--extended", ":4"]),
         (["record", "--curl", ""], [":0"]),

@@ -222,7 +222,7 @@ def test_fleet_is_stopped():
         # what a shell begins in the background ignores an interrupt
         process = subprocess.Popen(words, env={**os.environ, **settings}, stderr=subprocess.PIPE,
                                    preexec_fn=lambda: signal.signal(signal.SIGINT, signal.SIG_DFL))
-        wait_until("rows", lambda: rows_kept(database) > before + 2)
+        wait_until("rows", lambda: rows_kept(database) > before + 2, process)
         busy = run(words, **{**settings, "HOLD": ""})
         process.send_signal(number)
         os.remove(settings["HOLD"])
@@ -247,7 +247,7 @@ def test_fleet_whose_place_is_taken():
     settings = {**COUNTED, "RUNS": f"{folder}/runs", "HOLD": f"{folder}/hold"}
     started = subprocess.Popen([FLEET, "run", f"{folder}/traces", "--out", database], stderr=subprocess.PIPE,
                                env={**os.environ, **settings})
-    wait_until("rows", lambda: rows_kept(database) >= 3)
+    wait_until("rows", lambda: rows_kept(database) >= 3, started)
     with open(database, "w") as file:
         file.write("something else\n")
     os.remove(settings["HOLD"])
@@ -509,7 +509,7 @@ def check_lost(words, end, folder, how):
     database = f"{folder}/{end.__name__}.db"
     hold(folder)
     started = begun(words(database))
-    wait_until("rows", lambda: rows_kept(database) >= 3)
+    wait_until("rows", lambda: rows_kept(database) >= 3, started)
     end()
     told, said = started.communicate(timeout=LONGEST)
     os.remove(f"{folder}/hold")

@@ -241,9 +241,11 @@ def test_edits_without_an_end():
     expect_refused("what-if of an edit that goes on without a word", run([f"{TOOLS}/what-if", "--timeout", "1",
                                                                         "until(false; .)"], trace), 2,
                    "the edit took longer than 1 s: --timeout SECONDS sets another limit")
-    for given in (["--timeout", "soon", "."], ["--timeout=0", "."], ["--timeout"]):
+    for given, said in ((["--timeout", "soon", "."], "takes a whole number from 1 to 999999, not 'soon'"),
+                        (["--timeout=0", "."], "takes a whole number from 1 to 999999, not '0'"),
+                        (["--timeout"], "needs a value")):
         expect_refused(f"what-if {' '.join(given)}", run([f"{TOOLS}/what-if", *given], trace), 2,
-                       "--timeout takes whole seconds from 1 on")
+                       f"--timeout {said}")
     expect_refused("what-if of an edit without an end", run([f"{TOOLS}/what-if", "repeat(.)"], trace), 2,
                    "the edit makes more than 64 MiB, which is the most that a trace has")
     with Made() as made:

@@ -222,7 +222,7 @@ def test_import_of_the_kubelets_journal_with_a_hole():
     tick, before = gap_in(trace)
     expect("import of a silent kubelet", (status, checked(trace), tick and tick["gap"], before), (
         0, 0, {"since": 1772359250, "until": 1772359554}, 1772359250))
-    expect("import of a silent kubelet: what is said", [line for line in said.split("\n") if "behind a gap" in line
+    expect("import of a silent kubelet: what is said", [line for line in said.split("\n") if "after a gap" in line
                                                         or "lines are missing" in line], [
         "import: 1 time without a line of the kubelet's, which would have written something there: lines are missing",
         "import: 1 pod that no line after a gap names (shop/hog): as before it"])

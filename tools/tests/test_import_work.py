@@ -11,7 +11,7 @@ import cases
 from checks import expect
 from imported_lines import Journal
 
-from replay_tools.commands import import_journal
+from replay_tools import tree
 
 load_tests = cases.loaded(__name__)
 
@@ -50,8 +50,9 @@ def calls_of(pods, *words):
             file.write(journal_of(pods))
         profile = cProfile.Profile()
         with contextlib.redirect_stdout(Output()), contextlib.redirect_stderr(io.StringIO()) as said:
-            profile.runcall(import_journal.main, ["--year", "2026", "--node", "n1", "--journal", f"{folder}/journal",
-                                                  *(word.replace("FOLDER", folder) for word in words)])
+            profile.runcall(tree.run, "import", [
+                "--year", "2026", "--node", "n1", "--journal", f"{folder}/journal",
+                *(word.replace("FOLDER", folder) for word in words)])
         count = len(os.listdir(f"{folder}/into")) if words else 0
     return pstats.Stats(profile).total_calls, said.getvalue(), count
 

@@ -135,8 +135,7 @@ def test_traces_that_are_none_together():
             (["--traces", folder.path, "--at", "2026-02-30T03:10Z"], "is no time that there is"),
             (["--traces", folder.path, "--since", "tonight"], "--since takes a time, as 2026-11-27T03:10Z"),
             (["--traces", folder.path, "--trace", folder.place(0)], "--trace and --traces exclude each other"),
-            (["--since", "2h"], "--since needs --traces too"),
-            (["--node", "n1"], "--node needs --traces too"),
+            (["--since", "2h"], "it needs -f FILE or FOLDER for traces that are here"),
         ):
             answer = run([f"{TOOLS}/story", *words])
             expect_refused(f"story {' '.join(words)}", answer, 2, said,
@@ -153,7 +152,7 @@ def test_reports_alone():
         starts = [line.split()[2:] for line in told.split("\n") if " started" in line and "ready" not in line]
         expect("reports alone", (status, said, starts), (0, "", [["0", "started"], ["1", "started"], ["2", "started"],
                                                                 ["3", "started"], ["4", "started"]]))
-        expect_refused("why of reports alone", run([f"{TOOLS}/why", "web", *words]), 2, "--traces names reports")
+        expect_refused("why of reports alone", run([f"{TOOLS}/why", "web", *words]), 2, "-f names reports")
 
 
 def test_packed_traces():
@@ -179,7 +178,7 @@ def test_packed_traces():
            run(["sh", "-c", f"{shell}'{trace}'"]))
     answer = run(["sh", "-c", f"'{TOOLS}/story' < '{folder}/trace.gz'"])
     expect_refused("story of a packed trace on standard input", answer, 2,
-                   "standard input is packed by gzip, and it needs a report; if it is a trace, --traces FILE replays")
+                   "standard input is packed by gzip, and it needs a report; if it is a trace, -f FILE replays")
     piped = f"zcat '{folder}/trace.gz' | '{TOOLS}/kubelet-replay' run -"
     expect("zcat to the program", run(["sh", "-c", piped]), run([f"{TOOLS}/kubelet-replay", "run", trace]))
     piped = f"zcat '{folder}/trace.gz' | '{REPLAY}' run /dev/stdin --extended"
@@ -211,7 +210,7 @@ def test_command_of_several():
         expect("kubelet-replay why --at", run([f"{TOOLS}/kubelet-replay", "why", "-f", folder.path, *at, "web"]),
                folder.tell("why", "web", *at))
         for words, said in (
-            (["run", "-f", first, "-f", rest[0]], "it takes one file, not 2"),
+            (["what-if", ".", "-f", first, "-f", rest[0]], "it takes one file, not 2"),
             (["story", "--since", "2h"], "-f FILE or FOLDER for traces that are here, or --node NODE for a cluster"),
         ):
             expect_refused(f"kubelet-replay {words[0]}", run([f"{TOOLS}/kubelet-replay", *words]), 2, said)

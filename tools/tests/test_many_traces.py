@@ -14,7 +14,7 @@ from chance import BEGIN
 from checks import REPLAY, expect
 from joined_plays import stamp
 
-from replay_tools.commands import story
+from replay_tools import tree
 
 load_tests = cases.loaded(__name__)
 
@@ -78,7 +78,7 @@ def calls_of(words):
     """How many calls of functions a story takes, with what it printed."""
     profile, printed = cProfile.Profile(), io.StringIO()
     with contextlib.redirect_stdout(printed):
-        profile.runcall(story.main, words)
+        profile.runcall(tree.run, "story", words)
     return pstats.Stats(profile).total_calls, printed.getvalue()
 
 

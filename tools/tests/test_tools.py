@@ -160,8 +160,8 @@ def test_no_reports():
         ("a line behind the totals", f"{report}{lines[1]}\n", "is no line"),
         ("no condition of the node", report.replace("nodecondition PIDPressure", "nodecondition Other"), "condition"),
         ("a pod without a condition", report.replace("condition 0 Ready", "condition 0 Steady"), "shop/api-7f9c"),
-        ("a trace", read(f"{RECORDINGS}/crash_loop/trace"), "is a trace, and it needs the report: run it first"),
-        ("a refusal", "line 1: 36 Config\n", "kubelet-replay explain TRACE shows what it means"),
+        ("a trace", read(f"{RECORDINGS}/crash_loop/trace"), "is a trace, and it needs a report: pass the trace with -f TRACE"),
+        ("a refusal", "line 1: 36 Config\n", "kubelet-replay explain -f TRACE shows what it means"),
         ("lines of json", '{"record":"node"}\n', "standard input is lines of kubelet-replay json"),
     ):
         expect_refused(f"story of {name}", run([f"{TOOLS}/story", "shop/api-7f9c"], text), 2, words)
@@ -308,7 +308,7 @@ def test_words():
         (["record", "--each", "1h"], "--each goes with --into"),
         (["record", "--crictl", "'"], "--crictl takes words"),
         (["story", "a/b", "c/d"], "one pod, not 2"),
-        (["story", "--all"], "--all is no known argument"),
+        (["story", "--al"], "--al is no known argument; the nearest is --all"),
         (["timeline", "--wide"], "--wide is no known argument"),
         (["what-if"], "one edit, not 0"),
         (["what-if", ".", "."], "one edit, not 2"),
@@ -379,17 +379,12 @@ def test_versions():
 
 
 def test_help():
-    """A help fits a terminal and has its parts; the manual has what a tool needs and leaves out."""
+    """A tool by itself has the help of its command; the manual has what it needs and leaves out."""
     for tool in (name for name in tree.COMMANDS if tree.is_tool(name)):
-        status, help_text, said = run([f"{TOOLS}/{tool}", "--help"])
-        found = [words in help_text for words in (
-            f"\n\nUsage:\n  kubelet-replay {tool} ", "\n\nExamples:\n  # ", "\n\nOptions:\n  ",
-            "\n\nExit status: 0 done, ", f"\nMore: man kubelet-replay-{tool}")]
-        expect(f"{tool} --help", (status, said, found), (0, "", [True] * 5))
-        lines = help_text.splitlines()
-        expect(f"{tool} --help fits a terminal", [line for line in lines if len(line) > 80] + lines[40:], [])
-        details = importlib.import_module(f"replay_tools.manual.{tree.COMMANDS[tool].module}").TEXT
-        expect(f"the manual of {tool} has what it needs and leaves out", [words in details for words in (
+        expect(f"{tool} --help", run([f"{TOOLS}/{tool}", "--help"]), run([f"{TOOLS}/kubelet-replay", tool, "--help"]))
+    for command in tree.COMMANDS.values():
+        details = importlib.import_module(f"replay_tools.manual.{command.module}").TEXT
+        expect(f"the manual of {command.name} has what it needs and leaves out", [words in details for words in (
             "It needs python3", "leaves out", "\n\nStatus 0: ")], [True] * 3)
 
 

@@ -296,7 +296,7 @@ def test_refused_words_of_why():
         expect_refused(f"why {pod}", run([f"{TOOLS}/why", pod, "--trace", trace], read(report)), 2, said)
         expect_refused(f"story {pod}", run([f"{TOOLS}/story", pod], read(report)), 2, said)
     for words, said in (([], "one pod, not 0"), (["a/b", "c/d", "--trace", trace], "one pod, not 2"),
-                        (["a/b"], "it needs --trace"), (["a/b", "--trace"], "--trace needs a value"),
+                        (["a/b"], "it needs -f FILE, a trace"), (["a/b", "--trace"], "--trace needs a value"),
                         (["--all"], "--all is no known argument")):
         expect_refused(f"why {' '.join(words)}", run([f"{TOOLS}/why", *words], read(report)), 2, said)
     expect_refused("why of no report", run([f"{TOOLS}/why", "a/b", "--trace", trace], "no\n"), 2, "line 1 ")

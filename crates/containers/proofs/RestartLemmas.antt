@@ -54,8 +54,11 @@ restarts_by policy spec h own role (Some s) has same is a = (
       let e : s.code ≡ Some t.code = coded (listings h) (Some s) is t.code (a, t.newest, t.exited) in
       let P : Option ℤ → Type 0 = λ o. IsSomeAnd o (λ code. WantsRestartBy policy own role code) in
       let R : Role → Type 0 = λ r. WantsRestartBy policy own r t.code in
-      let O : Option OwnRestarts → Type 0 = λ x. WantsRestartBy policy x spec.role t.code in
-      (IsNewest-unique (listings h) s.attempt a is.newest t.newest, subst P (sym e) (subst R (sym same) (subst O (sym has) t.wanted)))),
+      let O : Option OwnRestarts → Type 0 = λ x. WantsRestartBy policy x spec.role t.code in (
+        IsNewest-unique (listings h) s.attempt a is.newest t.newest,
+        subst P (sym e)
+            (subst R (sym same) (subst O (sym has) t.wanted)),
+      )),
 )
 
 -- the exits of a container are one list

@@ -80,7 +80,7 @@ impl Container {
         self.differ.last_at()
     }
 
-    /// What its listings so far say of its newest instance.
+    /// The state of its newest instance, by its listings so far.
     pub fn differ(&self) -> Differ
         ensures { (spec : ContainerSpec) (max_restart_delay : ℕ) (h : List ContainerTick)
             → IsStateOf spec max_restart_delay h self.now → IsDifferOf (listings h) result }

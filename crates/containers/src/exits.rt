@@ -44,9 +44,9 @@ fn count(backoff: &mut Backoff, at: u64, run: Option<u64>) -> Option<u64>
     }
 }
 
-/// Counts the exits of a tick at this moment, each after its run: first that of the instance which is
-/// no longer listed, and then that of the listed one. Gives by how many seconds the restart after the
-/// last of them is backed off.
+/// Counts the exits of a tick at this moment, each after its run: first the exit of the instance which is no longer
+/// listed, and then the exit of the listed one. Returns by how many seconds the restart after the last of them is
+/// backed off.
 pub fn count_both(
     backoff: &mut Backoff,
     at: u64,

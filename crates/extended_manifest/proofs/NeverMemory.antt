@@ -13,7 +13,8 @@ use Rattle.manifest.specs.rule.Resources.{nothing, no_resources, some_above}
 use Rattle.manifest_fields.specs.declared.fault.Field.TheVariants as fields
 use Rattle.manifest_fields.specs.declared.fault.ManifestFault.{ManifestFault}
 use Rattle.manifest_fields.specs.declared.fault.ManifestFault.TheVariants.{RequestAboveLimit, TooMany}
-use Rattle.manifest_fields.specs.rule.ResourceFields.{pod_amounts_in, pod_amounts_of, pod_resources_in, pod_resources_of}
+use Rattle.manifest_fields.specs.rule.ResourceFields.{pod_amounts_in, pod_amounts_of, pod_resources_in}
+use Rattle.manifest_fields.specs.rule.ResourceFields.{pod_resources_of}
 use Rattle.manifest_reader.specs.rule.Manifest.{pod_in}
 use Rattle.manifest_reader.proofs.NeverMemory.{IsFound, object_only, quantity_only, array_or_none_only, required_only}
 use Rattle.manifest_reader.proofs.NeverMemory.{pod_only}

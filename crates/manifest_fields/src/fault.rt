@@ -1,4 +1,4 @@
-//! Why a manifest was refused.
+//! Why a manifest was rejected.
 
 ghost use Rattle.std.specs.Prelude.{◌≡◌};
 ghost use Rattle.manifest_fields.specs.declared.fault.ManifestFault.TheVariants.{OutOfMemory};
@@ -39,7 +39,8 @@ pub enum Field {
     Probe,
     /// `spec.readinessGates`, an item of it, and an item's `conditionType`. (This project's extended format.)
     ReadinessGates,
-    /// Whether the node spares the pod, which stands beside the manifest. (This project's extended format.)
+    /// Whether the node exempts the pod from eviction (the member `spared`, next to the manifest). (This project's
+    /// extended format.)
     Spared,
 }
 
@@ -71,7 +72,7 @@ pub enum ManifestFault {
 impl ManifestFault {
     ghost use Rattle.manifest_fields.specs.state.Fault.{number_of};
 
-    /// The number by which a refusal names the fault.
+    /// The number of the fault in a refusal's line.
     pub fn number(self) -> u8
         ensures { result ≡ number_of self }
     {

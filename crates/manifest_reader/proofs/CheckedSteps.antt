@@ -30,7 +30,8 @@ pub containers_checked : (own : Bool) (init_items items : List Data) → checked
     ≡ (few init_items items >>= λ within. checked (each (container_of own InitContainers) init_items)
     >>= λ init. checked (each (container_of own Containers) items) >>= λ apps. apart_at init_items items)
 unfolding containers_of
-containers_checked own init_items items = there (few init_items items) (each (container_of own InitContainers) init_items)
+containers_checked own init_items items = there (few init_items items)
+    (each (container_of own InitContainers) init_items)
     (each (container_of own Containers) items) refl refl
   where
     there : (within : Result ⊤ ManifestFault) (init apps : Result (List ContainerSpec) ManifestFault)

@@ -1,5 +1,6 @@
 -- The faults of a manifest, none of which is that memory ran out.
-use Rattle.std.proofs.Common.{◌≢◌, ℕ, ℤ, Bool, true, false, List, [], ◌∷◌, ◌+◌, ◌++◌, length, Option, Some, None, Result, Ok, Err}
+use Rattle.std.proofs.Common.{◌≢◌, ℕ, ℤ, Bool, true, false, List, [], ◌∷◌, ◌+◌, ◌++◌, length, Option, Some, None}
+use Rattle.std.proofs.Common.{Result, Ok, Err}
 use Rattle.std.proofs.Common.{is_some}
 use Rattle.std.specs.Prelude.{pos, option_and_then, nat_lt, codes}
 use Rattle.serde_json.specs.Data.{Data, Items}
@@ -330,7 +331,8 @@ containers_only own init_items items =
     let P = IsFound in
     let many = nat_lt most_containers (length init_items + length items) in
     only_bind P _ _ (only_refused P many TooMany (λ is. absurd (cc))) (λ few.
-    only_bind P _ _ (only_each P (container_of own InitContainers) (container_only own InitContainers) init_items) (λ init.
+    only_bind P _ _ (only_each P (container_of own InitContainers) (container_only own InitContainers) init_items)
+    (λ init.
     only_bind P _ _ (only_each P (container_of own Containers) (container_only own Containers) items) (λ apps.
     only_bind P _ _ (only_refused P (has_twice (init ++ apps)) DuplicateContainer (λ is. absurd (cc)))
     (λ apart. only_ok P (init ++ apps)))))
@@ -345,7 +347,8 @@ unfolding containers_in
 containers_in_only own spec =
     let P = IsFound in
     only_bind P _ _ (array_or_none_only fields.InitContainers (field_at (codes "initContainers") spec)) (λ init_items.
-    only_bind P _ _ (app_items_only (field_at (codes "containers") spec)) (λ items. containers_only own init_items items))
+    only_bind P _ _ (app_items_only (field_at (codes "containers") spec))
+    (λ items. containers_only own init_items items))
 
 metadata_only : (found : Option Data) → Only IsFound (metadata_of found)
 unfolding metadata_of

@@ -1,5 +1,5 @@
-//! Whether a manifest can be read, or its first fault, without memory: where a growth was refused, the reading may not
-//! have come to the fault.
+//! Whether a manifest can be read, or its first fault, without an allocation: after a failed allocation the reading may
+//! not have come to the fault.
 
 ghost use Rattle.std.specs.Prelude.{◌≡◌, map, option_map, bytes_eq};
 ghost use Rattle.std.specs.List.{list_any};
@@ -143,7 +143,7 @@ fn is_name_twice(values: &[Value]) -> bool
     false
 }
 
-/// Whether two of the items and of those that stand behind them have one name.
+/// Whether two of the items and of those that come after them have one name.
 fn is_name_twice_before(values: &[Value], behind: &[Value]) -> bool
     ensures { result ≡ is_name_twice_before (λ v. name_in (view v)) values.now behind.now }
 {
@@ -192,7 +192,7 @@ fn check_containers_in(own: bool, spec: &Value) -> Result<(), ManifestFault>
     check_containers_of(own, init_items, items)
 }
 
-/// Whether a manifest can be read, or its first fault. It takes no memory.
+/// Whether a manifest can be read, or its first fault. Doesn't allocate.
 #[tactic(auto, using(crate::proofs::CheckedSteps::pod_checked))]
 pub(crate) fn check_pod(own: bool, value: &Value) -> Result<(), ManifestFault>
     ensures { result ≡ checked (pod_in own (view value.now)) }

@@ -109,7 +109,7 @@ pub(crate) fn role_of(place: Place, own_policy: Option<&Value>) -> Result<Role, 
     }
 }
 
-/// What a container is to its pod; `own` says whether the format reads its own restart policy.
+/// What a container is to its pod; `own` is whether the format reads its own restart policy.
 pub(crate) fn role_by(
     own: bool,
     place: Place,
@@ -311,7 +311,7 @@ fn metadata_of(alloc: Global, found: Option<&Value>) -> Result<Metadata, Manifes
     Ok(Metadata { name, namespace })
 }
 
-/// What a pod's `spec` says of the pod as a whole.
+/// What a pod's `spec` has on the pod as a whole.
 #[derive(Clone, Copy)]
 pub(crate) struct Settings {
     policy: Policy,

@@ -151,9 +151,9 @@ stopped_or_not container = there (exit_code container.view) refl
 for_good_or_not : (container : RestartView) → OrNot (HasFailedForGood of_restart_view Wants container)
 for_good_or_not container = elim (both (role_or_not Init container.view.role)
     (both (failed_or_not container.view) (negated (true_or_not container.wants_restart)))) [
-  | inl w ↦ inl (record { init = w.0; code = w.1.0.0; exited = w.1.0.1; failed = w.1.0.2; wants_none = w.1.1 })
-  | inr not ↦ inr (λ w. not (w.init, ((w.code, w.exited, w.failed), w.wants_none)))
-]
+      | inl w ↦ inl (record { init = w.0; code = w.1.0.0; exited = w.1.0.1; failed = w.1.0.2; wants_none = w.1.1 })
+      | inr not ↦ inr (λ w. not (w.init, ((w.code, w.exited, w.failed), w.wants_none)))
+    ]
 
 pub some_by_views : (containers : List RestartView) → (p : Phase) × IsRawPhaseBy of_restart_view Wants containers p
 some_by_views containers =

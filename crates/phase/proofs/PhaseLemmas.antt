@@ -65,14 +65,16 @@ pub record AreSame {C D : Type 0} (R : C → D → Type 0) (cs : List C) (ds : L
   pub each : (k : ℕ) (c : C) (d : D) → k < length cs → R (get_or cs k c) (get_or ds k d)
 
 -- what R carries over holds of all items of the other list, or of some of them
-pub All-same : {C D : Type 0} (R : C → D → Type 0) (P : C → Type 0) (Q : D → Type 0) → ((c : C) (d : D) → R c d → P c → Q d)
+pub All-same : {C D : Type 0} (R : C → D → Type 0) (P : C → Type 0) (Q : D → Type 0)
+    → ((c : C) (d : D) → R c d → P c → Q d)
     → (cs : List C) (ds : List D) → AreSame R cs ds → All P cs → All Q ds
 All-same {C = C} R P Q to cs ds same all k e lt =
     let lt' : k < length cs = let old : k < length ds = lt in omega (arith, same.as_many) in
     let c : C = some_item cs k lt' in
     to _ _ (same.each k c e lt') (all k c lt')
 
-pub Any-same : {C D : Type 0} (R : C → D → Type 0) (P : C → Type 0) (Q : D → Type 0) → ((c : C) (d : D) → R c d → P c → Q d)
+pub Any-same : {C D : Type 0} (R : C → D → Type 0) (P : C → Type 0) (Q : D → Type 0)
+    → ((c : C) (d : D) → R c d → P c → Q d)
     → (cs : List C) (ds : List D) → AreSame R cs ds → Any P cs → Any Q ds
 Any-same {C = C} {D = D} R P Q to cs ds same any =
     let lt : any.0 < length ds = let old : any.0 < length cs = any.2 in omega (arith, same.as_many) in
@@ -100,7 +102,8 @@ turned f g c d s = record {
   was_started = flip s.was_started;
 }
 
-pub restarts_turned : {C D : Type 0} (f : Facts C) (g : Facts D) (W : C → ℤ → Type 0) (V : D → ℤ → Type 0) (c : C) (d : D)
+pub restarts_turned : {C D : Type 0} (f : Facts C) (g : Facts D) (W : C → ℤ → Type 0) (V : D → ℤ → Type 0) (c : C)
+    (d : D)
     → SameRestarts f g W V c d → SameRestarts g f V W d c
 restarts_turned f g W V c d s = record {
   facts = turned f g c d s.facts;

@@ -62,7 +62,8 @@ own_given : (pod : PodSpec) (n : ℕ) (own : Option OwnRestarts) (spec : Contain
 own_given pod n own spec is at = is ∙ ap (λ (o : Option ContainerSpec). option_and_then (λ s. s.own_restarts) o) at
 
 -- and what the tick makes of it
-pub made_is : (pod : PodSpec) (max_restart_delay n : ℕ) (h : List PodTick) (observed : PodObs) (own : Option OwnRestarts)
+pub made_is : (pod : PodSpec) (max_restart_delay n : ℕ) (h : List PodTick) (observed : PodObs)
+    (own : Option OwnRestarts)
     (before : Container) (made : ContainerEvents) → own ≡ own_restarts_of pod n
     → ((spec : ContainerSpec) (k : List ContainerTick) → own ≡ spec.own_restarts
     → IsStateOf spec max_restart_delay k before
@@ -76,7 +77,8 @@ made_is pod max_restart_delay n h observed own before made has step is =
     (ticks_of (h ++ pod_tick observed ∷ []) n) (length h) made in
     implied_at pod n (λ spec. IsStateOf spec max_restart_delay (ticks_of h n) before) Q
     (λ spec at st.
-    subst (λ (t : ℕ). AreEvents pod.policy max_restart_delay spec (ticks_of (h ++ pod_tick observed ∷ []) n) t made) long
+    subst (λ (t : ℕ). AreEvents pod.policy max_restart_delay spec (ticks_of (h ++ pod_tick observed ∷ []) n) t made)
+    long
     (subst (λ (k : List ContainerTick). AreEvents pod.policy max_restart_delay spec k (length (ticks_of h n)) made) more
     (step spec (ticks_of h n) (own_given pod n own spec has at) st))) is
 

@@ -53,7 +53,8 @@ pub view_facts : (pod : PodSpec) (h : List PodTick) (container : ℕ) (view : Re
 view_facts pod h container view is =
     let ticks = ticks_of h container in
     let P : ContainerSpec → Type 0 = λ spec. shown.IsViewOf spec ticks view.view in
-    let seen = implies pod container (λ spec. shown.IsRestartViewOf pod.policy spec ticks view) P (λ spec v. v.view) is in
+    let R : ContainerSpec → Type 0 = λ spec. shown.IsRestartViewOf pod.policy spec ticks view in
+    let seen = implies pod container R P (λ spec v. v.view) is in
     let code = λ (code : ℤ). whatever pod container P _ (λ spec v. view_code spec ticks view.view v code) seen in
     let set_up = whatever pod container P _ (λ spec v. v.set_up) seen in
     record {

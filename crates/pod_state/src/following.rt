@@ -145,7 +145,7 @@ pub(crate) fn views_of(
     Ok(views)
 }
 
-/// Shows each container in its place; `is_ended` says whether the node has ended the pod.
+/// Shows each container in its place; `is_ended` is whether the node has ended the pod.
 pub(crate) fn show(containers: &[Container], is_ended: bool, statuses: &mut Vec<ContainerStatus>)
     requires { length statuses.old.items ≡ length containers.now }
     ensures { (pod : PodSpec) (max_restart_delay : ℕ) (h : List PodTick)

@@ -70,11 +70,10 @@ impl Lifecycle {
         }
     }
 
-    /// A tick comes, at the moment, in seconds, after which the containers are as these views show
-    /// them; `ready` says whether all app containers and sidecars are ready after it, `gates` whether each
-    /// condition that the pod's readiness gates name is True after it, and `ends` whether the node ends
-    /// the pod with it: it evicts the pod, or says that it has failed. Once the pod has ended, neither
-    /// these nor the containers are looked at.
+    /// A tick comes, at the moment, in seconds, after which the containers are as these views show them; `ready` is
+    /// whether all app containers and sidecars are ready after it, `gates` whether each condition that the pod's
+    /// readiness gates name is True after it, and `ends` whether the node ends the pod with it: it evicts the pod, or
+    /// the tick reports its end. Once the pod has ended, neither these nor the containers are looked at.
     pub fn advance(
         &mut self,
         at: u64,
@@ -98,10 +97,9 @@ impl Lifecycle {
 }
 
 impl Lifecycle {
-    /// The lifecycle after the last tick, at the moment, if that evicts the pod. `self` is the one before
-    /// that tick, in which the pod had not ended, and `updated` the one after it without an eviction. A
-    /// condition that only this tick made true, and its eviction false again, was never true: so its last
-    /// transition is that of `self`.
+    /// The lifecycle after the last tick, at the moment, if that evicts the pod. `self` is the one before that tick, in
+    /// which the pod had not ended, and `updated` the one after it without an eviction. A condition that only this tick
+    /// made true, and its eviction false again, was never true: so its last transition is the one of `self`.
     pub(crate) fn evicted(&self, at: u64, updated: &Lifecycle) -> Lifecycle
         requires { IsTerminal self.now.phase → ⊥ }
         ensures { (pod : PodSpec) (h : List PodTick) (entry : PodEntry)
@@ -130,8 +128,7 @@ fn are_both(containers_ready: bool, gates: bool) -> bool
     containers_ready && gates
 }
 
-/// Whether the containers of a pod of this phase are ready, where the flag says that all app
-/// containers and sidecars are.
+/// Whether the containers of a pod of this phase are ready, if the flag is whether all app containers and sidecars are.
 fn are_ready(phase: Phase, all_ready: bool) -> bool
     ensures { IsTrue result ↔ ((IsTerminal phase → ⊥) × IsTrue all_ready) }
 {

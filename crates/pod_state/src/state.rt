@@ -18,7 +18,8 @@ ghost use Rattle.pod_state.specs.state.States.{before_of, HasContainers, IsState
 
 use crate::events::{PodEvent, events_of, phase_event};
 use crate::following::{
-    all_ready, are_acceptable, first_containers, list, next_containers, show, step, view_of, views_of,
+    all_ready, are_acceptable, first_containers, list, next_containers, show, step, view_of,
+    views_of,
 };
 use crate::gates::GateStatuses;
 use crate::lifecycle::Lifecycle;
@@ -50,14 +51,14 @@ fn deleting_with(before: bool, observed: &PodObs) -> bool
     before || observed.deleting()
 }
 
-/// Whether the tick says that with it the node has ended the pod.
+/// Whether the tick reports that the node has ended the pod with it.
 fn says_failed(observed: &PodObs) -> bool
     ensures { result ≡ says_failed (pod_tick observed.now) }
 {
     observed.failed().is_some()
 }
 
-/// Whether a pod is leaving: it is being deleted, or the tick says that the node has ended it.
+/// Whether a pod is leaving: it is being deleted, or the tick reports that the node has ended it.
 fn is_leaving(deleting: bool, failed: bool) -> bool
     ensures { result ≡ (deleting || failed) }
 {
@@ -65,8 +66,8 @@ fn is_leaving(deleting: bool, failed: bool) -> bool
 }
 
 impl PodState {
-    /// A pod that no tick has shown yet, on a node with this maximum restart delay. An `Err` says that memory was
-    /// refused.
+    /// A pod that no tick has shown yet, on a node with this maximum restart delay. Returns `Err` if an allocation
+    /// fails.
     pub fn new(
         alloc: Global,
         spec: &PodSpec,
@@ -96,9 +97,9 @@ impl PodState {
         self.lifecycle
     }
 
-    /// Takes a tick that doesn't evict the pod and shows this of it, at a moment before `END_OF_TIME`, and gives the
-    /// events of the tick. Where the tick says that the node has ended the pod, the pod ends. Once it has, only the
-    /// tick's moment is looked at. An `Err` changes nothing.
+    /// Takes a tick that doesn't evict the pod and shows this of it, at a moment before `END_OF_TIME`. Returns the
+    /// events of the tick. The pod ends if the tick reports that the node has ended it. Once it has ended, only the
+    /// tick's moment is looked at. After an `Err` the pod is as it was.
     pub fn take(
         &mut self,
         alloc: Global,
@@ -173,13 +174,7 @@ impl PodState {
         let mut lifecycle = self.lifecycle;
         let gates = self.gates.next(observed);
         let failed = says_failed(observed);
-        lifecycle.advance(
-            observed.at(),
-            views,
-            ready,
-            gates.are_true(),
-            failed,
-        );
+        lifecycle.advance(observed.at(), views, ready, gates.are_true(), failed);
         let change = phase_event(self.lifecycle.phase, lifecycle.phase);
         let deleting = deleting_with(self.deleting, observed);
         let leaving = is_leaving(deleting, failed);
@@ -210,8 +205,7 @@ impl PodState {
         self.lifecycle = self.before.evicted(at, &self.lifecycle);
     }
 
-    /// Writes the status of each container, by number, in its place; `is_ended` says whether the node has
-    /// ended the pod.
+    /// Writes the status of each container, by number, in its place; `is_ended` is whether the node has ended the pod.
     pub fn show(&self, is_ended: bool, statuses: &mut Vec<ContainerStatus>)
         requires { HasContainers (length statuses.old.items) self.now }
         ensures { (pod : PodSpec) (max_restart_delay : ℕ) (evicted end : Option ℕ) (h : List PodTick)
@@ -223,7 +217,7 @@ impl PodState {
         show(&self.containers, is_ended, statuses);
     }
 
-    /// Writes the differ of each container, by number, in its place: what the listings that count say of it.
+    /// Writes the instance tracker of each container, by number, in its place: the state by the listings that count.
     pub fn list(&self, differs: &mut Vec<Differ>)
         requires { HasContainers (length differs.old.items) self.now }
         ensures { (pod : PodSpec) (max_restart_delay : ℕ) (evicted end : Option ℕ) (h : List PodTick)

@@ -164,7 +164,8 @@ container_given own place d c e =
     subst HasProbesInRange (same_value _ _ probes.2) (probes_given role.0 object.0 probes.0 probes.1)
 
 -- the containers of a pod
-each_given : (own : Bool) (place : _) (ds : List Data) (cs : List ContainerSpec) → each (container_of own place) ds ≡ Ok cs
+each_given : (own : Bool) (place : _) (ds : List Data) (cs : List ContainerSpec)
+    → each (container_of own place) ds ≡ Ok cs
     → All HasProbesInRange cs
 each_given own place [] cs e = subst (All HasProbesInRange) (same_value _ _ e) (All-nil HasProbesInRange)
 each_given own place (d ∷ ds) cs e =

@@ -1,5 +1,6 @@
 -- What the fault of a manifest becomes.
-use Rattle.std.proofs.Common.{◌≡◌, ◌∙◌, Bool, true, false, ◌&&◌, Option, Some, None, Result, Ok, Err, refl, ap, IfErr, IsErrOf}
+use Rattle.std.proofs.Common.{◌≡◌, ◌∙◌, Bool, true, false, ◌&&◌, Option, Some, None, Result, Ok, Err, refl, ap, IfErr}
+use Rattle.std.proofs.Common.{IsErrOf}
 use Rattle.std.specs.Prelude.{⊤}
 use Rattle.serde_json.specs.Data.{Data}
 use Rattle.manifest.specs.declared.pod.PodSpec.{PodSpec}

@@ -10,6 +10,7 @@ import time
 from collections.abc import Callable
 
 from replay_tools import amounts, entry, outside
+from replay_tools.cli.statuses import Status
 
 # kubectl shows it after what the command itself reported
 ENDED = "command terminated with exit code"
@@ -53,9 +54,9 @@ def started(words: list[str]) -> subprocess.Popen:
         return subprocess.Popen(["kubectl", *words], stdin=subprocess.DEVNULL, stdout=subprocess.PIPE,
                                 stderr=subprocess.PIPE)
     except FileNotFoundError:
-        raise entry.Fault("kubectl is missing", 127) from None
+        raise entry.Fault("kubectl is missing", Status.MISSING) from None
     except OSError as fault:
-        raise entry.Fault(f"kubectl can't be started: {fault.strerror}", 127) from None
+        raise entry.Fault(f"kubectl can't be started: {fault.strerror}", Status.MISSING) from None
 
 
 def handed_on(process: subprocess.Popen, most: int, seconds: float, silent: float,

@@ -10,17 +10,19 @@ from dataclasses import dataclass, field
 from typing import Any
 
 from replay_tools import entry, fields, outside
-from replay_tools.cluster import kubectl, options
+from replay_tools.cli import options
+from replay_tools.cli.statuses import Status
+from replay_tools.cluster import kubectl
 from replay_tools.cluster.kubectl import NoAnswer
 from replay_tools.joined import files
 
 # as deploy/reader.yaml has them: its namespace is named after the recorders', and its pods read their folder as nobody
 READER, READER_LABEL = "reader", "app=kubelet-replay-reader"
 # as deploy/daemonset.yaml has them
-NAMESPACE, LABEL, CONTAINER = "kubelet-replay", "app=kubelet-replay-recorder", "recorder"
+NAMESPACE, LABEL, CONTAINER = options.RECORDERS_NAMESPACE, "app=kubelet-replay-recorder", "recorder"
 FOLDER = "/var/lib/kubelet-replay"
 # each source has so many seconds for its answer, a copy more of them: one for so many bytes
-SECONDS, BYTES_A_SECOND, MOST_SECONDS = 15, 256 << 10, 3600
+SECONDS, BYTES_A_SECOND = options.SECONDS, 256 << 10
 # a pod of the list takes some thousand bytes, a file of a listing a hundred
 MOST_OF_PODS, MOST_OF_LISTING = 512 << 20, 8 << 20
 # two days of traces, each of ten seconds
@@ -99,7 +101,7 @@ class Cluster:
             of_recorders = threads.submit(self.pods_of, self.namespace, LABEL)
         readers, fault = by_node(of_readers.result()[0], f"{self.namespace}-{READER}", READER), of_recorders.result()[1]
         if fault is not None and not readers:
-            raise entry.Fault(f"the recorders can't be listed: {fault}", 1)
+            raise entry.Fault(f"the recorders can't be listed: {fault}", Status.FAILED)
         found = {**by_node(of_recorders.result()[0], None, CONTAINER),
                  **{node: one for node, one in readers.items() if one.is_ready}}
         if not found:
@@ -214,20 +216,14 @@ def recorder_of(item: dict[str, Any], namespace: str | None = None, container: s
         node = fields.text_at(fields.object_at(item, "spec"), "nodeName", "")
         pod = fields.text_at(fields.object_at(item, "metadata"), "name")
     except fields.Wrong:
-        raise entry.Fault("the recorders can't be listed: kubectl's answer is no list of pods", 1) from None
+        raise entry.Fault("the recorders can't be listed: kubectl's answer is no list of pods",
+                          Status.FAILED) from None
     return Recorder(node, pod, fields.text_at(status, "phase", "Unknown"), bool(ready) and all(ready), namespace,
                     container)
 
 
-def add_words(words: entry.Words) -> None:
-    """Adds the words of a tool that asks them."""
-    options.add_to(words)
-    words.add_argument("--recorders", default=NAMESPACE)
-    words.add_argument("--timeout", type=entry.whole_number(MOST_SECONDS), default=SECONDS)
-
-
 def cluster_of(found: Namespace) -> Cluster:
-    """The cluster that the words of a tool name."""
+    """The cluster that the arguments of a tool name."""
     return Cluster(found.kubectl, found.recorders, found.timeout)
 
 

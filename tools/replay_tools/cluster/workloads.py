@@ -9,6 +9,7 @@ from dataclasses import dataclass, field, replace
 from typing import Any, TYPE_CHECKING
 
 from replay_tools import dates, outside
+from replay_tools.cluster.kinds import KINDS
 from replay_tools.cluster.kubectl import NoAnswer
 from replay_tools.cluster.recorders import Cluster
 from replay_tools.cluster.waiting import Waiting
@@ -16,19 +17,6 @@ from replay_tools.cluster.waiting import Waiting
 if TYPE_CHECKING:
     from concurrent.futures import Executor
 
-# of each kind the names by which kubectl knows it, and how the names of its pods end
-KINDS = {
-    "deployment": (("deploy", "deployment"), r"[a-z0-9]{1,10}-[a-z0-9]{5}"),
-    "statefulset": (("sts", "statefulset"), r"\d+"),
-    "daemonset": (("ds", "daemonset"), r"[a-z0-9]{5}"),
-    "replicaset": (("rs", "replicaset"), r"[a-z0-9]{5}"),
-    "job": (("job",), r"(?:\d+-)?[a-z0-9]{5}"),
-    "cronjob": (("cj", "cronjob"), r"\d+-(?:\d+-)?[a-z0-9]{5}"),
-    "pod": (("po", "pod"), ""),
-}
-TYPES = {name + several: kind for kind, (names, _) in KINDS.items() for name in names for several in ("", "s")}
-# as kubectl takes a kind with its version and group: deployment.v1.apps
-QUALIFIED = re.compile(r"([a-z]+)(?:[.]v[0-9][a-z0-9]*)?(?:[.](?:apps|batch))?")
 SUFFIX = r"[a-z0-9]{5}"
 NOT_FOUND = "(NotFound)"
 MOST_OF_ANSWER = 256 << 20
@@ -132,19 +120,6 @@ class Members:
         if name in self.others or name.rpartition("-")[0] in self.others:
             return False
         return any(re.fullmatch(form, name) for form in self.forms)
-
-
-def kind_of(word: str) -> str | None:
-    """The kind that a word is: Deploy, deploys and deployment.v1.apps are deployments."""
-    found = QUALIFIED.fullmatch(word.lower())
-    return TYPES.get(found[1]) if found else None
-
-
-def kind_and_name(word: str) -> tuple[str, str] | None:
-    """The kind and the name of a word as deploy/web; None of one that names no kind."""
-    head, slash, name = word.partition("/")
-    kind = kind_of(head) if slash else None
-    return (kind, name) if kind is not None else None
 
 
 def members_of(cluster: Cluster, target: Target, waiting: Waiting, threads: Executor) -> Members:

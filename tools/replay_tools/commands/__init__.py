@@ -1,2 +1,1 @@
-"""The entries of the tools: a module for each, with its help, its words and its work. What the work needs is imported
-where it begins, so that a help and a mistaken word take no longer than they have to."""
+"""The work of the tools: a module for each, which takes the values of a command's arguments."""

@@ -9,6 +9,7 @@ from dataclasses import dataclass
 from typing import Any
 
 from replay_tools import entry, program as programs
+from replay_tools.cli.statuses import Status
 from replay_tools.fleet import database, kept, local, progress, traces
 
 # what these parts of it are on is asked for with their words alone
@@ -59,7 +60,7 @@ def part(name: str) -> Any:
     try:
         return importlib.import_module(f"replay_tools.fleet.{name}")
     except ImportError:
-        raise entry.Fault(PARTS[name], 127) from None
+        raise entry.Fault(PARTS[name], Status.MISSING) from None
 
 
 def taken(coming: Iterator[Any], store: kept.Kept, total: int) -> dict[str, dict[str, str | None]]:

@@ -17,6 +17,7 @@ from typing import Any
 
 from replay_tools import (amounts, endings, entry, kubelet as kubelets, outside, packed, program as programs, records,
                           report as reports, summary, traces)
+from replay_tools.cli.statuses import Status
 from replay_tools.fleet import met
 
 LONGEST_INPUT = 64 << 20
@@ -192,7 +193,7 @@ def read_trace(path: str) -> tuple[bytes, int]:
 def refusal(status: int, said: str) -> dict[str, Any]:
     """The status, line, code and fault of a trace without a report."""
     refused = REFUSED_LINE.fullmatch(said)
-    if status == 2 and refused:
+    if status == Status.BAD_INPUT and refused:
         return {"status": "refused", "line": int(refused[1]), "code": int(refused[2]), "fault": refused[3]}
     if said == "input too long":
         return {"status": "refused", "fault": said}

@@ -9,14 +9,6 @@ from dataclasses import dataclass
 
 from replay_tools import dates, entry
 
-NOTE = """
-Started by itself, as tools/{name}, it asks no cluster and takes no -f. It
-reads a report on standard input; {trace} is the report's trace, and
---traces TRACES names several traces instead.
-"""
-# options of a tool that takes several traces
-TRACES = "--traces"
-VALUED = ("--node", "--since", "--at")
 # what led to it lies before a moment, what came of it after
 SECONDS_BEFORE, SECONDS_BEHIND = 3600, 600
 # how far from a moment events are printed
@@ -49,21 +41,9 @@ class Asked:
         return None if self.at is None else self.at + SECONDS_BEHIND
 
 
-def add_words(words: entry.Words, name: str, takes_trace: bool = True) -> None:
-    """Adds the options of several traces to a tool's, and the option of a report's trace."""
-    words.note = NOTE.format(name=name, trace="--trace TRACE" if takes_trace else "TRACE")
-    if takes_trace:
-        words.files("--trace")
-    words.files(TRACES, action="append")
-    words.valued(*VALUED)
-
-
 def asked_of(found: Namespace) -> Asked | None:
-    """What the words of a tool ask for; None where they name no traces."""
-    if found.traces is None:
-        for word in VALUED:
-            if getattr(found, word[2:]) is not None:
-                raise entry.Fault(f"{word} needs --traces too, which names the traces (see --help)")
+    """What the arguments of a tool ask for; None where they name no several traces."""
+    if not found.traces:
         return None
     if found.trace is not None:
         raise entry.Fault("--trace and --traces exclude each other (see --help)")

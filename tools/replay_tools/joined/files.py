@@ -13,7 +13,7 @@ from replay_tools import dates, entry, outside, report as reports
 if TYPE_CHECKING:
     from replay_tools.joined import asked
 
-# as tools/record --into names them
+# as kubelet-replay record --into names them
 NAME = re.compile(r"(?P<node>.+)[.](?P<stamp>\d{4}-\d\d-\d\dT\d\d-\d\d-\d\dZ)(?:_(?P<number>[1-9]\d{0,8}))?"
                   r"[.]trace(?:[.]gz|[.]part)?", re.ASCII)
 PART = ".trace.part"

@@ -11,6 +11,7 @@ from dataclasses import dataclass, field
 
 from replay_tools import (decided, endings, entry, events, kubelet as kubelets, readiness, report as reports, telling,
                           traces)
+from replay_tools.cli.statuses import Status
 from replay_tools.joined import asked as asking_for, files, join
 
 # seconds between two polls; a replay takes a tenth of the time at most
@@ -145,7 +146,7 @@ def tell(follower: Follower, show: Callable[[int], str]) -> None:
     try:
         rows = follower.news()
     except entry.Fault as fault:
-        if fault.status == 127:
+        if fault.status == Status.MISSING:
             raise
         # a folder may have no trace yet, and a part be cut in the middle of a line
         if str(fault) not in follower.faults:

@@ -14,6 +14,7 @@ from typing import Any, TYPE_CHECKING
 
 from replay_tools import (amounts, entry, first_bytes, packed, program as programs, records, report as reports,
                           summary, traces)
+from replay_tools.cli.statuses import Status
 from replay_tools.joined import files
 
 if TYPE_CHECKING:
@@ -159,13 +160,13 @@ def replayed(source: files.Source, text: bytes, program: str) -> bytes:
     try:
         done = subprocess.run([program, *words], input=text, capture_output=True, check=False)
     except OSError as fault:
-        raise entry.Fault(programs.missing(program, fault), 127) from None
+        raise entry.Fault(programs.missing(program, fault), Status.MISSING) from None
     if done.returncode == 0:
         return done.stdout
     said = done.stderr.decode("utf-8", "replace").split("\n")[0] or f"status {done.returncode}"
     if done.returncode == 2 and REFUSED.fullmatch(said):
         raise Unusable(f"it is rejected: {said}", meaning(text, "--extended" in words))
-    status = done.returncode if done.returncode in (1, 127) else 1
+    status = Status.MISSING if done.returncode == Status.MISSING else Status.FAILED
     raise entry.Fault(f"{source.shown} can't be replayed: {said}", status)
 
 

@@ -3,8 +3,8 @@
 from . import shared
 
 TEXT = """\
-run replays every trace that TRACES name (a file, a folder with *.trace and *.trace.gz at any depth, or a pattern), and
-writes one SQLite database:
+run replays every trace that -f names: a file, a folder with *.trace and *.trace.gz at any depth, or a pattern. You
+may repeat -f, and an argument that is no option is a FILE too. It writes one SQLite database:
   - the table traces has a row for each: replayed, refused with its line and fault, failed, or a copy of an earlier one
     with the same bytes, which counts nothing
   - nodes, pods, containers, conditions and evictions have the content of the reports, as docs/report.schema.json has

@@ -20,7 +20,7 @@ It writes the records of several traces of one node as one. Records of borders h
 nothing was recorded before it.
 
 """ + shared.CLUSTER + """
-""" + shared.ALIASES.format(name="json") + """
+""" + shared.ALIASES + """
 It needs python3, and the program for traces (KUBELET_REPLAY names another one). It leaves out what a report does not
 have: the samples, the results of probes, the moment of the last tick, and without the trace when a pod left, of the
 extended format. A pod's unready_seconds count to the pod's end, else to when it left, else to the last moment: the

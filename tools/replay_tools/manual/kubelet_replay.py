@@ -1,13 +1,13 @@
-"""The details of kubelet-replay and kubectl replay."""
+"""The details of kubelet-replay, and of kubectl replay."""
 
-TEXT = """\
+OF_BOTH = """\
 kubelet-replay COMMAND --help, or help COMMAND, shows a command's options. run and check belong to the proved
 program.
 
 The commands that read a trace or a report have these options:
-  - -f, --filename FILE: a trace, which gzip may have packed, or a report. The command replays a trace for the tool. - is
-    standard input; without -f the tool reads a report there. story, why, page, timeline and json take several files and
-    folders, and report several traces as one.
+  - -f, --filename FILE: a trace, which gzip may have packed, or a report. The command replays a trace for the tool. "-"
+    is standard input. story, why, page, timeline and json take several files and folders, and report several traces
+    as one; run, check and explain take each trace by itself.
   - --since 2h, --at TIME: of these tools: the traces since then, or around a moment, as 03:10Z
   - --node NODE: of these tools: one node of a folder. Without -f the command fetches the traces of that node from its
     recorder into a temporary folder. --recorders NAMESPACE is the namespace of the recorders (kubelet-replay).
@@ -34,22 +34,10 @@ It needs python3, and what the tool of the command needs. {needs}
 Status: the tool's; 1: a recorder did not answer; 2: a wrong argument, a file that can't be read or is rejected; 4: what
 --fail-on names happened; 127: a command is missing.
 """
-OF_KUBECTL = """\
-Without -n the pods are of the namespace of kubectl's context, else of default. -A, --all-namespaces means the pods of
-all namespaces. Each call of kubectl gets kubectl's own options: --context, --kubeconfig, --as, --user, --token,
---server and others. story without a pod lists the pods of the namespace of -n, or all. The word replay comes before all
-others, since kubectl takes no option of its own before a plugin's name."""
-OF_ALONE = """\
+OF_CALLER = """\
 Without -n a pod may be of any namespace. kubectl replay is the same with the namespace of kubectl's context and with
 kubectl's own options."""
-NEEDS_OF_KUBECTL = """\
-kubectl finds it on the PATH under the name kubectl-replay, and for completion kubectl_complete-replay."""
-NEEDS_ALONE = """\
+NEEDS = """\
 Without python3 the program alone, kubelet_replay, writes reports. With __complete before other arguments it prints what
 the last of them may become, for the completion of shells."""
-
-
-def text_of(is_of_kubectl: bool) -> str:
-    """The details of the command that kubectl runs, or of the other one."""
-    of_caller, needs = (OF_KUBECTL, NEEDS_OF_KUBECTL) if is_of_kubectl else (OF_ALONE, NEEDS_ALONE)
-    return TEXT.format(of_caller=of_caller, needs=needs)
+TEXT = OF_BOTH.format(of_caller=OF_CALLER, needs=NEEDS)

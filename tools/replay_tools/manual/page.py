@@ -15,8 +15,8 @@ browser's.
 Of several traces of one node it makes one page. A gap in which nothing was recorded is hatched.
 
 """ + shared.CLUSTER + """
-Scripts may start the tool by itself as tools/page. It then reads a report on standard input and takes its TRACE, or
---traces TRACES, several traces, instead of -f.
+""" + shared.ALIASES + """\
+An argument that is no option is such a TRACE too.
 
 It needs python3, a browser to show it, and the program for traces (KUBELET_REPLAY names another one). The end of the
 page lists what it leaves out: without a trace all that a report does not have, and of very much the last part.

@@ -21,8 +21,8 @@ to ten minutes after it. A moment is a time with its zone, as 03:10Z, which is t
 1970.
 """
 ALIASES = """\
-Scripts may start the tool by itself as tools/{name}. It then reads a report on standard input and takes --trace TRACE,
-the trace of the report, or --traces TRACES, several traces, instead of -f.
+Without -f, and if no cluster is asked, the tool reads a report on standard input. Older forms of -f remain: --trace
+TRACE is the trace of that report, and --traces TRACES names several traces.
 """
 CLUSTER = """\
 Without -f it asks a cluster. A workload is deploy/web, or of sts/, ds/, rs/, job/, cj/ and pod/, in each form that

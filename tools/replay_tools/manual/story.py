@@ -29,7 +29,7 @@ also prints that the node is not Ready, or was started again.
 From a cluster a story has the last 20 events that matter; --all has each event, and -o json the whole as one JSON
 object. On a terminal a story fits its width and has colours unless NO_COLOR is set.
 
-""" + shared.ALIASES.format(name="story") + """
+""" + shared.ALIASES + """
 With --trace it also prints, unless --without-why, what the trace has around each event, as kubelet-replay why does.
 
 It needs python3, and the program for traces (KUBELET_REPLAY names another one). It takes the story from the report, and

@@ -18,7 +18,7 @@ It draws several traces of one node as one. A gap in which nothing was recorded 
 of it.
 
 """ + shared.CLUSTER + """
-""" + shared.ALIASES.format(name="timeline") + """
+""" + shared.ALIASES + """
 It needs python3, and the program for traces (KUBELET_REPLAY names another one). It leaves out what a report does not
 have:
   - the moment of the last tick: the picture ends a little after the last moment of the report

@@ -21,7 +21,7 @@ that happened to the pod, and its place among all.
 With --at it prints the events within ten minutes of the moment.
 
 """ + shared.CLUSTER + """
-""" + shared.ALIASES.format(name="why") + """
+""" + shared.ALIASES + """
 It needs python3, and the program for traces (KUBELET_REPLAY names another one). Events come from the report. The only
 rule that it applies itself is the order of eviction candidates. It leaves out all but the last 12 runs of results and
 exits of an event, and all but the first and the last 11 samples, and prints how many.

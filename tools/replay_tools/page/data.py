@@ -282,7 +282,7 @@ def causes_of(causes: list[list[str | int]], span: Span) -> list[list[Any]]:
 
 
 def around_of(evicted: why.Evicted, span: Span) -> dict[str, Any]:
-    """What the trace holds around an eviction, in the words of tools/why."""
+    """What the trace holds around an eviction, in the words of why."""
     of_bytes = evicted.signal in BYTE_SIGNALS
     rows = [why_text.candidate_row(place, candidate, of_bytes)
             for place, candidate in enumerate(evicted.candidates[:MOST_ROWS], 1)]
@@ -340,7 +340,7 @@ def waits_of(span: Span, lanes: made.Lanes, words: Words) -> list[list[int | Non
 
 def said_of(trace: traces.Trace | None, span: Span, pod: reports.Pod, lanes: made.Lanes, words: Words,
             budget: Budget) -> dict[str, Any]:
-    """What was reported of it, as tools/why has it: the moment, the container's place (-1 without), and the place of
+    """What was reported of it, as why has it: the moment, the container's place (-1 without), and the place of
     the words; and what follows the words of an event, by its place."""
     if trace is None:
         return {}

@@ -2,171 +2,135 @@
 
 from __future__ import annotations
 
-import re
-import sys
+from argparse import Namespace
 from dataclasses import dataclass
 from typing import IO
 
-from replay_tools import entry, outside, program as programs, tree
-from replay_tools.commands.run import FAIL_ON
-from replay_tools.plugin import files, help, several, words
-from replay_tools.plugin.words import FOLLOW
+from replay_tools import entry, tree
+from replay_tools.cli import parsing
+from replay_tools.cli.definition import COMMANDS
+from replay_tools.cli.specification import Command
+from replay_tools.plugin import files, several, words
+
 
 @dataclass(frozen=True)
 class Caller:
-    """The command that was called: its name, how it is typed, whether kubectl is what runs it."""
+    """What was started: its name, and whether it is kubectl's plugin."""
 
     name: str
-    typed: str
     is_of_kubectl: bool
 
 
-ALONE = Caller("kubelet-replay", "kubelet-replay", is_of_kubectl=False)
-OF_KUBECTL = Caller("kubectl-replay", "kubectl replay", is_of_kubectl=True)
-
-
 def run(given: list[str], caller: Caller) -> int:
-    """Runs a command with its words, by the program or a tool; the status, where it comes back."""
-    if given[:1] == ["help"] and len(given) > 1:
-        given = [given[1], "--help"]
-    if not given or given[0] in ("-h", "--help", "help"):
-        (sys.stdout if given else sys.stderr).write(help.text_of(caller))
-        return 0 if given else 2
-    name, *rest = given
-    if name not in tree.COMMANDS:
-        raise entry.Fault(f"{name} is no known command: {', '.join(tree.COMMANDS)} (see --help)")
-    if "--help" in rest or "-h" in rest:
-        return show_help(name, caller)
-    if rest in (["--version"], ["-V"]):
-        return tree.run(name, rest) if tree.is_tool(name) else files.become(programs.path(), ["--version"])
-    command = tree.COMMANDS[name]
+    """Runs a command with its arguments, by the program or a tool; the status, where it comes back."""
+    command = COMMANDS[given[0]]
+    if command.parses_itself:
+        return tree.work(command.name, given[1:])
+    found = parsing.parsed(command, given[1:], caller.is_of_kubectl)
     if not command.takes_file:
-        return tree.run(name, rest)
-    found = words.words_of(name, rest, caller.is_of_kubectl)
-    if found.waiting:
-        raise entry.Fault(f"{found.waiting} needs a value (see --help)")
+        return tree.work(command.name, found)
+    if command.is_of_program or command.name == "explain":
+        return run_on_traces(command, found, caller)
+    words.take_files(found)
     found.files = [files.kept_input() if file == "-" else file for file in found.files]
-    if not tree.is_tool(name):
-        return run_program(name, found, caller)
-    if name == "explain":
-        return tree.run(name, [*([found.file] if found.file else []), *found.plain, *found.rest])
-    if name == "story" and FOLLOW in found.rest:
-        return tree.run(name, [*found.rest, *(words.pods_meant(command, found) or [])])
-    if command.takes_several and not found.files and is_of_cluster(name, found, caller):
-        return run_of_cluster(name, found, caller)
-    if command.pods == "none" and found.namespace is not None:
-        raise entry.Fault(f"{words.NAMESPACE[0]} is for a workload, as {name} deploy/web (see --help)")
-    if command.takes_several and several.is_meant(found):
-        return several.run(name, command, found)
-    return run_tool(name, command, found)
+    if command.name == "what-if":
+        return run_what_if(found)
+    found.asks_all = found.is_everywhere
+    if not caller.is_of_kubectl and found.namespace is None:
+        # there is no context, and a pod may be of any namespace
+        found.is_everywhere = True
+    return run_asking(command, found, caller)
 
 
-def is_of_cluster(name: str, found: words.Words, caller: Caller) -> bool:
+def run_on_traces(command: Command, found: Namespace, caller: Caller) -> int:
+    """Runs a command on each of the traces that are named; its status."""
+    from replay_tools.plugin import proved
+    paths = proved.paths_of(found)
+    if command.is_of_program:
+        return proved.run(command.name, paths, found, caller.name)
+    return max(tree.work(command.name, parsing.changed(found, path=path)) for path in paths)
+
+
+def run_what_if(found: Namespace) -> int:
+    """Runs the tool on a trace, which becomes its standard input; its status."""
+    file = words.one_file(found)
+    if file is not None:
+        from replay_tools.plugin import proved
+        traces = proved.in_folder(file)
+        if len(traces) > 1:
+            raise entry.Fault(f"it takes one trace, and {file} has {len(traces)} (see --help)")
+        [file] = traces
+        if files.is_report(file):
+            raise entry.Fault(f"{file} is a report, and it needs a trace")
+        files.make_input(open(file, "rb"))
+    return tree.work("what-if", found)
+
+
+def run_asking(command: Command, found: Namespace, caller: Caller) -> int:
+    """Runs a tool on files, or on what a cluster has; its status."""
+    if command.name == "story" and found.follow is not None:
+        pods = words.pods_meant(command, found) or []
+        return tree.work(command.name, parsing.changed(found, named=pods))
+    if not found.files and is_of_cluster(command, found, caller):
+        return run_of_cluster(command, found, caller)
+    if command.pods == "none":
+        check_none_of_cluster(command, found)
+    if several.is_meant(found):
+        return several.run(command, found)
+    return run_tool(command, found)
+
+
+def is_of_cluster(command: Command, found: Namespace, caller: Caller) -> bool:
     """Whether a tool is asked for pods of a cluster, and not for those of files or of a report."""
     from replay_tools.plugin import target
-    return target.is_meant(name, found, caller.is_of_kubectl)
+    return target.is_meant(command.name, found, caller.is_of_kubectl)
 
 
-def run_of_cluster(name: str, found: words.Words, caller: Caller) -> int:
+def run_of_cluster(command: Command, found: Namespace, caller: Caller) -> int:
     """Runs a tool on pods of a cluster; its status."""
     from replay_tools.plugin import each_node, workload
-    if name == "story":
+    if command.name == "story":
         return workload.run(found, caller.is_of_kubectl)
-    return each_node.run(name, found, caller.is_of_kubectl)
+    return each_node.run(command.name, found, caller.is_of_kubectl)
 
 
-def show_help(name: str, caller: Caller) -> int:
-    """Shows a command's help."""
-    if not tree.is_tool(name):
-        files.become(programs.path(), ["help", name])
-    sys.stdout.write(help_of(name, caller))
-    return 0
+def check_none_of_cluster(command: Command, found: Namespace) -> None:
+    """Rejects what belongs to a workload, which isn't named."""
+    if found.namespace is not None:
+        raise entry.Fault(f"-n is for a workload, as {command.name} deploy/web (see --help)")
+    if found.named and not command.names_files:
+        raise entry.Fault(parsing.unknown(found.named[0], command.options_of(None)))
 
 
-def help_of(name: str, caller: Caller) -> str:
-    """A tool's help, with the commands as they are typed here."""
-    return re.sub(rf"\bkubelet-replay (?=(?:{'|'.join(tree.COMMANDS)})\b)", f"{caller.typed} ", tree.help_of(name))
+def run_tool(command: Command, found: Namespace) -> int:
+    """Runs a tool on one report, with the values that it takes in place of kubectl's; its status."""
+    file = words.one_file(found)
+    report = files.open_report(file)
+    pods = found.named
+    if command.pods != "none":
+        pods, report = keys(command, found, file, report)
+    of_trace = trace_of(command.name, found, file, pods)
+    files.make_input(report)
+    return tree.work(command.name, parsing.changed(found, named=pods, **of_trace))
 
 
-def run_program(name: str, found: words.Words, caller: Caller) -> int:
-    """Runs the program, with the option for the format that the node line of the trace shows; its status."""
-    from replay_tools.plugin import failing
-    rest, kinds = without_fail_on(found.rest)
-    traces, copy = [*([found.file] if found.file else []), *found.plain], None
-    option: list[str] = []
-    traces = ["/dev/stdin" if trace == "-" else trace for trace in traces]
-    traces = [files.plain(traces[0])] if len(traces) == 1 else traces
-    path = traces[0] if len(traces) == 1 else None
-    if path:
-        check_readable(path)
-    if path and "--extended" not in rest:
-        traces[0], copy, option = files.with_format(path)
-        path = files.path_of(copy) if copy else path
-    if kinds:
-        if path is None:
-            raise entry.Fault(f"{FAIL_ON} needs one trace, not {len(traces)} (see --help)")
-        return failing.run([name, *traces, *rest, *option], path, copy, caller.name, kinds)
-    return files.run_beside(programs.path(), [name, *traces, *rest, *option], path, copy, caller.name)
-
-
-def check_readable(path: str) -> None:
-    """Raises Fault where the trace can't be opened: the program's own words name neither the file nor the reason."""
-    try:
-        with open(path, "rb"):
-            pass
-    except OSError as fault:
-        raise entry.Fault(f"{outside.visible(path)}: {fault.strerror}") from None
-
-
-def without_fail_on(rest: list[str]) -> tuple[list[str], dict[str, None] | None]:
-    """The words for the program, and what a run is to fail on."""
-    from replay_tools.plugin import failing
-    if FAIL_ON not in rest:
-        return rest, None
-    place = rest.index(FAIL_ON)
-    return rest[:place] + rest[place + 2 :], failing.kinds_of(rest[place + 1])
-
-
-def run_tool(name: str, command: tree.Command, found: words.Words) -> int:
-    """Runs a tool, with the words that it takes in place of kubectl's; its status."""
-    if name == "what-if":
-        report = open_trace(found.file) if found.file else None
-    else:
-        report = files.open_report(found.file)
-    pods = found.plain
-    if command.pods != "none" and report is not None:
-        pods, report = keys(command, found, report)
-    trace = trace_words(name, found, pods)
-    if report is not None:
-        files.make_input(report)
-    return tree.run(name, [*found.rest, *pods, *trace])
-
-
-def keys(command: tree.Command, found: words.Words, report: IO[bytes]) -> tuple[list[str], IO[bytes]]:
+def keys(command: Command, found: Namespace, file: str | None, report: IO[bytes]) -> tuple[list[str], IO[bytes]]:
     """The pods that are meant, and the report, which was read where a namespace alone shows which."""
     named = words.pods_meant(command, found)
     if named is not None or found.namespace is None:
         return named or [], report
-    report = files.whole(report, "standard input" if found.file is None else "the report")
+    report = files.whole(report, "standard input" if file is None else "the report")
     named = files.pods_in(report, found.namespace)
     if not named:
         raise entry.Fault(f"the report has no pod in the namespace {found.namespace}")
     return named, report
 
 
-def trace_words(name: str, found: words.Words, pods: list[str]) -> list[str]:
-    """The words that pass the trace on to a tool that looks into it, or that shows what the kubelet did."""
-    if found.file is None or files.is_report(found.file):
-        return []
-    if name == "story" and "--trace" not in found.rest:
-        has_pod = bool(pods) and not pods[0].endswith("/")
-        return ["--trace", found.file, *(["--without-why"] if has_pod else [])]
-    if name in ("why", "timeline", "json") and "--trace" not in found.rest:
-        return ["--trace", found.file]
-    return [found.file] if name == "page" and not found.plain else []
-
-
-def open_trace(path: str) -> IO[bytes]:
-    if files.is_report(path):
-        raise entry.Fault(f"{path} is a report, and it needs a trace")
-    return open(path, "rb")
+def trace_of(name: str, found: Namespace, file: str | None, pods: list[str]) -> dict[str, object]:
+    """What passes the trace on to a tool that looks into it, or that shows what the kubelet did."""
+    if name == "page" and found.named:
+        return {}
+    if file is None or found.trace is not None or files.is_report(file):
+        return {}
+    has_pod = name == "story" and bool(pods) and not pods[0].endswith("/")
+    return {"trace": file, **({"without_why": True} if has_pod else {})}

@@ -8,33 +8,23 @@ from collections.abc import Iterable
 from typing import IO, TYPE_CHECKING
 
 from replay_tools import asking, entry, program as programs, report as reports, traces
-from replay_tools.commands.run import FAIL_ON, KINDS
+from replay_tools.cli.definition import KINDS
+from replay_tools.cli.statuses import Status
 from replay_tools.plugin import files
 
 if TYPE_CHECKING:
     from replay_tools import kubelet as kubelets
 
-# the program has 0 to 3
-STATUS = 4
 MOST_NAMED = 3
 
 
-def kinds_of(value: str) -> dict[str, None]:
-    """What --fail-on names."""
-    kinds = [kind for kind in value.split(",") if kind]
-    wrong = [kind for kind in kinds if kind not in FOUND]
-    if wrong or not kinds:
-        raise entry.Fault(f"{FAIL_ON} takes {', '.join(FOUND)}, one or more with a comma between them, not '{value}'")
-    return dict.fromkeys(kinds)
-
-
-def run(words: list[str], path: str, given: IO[bytes] | None, caller: str, kinds: Iterable[str]) -> int:
+def run(words: list[str], path: str, given: IO[bytes] | None, caller: str, kinds: list[str]) -> int:
     """Runs the program on a trace, writes its report, and shows what of these kinds is in it; the status."""
     report = files.temporary()
-    status = files.run_beside(programs.path(), words, path, given, caller, report)
-    if status == 1 and os.fstatvfs(report.fileno()).f_bavail == 0:
+    status = files.run_beside(programs.path(), words, path, given, caller, output=report)
+    if status == Status.FAILED and os.fstatvfs(report.fileno()).f_bavail == 0:
         raise files.no_room("it takes no more")
-    if status != 0:
+    if status != Status.DONE:
         return status
     report.seek(0)
     text = report.read()
@@ -45,8 +35,8 @@ def run(words: list[str], path: str, given: IO[bytes] | None, caller: str, kinds
     said = [(kind, FOUND[kind](found, kubelet)) for kind in kinds]
     for kind, pods in said:
         if pods:
-            print(f"{caller}: {FAIL_ON} {kind}: {named(pods)}", file=sys.stderr)
-    return STATUS if any(pods for _, pods in said) else 0
+            print(f"{caller}--fail-on {kind}: {named(pods)}", file=sys.stderr)
+    return Status.HAPPENED if any(pods for _, pods in said) else Status.DONE
 
 
 def kubelet_of(report: reports.Report, path: str) -> kubelets.Kubelet | None:

@@ -7,10 +7,10 @@ import signal
 import stat
 import subprocess
 import sys
-import tempfile
 from typing import Any, IO, NoReturn
 
 from replay_tools import entry, outside, packed, program as programs, report as reports, traces
+from replay_tools.cli.statuses import Status
 from replay_tools.joined import files as traces_of
 
 # a longer one is no line of a trace
@@ -61,6 +61,7 @@ def open_report(path: str | None) -> IO[bytes]:
 
 def temporary() -> IO[bytes]:
     """A file without a name."""
+    import tempfile
     try:
         return tempfile.TemporaryFile()
     except OSError as fault:
@@ -70,7 +71,8 @@ def temporary() -> IO[bytes]:
 def no_room(said: str) -> entry.Fault:
     """That what is kept for a tool has no place."""
     folder = os.environ.get("TMPDIR") or "/tmp"
-    return entry.Fault(f"what it has to keep has no place in {folder}: {said} (TMPDIR names another folder)", 1)
+    return entry.Fault(f"what it has to keep has no place in {folder}: {said} (TMPDIR names another folder)",
+                       Status.FAILED)
 
 
 def replayed(path: str) -> IO[bytes]:
@@ -82,14 +84,15 @@ def replayed(path: str) -> IO[bytes]:
     try:
         done = subprocess.run([program, *words], stdout=report, stderr=subprocess.PIPE, check=False)
     except OSError as fault:
-        raise entry.Fault(programs.missing(program, fault), 127) from None
-    if done.returncode != 0:
+        raise entry.Fault(programs.missing(program, fault), Status.MISSING) from None
+    if done.returncode != Status.DONE:
         said = done.stderr.decode("utf-8", "replace").split("\n")[0] or f"status {done.returncode}"
         if said == "write failed":
             raise no_room("it takes no more")
-        if done.returncode == 2:
+        if done.returncode == Status.BAD_INPUT:
             raise entry.Fault(f"{named} is rejected: {said}", means=meaning(path, bool(option)))
-        raise entry.Fault(f"{named} can't be replayed: {said}", done.returncode if done.returncode == 127 else 1)
+        status = Status.MISSING if done.returncode == Status.MISSING else Status.FAILED
+        raise entry.Fault(f"{named} can't be replayed: {said}", status)
     report.seek(0)
     return report
 
@@ -182,38 +185,39 @@ def key_of(line: str) -> str:
     return f"{metadata.get('namespace') or 'default'}/{metadata['name']}"
 
 
-def run_beside(program: str, words: list[str], path: str | None, given: IO[bytes] | None, caller: str,
+def run_beside(program: str, words: list[str], path: str, given: IO[bytes] | None, caller: str, label: str = "",
                output: IO[bytes] | None = None) -> Any:
     """Runs the program on a trace, with a file as its standard input, and one as its standard output where that is not
-    this one's; its status. Where it rejects the trace, what that means is printed in one more line."""
+    this one's; its status. A label precedes each line of its standard error. Where it rejects the trace, one more line,
+    after the caller's name, has what that means."""
     if given is not None:
         os.lseek(given.fileno(), 0, os.SEEK_SET)
     to_pipe = output is None and stat.S_ISFIFO(os.fstat(1).st_mode)
-    said = None if all(map(str.isprintable, words)) else temporary()
+    said = None if not label and all(map(str.isprintable, words)) else temporary()
     try:
         process = subprocess.Popen([program, *words], stdin=given, stdout=subprocess.PIPE if to_pipe else output,
                                    stderr=said)
     except OSError as fault:
-        raise entry.Fault(programs.missing(program, fault), 127) from None
+        raise entry.Fault(programs.missing(program, fault), Status.MISSING) from None
     if process.stdout is not None:
         hand_on(process.stdout)
     status = process.wait()
     if said is not None:
-        show_plain(said)
-    if status in (1, 2) and path is not None:
+        show_plain(said, label)
+    if status in (Status.FAILED, Status.BAD_INPUT):
         means = meaning(path, "--extended" in words)
         if means:
-            print(f"{caller}: {means}", file=sys.stderr)
-    if status in (1, 3) and path is not None and not can_be_read(path):
-        return 2
+            print(f"{caller}{means}", file=sys.stderr)
+    if status in (Status.FAILED, Status.BAD_ARGUMENT) and not can_be_read(path):
+        return Status.BAD_INPUT
     return status if status >= 0 else 128 - status
 
 
-def show_plain(said: IO[bytes]) -> None:
+def show_plain(said: IO[bytes], label: str) -> None:
     """Shows what the program shows of words that a terminal would follow: it shows them as they are."""
     said.seek(0)
     for line in said.read().decode("utf-8", "replace").splitlines():
-        print(outside.visible(line), file=sys.stderr)
+        print(f"{label}{outside.visible(line)}", file=sys.stderr)
 
 
 def can_be_read(path: str) -> bool:
@@ -275,4 +279,4 @@ def become(program: str, words: list[str]) -> NoReturn:
     try:
         os.execv(program, [program, *words])
     except OSError as fault:
-        raise entry.Fault(programs.missing(program, fault), 127) from None
+        raise entry.Fault(programs.missing(program, fault), Status.MISSING) from None

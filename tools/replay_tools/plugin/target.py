@@ -8,46 +8,51 @@ import select
 import stat
 import sys
 import termios
+from argparse import Namespace
+from typing import TYPE_CHECKING
 
 from replay_tools import entry, outside
-from replay_tools.cluster import workloads
-from replay_tools.joined import asked
+from replay_tools.cluster import kinds
 from replay_tools.plugin import words
 
-OF_FILES = ("--trace", asked.TRACES, words.FOLLOW)
+if TYPE_CHECKING:
+    from replay_tools.cluster import workloads
+
 # a report that takes longer to come is reported to be waited for
 SECONDS_UNSAID = 5
 
 
-def plain_of(found: words.Words) -> list[str]:
+def plain_of(found: Namespace) -> list[str]:
     """The arguments that are no option; `deploy web` is deploy/web, as for kubectl."""
-    given = found.plain
-    if len(given) == 2 and "/" not in given[0] + given[1] and workloads.kind_of(given[0]) is not None:
+    given = found.named
+    if len(given) == 2 and "/" not in given[0] + given[1] and kinds.kind_of(given[0]) is not None:
         return [f"{given[0]}/{given[1]}"]
     return given
 
 
-def names_workload(found: words.Words) -> bool:
+def names_workload(found: Namespace) -> bool:
     """Whether a workload or a label is named."""
-    return any(word in found.rest for word in words.SELECTOR) or any(
-        workloads.kind_and_name(word) is not None and not os.path.exists(word) and not (
+    return found.selector is not None or any(
+        kinds.kind_and_name(word) is not None and not os.path.exists(word) and not (
             word.partition("/")[0].lower() in words.POD_TYPES) for word in plain_of(found))
 
 
-def is_meant(name: str, found: words.Words, is_of_kubectl: bool) -> bool:
+def is_meant(name: str, found: Namespace, is_of_kubectl: bool) -> bool:
     """Whether a tool is asked for what a cluster has: no file is named, and a workload is, or else a story, or a time
     of one, of a namespace, and no report comes on standard input."""
-    if found.files or any(word in found.rest for word in OF_FILES):
+    if found.files or found.trace is not None or found.traces:
         return False
     if names_workload(found):
         return True
-    if name not in ("story", "why") or "--node" in found.rest:
+    if name not in ("story", "why") or found.node is not None:
         return False
-    if name == "why" and not found.plain:
+    if name == "why" and not found.named:
         return False
-    if any(word in found.rest for word in ("--since", "--at", *words.OF_CLUSTER)):
+    if any(value is not None for value in (found.since, found.at, found.recorders, found.timeout)):
         return True
-    is_named = found.namespace is not None or is_of_kubectl and bool(found.plain or found.is_everywhere)
+    if name == "story" and (found.all or found.output is not None):
+        return True
+    is_named = found.namespace is not None or found.asks_all or is_of_kubectl and bool(found.named)
     return is_named and not has_report()
 
 
@@ -68,15 +73,16 @@ def has_report() -> bool:
     return bool(int.from_bytes(fcntl.ioctl(0, termios.FIONREAD, bytes(4)), sys.byteorder))
 
 
-def target_of(found: words.Words) -> workloads.Target:
+def target_of(found: Namespace) -> workloads.Target:
     """What the arguments name. Each part of it is a name of Kubernetes, so that kubectl reads none as an option."""
-    selector, given = next(filter(None, map(found.value, words.SELECTOR)), None), plain_of(found)
+    from replay_tools.cluster import workloads
+    selector, given = found.selector, plain_of(found)
     if len(given) + (selector is not None) > 1:
         raise entry.Fault("it takes one workload, pod or label (see --help)")
     if not given:
         return workloads.Target(None if found.is_everywhere else namespace_of(found), selector=selector)
     [word] = given
-    named = workloads.kind_and_name(word)
+    named = kinds.kind_and_name(word)
     if named is None:
         key = words.key_of(word, found.namespace, lambda: namespace_of(found))
         namespace, _, name = key.partition("/")
@@ -91,7 +97,7 @@ def target_of(found: words.Words) -> workloads.Target:
     return workloads.Target(checked(namespace), *named)
 
 
-def namespace_of(found: words.Words) -> str:
+def namespace_of(found: Namespace) -> str:
     return checked(found.namespace or words.current_namespace(found.kubectl))
 
 

@@ -1,127 +1,34 @@
-"""Words as kubectl takes them: a namespace, a file, names of pods."""
+"""Arguments as kubectl takes them: a namespace, a file, names of pods."""
 
 from __future__ import annotations
 
-import argparse
 import os
 import subprocess
+from argparse import Namespace
 from collections.abc import Callable
-from dataclasses import dataclass, field
-from typing import Any
 
-from replay_tools import entry, tree
-from replay_tools.cluster import options
-from replay_tools.joined import asked, files
+from replay_tools import entry
+from replay_tools.cli import options
+from replay_tools.cli.specification import Command
+from replay_tools.joined import files
 
-NAMESPACE, FILE = ("-n", "--namespace"), ("-f", "--filename")
-EVERYWHERE = ("-A", "--all-namespaces")
 POD_TYPES = ("pod", "pods", "po")
 SECONDS_OF_KUBECTL = 10
 
 
-RECORDERS = "--recorders"
-SELECTOR, FOLLOW = ("-l", "--selector"), "--follow"
-OUTPUT, ALL, TIMEOUT = ("-o", "--output"), "--all", "--timeout"
-OF_CLUSTER = (*OUTPUT, ALL, TIMEOUT, RECORDERS)
-SEVERAL = (asked.TRACES, *asked.VALUED, RECORDERS)
-
-
-@dataclass
-class Words:
-    """The words of a command: what the plugin takes from them, and what is left for its tool."""
-
-    namespace: str | None = None
-    is_everywhere: bool = False
-    kubectl: list[str] = field(default_factory=list)
-    """the options that every call of kubectl is given"""
-    files: list[str] = field(default_factory=list)
-    plain: list[str] = field(default_factory=list)
-    rest: list[str] = field(default_factory=list)
-    waiting: str | None = None
-    """the last word, where it needs a value"""
-
-    @property
-    def file(self) -> str | None:
-        """The one file that is named, or None."""
-        if len(self.files) > 1:
-            raise entry.Fault(f"it takes one file, not {len(self.files)} (see --help)")
-        return self.files[0] if self.files else None
-
-    def value(self, name: str) -> str | None:
-        """The last value of a word of the tool."""
-        return next((value for word, value in zip(self.rest[-2::-1], self.rest[:0:-1]) if word == name), None)
-
-
-def parser_of(name: str, given: list[str]) -> entry.Words:
-    """The words that a command takes here, with those that it has next to its tool's own."""
-    command, parser = tree.COMMANDS[name], tree.parser_of(name, given)
-    if command.takes_several:
-        parser.valued(RECORDERS)
-        parser.add_argument(TIMEOUT)
-        parser.add_argument(*SELECTOR)
-    if name == "story":
-        parser.add_argument(*OUTPUT)
-        parser.choices.update(dict.fromkeys(OUTPUT, ("json",)))
-        parser.flag(ALL)
-    return parser
-
-
-def words_of(name: str, given: list[str], is_of_kubectl: bool = True, is_typed: bool = False) -> Words:
-    """The words of a command. Where kubectl is not what runs it there is no context, and pods are those of all
-    namespaces where none is named. An option that the command does not take is a fault, unless the words are still
-    typed."""
-    command, own = tree.COMMANDS[name], parser_of(name, given)
-    found = taken(splitting(command, own), given, own, is_typed)
-    if command.takes_several and found.files:
-        # the shell puts several words in place of a pattern
-        more = [word for word in found.plain if word.endswith(files.ENDINGS) and os.path.isfile(word)]
+def take_files(found: Namespace) -> None:
+    """Puts the traces among a tool's arguments to the files of -f, for a pattern that the shell has replaced."""
+    if found.files:
+        more = [word for word in found.named if word.endswith(files.ENDINGS) and os.path.isfile(word)]
         found.files += more
-        found.plain = [word for word in found.plain if word not in more]
-    if not is_of_kubectl and not is_typed:
-        if found.kubectl or found.waiting in options.NAMES:
-            option = found.kubectl[0].partition("=")[0] if found.kubectl else found.waiting
-            raise entry.Fault(f"{option} is no known argument: kubectl replay takes kubectl's options (see --help)")
-    if not is_of_kubectl:
-        found.is_everywhere = found.is_everywhere or found.namespace is None
-    return found
+        found.named = [word for word in found.named if word not in more]
 
 
-class Keep(argparse.Action):
-    """Leaves an option to the tool, with its value, in the order in which they were given."""
-
-    def __call__(self, _: argparse.ArgumentParser, found: argparse.Namespace, value: Any,
-                 name: str | None = None) -> None:
-        found.rest += [name] if self.nargs == 0 else [name, value]
-
-
-def splitting(command: tree.Command, own: entry.Words) -> argparse.ArgumentParser:
-    """What takes kubectl's words from those of a command, and leaves it its own."""
-    parser = argparse.ArgumentParser(add_help=False, allow_abbrev=False, exit_on_error=False)
-    if command.pods != "none" or command.takes_several:
-        parser.add_argument(*NAMESPACE, dest="namespace")
-        parser.add_argument(*EVERYWHERE, dest="is_everywhere", action="store_true")
-        options.add_to(parser)
-    parser.add_argument(*FILE, dest="files", action="append", default=[])
-    for option in own.names(with_value=True):
-        parser.add_argument(option, dest="rest", action=Keep, default=argparse.SUPPRESS)
-    for option in own.names(with_value=False):
-        parser.add_argument(option, dest="rest", action=Keep, default=argparse.SUPPRESS, nargs=0)
-    parser.add_argument("plain", nargs="*")
-    return parser
-
-
-def taken(parser: argparse.ArgumentParser, given: list[str], own: entry.Words, is_typed: bool) -> Words:
-    """The words that are given; one at the end that lacks its value waits for it."""
-    valued = (*own.names(with_value=True), *NAMESPACE, *FILE, *options.VALUED, *options.SHORT)
-    waiting = given[-1] if given and given[-1] in valued and given[-2:-1] != given[-1:] else None
-    try:
-        found, unknown = parser.parse_known_intermixed_args(given if waiting is None else given[:-1],
-                                                            argparse.Namespace(rest=[]))
-    except argparse.ArgumentError as fault:
-        raise entry.Fault(f"{fault.argument_name} {entry.said_of(fault.message)}") from None
-    if unknown and not is_typed:
-        raise entry.Fault(own.unknown(unknown[0], *options.taken_by(parser)))
-    return Words(**vars(found), waiting=waiting)
+def one_file(found: Namespace) -> str | None:
+    """The one file that is named, or None."""
+    if len(found.files) > 1:
+        raise entry.Fault(f"it takes one file, not {len(found.files)} (see --help)")
+    return found.files[0] if found.files else None
 
 
 def key_of(name: str, given: str | None, otherwise: Callable[[], str]) -> str:
@@ -135,12 +42,12 @@ def key_of(name: str, given: str | None, otherwise: Callable[[], str]) -> str:
     return f"{given or otherwise()}/{tail if slash else name}"
 
 
-def pods_meant(command: tree.Command, found: Words) -> list[str] | None:
-    """The pods that words name for a tool; None where they name a namespace alone, whose pods the tool does not list
-    itself. A name without a namespace is for the tool to find among all, where all are meant."""
+def pods_meant(command: Command, found: Namespace) -> list[str] | None:
+    """The pods that arguments name for a tool; None where they name a namespace alone, whose pods the tool does not
+    list itself. A name without a namespace is for the tool to find among all, where all are meant."""
     if found.is_everywhere:
-        return [name_of(name) for name in found.plain]
-    named = [key_of(name, found.namespace, lambda: current_namespace(found.kubectl)) for name in found.plain]
+        return [name_of(name) for name in found.named]
+    named = [key_of(name, found.namespace, lambda: current_namespace(found.kubectl)) for name in found.named]
     if named or found.namespace is None:
         return named
     if command.pods == "one":

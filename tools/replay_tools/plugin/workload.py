@@ -6,16 +6,18 @@ from __future__ import annotations
 import contextlib
 import sys
 import tempfile
+from argparse import Namespace
 from collections.abc import Iterator
 from dataclasses import dataclass
 from typing import TYPE_CHECKING
 
 from replay_tools import entry, naming
 from replay_tools.clock import Clock
+from replay_tools.cli.statuses import Status
 from replay_tools.cluster import kubectl, recorders, workloads
 from replay_tools.cluster.waiting import Waiting
 from replay_tools.joined import asked
-from replay_tools.plugin import files, target as targets, words
+from replay_tools.plugin import files, target as targets
 
 if TYPE_CHECKING:
     from concurrent.futures import Executor
@@ -37,10 +39,6 @@ class Time:
     at: str | None
     now: float
 
-    def words(self) -> list[str]:
-        """The same for a tool."""
-        return [*(["--since", self.since] if self.since else []), *(["--at", self.at] if self.at else [])]
-
     @property
     def span(self) -> tuple[int | None, int | None]:
         return asked.span_of(self.since, self.at, self.now)
@@ -55,56 +53,43 @@ class Found:
     chosen: list[recorders.Recorder]
 
 
-def run(found: words.Words, is_of_kubectl: bool) -> int:
+def run(found: Namespace, is_of_kubectl: bool) -> int:
     """Prints the story of what the words name; the status."""
     from replay_tools.cluster import layout, told
-    output = next(filter(None, map(found.value, words.OUTPUT)), None)
-    if output not in (None, "json"):
-        raise entry.Fault(f"{words.OUTPUT[0]} takes json, not '{output}'")
     with gathering(found, is_of_kubectl) as (story, _, __):
-        if output == "json":
+        if found.output == "json":
             sys.stdout.write(told.record(story))
         else:
-            sys.stdout.write(told.text(story, clock_of(found).text, layout.of_output(), words.ALL in found.rest))
-    return 0
+            sys.stdout.write(told.text(story, clock_of(found).text, layout.of_output(), found.all))
+    return Status.DONE
 
 
 @contextlib.contextmanager
-def gathering(found: words.Words, is_of_kubectl: bool) -> Iterator[tuple[told.Story, str, Time]]:
+def gathering(found: Namespace, is_of_kubectl: bool) -> Iterator[tuple[told.Story, str, Time]]:
     """What is known of what the words name, with the folder of its traces, which goes again, and the time."""
-    if not is_of_kubectl and found.namespace is None and not targets.plain_of(found):
+    if not is_of_kubectl and found.namespace is None and not found.asks_all and not targets.plain_of(found) \
+            and found.selector is None:
         raise entry.Fault("it needs -f FILE or FOLDER for traces that are here, or for a cluster --node NODE or -n "
                           "NAMESPACE")
     cluster, target, time = cluster_of(found), targets.target_of(found), time_of(found)
     with Waiting(cluster.seconds) as waiting, folder_for_traces() as folder:
-        of_target = gathered(cluster, target, found.value("--node"), time, waiting)
+        of_target = gathered(cluster, target, found.node, time, waiting)
         story = story_of(cluster, of_target, folder, time, waiting)
         if not story.recorded and not story.unrecorded:
             raise nothing(story)
         yield story, folder, time
 
 
-def cluster_of(found: words.Words) -> recorders.Cluster:
-    """The cluster that the words name, and for how long a source may be silent."""
-    given = found.value(words.TIMEOUT)
-    seconds = recorders.SECONDS if given is None else seconds_of(given)
-    return recorders.Cluster(found.kubectl, found.value(words.RECORDERS) or recorders.NAMESPACE, seconds)
+def cluster_of(found: Namespace) -> recorders.Cluster:
+    """The cluster that the arguments name, and for how long a source may be silent."""
+    return recorders.Cluster(found.kubectl, found.recorders or recorders.NAMESPACE, found.timeout or recorders.SECONDS)
 
 
-def seconds_of(text: str) -> int:
-    """The value of --timeout: seconds, or a duration as 30s or 2m."""
-    seconds = asked.seconds_of(text if text[-1:].isalpha() else f"{text}s") if text.isascii() else 0
-    if not 1 <= seconds <= recorders.MOST_SECONDS:
-        raise entry.Fault(f"{words.TIMEOUT} takes seconds from 1 to {recorders.MOST_SECONDS}, not '{text}'")
-    return seconds
-
-
-def time_of(found: words.Words) -> Time:
+def time_of(found: Namespace) -> Time:
     from replay_tools.cluster import fetching
-    at = found.value("--at")
-    time = Time(found.value("--since") or (SINCE if at is None else None), at, fetching.now())
+    time = Time(found.since or (SINCE if found.at is None else None), found.at, fetching.now())
     # what is no time is rejected before anything is asked
-    asked.span_of(found.value("--since") or time.since, at, time.now)
+    asked.span_of(time.since, time.at, time.now)
     return time
 
 
@@ -149,7 +134,7 @@ def recorders_of(cluster: recorders.Cluster, waiting: Waiting) -> dict[str, reco
         with waiting.for_answer(OF_RECORDERS):
             return cluster.recorders()
     except entry.Fault as fault:
-        if fault.status == 127:
+        if fault.status == Status.MISSING:
             raise
         waiting.miss(OF_RECORDERS, str(fault))
         return {}
@@ -221,7 +206,7 @@ def part_of(came: fetching.Fetched, folder: str, time: Time, members: workloads.
     try:
         several = join.joined(asked.asked_at([folder], came.node, time.since, time.at, time.now))
     except entry.Fault as fault:
-        if fault.status == 127:
+        if fault.status == Status.MISSING:
             raise
         waiting.miss(came.node, str(fault))
         return None
@@ -236,7 +221,7 @@ def nothing(story: told.Story) -> entry.Fault:
     why = story.missing.get(target.words())
     said = f"{target.words()} {why}" if why else \
         f"{target.words()}: no pod of it is known, in the cluster or in a trace of that time"
-    return entry.Fault(said, 1, missing_words(story))
+    return entry.Fault(said, Status.FAILED, missing_words(story))
 
 
 def missing_words(story: told.Story) -> str | None:
@@ -245,6 +230,6 @@ def missing_words(story: told.Story) -> str | None:
     return "; ".join(f"{name}: {why}" for name, why in story.missing.items() if name != own) or None
 
 
-def clock_of(found: words.Words) -> Clock:
+def clock_of(found: Namespace) -> Clock:
     """That which the words ask for, else UTC."""
-    return next((clock for clock in Clock if f"--{clock.value}" in found.rest), Clock.UTC)
+    return next((clock for clock in Clock if getattr(found, clock.value)), Clock.UTC)

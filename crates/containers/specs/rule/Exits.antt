@@ -27,7 +27,7 @@ AreExitsOf h (a ∷ attempts) (exit ∷ exits) = IsExitOf h a exit × AreExitsOf
 abbrev pub IsRisingList : List ℕ → Type 0
 IsRisingList attempts = (i j a b : ℕ) → i < j → slice_get attempts i ≡ Some a → slice_get attempts j ≡ Some b → a < b
 
--- all exits of the container, in the order of their attempts, which is that of their moments
+-- all exits of the container, in the order of their attempts, which is also the order of their moments
 pub record AreExits (h : List Tick) (exits : List Exit) : Type 0 where
   pub attempts : List ℕ
   pub in_order : IsRisingList attempts

@@ -1,6 +1,5 @@
--- What a manifest says of a pod, or its first fault: one line for each field, in the order in which
--- they are read (Kubernetes API, `Pod`; "Pod Lifecycle", "Container restart policy"; "Pod Priority
--- and Preemption").
+-- The pod of a manifest, or the manifest's first fault: one line for each field, in the order in which they are read
+-- (Kubernetes API, `Pod`; "Pod Lifecycle", "Container restart policy"; "Pod Priority and Preemption").
 use Rattle.std.specs.Prelude.{ℕ, ℤ, pos, ⊤, ◌+◌, List, [], ◌++◌, length, nat_lt, Option, Some, Bool, true, false}
 use Rattle.std.specs.Prelude.{None, option_and_then, if◌then◌else◌, Result, Ok, Err, bytes_eq, codes}
 use Rattle.quantity.specs.rule.Duration.{end_of_time}
@@ -103,7 +102,7 @@ few init apps = refused_if (nat_lt most_containers (length init + length apps)) 
 abbrev pub apart : List ContainerSpec → Result ⊤ ManifestFault
 apart cs = refused_if (has_twice cs) DuplicateContainer
 
--- the containers of the two arrays' items, those of `initContainers` first
+-- the containers of the two arrays' items, the items of `initContainers` first
 unfoldable pub containers_of : Bool → List Data → List Data → Result (List ContainerSpec) ManifestFault
 containers_of own init_items items = do
   within_limit ← few init_items items
@@ -132,7 +131,7 @@ metadata_of found = do
   namespace ← text_or (codes "default") is_label fields.Namespace (field_at (codes "namespace") metadata)
   Ok (record { name = name; namespace = namespace })
 
--- what a pod's spec says of the pod as a whole
+-- what a pod's spec has on the pod as a whole
 unfoldable pub settings_in : Data → Result Settings ManifestFault
 settings_in spec = do
   policy ← policy_of (field_at (codes "restartPolicy") spec)

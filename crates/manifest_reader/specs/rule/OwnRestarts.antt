@@ -1,5 +1,5 @@
--- The restart policy and the restart rules of a container's own, or the first fault of these, in the order in which they
--- are read (Kubernetes, "Pod Lifecycle", "Individual container restart policy and rules"; Kubernetes API,
+-- The restart policy and the restart rules of a container's own, or the first fault of these, in the order in which
+-- they are read (Kubernetes, "Pod Lifecycle", "Individual container restart policy and rules"; Kubernetes API,
 -- `ContainerRestartRule`).
 use Rattle.std.specs.Prelude.{ℕ, ℤ, ⊤, ◌&&◌, Bool, true, false, not, nat_lt, List, length, Option, Some, None, is_some}
 use Rattle.std.specs.Prelude.{option_and_then, option_map, if◌then◌else◌, Result, Ok, Err, bytes_eq, codes}

@@ -1,6 +1,6 @@
--- The raw phase of a pod whose containers decide each by itself whether they are restarted (Kubernetes, "Pod Lifecycle",
--- "Pod phase" and "Individual container restart policy and rules"; the order of the cases is this profile's).
--- W container code: the container is restarted after an exit with this code.
+-- The raw phase of a pod whose containers decide each by itself whether they are restarted (Kubernetes, "Pod
+-- Lifecycle", "Pod phase" and "Individual container restart policy and rules"; the order of the cases is this
+-- profile's). W container code: the container is restarted after an exit with this code.
 use Rattle.std.specs.Prelude.{◌≡◌, ◌≢◌, ℤ, pos, List, Any}
 use Rattle.manifest.specs.declared.pod.Role.TheVariants.{Init}
 use Rattle.phase.specs.declared.phase.Phase.{Phase}

@@ -45,7 +45,7 @@ pub record ChangesAt (h : List PodTick) (C : List PodTick → Type 0) (m : ℕ) 
   pub change : (place ≡ 0) ⊎ ((u : ℕ) × (place ≡ suc u) × ((HoldsAt C h u ↔ HoldsAt C h place) → ⊥))
   pub not_later : (last : ℕ) → IsRising h → moment_at h (length h - 1) ≡ Some last → m ≤ last
 
--- a transition moment is that of a tick that changed the condition, or of the first
+-- a transition moment is the moment of a tick that changed the condition, or of the first tick
 pub record TransitionsAreChanges : Type 0 where
   pub pod_scheduled : (pod : PodSpec) (evicted : Option ℕ) (h : List PodTick) (status : Lifecycle) (m : ℕ)
       → IsLifecycleOf pod evicted h status

@@ -32,12 +32,12 @@ pub record IsProgressOf (pod : PodSpec) (evicted : Option ℕ) (h : List PodTick
   pub containers_ready : AreValuesOf (AreContainersReady pod evicted) h (project (λ v. v.containers_ready) values)
   pub ready : AreValuesOf (IsReady pod evicted) h (project (λ v. v.ready) values)
 
--- the node ends the pod with this tick, which comes after these: it evicts the pod, or says that it has failed
+-- the node ends the pod with this tick, which comes after these: it evicts the pod, or the tick reports its end
 abbrev pub EndsWith : Option ℕ → List PodTick → PodTick → Type 0
 EndsWith evicted h tick = (evicted ≡ Some (length h)) ⊎ IsTrue (says_failed tick)
 
--- A pod in phase p, whatever its history, is in phase q after one more tick. Unless the pod had ended
--- before, the views show its containers after that tick, and the flag says whether the node ends it with that tick.
+-- A pod in phase p, whatever its history, is in phase q after one more tick. Unless the pod had ended before, the views
+-- show its containers after that tick, and the flag is whether the node ends it with that tick.
 abbrev pub IsNextPhase : List RestartView → Bool → Phase → Phase → Type 0
 IsNextPhase views ends p q =
     (pod : PodSpec) (evicted : Option ℕ) (h : List PodTick) (at : ℕ) (entry : PodEntry)
@@ -46,10 +46,10 @@ IsNextPhase views ends p q =
     → IsPhase pod evicted h p
     → IsPhase pod evicted (h ++ recorded at entry ∷ []) q
 
--- A pod of this lifecycle, whatever its history, has the new lifecycle after one more tick, at this moment.
--- Unless the pod had ended before, the views show its containers after that tick, the first flag says whether all its
--- app containers and sidecars are ready then, the second whether each condition that its readiness gates name is True
--- then, and the third whether the node ends it with that tick.
+-- A pod of this lifecycle, whatever its history, has the new lifecycle after one more tick, at this moment. Unless the
+-- pod had ended before, the views show its containers after that tick, the first flag is whether all its app containers
+-- and sidecars are ready then, the second whether each condition that its readiness gates name is True then, and the
+-- third whether the node ends it with that tick.
 abbrev pub IsNext : ℕ → List RestartView → Bool → Bool → Bool → Lifecycle → Lifecycle → Type 0
 IsNext at views ready gates ends old new =
     (pod : PodSpec) (evicted : Option ℕ) (h : List PodTick) (entry : PodEntry)

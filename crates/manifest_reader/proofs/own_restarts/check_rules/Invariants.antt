@@ -6,4 +6,5 @@ use Rattle.manifest_reader.specs.rule.OwnRestarts.{rule_of}
 use Rattle.manifest_reader.proofs.own_restarts.check_rules.Given as goal
 
 abbrev pub invariant-loop-item : goal.invariant-loop-item
-invariant-loop-item l = checked (each rule_of (map view (drop l.item-index l.items))) ≡ checked (each rule_of (map view l.items))
+invariant-loop-item l =
+    checked (each rule_of (map view (drop l.item-index l.items))) ≡ checked (each rule_of (map view l.items))

@@ -64,6 +64,7 @@ returns-clause-events c = λ spec max_restart_delay h own st.
           c.backoff.result after.rising exits (c.backs_off.ensures spec (h ++ x ∷ []) own now) c.backoff.ensures;
       restart = restart_gives c.args.policy max_restart_delay spec h x _ c.count_exits-delay.result c.to_restart.result
           c.last_at-last_at.result c.is_due-is_due.result c.restart.result st.rising exits
-          (c.last_at-last_at.ensures.moment _ st.differ ∙ last_listed h) (c.to_restart.ensures spec (h ++ x ∷ []) own now)
+          (c.last_at-last_at.ensures.moment _ st.differ ∙ last_listed h)
+          (c.to_restart.ensures spec (h ++ x ∷ []) own now)
           (c.is_due-is_due.ensures max_restart_delay exits.exits exits.counted) c.restart.ensures;
     }

@@ -40,7 +40,8 @@ settle-requires-clause-containers c = λ pod max_restart_delay h before.
 
 pub settle-requires-clause-made : goal.settle-requires-clause-made
 settle-requires-clause-made c = λ max_restart_delay h before.
-    one_made c.args.pod.now max_restart_delay h (pod_tick c.args.observed.now) c.args.self.now.containers.items c.index.result.now
+    one_made c.args.pod.now max_restart_delay h (pod_tick c.args.observed.now) c.args.self.now.containers.items
+    c.index.result.now
     c.step.result (one_long c) c.index.ensures (c.step.ensures.made max_restart_delay h) before
 
 pub settle-requires-clause-views : goal.settle-requires-clause-views
