@@ -12,14 +12,14 @@ use Rattle.restarts.specs.rule.Policy.{WantsRestart}
 use Rattle.phase.specs.declared.phase.Phase.{Phase}
 use Rattle.phase.specs.declared.phase.Phase.TheVariants.{Pending, Running, Succeeded, Failed}
 use Rattle.phase.specs.declared.view.ContainerView.{ContainerView}
-use Rattle.phase.specs.rule.Facts.{Facts, HasCompleted, HasFailed, HasFinished}
+use Rattle.phase.specs.rule.Facts.{Facts, HasCompleted, HasFailed}
 use Rattle.phase.specs.declared.restart_view.RestartView.{RestartView}
 use Rattle.phase.specs.state.Facts.{of_view, exit_code}
 use Rattle.phase.specs.state.Restarts.{of_restart_view, Wants}
 use Rattle.phase.specs.rule.ByContainer.{HasStopped, HasFailedForGood, HaveStopped, IsRawPhaseBy}
 use Rattle.phase.proofs.PhaseLemmas.{Cases}
-use Rattle.phase.specs.rule.RawPhase.{IsRawPhase, IsFailedInit, IsAwaited, HaveFinished, HasInitialized}
-use Rattle.phase.specs.rule.RawPhase.{AreInitialized, IsTerminal}
+use Rattle.phase.specs.rule.RawPhase.{IsAwaited, HasInitialized, AreInitialized, IsTerminal}
+use Rattle.phase.specs.state.PolicyPhase.{HasFinished, IsFailedInit, HaveFinished, IsRawPhase}
 
 -- the codes
 zero_or_not : (code : ℤ) → OrNot (code ≡ pos 0)

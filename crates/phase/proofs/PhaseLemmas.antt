@@ -11,7 +11,8 @@ use Rattle.manifest.specs.declared.pod.Role.TheVariants.{Init, Sidecar, App}
 use Rattle.phase.specs.declared.phase.Phase.{Phase}
 use Rattle.phase.specs.declared.phase.Phase.TheVariants.{Pending, Running, Succeeded, Failed}
 use Rattle.phase.specs.rule.Facts.{Facts, HasCompleted, HasFailed}
-use Rattle.phase.specs.rule.RawPhase.{Where, IsRawPhase, IsAwaited, HasInitialized, AreInitialized}
+use Rattle.phase.specs.rule.RawPhase.{Where, IsAwaited, HasInitialized, AreInitialized}
+use Rattle.phase.specs.state.PolicyPhase.{IsRawPhase}
 use Rattle.phase.specs.rule.ByContainer.{HasStopped, HasFailedForGood, IsRawPhaseBy}
 
 -- two values by the same cases are equal, where they are in each case
@@ -148,6 +149,12 @@ initialized_to f g c d s w = record {
   init = λ i. (s.exited (pos 0)).0 (w.init ((s.is Init).1 i));
   sidecar = λ i. s.was_started.0 (w.sidecar ((s.is Sidecar).1 i));
 }
+
+-- the same phase where the cases hold of each other
+pub cases_map : (One Two Three Four One' Two' Three' Four' : Type 0) (p : Phase) → (One ↔ One') → (Two ↔ Two')
+    → (Three ↔ Three') → (Four ↔ Four') → Cases One Two Three Four p → Cases One' Two' Three' Four' p
+cases_map One Two Three Four One' Two' Three' Four' p one two three four =
+    where_map _ _ _ _ _ one (where_map _ _ _ _ _ two (where_map _ _ _ _ _ three (where_map _ _ _ _ _ four (λ e. e))))
 
 -- the raw phase of containers with the same facts and restarts is the same
 pub raw_same : {C D : Type 0} (f : Facts C) (g : Facts D) (W : C → ℤ → Type 0) (V : D → ℤ → Type 0) (cs : List C)

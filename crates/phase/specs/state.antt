@@ -1,4 +1,5 @@
 pub mod Facts
+pub mod PolicyPhase
 pub mod Restarts
 pub mod Conditions
 pub mod Views
