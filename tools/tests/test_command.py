@@ -261,9 +261,12 @@ def test_one_way_to_name_traces():
     expect("run -f of a folder with --fail-on", (status, said.splitlines()[-1]), (
         4, f"kubelet-replay: {folder}/memory_pressure.trace: --fail-on evicted: default/a"))
     explained = run([COMMAND, "explain", "-f", folder, "--line"])
+    paths = [f"{folder}/{name}.trace" for name in ("crash_loop", "faulty", "memory_pressure")]
     expect("explain -f of a folder", explained, (0, "".join(
-        run([COMMAND, "explain", "-f", f"{folder}/{name}.trace", "--line"])[1]
-        for name in ("crash_loop", "faulty", "memory_pressure")), ""))
+        f"{path}: {run([COMMAND, 'explain', '-f', path, '--line'])[1]}" for path in paths), ""))
+    os.mkdir(f"{folder}/empty")
+    expect_refused("run -f of a folder without a trace", run([COMMAND, "run", "-f", f"{folder}/empty"]), 2,
+                   f"{folder}/empty has no trace: no file in it ends with .trace, .trace.gz")
     expect("explain -f -", run([COMMAND, "explain", "-f", "-"], "{}\n"), run([COMMAND, "explain"], "{}\n"))
     expect("why -f -", run([COMMAND, "why", "-f", "-", "default/a"], read(TRACE)),
            run([COMMAND, "why", "-f", TRACE, "default/a"]))
