@@ -17,7 +17,9 @@ from checks import HERE, REPLAY, TOOLS, TOP, WRITE, copy_package, expect, expect
 from replay_tools import entry
 from replay_tools.cli import definition, help, options, table
 from replay_tools.cli.statuses import Status
+from replay_tools.fleet import worst
 from replay_tools.importing import files as import_files, program as import_program
+from replay_tools.plugin import failing
 from replay_tools.record import lines, words as recorder_words
 
 load_tests = cases.loaded(__name__)
@@ -149,6 +151,12 @@ def test_import_takes_its_defaults():
                 for option in definition.COMMANDS["import"].options if option.default}
     expect("the defaults of import", defaults, {"--most": import_files.MOST, "--each": 3600,
                                                 "--since": import_program.SINCE, "--timeout": import_program.SECONDS})
+
+
+def test_fleet_has_its_measures():
+    """The measures of the specification are those of the tool's table, and so is what --fail-on finds."""
+    expect("the measures of fleet", tuple(worst.MEASURES), definition.MEASURES)
+    expect("what --fail-on finds", tuple(failing.FOUND), definition.KINDS)
 
 
 def test_table_of_commands():
