@@ -17,7 +17,9 @@ from checks import HERE, REPLAY, TOOLS, TOP, WRITE, copy_package, expect, expect
 from replay_tools import entry
 from replay_tools.cli import definition, help, options, table
 from replay_tools.cli.statuses import Status
+from replay_tools.fleet import worst
 from replay_tools.importing import files as import_files, program as import_program
+from replay_tools.plugin import failing
 from replay_tools.record import lines, words as recorder_words
 
 load_tests = cases.loaded(__name__)
@@ -151,6 +153,12 @@ def test_import_takes_its_defaults():
                                                 "--since": import_program.SINCE, "--timeout": import_program.SECONDS})
 
 
+def test_fleet_has_its_measures():
+    """The measures of the specification are those of the tool's table, and so is what --fail-on finds."""
+    expect("the measures of fleet", tuple(worst.MEASURES), definition.MEASURES)
+    expect("what --fail-on finds", tuple(failing.FOUND), definition.KINDS)
+
+
 def test_table_of_commands():
     """tools/README.md has the table that is made of the specification."""
     path = f"{TOOLS}/README.md"
@@ -261,9 +269,12 @@ def test_one_way_to_name_traces():
     expect("run -f of a folder with --fail-on", (status, said.splitlines()[-1]), (
         4, f"kubelet-replay: {folder}/memory_pressure.trace: --fail-on evicted: default/a"))
     explained = run([COMMAND, "explain", "-f", folder, "--line"])
+    paths = [f"{folder}/{name}.trace" for name in ("crash_loop", "faulty", "memory_pressure")]
     expect("explain -f of a folder", explained, (0, "".join(
-        run([COMMAND, "explain", "-f", f"{folder}/{name}.trace", "--line"])[1]
-        for name in ("crash_loop", "faulty", "memory_pressure")), ""))
+        f"{path}: {run([COMMAND, 'explain', '-f', path, '--line'])[1]}" for path in paths), ""))
+    os.mkdir(f"{folder}/empty")
+    expect_refused("run -f of a folder without a trace", run([COMMAND, "run", "-f", f"{folder}/empty"]), 2,
+                   f"{folder}/empty has no trace: no file in it ends with .trace, .trace.gz")
     expect("explain -f -", run([COMMAND, "explain", "-f", "-"], "{}\n"), run([COMMAND, "explain"], "{}\n"))
     expect("why -f -", run([COMMAND, "why", "-f", "-", "default/a"], read(TRACE)),
            run([COMMAND, "why", "-f", TRACE, "default/a"]))

@@ -254,7 +254,7 @@ def test_refused():
             (("story", "pod/none", *SINCE), 1, "pod/none in shop: no pod of it is known, in the cluster or in a trace"),
             (("story", "deploy/web", "--since", "soon"), 2, "--since takes a time"),
             (("story", "deploy/--raw=/api"), 2, "'--raw=/api' is no name of a deployment"),
-            (("story", "web", "-n", "--raw=x"), 2, "-n/--namespace needs a value"),
+            (("story", "web", "-n", "--raw=x"), 2, "-n needs a value"),
             (("story", "deploy/web", "-n", "a/b"), 2, "'a/b' is no name of a namespace"),
             (("story", "deploy/web", "--timeout", "0"), 2, "--timeout takes seconds from 1 to 3600, not '0'"),
             (("story", "deploy/web", "-o", "yaml"), 2, "-o takes json, not 'yaml'"),
@@ -265,7 +265,9 @@ def test_refused():
                (1, "", 2, True))
         answer = cluster.run("story", *SINCE, tool="kubelet-replay")
         expect_refused("kubelet-replay story of no namespace", answer, 2,
-                       "for those of a node of a cluster, or -n NAMESPACE for those of a namespace")
+                       "or for a cluster --node NODE or -n NAMESPACE")
+        expect("kubelet-replay story -A", cluster.run("story", "-A", *SINCE, tool="kubelet-replay")[1],
+               cluster.run("story", "-A", *SINCE)[1])
         cluster.put("api/shop/pods.json", "[]")
         expect("pods that are none", "the pods of shop: can't be listed: kubectl's answer is no list\n" in
                cluster.run("story", "deploy/web", *SINCE)[1], True)

@@ -6,7 +6,8 @@ without control characters, and what to do. For a file that can't be read it pri
 file, as a report or an archive, what it is. It unpacks a trace that gzip has packed. It reads a trace of the extended
 format as the standard one, as the program without --extended does, and then with --extended. With --line it prints all
 in one line, as the other tools do after an error. Without -f it reads standard input, and an argument that is no option
-is a FILE too. Of several files, or of a folder, it explains each trace by itself.
+is a FILE too. Of several files, or of a folder, it explains each trace by itself; the lines of
+--line then begin with the name of the trace.
 
 It needs python3 and the program (KUBELET_REPLAY names another one). It decides nothing: the verdict is the program's.
 If it can't find the field, it prints what docs/formats.md has about the fault. It leaves out the faults after the

@@ -48,7 +48,8 @@ def run_on_traces(command: Command, found: Namespace, caller: Caller) -> int:
     paths = proved.paths_of(found)
     if command.is_of_program:
         return proved.run(command.name, paths, found, caller.name)
-    return max(tree.work(command.name, parsing.changed(found, path=path)) for path in paths)
+    return max(tree.work(command.name, parsing.changed(found, path=path, is_of_several=len(paths) > 1))
+               for path in paths)
 
 
 def run_what_if(found: Namespace) -> int:
@@ -69,10 +70,12 @@ def run_what_if(found: Namespace) -> int:
 def run_asking(command: Command, found: Namespace, caller: Caller) -> int:
     """Runs a tool on files, or on what a cluster has; its status."""
     if command.name == "story" and found.follow is not None:
+        check_no_workload(found)
         pods = words.pods_meant(command, found) or []
         return tree.work(command.name, parsing.changed(found, named=pods))
     if not found.files and is_of_cluster(command, found, caller):
         return run_of_cluster(command, found, caller)
+    check_no_workload(found)
     if command.pods == "none":
         check_none_of_cluster(command, found)
     if several.is_meant(found):
@@ -92,6 +95,16 @@ def run_of_cluster(command: Command, found: Namespace, caller: Caller) -> int:
     if command.name == "story":
         return workload.run(found, caller.is_of_kubectl)
     return each_node.run(command.name, found, caller.is_of_kubectl)
+
+
+def check_no_workload(found: Namespace) -> None:
+    """Rejects options that only what a cluster has of a workload takes, where none is asked for."""
+    for option, value in (("--all", getattr(found, "all", False)), ("-o", getattr(found, "output", None)),
+                          ("-l", found.selector)):
+        if value:
+            raise entry.Fault(f"{option} goes with a workload, a namespace or all pods of a cluster (see --help)")
+    if found.timeout is not None and (found.node is None or found.files or found.traces):
+        raise entry.Fault("--timeout is for the traces of a cluster, and none is asked (see --help)")
 
 
 def check_none_of_cluster(command: Command, found: Namespace) -> None:

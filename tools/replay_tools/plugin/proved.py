@@ -37,7 +37,7 @@ def run(name: str, paths: list[str], found: Namespace, caller: str) -> int:
     """Runs the program on each trace; the greatest status. Of several traces its lines have their names."""
     if len(paths) == 1:
         return run_on(name, paths[0], found, caller)
-    return max(run_on(name, path, found, caller, f"{outside.visible(path)}: ") for path in paths)
+    return max(run_on(name, path, found, caller, f"{shown(path)}: ") for path in paths)
 
 
 def run_on(name: str, path: str, found: Namespace, caller: str, label: str = "") -> int:
@@ -61,8 +61,16 @@ def run_on(name: str, path: str, found: Namespace, caller: str, label: str = "")
     return status
 
 
+def shown(path: str) -> str:
+    """A trace's name for the operator."""
+    return "standard input" if path == STANDARD_INPUT else outside.visible(path)
+
+
 def check_readable(path: str) -> None:
     """Raises Fault where the trace can't be opened: the program's own words name neither the file nor the reason."""
+    if os.path.isdir(path):
+        endings = ", ".join(traces_of.ENDINGS)
+        raise entry.Fault(f"{outside.visible(path)} has no trace: no file in it ends with {endings}")
     try:
         with open(path, "rb"):
             pass
