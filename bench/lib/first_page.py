@@ -5,21 +5,22 @@ from sections import TITLE_OF_TYPES, Section, shown
 
 NAME = "theorem.md"
 HEAD = ("""
-The promise of the program with every definition that it is made of, for whoever checks what is proved. `bench/theorem`
-writes this page and the pages of the folder `theorem` from the sources.
+The promise of the program with every definition that it uses, for whoever checks what is proved. `bench/theorem` writes
+this page and the pages of the folder `theorem` from the sources.
 """, """
-The pages have the contracts of {functions} and each definition that these reach: {definitions} in {files} files, which
-are all files of the folders `specs/rule`, and {types} declared types. The promises consist of these definitions and of
-[the words of the library](#the-words-of-the-library), and of nothing else. No thread, deque, pool or share of a book
-occurs in them; `bench/theorem --check` fails if one does, or if `specs/rule` has anything else.
+The pages have the contracts of {functions} and every definition that these use, directly or through others:
+{definitions} definitions in {files} files, and {types} declared types. The folders `specs/rule` contain these files
+and no others. The promises also use [the words of the library](#the-words-of-the-library), and nothing else. No thread,
+deque, pool or share of a book occurs in them. `bench/theorem --check` fails if one does, or if `specs/rule` contains
+anything else.
 """, """
 This page has the contracts, [what is trusted](#what-is-trusted) and [the list of the pages](#the-pages) with the
-definitions. Read from the report to the rules and on to the format: a crate precedes the crates that it names, and a
-definition precedes the definitions that it names. An entry has the sentence of [rules.md](rules.md),
+definitions. The pages go from the report to the rules and on to the format. A crate precedes the crates that it names,
+and a definition precedes the definitions that it names. An entry quotes the sentence of [rules.md](rules.md),
 [formats.md](formats.md), [extended.md](extended.md), [report.md](report.md) or [quantities.md](quantities.md) that
-states the same in words, an example ([examples.tsv](examples.tsv)), the definition, its file, and links to what it
-names. An example with a slash is a case below `crates/case_runner/data`. The line `contracts:` of a type shows which
-value contracts see in place of the type.
+states the same in words. Then come an example ([examples.tsv](examples.tsv)), the definition, its file, and links to
+what it names. An example with a slash is a case below `crates/case_runner/data`. The line `contracts:` of a type shows
+which value contracts see in place of the type.
 """)
 CLAUSES = ("""
 A contract follows the head of a function:
@@ -129,7 +130,8 @@ def item(page, repository, anchors):
 def sections_of(repository, contracts, nodes, library, parts, anchors):
     """The sections of the first page. `parts` has the other pages, part by part, and `anchors` of each its anchors."""
     traits = [node for node in nodes.values() if node.kind == "trait"]
-    sections = [Section(1, "The theorem", head(contracts, nodes)), Section(2, "How to read a clause", clauses() + reading(nodes, anchors)), Section(2, "The contracts"),
+    sections = [Section(1, "The theorem", head(contracts, nodes)),
+                Section(2, "How to read a clause", clauses() + reading(nodes, anchors)), Section(2, "The contracts"),
                 *(shown(node, 3) for node in contracts),
                 Section(2, "What is trusted", [wrapped(TRUSTED), ""]), *(shown(node, 3) for node in traits),
                 Section(3, "The words of the library", [wrapped(WORDS), "", *words(library), ""]),

@@ -10,39 +10,45 @@ PAGE = "docs/gate.md"
 HEAD = """\
 # What the gate costs
 
-`bench/gate` writes this page; no figure is by hand but some sums over mutants, as said there. In new clones of the
-commit, which no run has touched, it runs `rt ci NAME` for each crate, and then `./test`. The commands run one after the
-other in the order of `crates.txt`, or side by side where the line of the machine says how many at once. A crate with
-edits is run without them first, and then with them, which tries them alone. It times each of these commands as a whole,
-and looks at nothing while it runs. Its seconds go by the clock. What it cost is what the operating system says of a
-child that has ended (`wait4`): the processor seconds, user and system, are those of the command and of all processes
-below it that were waited for; the peak of memory (`ru_maxrss`) is that of the largest process alone, and no sum.
+What it costs to prove everything, crate by crate, for whoever plans a change or a machine. `bench/gate` writes this
+page from what it measured; only some sums over mutants, named below, were put together manually.
+
+In new clones of the commit, which no run has touched, `bench/gate` runs `rt ci NAME` for each crate, and then `./test`.
+The commands run one after the other in the order of `crates.txt`, or several at once if the line of the machine says
+so. For a crate with edits the command runs first without them, and then with them, which tries only the edits. Each
+command is timed as a whole, and nothing looks at it while it runs.
+
+- Seconds are clock time.
+- Processor seconds, user and system, are of the command and of all processes below it that it waited for, as the
+  operating system reports at their end (`wait4`).
+- Peak memory is of the largest single process (`ru_maxrss`), and no sum.
+
 {machine}
 
 {whole}
 
-What passed on the machine is kept there by the kit, so each command proves its own crate alone, with its tests and its
-edits; the tests and the programs of the crates below run again. What that takes stands in the column *again*: the
-processor seconds of the same command where all is kept, by `bench/gate --again`. They are a part of the seconds, twice
-where there are edits. A crate that was kept has the figures of the run that proved it last, and `bench/gate.tsv` the
-commit of each. Other work may have gone on beside a command, crates of other checkouts too, whose rows were put
-together: that makes processors slower ([working.md](working.md#the-figures-of-the-gate) has how these were made).
+The kit keeps what passed on the machine, so each command proves only its own crate, with its tests and its edits. The
+tests and the programs of the crates below run again. The column *again* has the cost of that: the processor seconds of
+the same command if everything is kept, from `bench/gate --again`. They are a part of the processor seconds, twice for a
+crate with edits. A crate that was kept has the figures of the run that proved it last, and `bench/gate.tsv` has the
+commit of each. Other work on the machine, also in other checkouts, may have run at the same time: that makes processors
+slower ([working.md](working.md#the-figures-of-the-gate) has how these figures were made).
 
 {chain}
 
-Lines are those of `src/`, `specs/` and `proofs/`; edits are the mutants in `must-fail/`. Of the processor seconds those
-of edits are a part; what was not measured apart is `-`. The last column says whether the crate itself has changed since
-it was measured, or one below it.
+Lines are the lines of `src/`, `specs/` and `proofs/`, and edits are the mutants in `must-fail/`. The column *of edits*
+has the edits' part of the processor seconds, or `-` if that was not measured. The last column shows whether the crate,
+or a crate below it, has changed since it was measured.
 
 """
 OUTSIDE = "## Mutants outside of the gate"
 SHELF = OUTSIDE + """
 
-What `bench/wrong_bodies` found in `crates/NAME/wrong-bodies/` when it was last run over a crate:
-how many edits are refused by a clause, how many only since a proof file no longer fits, and how many are proved.
-Seconds are the processor seconds of all edits of the crate. A refusal by a clause counts too where the search for the
-clause's proof gave up at a limit. Where the edits of a crate were tried in parts, in clones with some of them each, its
-row is the sum over these, put in by hand.
+What `bench/wrong_bodies` found in `crates/NAME/wrong-bodies/` in its last run over a crate: how many edits a clause
+rejects, how many only a proof file rejects that no longer fits, and how many are proved. Seconds are the processor
+seconds of all edits of the crate. A rejection by a clause also counts if the search for the clause's proof gave up at a
+limit. If the edits of a crate were tried in parts, in clones with some of them each, its row is the sum of the parts,
+put in manually.
 
 | Crate | edits | by a clause | by a proof file only | still proved | seconds |
 |---|---|---|---|---|---|"""
@@ -110,7 +116,7 @@ def filled(text):
 
 
 def whole_text(below, found):
-    """What the gate takes from nothing, and what ./test took."""
+    """The cost of the gate from nothing, and of ./test."""
     measured = [found[name] for name in below if name in found]
     missing = [name for name in below if name not in found]
     spent, gate = sum(it.spent for it in measured), gate_seconds(found, below)
@@ -121,14 +127,14 @@ def whole_text(below, found):
     if WHOLE in found:
         run = found[WHOLE]
         anew = sum(it.commit == run.commit for it in measured)
-        said.append(f"Of {len(below)} crates {anew} were proved anew at the commit `{run.commit}`. `./test` behind "
-                    f"them ended in `{run.last}`, and took {minutes(run.seconds)} minutes, {minutes(run.spent)} "
+        said.append(f"Of {len(below)} crates {anew} were proved again at the commit `{run.commit}`. `./test`, after "
+                    f"them, ended in `{run.last}`, and took {minutes(run.seconds)} minutes, {minutes(run.spent)} "
                     f"processor minutes and {run.peak / 1e9:.1f} GB.")
     else:
-        said.append("`./test` has not been measured behind them.")
+        said.append("`./test` was not measured after them.")
     if gate is not None:
-        said.append(f"Of the sum {minutes(sum(it.ran_again() for it in measured))} minutes are of what the commands "
-                    f"run again, which `./test` runs once. So from nothing `./test` takes {minutes(gate)} processor "
+        said.append(f"{minutes(sum(it.ran_again() for it in measured))} minutes of the sum are for what the commands "
+                    f"run again and `./test` runs once. So from nothing `./test` takes {minutes(gate)} processor "
                     "minutes.")
     return filled(" ".join(said))
 
@@ -142,11 +148,11 @@ def chain_text(below, found):
 
 
 def beside_text(top, below, before, found):
-    """How much slower processors were than those of a table before, by the crates that are as they were then, and what
-    the gate would have taken on those."""
+    """How much slower processors were than at an earlier table, by the crates that have not changed since, and what the
+    gate would have taken then."""
     same = unchanged_between(top, before, found)
     if not same:
-        raise script.Fault("no crate stands in both tables as it was")
+        raise script.Fault("no crate in both tables is unchanged")
     then, now = (sum(table[name].spent for name in same) for table in (before, found))
     ratios = sorted(found[name].spent / before[name].spent for name in same)
     sums, gate = sum(found[name].spent for name in below if name in found), gate_seconds(found, below)

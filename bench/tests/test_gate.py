@@ -267,7 +267,7 @@ class Page(Case):
                       " ".join(gate(self.top, "--beside", before)[1].split()))
         for none in "0123456789", f"{before}~1^{{tree}}":
             self.assertEqual(gate(self.top, "--beside", none), (
-                1, "", "bench/gate: no crate stands in both tables as it was\n"))
+                1, "", "bench/gate: no crate in both tables is unchanged\n"))
 
     def test_costs_alone_are_written_anew(self):
         page = read(HERE, "gate.md")
