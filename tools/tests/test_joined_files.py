@@ -211,6 +211,6 @@ def test_command_of_several():
                folder.tell("why", "web", *at))
         for words, said in (
             (["what-if", ".", "-f", first, "-f", rest[0]], "it takes one file, not 2"),
-            (["story", "--since", "2h"], "-f FILE or FOLDER for traces that are here, or --node NODE for a cluster"),
+            (["story", "--since", "2h"], "-f FILE or FOLDER for traces that are here, or for a cluster --node NODE"),
         ):
             expect_refused(f"kubelet-replay {words[0]}", run([f"{TOOLS}/kubelet-replay", *words]), 2, said)
