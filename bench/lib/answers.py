@@ -17,7 +17,7 @@ def kinds_of_fault(text):
 
 
 def faults_in(text):
-    """The faults of a line that docs/formats.md names, as the program says them after the line's number."""
+    """The faults of a line that docs/formats.md names, as the program prints them after the line's number."""
     manifest = [f" {number}" for number in manifest_faults(text)]
     return {f"{number} {word}{fault}" for number, word in kinds_of_fault(text)
             for fault in (manifest if word == "Manifest" else [""])}
@@ -42,7 +42,7 @@ def kind_of(answer, lines, faults, tight=False):
     if status == 1 and said in WITHOUT_LINE:
         return said.decode().rstrip()
     found = re.fullmatch(rb"line (\d+): ([ \w]+)\n", said)
-    # a text without a line that counts is refused at the line after its last
+    # a text without a line that counts is rejected at the line after its last
     if status == 2 and found and found[2].decode() in faults and 1 <= int(found[1]) <= lines + 1:
         return found[2].decode()
     return f"!status {status}, {said[:80]!r}"

@@ -23,7 +23,7 @@ class Definition(NamedTuple):
 
 class Module(NamedTuple):
     comment: str
-    scope: dict         # a word, and what it stands for: (path, name), the name None for a whole module
+    scope: dict         # a word, and what it names: (path, name), the name None for a whole module
     definitions: list
     unread: list        # the number and the first line of each block that is no definition
 
@@ -144,7 +144,7 @@ def definitions_of(raw, is_constructor):
 
 
 def constructors_of(block):
-    """The name of a definition, and its constructors where it is a data type."""
+    """The name of a definition, and its constructors if it is a data type."""
     head = HEAD.match(block[0])
     if (head[1] or "").strip() != "data":
         return head[2], []

@@ -6,7 +6,7 @@ from entries import way
 from paragraphs import prose, wrapped
 from terms import Walk, tokens_of
 
-# a term that is longer is not shown: it stands where the link leads
+# a longer term is not shown: the link leads to it
 SHORT = 60
 OF_OK = re.compile(r"\b(?:IfOk|OnOk)\b")
 OF_ERROR = re.compile(r"\b(?:IfErr|OnErr|IsErrOf)\b")
@@ -62,7 +62,7 @@ def wrapped_item(paragraph):
 
 
 def error_of(head):
-    """The kind of error that a call refuses with; nothing where it refuses nothing."""
+    """The kind of error that a call returns; nothing if it returns none."""
     begun = head.find(" -> Result<")
     depth, comma = 0, None
     for at in range(begun + len(" -> Result<"), len(head)) if begun >= 0 else ():
@@ -76,7 +76,7 @@ def error_of(head):
 
 
 def needs(clauses):
-    """What a call asks of its caller: each condition, or its name where it is long."""
+    """What a call asks of its caller: each condition, or its name if it is long."""
     shown = [code(clause.term) if len(clause.term) <= SHORT else code(clause.name) if clause.name else "a condition"
              for clause in clauses if clause.kind == "requires"]
     return f"Needs {', '.join(shown)}." if shown else ""
@@ -94,7 +94,7 @@ def named(clause):
 
 
 def promises(clauses, error):
-    """The names of a call's clauses; where it may refuse, which of them speak of a refusal, and what they say of it."""
+    """The names of a call's clauses; if it may fail, which of them are about a failure, and what they promise of it."""
     made = [clause for clause in clauses if clause.kind == "ensures"]
     word = "Clause" if len(made) == 1 else "Clauses"
     if not made:
@@ -130,7 +130,7 @@ def first_sentence(comment):
 
 
 def item_line(item, page, more):
-    """A call, a type, a trait or a number in the list, with what is to be said besides. A call of a type is below
+    """A call, a type, a trait or a number in the list, with further remarks. A call of a type is below
     it."""
     indent = "  " * (bool(item.owner) and item.owner != "laws")
     name = item.name if indent else item.whole_name

@@ -61,7 +61,7 @@ class Listed:
 
 
 def keys_in(repository, item):
-    """The definitions that the clauses of a call name: first those of what it promises."""
+    """The definitions that the clauses of a call name: first the ones of what it promises."""
     scope = repository.file(item.path).scope
     words = entries.words_of(item.clauses, "ensures") + entries.words_of(item.clauses, "requires")
     return repository.keys(scope, words)
@@ -99,7 +99,7 @@ class Lists:
                         for made in all_made}
 
     def example(self, keys, shown):
-        """The example of the first of these definitions that has one, where it was not shown before."""
+        """The example of the first of these definitions that has one, if it was not shown before."""
         name = next((".".join(key) for key in keys if ".".join(key) in self.examples), None)
         if not name or name in shown:
             return ""
@@ -121,7 +121,7 @@ class Lists:
         return lines
 
     def citing(self, made):
-        """Which public calls have a definition in their clauses; those of its own crate by their names alone."""
+        """Which public calls have a definition in their clauses; the ones of its own crate by their names alone."""
         found = [name if crate == made.key[0] else f"{crate}::{name}" for crate, name in
                  self.calls_with.get(made.key, ())]
         return ", ".join(f"`{name}`" for name in found)

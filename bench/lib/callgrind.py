@@ -1,4 +1,4 @@
-"""What a run's instructions are spent on, by what callgrind wrote of it. A function is told by the crate that its
+"""What a run's instructions are spent on, by what callgrind wrote of it. A function belongs to the crate that its
 symbol begins with; what the compiler drew into a function counts as that function. A function of the standard library
 counts as its callers, by how much each has it do."""
 import collections

@@ -12,7 +12,7 @@ class Case(NamedTuple):
     folder: str
     name: str
     trace: bytes
-    report: bytes | None   # none where it is refused, or accepted
+    report: bytes | None   # none if it is rejected, or accepted
     refusal: str           # its status and its line; '' where there is none
     words: tuple = ()      # of the program, next to those of a run
 
@@ -50,7 +50,7 @@ def is_there(*path):
 
 
 def names_in(folder, ending):
-    """Those of the files that end so, packed or not, in order and without that ending."""
+    """The files that end so, packed or not, in order and without that ending."""
     names = (name.removesuffix(".xz") for name in os.listdir(folder))
     return sorted(name.removesuffix(ending) for name in names if name.endswith(ending))
 

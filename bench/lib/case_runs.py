@@ -1,4 +1,4 @@
-"""The ways in which bench/cases runs a case, and what it says of them."""
+"""The ways in which bench/cases runs a case, and what it prints of them."""
 import os
 import subprocess
 import tempfile
@@ -40,7 +40,7 @@ class Runs:
         self.program, self.steps, self.longest = program, steps, longest
 
     def ran(self, words):
-        """The status of a run, what it writes, and what it says on standard error; none where it has no end."""
+        """The status of a run, what it writes, and what it prints on standard error; none if it has no end."""
         try:
             done = subprocess.run([self.program, *words], stdin=subprocess.DEVNULL, capture_output=True,
                                   timeout=self.longest, check=False)
@@ -60,7 +60,7 @@ class Runs:
         return case.fault(words[0], status, written, said), written
 
     def __call__(self, case):
-        """How many runs it has, and what is said of those that are otherwise than expected."""
+        """How many runs it has, and what is printed of those that are otherwise than expected."""
         told, runs = [], 0
         with tempfile.NamedTemporaryFile() as file:
             file.write(case.trace)

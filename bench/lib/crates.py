@@ -1,9 +1,9 @@
 """The crates of crates.txt, storey by storey: a line `## Rules` begins a storey, and the line above a crate's own
-says in some words what it has. Nothing else reads that file.
+describes it in some words. Nothing else reads that file.
 
     crates.py TOP NAME
 
-prints the crates that NAME stands on in the repository TOP, with its own, for what is shell.
+prints the crates that NAME depends on in the repository TOP, and NAME itself, for shell scripts.
 """
 import os
 from typing import NamedTuple
@@ -51,8 +51,8 @@ def crates_in(text):
 
 
 def faults_of_order(crates):
-    """What is wrong with their order: a crate stands on those before it alone, storeys are in theirs, and nothing
-    stands on a crate of tests but these."""
+    """What is wrong with their order: a crate depends only on crates before it, storeys are in their order, and nothing
+    depends on a crate of tests except these."""
     faults, before = [], {}
     for crate in crates:
         for name in crate.below:
@@ -93,7 +93,7 @@ def below_of(top):
 
 
 def standing_below(below, name):
-    """The crate and all that it stands on; each is looked at once, since there are many ways down to it."""
+    """The crate and all that it depends on; each is looked at once, since there are many ways down to it."""
     found, left = set(), [name]
     while left:
         name = left.pop()

@@ -1,4 +1,4 @@
-"""The texts of bench/edges: a program reads their lines in windows, which its workers share, and docs/formats.md says
+"""The texts of bench/edges: a program reads their lines in windows, which its workers share, and docs/formats.md has
 what is answered to each. Their lines are long, many or faulty where a window begins or ends."""
 import itertools
 from typing import NamedTuple
@@ -28,7 +28,7 @@ class Text(NamedTuple):
 
 
 def node_report(pods, ticks, first, told="", counts=(0, 0, 0)):
-    """That of a node whose first tick is at this moment, or 0: its pods and their events are told."""
+    """The text of a node whose first tick is at this moment, or 0: with its pods and their events."""
     pressure = "".join(f"nodecondition {condition} False {first}\n" for condition in CONDITIONS)
     updates, events, orders = counts
     return (f"node n1 pods={pods} ticks={ticks}\n{told}{pressure}"
@@ -36,7 +36,7 @@ def node_report(pods, ticks, first, told="", counts=(0, 0, 0)):
 
 
 def long_lines():
-    """A line may have a mebibyte, and blanks may be more. Of a longer line nothing else is said."""
+    """A line may have a mebibyte, and blanks may be more. A longer line has no other fault."""
     alone = node_report(0, 0, 0)
     yield Text("node line of a mebibyte", (" " * (MEBIBYTE - len(NODE) + 1), NODE), report=alone)
     yield Text("node line of a byte more", (" " * (MEBIBYTE - len(NODE) + 2), NODE), "line 1: 31 TooLong")
@@ -92,7 +92,7 @@ PLACES = (0, 1, 2, 43, 44, 45, 111, 112, 113, 114, 130, 131, 225, 226, 227, 452,
 
 
 def faults_in_windows():
-    """Windows end by their lines, and by their bytes. Behind each fault, which come by turns, stands another."""
+    """Windows end by their lines, and by their bytes. After each fault, which come by turns, there is another."""
     faults = itertools.cycle(FAULTS)
     for size in (150, 1500):
         ticks = running(500, size)
@@ -126,7 +126,7 @@ END = ("c died 0 137", "c unready", "c restart 0")
 
 
 def told_of(number, pod, first, begun, ended=None):
-    """What is told in the end of a pod that came with the tick at one moment, began to run at another, and whose
+    """The report's end on a pod that came with the tick at one moment, began to run at another, and whose
     container ended at a third, if it did."""
     ready, at = ("true", begun) if ended is None else ("false", ended)
     state = "Running code=-" if ended is None else "Terminated code=137"

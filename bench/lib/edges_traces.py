@@ -17,7 +17,8 @@ POD_NUMBER = "#"
 
 
 class Edge(NamedTuple):
-    """Pods whose containers are listed in each tick. Those of one pod do the same: from the first tick on they have a
+    """Pods whose containers are listed in each tick. The containers of one pod do the same: from the first tick on
+    they have a
     new instance in each `period`-th tick, which is listed as exited in the last `exited` ticks of its period, and as
     running before. The pods have the periods by turns; where there is none, no tick lists anything."""
     pods: int
@@ -49,7 +50,7 @@ class Edge(NamedTuple):
 
 
 def moment(tick):
-    """That of a tick; the first one is at no moment 0, which stands for none."""
+    """The moment of a tick; the first one is not 0, which means none."""
     return STEP * (tick + 1)
 
 
@@ -82,14 +83,14 @@ def words_of_events(edge, period, tick):
 
 
 def event_lines(edge, period, tick):
-    """Those of a pod in a tick, with a sign in place of its number."""
+    """The events of a pod in a tick, with a sign in place of its number."""
     begin, words = f"event {moment(tick)} n/p{POD_NUMBER}", words_of_events(edge, period, tick)
     lines = [f"{begin} c{number} {event}\n" for number in range(edge.containers) for event in words]
     return "".join(lines) + (f"{begin} - phase Running\n" if tick == 0 else "")
 
 
 def pod_lines(edge, pod):
-    """Its last tick that changes something is that of the last exit; without any its containers wait from the first."""
+    """Its last tick that changes something has the last exit; without any its containers wait from the first."""
     instances, last = edge.instances(pod), moment(edge.ticks - edge.exited if edge.periods else 0)
     yield f"pod {pod} n/p{pod} phase={'Running' if instances else 'Pending'} reason=- qos=BestEffort\n"
     for condition in ("PodScheduled", "Initialized"):

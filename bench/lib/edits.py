@@ -1,4 +1,4 @@
-"""Mutants: where a crate's edits are, what they make of its files, and what refuses them."""
+"""Mutants: where a crate's edits are, what they make of its files, and what rejects them."""
 import os
 import re
 
@@ -16,7 +16,7 @@ def read(path):
 
 
 def texts_of(edit, folder):
-    """The texts of the files below the folder that the edit changes, by path; None where it does not fit them."""
+    """The texts of the files below the folder that the edit changes, by path; None if it does not fit them."""
     path, old, texts = None, None, {}
     for line in read(edit).split("\n"):
         word, _, rest = line.partition(": ")
@@ -36,7 +36,7 @@ def texts_of(edit, folder):
 
 
 def verdict(status, said):
-    """What refuses an edit, by the status and the words of its check: a kind, and the line that says it."""
+    """What rejects an edit, by the status and the output of its check: a kind, and the line that shows it."""
     if status == 0:
         return "still proved", ""
     if not re.search(r"^logic=not-proved", said, re.M):

@@ -1,4 +1,4 @@
-"""How a definition, a type, a trait or a contract is shown below its heading: what is said of it, its text, its place,
+"""How a definition, a type, a trait or a contract is shown below its heading: its comment, its text, its place,
 and links to what it names."""
 import os
 import re
@@ -49,7 +49,7 @@ def examples_in(repository, of=""):
 
 
 class Entries:
-    """Of each key `said` has what other pages say of it, and `places` its page, named from docs/, and its anchor."""
+    """For each key `said` has what other pages have on it, and `places` its page, named from docs/, and its anchor."""
 
     def __init__(self, examples, said, places):
         self.examples, self.said, self.places = examples, said, places
@@ -60,7 +60,7 @@ class Entries:
         return f"[{key[2]}]({'' if target == page else way(target, page)}#{anchor})"
 
     def quotes(self, key, page):
-        """The sentences that other pages say of it, each with a link to its heading."""
+        """The sentences that other pages have on it, each with a link to its heading."""
         for mention in self.said.get(key, ()):
             text = f"[{mention.page}, {mention.heading}](#{slug(mention.heading)}): {mention.sentence}"
             yield wrapped(moved(text, mention.page, page), "> ")

@@ -117,7 +117,7 @@ def words(library):
 
 
 def item(page, repository, anchors):
-    """A page in the list: a link to it, and what it has. `anchors` are those of the page."""
+    """A page in the list: a link to it, and what it has. `anchors` are the page's."""
     modules = list(dict.fromkeys(map(module_of, page.keys)))
     if len(page.owner) > 1:
         comment = TITLE_OF_TYPES if modules[0][1] == TYPES else repository.comment_of(*modules[0])

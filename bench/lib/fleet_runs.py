@@ -49,7 +49,7 @@ class Run:
 
 
 class Cluster:
-    """A scheduler and its workers, each with one thread, on loopback; the peak is that of the largest that ended."""
+    """A scheduler and its workers, each with one thread, on loopback; the peak is the one of the largest that ended."""
 
     def __init__(self, python, count, folder):
         self.python, self.folder, self.file, self.peak = python, folder, f"{folder}/scheduler.json", 0
@@ -102,7 +102,7 @@ class Cluster:
 
 
 def local_runs(fleet, traces, python, work):
-    """The databases of runs with processes of their own; that of one process comes first."""
+    """The databases of runs with processes of their own; the one of one process comes first."""
     for count in (1, 2, 4):
         run = Run(f"{count} processes", [python, fleet, "run", traces, "--processes", str(count)],
                   f"{work}/local-{count}")

@@ -1,4 +1,4 @@
-"""In which folder of a crate's specs/ a definition stands: in rule/ what the contracts of a replay reach, and in state/
+"""In which folder of a crate's specs/ a definition is: in rule/ what the contracts of a replay reach, and in state/
 all else."""
 import glob
 

@@ -62,7 +62,7 @@ def lines_of_edits(edits, spent):
 
 
 def record_seconds(top, name, edit, seconds):
-    """Puts the processor seconds of an edit's check in the place of what stood there; of an edit without a row nothing
+    """Puts the processor seconds of an edit's check in the place of the earlier ones; of an edit without a row nothing
     is kept."""
     path = os.path.join(top, EDITS)
     if not os.path.isfile(path):

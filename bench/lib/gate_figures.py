@@ -39,7 +39,7 @@ class Figure(NamedTuple):
                               peak=max(self.peak, tried.peak), edits=tried.spent)
 
     def ran_again(self):
-        """The processor seconds that its commands, two where it has edits, took for what had passed before."""
+        """The processor seconds that its commands, two if it has edits, took for what had passed before."""
         return (self.again or 0) * (2 if self.edits else 1)
 
     def waited_for(self):
@@ -52,7 +52,7 @@ def last_line(log):
 
 
 def proved_in(log):
-    """By the log of a run of the gate: the crates of which it proved something, and those of them that it proved
+    """By the log of a run of the gate: the crates of which it proved something, and which of them it proved
     whole. What it kept is the kit's, from runs that passed on this machine."""
     proofs = set(re.findall(r"(?m)^rt: (\w+) proved$", log))
     tests = set(re.findall(r"(?m)^rt: (\w+): its tests are proved$", log))
@@ -76,7 +76,7 @@ def read_figures(top):
 
 
 def figures_at(top, commit):
-    """Those that a commit has of them; none where it has no table, or git does not know it."""
+    """The figures that a commit has of them; none if it has no table, or git does not know it."""
     done = subprocess.run(["git", "show", f"{commit}:./{FIGURES}"], cwd=top, stdin=subprocess.DEVNULL,
                           capture_output=True, text=True, check=False)
     return _figures_in(done.stdout.splitlines(keepends=True)) if done.returncode == 0 else {}
@@ -90,7 +90,7 @@ def _figures_in(lines):
             for row in rows}
 
 
-# what the gate reads of a crate; a README and the shelf are no part of it
+# what the gate reads of a crate; a README and wrong-bodies/ are no part of it
 READ = re.compile(r"crates/(\w+)/(src|specs|proofs|must-fail|data|stdin|stdout|args|status)\b")
 
 
@@ -110,7 +110,7 @@ def since(top, below, name, commit):
         return "?"
     if name in {crate for crate, _ in changed}:
         return "itself"
-    # no crate stands on the mutants of another
+    # no crate depends on the mutants of another
     read = {crate for crate, part in changed if part != "must-fail"}
     return "below" if read & standing_below(below, name) else "no"
 
@@ -131,7 +131,7 @@ def _text(number):
 
 
 def keep(top, crates, name, figure):
-    """Puts a figure in the place of the one before; those of crates that there are not any more go."""
+    """Puts a figure in the place of the one before; drops the figures of crates that no longer exist."""
     found = {**read_figures(top), name: figure}
     rows = [COLUMNS]
     for it in (*crates, WHOLE):
@@ -142,8 +142,8 @@ def keep(top, crates, name, figure):
 
 
 def gate_seconds(found, below):
-    """The processor seconds of ./test from nothing, by those of all commands without what each of them ran again, which
-    ./test after them ran once; None where something of it was not measured."""
+    """The processor seconds of ./test from nothing, by the seconds of all commands without what each of them ran
+    again, which ./test after them ran once; None where something of it was not measured."""
     rows = [found[name] for name in below if name in found]
     if WHOLE not in found or len(rows) < len(below) or any(it.again is None for it in rows):
         return None

@@ -86,7 +86,7 @@ def table(top, crates, found):
 
 
 def shelf(top):
-    """What bench/wrong_bodies found last, where it was run."""
+    """What bench/wrong_bodies found last, if it was run."""
     rows = ["| " + " | ".join(it[column] for column in COLUMNS) + " |" for it in read_found(top)]
     return [SHELF, *rows, ""] if rows else []
 
@@ -166,18 +166,18 @@ def machines(found):
 
 
 def text_of(top, below, found, told):
-    """The whole page, with what is told of a replay's costs."""
+    """The whole page, with its part on a replay's costs."""
     head = HEAD.format(machine=machines(found), whole=whole_text(below, found), chain=chain_text(below, found))
     return head + "\n".join([*table(top, below, found), "", *shelf(top), *told]) + "\n"
 
 
 def replays_in(page):
-    """What a page tells of a replay's costs."""
+    """A page's part on a replay's costs."""
     _, begin, rest = page.partition(REPLAYS)
     return (begin + rest).splitlines()
 
 
 def with_costs(page, top, ticks):
-    """The page with what it says of mutants outside of the gate, and of a replay's costs, again."""
+    """The page with its parts on mutants outside of the gate, and on a replay's costs, made again."""
     begin = OUTSIDE if OUTSIDE in page else REPLAYS
     return page.partition(begin)[0] + "\n".join([*shelf(top), *replays(ticks)]) + "\n"

@@ -1,4 +1,4 @@
-"""What a log of valgrind's helgrind says: how many reports it has of each kind, and its summary."""
+"""What a log of valgrind's helgrind has: how many reports it has of each kind, and its summary."""
 import collections
 import re
 

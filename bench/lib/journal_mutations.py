@@ -20,7 +20,7 @@ WORDS = (b"[" * 2000, b"{" * 2000, b" a={" * 3000, b' a="' * 999, b"\\ud800", b"
 
 
 def moments_of(line):
-    """The second and the fraction of a line as klog writes it, of 2026; or those of a day of then."""
+    """The second and the fraction of a line as klog writes it, of 2026; or of a day of then."""
     found = HEADER.match(line)
     try:
         second = 1772359200 if found is None else int(time.mktime(time.strptime("2026" + found[1].decode(),
@@ -104,7 +104,7 @@ def shuffle(chance, data, _):
 
 
 def mix(chance, data, seeds):
-    """Lines of another journal between those of one."""
+    """Lines of another journal between the lines of one."""
     other = in_form(chance, chance.choice(seeds)).split(b"\n")
     lines = data.split(b"\n")
     begin, place = chance.randrange(len(other)), chance.randrange(len(lines) + 1)

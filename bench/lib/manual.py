@@ -1,4 +1,4 @@
-"""Writes the manual page of the program to standard output, from what its help says and from the list of statuses in
+"""Writes the manual page of the program to standard output, from its help and from the list of statuses in
 docs/report.md.
 
     manual.py PROGRAM TOP VERSION DATE
@@ -26,7 +26,7 @@ def said(program, *words):
 
 
 def parts_of(text):
-    """What a help says: the parts by their titles, the first under none, the usage under Usage."""
+    """The content of a help: the parts by their titles, the first under none, the usage under Usage."""
     parts, title = {"": []}, ""
     for line in text.split("\n"):
         usage = re.match(r"Usage: (.*)", line)
@@ -55,7 +55,7 @@ def items_of(lines):
 
 
 def escaped(text):
-    """The text as groff reads it: a hyphen is that of a word, and a line's first point no request."""
+    """The text as groff reads it: a hyphen belongs to a word, and a line's first point is no request."""
     text = text.replace("\\", "\\e").replace("-", "\\-")
     return "\\&" + text if text[:1] in (".", "'") else text
 

@@ -41,7 +41,7 @@ def span(chance, data):
 
 
 def pick(chance, data, pattern):
-    """A place where the pattern fits, if there is one: the first behind some place, or the first of all."""
+    """A place where the pattern fits, if there is one: the first after some place, or the first of all."""
     return pattern.search(data, place(chance, data)) or pattern.search(data)
 
 

@@ -1,5 +1,5 @@
 """Makes journals of a node by chance: of a kubelet of some version at some verbosity and of a runtime. Pods come,
-crash, are killed, evicted, refused and deleted, and come again under their names. A seed settles each. The messages
+crash, are killed, evicted, rejected and deleted, and come again under their names. A seed settles each. The messages
 have the forms that tools/import reads; those from 1.21 on and of CRI-O are from knowledge."""
 import bisect
 import json
@@ -66,7 +66,7 @@ class Play:
         self.verbosity = chance.randrange(5)
         self.until = chance.choice((300, 900, 2400, 5000))
         self.turns = 0
-        # when a process of the kubelet begins behind another one
+        # when a process of the kubelet begins after another one
         self.restarts = []
         self.of_kubelet, self.of_runtime = [], []
         self.pods, self.made, self.due = [], [], []
@@ -81,7 +81,7 @@ class Play:
         self.of_kubelet.append((at, f"{SEVERITY[is_error]}{stamp}", printed if self.era == ERAS[0] else keyed))
 
     def lines_of_kubelet(self):
-        """The messages, each of the process that runs then: one that has ended says nothing more."""
+        """The messages, each of the process that runs then: one that has ended writes nothing more."""
         for at, head, said in self.of_kubelet:
             process = FIRST_PROCESS + bisect.bisect_right(self.restarts, at)
             yield at, process, f"{head} {process:7d} a.go:1] {said}"
@@ -149,7 +149,7 @@ class Play:
         self.due.append((at, what, of))
 
     def come(self, at, name):
-        """A pod comes, is refused, or waits for its image."""
+        """A pod comes, is rejected, or waits for its image."""
         chance, pod = self.chance, Pod(self.chance, len(self.made), name)
         self.made.append(pod)
         source = "file" if pod.is_static else "api"
@@ -302,7 +302,7 @@ class Play:
             self.later(at + chance.choice((0.05, 1, 13, 14, 60)), self.come, pod.name)
 
     def evict(self, at, _):
-        """The kubelet evicts a pod, and cleans up behind that."""
+        """The kubelet evicts a pod, and cleans up after that."""
         if not self.pods:
             return
         pod = self.chance.choice(self.pods)

@@ -1,5 +1,5 @@
 """Traces of many nodes, each settled by a seed and its number: some pods that do well, some that don't, pressure on
-some nodes, and in every twentieth trace a fault that the program refuses."""
+some nodes, and in every twentieth trace a fault that the program rejects."""
 
 import json
 import random

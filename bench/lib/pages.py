@@ -1,10 +1,10 @@
-"""On which page each definition stands. A crate has a page; where that would be too long, its longest modules have
+"""On which page each definition is. A crate has a page; if that would be too long, its longest modules have
 pages of their own, until the others fit on one; what is still too long is cut between two definitions."""
 from typing import NamedTuple
 
 # no page has more lines, but for one with a single definition that is longer
 MOST = 499
-# all declared types of a crate stand together, as those of a module do
+# all declared types of a crate are together, as the ones of a module are
 TYPES = "types"
 
 

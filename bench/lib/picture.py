@@ -1,4 +1,4 @@
-"""The picture of the crates: storey by storey, each with its words and the crates that it stands on, without those
+"""The picture of the crates: storey by storey, each with its words and the crates that it depends on, without those
 that it reaches through others."""
 import textwrap
 from html import escape
@@ -11,13 +11,13 @@ COLOURS = {"Base": "#eceff1", "Format": "#e3f2fd", "Rules": "#e8f5e9", "Threads"
 
 
 def straight_below(name, below):
-    """The crates that it names, without those that these stand on."""
+    """The crates that it names, without the ones that these depend on."""
     reached = {far for near in below[name] for lower in below[near] for far in standing_below(below, lower)}
     return [near for near in below[name] if near not in reached]
 
 
 def places_of(crates):
-    """Where each crate stands, from the top, and each storey from where to where."""
+    """Where each crate is, from the top, and each storey from where to where."""
     places, bands, y = {}, [], GAP
     for storey in reversed(STOREYS):
         names = [crate.name for crate in crates if crate.storey == storey]

@@ -65,7 +65,7 @@ def run(words, given=subprocess.DEVNULL, written=subprocess.DEVNULL, said=None, 
 
 class Commands:
     """Commands that run side by side, each in a folder, and at nothing of which is looked before its end. While there
-    are any, the process has no other children. Where it is interrupted, they are asked to end too, and have some
+    are any, the process has no other children. If it is interrupted, they are asked to end too, and have some
     seconds for it."""
 
     def __init__(self):
@@ -81,7 +81,7 @@ class Commands:
             see_end(child)
 
     def begin(self, key, words, folder, said):
-        """What it says goes into a file."""
+        """Its output goes into a file."""
         child = subprocess.Popen(words, cwd=folder, stdin=subprocess.DEVNULL, stdout=said, stderr=subprocess.STDOUT,
                                  process_group=0)
         self.running[child.pid] = child, key, time.monotonic()
@@ -132,7 +132,7 @@ def machine():
 
 
 def kind_in(text):
-    """Of which kind the processors are, in brackets, by the system's text of them; nothing where it does not say."""
+    """Of which kind the processors are, in brackets, by the system's text of them; nothing if it does not have it."""
     found = {line.partition(":")[0].strip(): line.partition(":")[2].strip() for line in reversed(text.splitlines())}
     said = [found[key] if key == "model name" else f"{key} {found[key]}"
             for key in ("model name", "model", "stepping") if key in found]

@@ -1,5 +1,5 @@
-"""What a crate shows: its public calls with their clauses, its public types, traits and constants, and what it hands on
-of other crates. All is read of src/lib.rt and of the modules that it names."""
+"""What a crate shows: its public calls with their clauses, its public types, traits and constants, and what it passes
+on of other crates. All is read of src/lib.rt and of the modules that it names."""
 import os
 import re
 from typing import NamedTuple
@@ -15,7 +15,7 @@ CLAUSE = re.compile(r"\s*(?://[^\n]*\n\s*)*(requires|ensures)\b\s*(\w*)\s*(?=\{)
 
 class Clause(NamedTuple):
     kind: str   # requires or ensures
-    name: str   # empty where it has none
+    name: str   # empty if it has none
     term: str
 
 
@@ -35,7 +35,7 @@ class Item(NamedTuple):
 
 
 def clauses_at(text, at):
-    """The clauses that stand one after the other from a place on."""
+    """The clauses that follow one another from a place on."""
     found = []
     while clause := CLAUSE.match(text, at):
         term = braced_at(text, clause.end())
@@ -45,7 +45,7 @@ def clauses_at(text, at):
 
 
 def comment_above(lines, at):
-    """The doc comment above a line; attributes may stand between."""
+    """The doc comment above a line; attributes may be between."""
     comment = []
     while at and re.match(r"\s*(///|#\[|[^/]*\)\]$)", lines[at - 1]):
         at -= 1
@@ -106,7 +106,7 @@ def items_in(text, path):
 
 class Shown(NamedTuple):
     comment: str     # of the crate, line by line
-    items: list      # those of lib.rt, and in its order those of its modules; after each type its calls
+    items: list      # the items of lib.rt, and in its order the ones of its modules; after each type its calls
     handed_on: dict  # of other crates: what is passed on of them
 
 
@@ -120,7 +120,7 @@ def names_in(listed):
 
 
 def shown_by(repository, crate):
-    """What a crate shows; nothing where it has no src/lib.rt."""
+    """What a crate shows; nothing if it has no src/lib.rt."""
     folder = f"crates/{crate}/src"
     if not os.path.exists(os.path.join(repository.top, folder, "lib.rt")):
         return Shown("", [], {})
@@ -143,7 +143,7 @@ def shown_by(repository, crate):
 
 
 def with_calls(name, of_module, files):
-    """The item of this name in a module, and if it is a type or a trait its calls, wherever they stand."""
+    """The item of this name in a module, and if it is a type or a trait its calls, wherever they are."""
     item = next((item for item in of_module if not item.owner and item.name == name), None)
     if not item:
         return []

@@ -1,5 +1,5 @@
-"""A made-up node with its kubelet and its runtime, for a recorder that is measured: answers as long as those of a real
-one, and a container that crashes now and then."""
+"""A made-up node with its kubelet and its runtime, for a recorder that is measured: answers as long as the ones of a
+real one, and a container that crashes now and then."""
 import contextlib
 import json
 import os
@@ -13,7 +13,7 @@ TOKEN = "Bearer made-up"
 CRASH_SECONDS = 120
 RUN_SECONDS = 40
 PERIOD = 10
-# what a pod's status and manifest have beside what is read, in bytes
+# what a pod's status and manifest have in addition to what is read, in bytes
 PADDING = "x" * 4000
 # series of other metrics that a kubelet's /metrics/cadvisor has of a pod: with its sandbox, networks and disks
 OTHER_SERIES = 220
@@ -68,7 +68,7 @@ class Node:
             for number, attempt, start, end in self.listed(now)]}
 
     def inspections(self, now):
-        """What `crictl inspect` says, by the id."""
+        """What `crictl inspect` prints, by the id."""
         for number, attempt, start, end in self.listed(now):
             identity = self.identity(number, attempt)
             yield identity, {"info": {"config": PADDING}, "status": {
@@ -91,7 +91,7 @@ class Node:
             for number in range(self.pods)]})
 
     def probes(self, now):
-        """The counters, and the histograms that newer kubelets have beside them."""
+        """The counters, and the histograms that newer kubelets have as well."""
         lines = []
         for number in range(self.pods):
             count = int((now - self.begun + 3600 + number % PERIOD) // PERIOD)
@@ -197,7 +197,7 @@ class Stands:
         os.replace(f"{self.folder}/{name}.new", f"{self.folder}/{name}")
 
     def show(self):
-        """What the runtime says now."""
+        """What the runtime answers now."""
         now = time.time()
         for identity, answer in self.node.inspections(now):
             self.write(f"{identity}.json", json.dumps(answer))

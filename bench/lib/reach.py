@@ -107,7 +107,7 @@ class Repository:
         return None
 
     def meaning(self, scope, word):
-        """The key of what a word stands for; nothing where it is a variable or a sign."""
+        """The key of what a word names; nothing if it is a variable or a sign."""
         head, _, rest = word.partition(".")
         path, name = scope.get(word) or scope.get(head) or ("", None)
         name = name or rest
@@ -134,7 +134,7 @@ class Repository:
         return list(dict.fromkeys(key for key in found if key))
 
     def node(self, key):
-        """What a key stands for, with the keys of what it names."""
+        """What a key names, with the keys of what that names."""
         crate, module, name = key
         if module.endswith(".rt"):
             return self.declared(crate, name)
@@ -180,7 +180,7 @@ class Repository:
         return found
 
     def trait_key(self, crate, name):
-        """The key of a trait of a crate, or of one that its lib.rt hands on."""
+        """The key of a trait of a crate, or of one that its lib.rt passes on."""
         if node := self.declared(crate, name):
             return node.key
         handed_on = self.file(f"crates/{crate}/src/lib.rt").uses[name]

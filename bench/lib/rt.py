@@ -22,7 +22,7 @@ class File(NamedTuple):
 
 
 def read_file(text):
-    """A file with what it imports, which says of what a name in it is."""
+    """A file with what it imports, which shows what a name in it is."""
     scope, uses = {}, {}
     for line in text.split("\n"):
         if line.strip().startswith("ghost use "):
@@ -49,8 +49,8 @@ def found_line(lines, pattern):
 
 
 def contract_of(text, name):
-    """A public function with its clauses, without its body. Its names are those of its clauses, and the bounds of the
-    type parameters that these speak of."""
+    """A public function with its clauses, without its body. Its names are the ones of its clauses, and the bounds of
+    the type parameters that these speak of."""
     lines = text.split("\n")
     first = found_line(lines, rf"pub fn {name}\b")
     if first is None:
@@ -66,7 +66,7 @@ def contract_of(text, name):
 
 
 def braced_at(text, at):
-    """What stands between the brace at a place and the one that ends it."""
+    """The text between the brace at a place and the one that ends it."""
     first, depth = at + 1, 1
     while depth and at + 1 < len(text):
         at += 1

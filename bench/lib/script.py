@@ -10,7 +10,7 @@ BUILT = os.path.join(TOP, "crates/replay_program/out/replay_program")
 
 
 class Fault(Exception):
-    """What is said in one line on standard error, after the script's name, and the status with it."""
+    """What is printed in one line on standard error, after the script's name, and the status with it."""
 
     def __init__(self, said, status=1):
         super().__init__(said)
@@ -22,7 +22,7 @@ class Usage(Exception):
 
 
 def run(name, main, text):
-    """Ends with the status that main gives for the words, none being 0, or that of what it refuses. With --help the
+    """Ends with the status that main gives for the words, none being 0, or with the one of its fault. With --help the
     text is the answer."""
     words = sys.argv[1:]
     if words in (["-h"], ["--help"]):
@@ -42,20 +42,21 @@ def run(name, main, text):
 
 
 def need(**commands):
-    """Refuses where one of these commands is missing; what it is needed for is next to its name."""
+    """Ends if one of these commands is missing; what it is needed for is next to its name."""
     for command, why in commands.items():
         if not shutil.which(command):
             raise Fault(why, 127)
 
 
 def program_of(words):
-    """The path of the program that the words name, or without one that of the program that ./kubelet_replay builds."""
+    """The path of the program that the words name, or without one the path of the program that ./kubelet_replay
+    builds."""
     if not words:
         with open(os.path.join(TOP, "examples/first_tick.trace"), "rb") as trace:
             done = subprocess.run([os.path.join(TOP, "kubelet_replay")], stdin=trace, stdout=subprocess.DEVNULL,
                                   check=False)
         if done.returncode != 0:
-            raise Fault("")  # it has said why
+            raise Fault("")  # it has printed why
         return os.path.realpath(BUILT)
     if not os.access(words[0], os.X_OK):
         raise Fault(f"there is no program {words[0]}", 2)

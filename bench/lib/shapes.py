@@ -28,7 +28,7 @@ def lines_up_to(head, line, ticks):
 
 
 def crowd(listed, length=4, ticks=20_000, behind=b""):
-    """256 pods of 16 containers with names of this length. Each tick lists every container so; a line may be behind
+    """256 pods of 16 containers with names of this length. Each tick lists every container so; a line may be after
     it. Moments have a 1 before the number, since a number begins with no 0."""
     names = [b"p%03d" % number + b"x" * (length - 4) for number in range(256)]
     containers = b",".join(b'{"name":"%c"}' % (97 + number) for number in range(16))

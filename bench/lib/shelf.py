@@ -19,7 +19,7 @@ def read_found(top):
 
 
 def record(top, crates, name, kinds, seconds):
-    """Puts what was found of a crate's shelf in the place of what was found before."""
+    """Puts what was found of a crate's wrong bodies in the place of what was found before."""
     rows = {row["crate"]: row for row in read_found(top)}
     none = dict.fromkeys(KINDS, 0)
     rows[name] = {"crate": name, "edits": sum(kinds.values()), **none, **kinds, "seconds": round(seconds)}

@@ -23,7 +23,7 @@ class Trace(NamedTuple):
     ticks: int
     containers: int
     size: int   # bytes
-    lines: int  # as the baseline says, None of a trace that it does not read
+    lines: int  # as the baseline prints them, None for a trace that it does not read
 
 
 class Measured(NamedTuple):
@@ -49,12 +49,12 @@ def counts_in(report):
 
 
 def most_memory(trace):
-    """The limit of memory in bytes: the input, what each tick adds and what the program has besides."""
+    """The limit of memory in bytes: the input, what each tick adds and what the program needs in addition."""
     return trace.size + 48 * trace.pods * trace.ticks + 24 * trace.containers * trace.ticks + 32 * MIB
 
 
 def slope_of(measured):
-    """How fast the logarithm of the seconds rises with that of the ticks."""
+    """How fast the logarithm of the seconds rises with the logarithm of the ticks."""
     ticks = [math.log(measured.traces[name].ticks) for name in SLOPE]
     return statistics.linear_regression(ticks, [math.log(measured.seconds[name, 1]) for name in SLOPE]).slope
 

@@ -12,7 +12,7 @@ def tokens_of(text):
 
 
 def telescope(tokens, at):
-    """The names that an opening bracket at this place binds, as in `(x y : T)`; none where it is no binder."""
+    """The names that an opening bracket at this place binds, as in `(x y : T)`; none if it is no binder."""
     names = []
     for token in tokens[at + 1:]:
         if token == ":":

@@ -16,7 +16,7 @@ PARTS = {
 
 
 def far_place(key):
-    """A page and an anchor as long as those of a key may be: which they are hangs on how long the pages are."""
+    """A page and an anchor as long as a key's may be: which they are hangs on how long the pages are."""
     return f"theorem/{key[0]}-{key[1]}-99.md", f"{slug(title_of(key))}-99"
 
 
@@ -41,7 +41,7 @@ def parts_of(repository, nodes, entries):
 
 def texts_of(repository, contracts, nodes, library, said):
     """The texts of all pages by their names, and the place of each definition: its page and its anchor. Of each key
-    `said` has what other documents say of it."""
+    `said` has what other documents have on it."""
     examples = examples_in(repository)
     far = {key: far_place(key) for key in [*nodes, *(node.key for node in contracts)]}
     parts = parts_of(repository, nodes, Entries(examples, said, far))

@@ -43,7 +43,7 @@ def seconds_of(words, given):
 
 
 def run(words, output, longest):
-    """A run of a command that writes into a file. What it says is shown where it fails; hyperfine would drop it."""
+    """A run of a command that writes into a file. Its output is shown if it fails; hyperfine would drop it."""
     with tempfile.NamedTemporaryFile("r", encoding="utf-8", errors="replace") as said:
         found, cost = measured(["--runs", "1", "--ignore-failure", "--output", output],
                                ["sh", "-c", 'exec "$@" 2>"$0"', said.name, *words], longest)

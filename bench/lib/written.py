@@ -1,5 +1,5 @@
-"""Pages below docs/ that a script writes: they are written again, or it is said which are not as they would be. Some
-fill a folder of their own, which has no others then."""
+"""Pages below docs/ that a script writes: they are written again, or the script prints which are not as they would
+be. Some fill a folder of their own, which has no others then."""
 import glob
 import os
 

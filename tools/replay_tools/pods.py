@@ -8,6 +8,7 @@ from typing import Any
 from replay_tools import amounts
 from replay_tools.fields import Bounds, bounds_of, dict_at, list_at, number_at, object_at, text_at, value_at
 from replay_tools.limits import memory_in
+from replay_tools.restarting import Restarting, restartings_in
 
 PROBES = ("startup", "liveness", "readiness")
 
@@ -33,6 +34,8 @@ class Container:
     """thousandths of a byte"""
     bounds: Bounds = Bounds()
     """as its manifest sets them"""
+    restarting: Restarting = Restarting()
+    """what decides about its restarts"""
 
 
 @dataclass
@@ -77,12 +80,16 @@ class Pod:
         return max(together, *alone, 0)
 
 
-def pod_of(number: int, manifest: dict[str, Any], first: int) -> Pod:
+def pod_of(number: int, manifest: dict[str, Any], first: int, reads_own: bool = False) -> Pod:
+    """A pod of a pod line. In version 3 it has the policies and rules of its containers too."""
     metadata, spec = object_at(manifest, "metadata"), object_at(manifest, "spec")
     key = f"{text_at(metadata, 'namespace', 'default')}/{text_at(metadata, 'name')}"
     containers = [container_of(found, "sidecar" if value_at(found, "restartPolicy") == "Always" else "init")
                   for found in list_at(spec, "initContainers")]
     containers += [container_of(found, "app") for found in list_at(spec, "containers")]
+    decides = restartings_in(spec, reads_own)
+    for container in containers:
+        container.restarting = decides[container.name]
     return Pod(number, key, text_at(spec, "restartPolicy", "Always"), number_at(spec, "priority", 0),
                number_at(spec, "terminationGracePeriodSeconds", 30), containers, first,
                memory_limit=memory_in(spec.get("resources")))

@@ -6,7 +6,7 @@ from __future__ import annotations
 from collections.abc import Iterator
 from typing import Any, TYPE_CHECKING
 
-from replay_tools import (events, kubelet as kubelets, provenance, readiness, reasons, report as reports,
+from replay_tools import (events, kubelet as kubelets, own_restarts, provenance, readiness, reasons, report as reports,
                           summary as summing)
 from replay_tools.summary import NEVER, came_again, last_moment, seconds_of
 
@@ -26,7 +26,7 @@ def records_of(report: reports.Report, kubelet: kubelets.Kubelet | None = None, 
     yield node_record(report, span[0] if span else first_moment(report), last, known) | (
         {} if kubelet is None else {"tells_kubelet": True}) | of_trace(trace)
     for number, event in enumerate(report.events):
-        yield event_record(report, number, event) | reason_fields(event, trace)
+        yield event_record(report, number, event) | reason_fields(event, trace) | restart_fields(report, event, trace)
     for number, border in enumerate(report.borders):
         yield border_record(report, number, border)
     ranked = summing.summaries(report, trace, kubelet, last, known)
@@ -112,6 +112,12 @@ def reason_fields(event: reports.Event, trace: traces.Trace | None) -> dict[str,
     guessed = {"code": None} if reasons.is_guessed(event, trace) else {}
     return {**guessed, "code_is_known": reasons.is_known(event, trace), "reason": end.reason if end else None,
             "message": end.message if end else None}
+
+
+def restart_fields(report: reports.Report, event: reports.Event, trace: traces.Trace | None) -> dict[str, Any]:
+    """Of a death, which of the container's own policy and rules decided about a restart, if one of these did."""
+    found = None if event.number is None else own_restarts.sentence(report.pods[event.number], event, trace)
+    return {} if found is None else {"restart_words": found}
 
 
 def pod_record(report: reports.Report, pod: reports.Pod, rank: int, summary: summing.Summary,

@@ -5,8 +5,8 @@ from __future__ import annotations
 from collections.abc import Callable
 from typing import TYPE_CHECKING
 
-from replay_tools import (asking, endings, kubelet as kubelets, provenance, readiness, reasons, report as reports,
-                          why_text)
+from replay_tools import (asking, endings, kubelet as kubelets, own_restarts, provenance, readiness, reasons,
+                          report as reports, why_text)
 from replay_tools.joined import told as told_of_several
 from replay_tools.telling import (DECIDED, OF_NODE, SAID_LATER, beside_words, containers_title, event_words,
                                   last_lines, node_lines, node_rows, rank_of, rank_of_said, table)
@@ -41,7 +41,7 @@ def restarts(report: reports.Report, pod: reports.Pod, show: Show, trace: traces
         elif event.word == "died":
             said = causes.setdefault((name, rest[0]), [])
             how = event_words(event, trace=trace, is_whole=False)[1].removeprefix("died")
-            said.append(f"died at {show(event.at)}{how}")
+            said.append(f"died at {show(event.at)}{how}{own_restarts.clause(pod, event, trace)}")
             for (signal, kind), since in thresholds.at(event.at).items():
                 said.append(f"threshold {signal} {kind} active since {show(since)}")
             last_death[name] = said

@@ -8,7 +8,7 @@ from collections.abc import Callable
 from dataclasses import dataclass
 from typing import TYPE_CHECKING
 
-from replay_tools import amounts, entry, events, outside, reasons, traces
+from replay_tools import amounts, entry, events, outside, own_restarts, reasons, traces
 
 if TYPE_CHECKING:
     from replay_tools import report as reports
@@ -153,9 +153,10 @@ def killed_words(pod: reports.Pod, died: reports.Event, show: Callable[[int], st
 
 def beside_words(pod: reports.Pod, event: reports.Event, show: Callable[[int], str],
                  trace: traces.Trace | None = None) -> str:
-    """What is next to an event of a pod: the kill that led to a death, and of several traces what is not known of
-    it, since it happened in a gap or is counted again in a trace."""
-    return killed_words(pod, event, show, trace) + border_words(pod, event, show)
+    """What is next to an event of a pod: the kill that led to a death, the container's own policy or rule that decided
+    about a restart after it, and of several traces what is not known of it, since it happened in a gap or is counted
+    again in a trace."""
+    return killed_words(pod, event, show, trace) + own_restarts.clause(pod, event, trace) + border_words(pod, event, show)
 
 
 def border_words(pod: reports.Pod, event: reports.Event, show: Callable[[int], str]) -> str:

@@ -341,7 +341,7 @@ def trace_with(trace: Trace | None, present: dict[str, Pod], lines: Lines, begin
         lines.booted_at = outside.moment(found.get("bootedAt"))
         return Trace(text_at(found, "name"), found, thresholds_of(found))
     if kind == "pod":
-        pod = pod_of(len(trace.pods), object_at(found, "pod"), len(trace.ticks))
+        pod = pod_of(len(trace.pods), object_at(found, "pod"), len(trace.ticks), trace.heeds_words())
         if pod.key in present:
             raise Wrong("pod")
         pod.uid = outside.text_of(found.get("uid"))

@@ -195,8 +195,8 @@ def left_out(count: int, what: str) -> list[str]:
 
 def exit_lines(trace: traces.Trace, pod: reports.Pod, around: why.Around, show: Callable[[int], str]) -> list[str]:
     kept = around.exits[-MOST_ROWS:]
-    policy, most = trace.pods[pod.number].policy, trace.greatest_delay()
-    name = around.event.name
+    name, most = around.event.name, trace.greatest_delay()
+    policy = next(one.restarting for one in trace.pods[pod.number].containers if one.name == name).policy_words()
     rows = [[str(found.number), str(found.attempt), "-" if found.started is None else show(found.started),
              show(found.died), f"{found.run} s",
              reasons.code_words(found.code, trace.reasons.ends.get((pod.number, name, found.attempt))),

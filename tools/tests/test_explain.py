@@ -166,8 +166,9 @@ def test_what_is_no_fault():
 
 
 def test_words_of_explain():
-    for words, said in ((["a", "b"], "one trace, not 2"), (["--all"], "--all is no known argument")):
-        expect_refused(f"explain {' '.join(words)}", run([f"{TOOLS}/explain", *words]), 2, said)
+    expect_refused("explain --all", run([f"{TOOLS}/explain", "--all"]), 2, "--all is no known argument")
+    expect("explain a b", run([f"{TOOLS}/explain", "a", "b"]),
+           (2, "".join(f"{name}: read failed\n  there is no such file\n" for name in "ab"), ""))
     expect_refused("explain of a closed standard input", run(["sh", "-c", f"exec '{TOOLS}/explain' <&-"]), 2,
                    "standard input is closed")
     shown = run([f"{TOOLS}/explain", f"{TOP}/examples/first_tick.trace"],

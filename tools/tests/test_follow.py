@@ -152,7 +152,7 @@ def test_follow_of_the_node():
                        tick(0, RUNS), tick(10, RUNS))
         followed.start()
         expect("follow of a node: from when on", followed.next(),
-               f"story: it prints what is recorded after {BEGIN + 10}; an interrupt ends it")
+               f"story: it prints what is recorded after {BEGIN}; an interrupt ends it")
         followed.write(f"{FIRST}.part", tick(20, RUNS, nodeReady=since), tick(30, RUNS, nodeReady=since),
                        tick(40, RUNS, nodeReady=since))
         expect("follow of a node that is not Ready", followed.next(), f"{BEGIN + 17}  the node is NotReady: "

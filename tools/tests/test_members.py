@@ -264,19 +264,6 @@ def test_resources_of_a_pod():
            ((0, ""), {"limits": {"memory": "1Gi", "cpu": "2"}}))
 
 
-def test_own_rules_of_restarts():
-    """A pod of containers with rules of their own is recorded without these, which is said; a sidecar stays one."""
-    inits = [{"name": "proxy", "restartPolicy": "Always"}, {"name": "setup", "restartPolicy": "Never"}]
-    spec = {"initContainers": inits,
-            "containers": [{"name": "app", "restartPolicy": "Never", "restartPolicyRules": [{"action": "Restart"}]}]}
-    lines, answer = recorded(play_of(web={"spec": spec}), "--extended", "--for", "5")
-    [web] = [line["pod"]["spec"] for line in lines["pod"]]
-    expect("own rules of restarts", (answer[0], web["initContainers"], web["containers"]),
-           (0, [{"name": "proxy", "restartPolicy": "Always"}, {"name": "setup"}], [{"name": "app"}]))
-    expect("own rules of restarts: what is said", [line.split(": ")[1] for line in answer[1].splitlines()],
-           ["shop/web setup", "shop/web app"])
-
-
 def test_boot():
     """Since when the system of the node runs, where the summary says it."""
     place = Into(play_of(web={}))

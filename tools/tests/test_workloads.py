@@ -266,8 +266,9 @@ def test_refused():
         answer = cluster.run("story", *SINCE, tool="kubelet-replay")
         expect_refused("kubelet-replay story of no namespace", answer, 2,
                        "or for a cluster --node NODE or -n NAMESPACE")
-        expect("kubelet-replay story -A", cluster.run("story", "-A", *SINCE, tool="kubelet-replay")[1],
-               cluster.run("story", "-A", *SINCE)[1])
+        # what can't be listed comes in the order of the answers
+        answers = [cluster.run("story", "-A", *SINCE, tool=tool)[1] for tool in ("kubelet-replay", "kubectl-replay")]
+        expect("kubelet-replay story -A", *(sorted(answer.split("\n")) for answer in answers))
         cluster.put("api/shop/pods.json", "[]")
         expect("pods that are none", "the pods of shop: can't be listed: kubectl's answer is no list\n" in
                cluster.run("story", "deploy/web", *SINCE)[1], True)

@@ -1,4 +1,4 @@
-//! Why the program's words were refused.
+//! Why the program's arguments were rejected.
 
 use clap::Error;
 use thiserror::Error as ThisError;
@@ -6,10 +6,10 @@ use thiserror::Error as ThisError;
 /// Why the words ask for no job.
 #[derive(Debug, Drop, ThisError)]
 pub enum UsageFault {
-    /// They are mistaken, or ask for help. The text says how.
+    /// They are mistaken, or ask for help. The text has the details.
     #[error("{0}")]
     Refused(Error),
-    /// A growth of memory was refused.
+    /// An allocation failed.
     #[error("out of memory")]
     OutOfMemory,
 }

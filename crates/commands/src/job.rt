@@ -26,7 +26,7 @@ pub enum Job<'a> {
         workers: usize,
         format: Format,
     },
-    /// Say whether a file is a trace.
+    /// Check whether a file is a trace.
     Check {
         trace: &'a str,
         format: Format,
@@ -47,8 +47,8 @@ fn may_share(workers: usize) -> bool
     workers >= 1 && workers <= MOST_WORKERS
 }
 
-/// The number of workers that a subcommand's matches say. What clap promises of the program's own
-/// words it does not promise of a subcommand's, so the number is looked at here.
+/// The number of workers in a subcommand's matches. What clap promises of the program's own arguments it does not
+/// promise of a subcommand's, so the number is checked here.
 fn workers_in(given: &ArgMatches<'_>) -> Option<usize>
     ensures { MatchOption result ((workers : ℕ) → HasWorkers (rows_of (found_of given.now)) workers → ⊥)
         (HasWorkers (rows_of (found_of given.now))) }
@@ -78,7 +78,7 @@ fn format_in(given: &ArgMatches<'_>) -> Format
     format_asked(given.get_str("extended"))
 }
 
-/// The job that the matches of the subcommand of this name say.
+/// The job of the matches of the subcommand of this name.
 fn job_for<'a>(name: &str, given: &ArgMatches<'a>) -> Option<Job<'a>>
     ensures { MatchOption result ((job : Job) → IsJobFor name.now (rows_of (found_of given.now)) job → ⊥)
         (IsJobFor name.now (rows_of (found_of given.now))) }
@@ -109,7 +109,7 @@ fn job_for<'a>(name: &str, given: &ArgMatches<'a>) -> Option<Job<'a>>
     }
 }
 
-/// The job that the matches of the program say.
+/// The job of the matches of the program.
 fn job_in<'a>(matches: &ArgMatches<'a>) -> Option<Job<'a>>
     ensures { MatchOption result ((job : Job) → IsJobOf (subcommand_rows_of matches.now) job → ⊥)
         (IsJobOf (subcommand_rows_of matches.now)) }
@@ -118,7 +118,7 @@ fn job_in<'a>(matches: &ArgMatches<'a>) -> Option<Job<'a>>
     job_for(name, given)
 }
 
-/// Why clap refused the words. It takes no memory.
+/// Why clap rejected the arguments. Doesn't allocate.
 fn refusal(error: Error) -> UsageFault
     ensures { IsRefusal error result }
 {
@@ -128,7 +128,7 @@ fn refusal(error: Error) -> UsageFault
     }
 }
 
-/// The job that was found, or why there is none. It takes no memory.
+/// The job that was found, or why there is none. Doesn't allocate.
 fn job_as<'a>(found: Result<Job<'a>, Error>) -> Result<Job<'a>, UsageFault>
     ensures { IsJobAs found.entry result }
 {
@@ -138,7 +138,7 @@ fn job_as<'a>(found: Result<Job<'a>, Error>) -> Result<Job<'a>, UsageFault>
     }
 }
 
-/// The error of words that ask for no job. Its kind is not that of refused memory.
+/// The error of arguments that ask for no job. Its kind is not the one of a failed allocation.
 fn no_job(alloc: Global) -> Result<Error, AllocError>
     ensures { IfOk result (λ error. kind_of error ≡ ValueValidation) }
 {

@@ -11,7 +11,7 @@ use Rattle.histories.proofs.Places.{moment_given-below}
 use Rattle.histories.proofs.Picked.{picked_one, so_picked_back}
 use Rattle.histories.proofs.TheOne.{IsTheOne-exists}
 use Rattle.manifest.specs.rule.Probe.{Probe}
-use Rattle.restarts.specs.rule.Policy.{WantsRestart}
+use Rattle.restarts.specs.rule.Own.{policy_after, WantsRestartBy}
 use Rattle.manifest.specs.declared.policy.Policy.{Policy}
 use Rattle.manifest.specs.declared.pod.ContainerSpec.{ContainerSpec}
 use Rattle.state_diff.specs.declared.seen.CriState.TheVariants.{Running}
@@ -260,8 +260,8 @@ to_restart_or_not policy spec h a newest = elim (exit_or_none (listings h) a) [
   | inr never ↦ inr (λ to. never (to.exited.0, to.exited.1))
   | inl (t, exit) ↦
       let code = code_at (listings h) a t exit.holds in
-      let P : ℤ → Type 0 = λ c. WantsRestart policy spec.role c in
-      elim (wants_or_not policy spec.role code.0) [
+      let P : ℤ → Type 0 = λ c. WantsRestartBy policy spec.own_restarts spec.role c in
+      elim (wants_or_not (policy_after policy spec.own_restarts code.0) spec.role code.0) [
         | inl wants ↦ inl (record { newest = newest; code = code.0; exited = (t, exit, code.1); wanted = wants })
         | inr not ↦
             inr (λ to.

@@ -1,6 +1,7 @@
 -- Of every history of a container there are its exits, the results of each instance, a view and a
 -- status.
-use Rattle.std.proofs.Common.{◌≡◌, inl, inr, ℕ, zero, suc, ◌-◌, ◌<◌, List, [], ◌∷◌, ◌++◌, length, map, Option, Some}
+use Rattle.std.proofs.Common.{◌≡◌, ◌∙◌, sym, ℤ, false, inl, inr, ℕ, zero, suc, ◌-◌, ◌<◌, List, [], ◌∷◌, ◌++◌}
+use Rattle.std.proofs.Common.{length, map, Option, Some}
 use Rattle.std.proofs.Common.{None, refl, subst, arith}
 use Rattle.std.specs.Prelude.{◌↔◌, Contains, IsTrue}
 use Rattle.std.proofs.lemmas.Bool.{cases_lt}
@@ -15,7 +16,10 @@ use Rattle.state_diff.proofs.Found.{listed_or_not, start_moment, exit_moment, ru
 use Rattle.state_diff.proofs.Found.{newest_or_none}
 use Rattle.state_diff.proofs.Found.{above_attempts, running_state_or_not, newest_seen, set_up_or_not}
 use Rattle.state_diff.proofs.Unique.{IsNewest-unique}
-use Rattle.phase.proofs.DecideLemmas.{role_or_not}
+use Rattle.manifest.specs.declared.policy.Policy.{Policy}
+use Rattle.restarts.specs.rule.Own.{policy_after, WantsRestartBy}
+use Rattle.phase.proofs.DecideLemmas.{role_or_not, wants_or_not}
+use Rattle.phase.specs.declared.restart_view.RestartView.{RestartView}
 use Rattle.phase.specs.declared.view.ContainerView.{ContainerView}
 use Rattle.phase.specs.state.Facts.{exit_code}
 use Rattle.phase.specs.state.Views.{state_shown, restarts_of}
@@ -28,7 +32,7 @@ use Rattle.containers.specs.rule.Ticks.{ContainerTick, listings, BelongsTo, resu
 use Rattle.containers.specs.rule.Probed.{Serves, IsStarted, IsContainerReady, WasStarted}
 use Rattle.containers.specs.rule.Exits.{IsExitOf, AreExitsOf, IsRisingList}
 use Rattle.containers.specs.rule.Shown.{IsShown}
-use Rattle.containers.specs.state.Shown.{IsViewOf}
+use Rattle.containers.specs.state.Shown.{IsViewOf, IsRestartViewOf}
 use Rattle.containers.specs.state.Laws.{SomeListOfExits, SomeDelay, SomeListOfResults, SomeStatus}
 use Rattle.containers.proofs.ExitLemmas.{HasExit}
 use Rattle.containers.proofs.ListLemmas.{contains_nothing, contains_here, contains_there, contains_old, contains_new}
@@ -187,6 +191,30 @@ view_of spec h =
       record { role = spec.role; seen = seen.0; set_up = set_up.0; was_started = started.0 },
       record { role = refl; newest = seen.1; set_up = set_up.1; was_started = started.1 },
     )
+
+pub restart_view_of : (policy : Policy) (spec : ContainerSpec) (h : List ContainerTick)
+    → (container : RestartView) × IsRestartViewOf policy spec h container
+restart_view_of policy spec h = there (exit_code view.0) refl
+  where
+    view : (view : ContainerView) × IsViewOf spec h view
+    view = view_of spec h
+
+    there : (o : Option ℤ) → exit_code view.0 ≡ o → (container : RestartView) × IsRestartViewOf policy spec h container
+    there None e = (
+      record { view = view.0; wants_restart = false },
+      record { view = view.1; wants = λ n exited. let x : None ≡ Some n = sym e ∙ exited in absurd (cc) },
+    )
+    there (Some code) e =
+        let w = test_of (wants_or_not (policy_after policy spec.own_restarts code) spec.role code) in (
+          record { view = view.0; wants_restart = w.0 },
+          record {
+            view = view.1;
+            wants = λ n exited.
+                let x : Some code ≡ Some n = sym e ∙ exited in
+                let same : code ≡ n = cc in
+                subst (λ (k : ℤ). IsTrue w.0 ↔ WantsRestartBy policy spec.own_restarts spec.role k) same w.1;
+          },
+        )
 
 pub status_of : (spec : ContainerSpec) (is_ended_by_node : Type 0) (h : List ContainerTick) → OrNot is_ended_by_node
     → (status : ContainerStatus) × IsShown spec is_ended_by_node h status

@@ -5,7 +5,8 @@ use Rattle.std.specs.Prelude.{◌↔◌, IsSome, IsSomeAnd, IfSome, IsTrue}
 use Rattle.histories.specs.rule.Histories.{IsFirstMoment, last_moment}
 use Rattle.histories.proofs.First.{IsFirstMoment-unique}
 use Rattle.histories.proofs.Lists.{some_given}
-use Rattle.restarts.specs.rule.Policy.{WantsRestart}
+use Rattle.manifest.specs.declared.own_restarts.OwnRestarts.{OwnRestarts}
+use Rattle.restarts.specs.rule.Own.{WantsRestartBy}
 use Rattle.manifest.specs.declared.policy.Policy.{Policy}
 use Rattle.manifest.specs.declared.pod.Role.{Role}
 use Rattle.manifest.specs.declared.pod.ContainerSpec.{ContainerSpec}
@@ -27,31 +28,37 @@ wanted_code P None q = absurd q
 wanted_code P (Some code) q = (code, refl, q)
 
 -- by the newest instance and its code
-pub restarts_by : (policy : Policy) (spec : ContainerSpec) (h : List ContainerTick) (role : Role) (o : Option Seen)
-    → role ≡ spec.role → IsNewestSeen (listings h) o → (a : ℕ)
-    → (IsSomeAnd o (λ s. (s.attempt ≡ a) × IsSomeAnd s.code (λ code. WantsRestart policy role code))
+pub restarts_by : (policy : Policy) (spec : ContainerSpec) (h : List ContainerTick) (own : Option OwnRestarts)
+    (role : Role) (o : Option Seen)
+    → own ≡ spec.own_restarts → role ≡ spec.role → IsNewestSeen (listings h) o → (a : ℕ)
+    → (IsSomeAnd o (λ s. (s.attempt ≡ a) × IsSomeAnd s.code (λ code. WantsRestartBy policy own role code))
     ↔ IsToRestart policy spec h a)
-restarts_by policy spec h role None same none a = (
+restarts_by policy spec h own role None has same none a = (
   (λ q. absurd q),
   (λ t. absurd (none a t.newest.listed.0 t.newest.listed.1)),
 )
-restarts_by policy spec h role (Some s) same is a = (
+restarts_by policy spec h own role (Some s) has same is a = (
   (λ q.
-      let w = wanted_code (λ code. WantsRestart policy role code) s.code q.1 in
+      let w = wanted_code (λ code. WantsRestartBy policy own role code) s.code q.1 in
       let P : ℕ → Type 0 = λ b. IsNewest (listings h) b in
       let Q : ℕ → Type 0 = λ b. IsExitCode (listings h) b w.0 in
-      let R : Role → Type 0 = λ r. WantsRestart policy r w.0 in
+      let R : Role → Type 0 = λ r. WantsRestartBy policy own r w.0 in
+      let O : Option OwnRestarts → Type 0 = λ x. WantsRestartBy policy x spec.role w.0 in
       record {
         newest = subst P q.0 is.newest;
         code = w.0;
         exited = subst Q q.0 (is.code w.0 w.1);
-        wanted = subst R same w.2;
+        wanted = subst O has (subst R same w.2);
       }),
   (λ t.
       let e : s.code ≡ Some t.code = coded (listings h) (Some s) is t.code (a, t.newest, t.exited) in
-      let P : Option ℤ → Type 0 = λ o. IsSomeAnd o (λ code. WantsRestart policy role code) in
-      let R : Role → Type 0 = λ r. WantsRestart policy r t.code in
-      (IsNewest-unique (listings h) s.attempt a is.newest t.newest, subst P (sym e) (subst R (sym same) t.wanted))),
+      let P : Option ℤ → Type 0 = λ o. IsSomeAnd o (λ code. WantsRestartBy policy own role code) in
+      let R : Role → Type 0 = λ r. WantsRestartBy policy own r t.code in
+      let O : Option OwnRestarts → Type 0 = λ x. WantsRestartBy policy x spec.role t.code in (
+        IsNewest-unique (listings h) s.attempt a is.newest t.newest,
+        subst P (sym e)
+            (subst R (sym same) (subst O (sym has) t.wanted)),
+      )),
 )
 
 -- the exits of a container are one list

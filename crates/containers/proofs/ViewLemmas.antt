@@ -1,5 +1,5 @@
 -- A view, and what is shown of a container.
-use Rattle.std.proofs.Common.{◌≡◌, inl, inr, ℕ, ℤ, Bool, List, Option, Some, None, refl, subst, sym}
+use Rattle.std.proofs.Common.{◌≡◌, ◌∙◌, inl, inr, ℕ, ℤ, Bool, List, Option, Some, None, refl, subst, sym}
 use Rattle.std.specs.Prelude.{◌↔◌, IsSomeAnd, IsTrue, option_and_then}
 use Rattle.state_diff.specs.declared.seen.Seen.{Seen}
 use Rattle.state_diff.specs.declared.seen.CriState.{CriState}
@@ -10,6 +10,9 @@ use Rattle.state_diff.proofs.Listings.{exited_code}
 use Rattle.state_diff.proofs.Places.{state_known}
 use Rattle.state_diff.proofs.Unique.{IsNewest-unique, IsState-unique, IsExitCode-unique}
 use Rattle.manifest.specs.declared.pod.ContainerSpec.{ContainerSpec}
+use Rattle.manifest.specs.declared.policy.Policy.{Policy}
+use Rattle.manifest.specs.declared.own_restarts.OwnRestarts.{OwnRestarts}
+use Rattle.restarts.specs.rule.Own.{WantsRestartBy}
 use Rattle.manifest.specs.declared.pod.Role.{Role}
 use Rattle.manifest.specs.declared.pod.Role.TheVariants.{Init}
 use Rattle.phase.specs.declared.container.ContainerState.{ContainerState}
@@ -20,7 +23,7 @@ use Rattle.containers.specs.declared.status.ContainerStatus.{ContainerStatus}
 use Rattle.containers.specs.rule.Ticks.{ContainerTick, listings}
 use Rattle.containers.specs.rule.Probed.{Serves, IsStarted, IsContainerReady}
 use Rattle.containers.specs.rule.Shown.{IsContainerState, IsRestarts, HasExitedWith, IsShown}
-use Rattle.containers.specs.state.Shown.{IsViewOf}
+use Rattle.containers.specs.state.Shown.{IsViewOf, IsRestartViewOf}
 
 -- the state that a view shows
 pub state_is : (h : List Tick) (o : Option Seen) → IsNewestSeen h o → IsContainerState h (state_shown o)
@@ -123,3 +126,18 @@ status_is spec h view evicted is_ready is_started status is state code restarts 
       ready = ((λ e. let w = shows_ready.0 e in (w.0, ready.0 w.1)), (λ w. shows_ready.1 (w.0, ready.1 w.1)));
       started = ((λ e. let w = shows_started.0 e in (w.0, started.0 w.1)), (λ w. shows_started.1 (w.0, started.1 w.1)));
     }
+
+-- the container with whether it is restarted
+pub restart_view_is : (policy : Policy) (spec : ContainerSpec) (h : List ContainerTick) (own : Option OwnRestarts)
+    (view : ContainerView) (code : Option ℤ) (wants : Bool) → own ≡ spec.own_restarts → IsViewOf spec h view
+    → code ≡ exit_code view
+    → ((n : ℤ) → code ≡ Some n → (IsTrue wants ↔ WantsRestartBy policy own view.role n))
+    → IsRestartViewOf policy spec h (record { view = view; wants_restart = wants })
+restart_view_is policy spec h own view code wants has is same after = record {
+  view = is;
+  wants = λ n exited.
+      let by = after n (same ∙ exited) in
+      let R : Role → Type 0 = λ r. IsTrue wants ↔ WantsRestartBy policy own r n in
+      let O : Option OwnRestarts → Type 0 = λ x. IsTrue wants ↔ WantsRestartBy policy x spec.role n in
+      subst O has (subst R is.role by);
+}

@@ -1,7 +1,7 @@
 //! A container, tick by tick.
 
 ghost use Rattle.std.specs.Prelude.{◌≡◌, ◌↔◌, ◌<◌, ◌≤◌, ℕ, List, [], ◌∷◌, ◌++◌, length, Some, IsTrue, IsSomeAnd};
-ghost use Rattle.std.specs.Prelude.{IfSome};
+ghost use Rattle.std.specs.Prelude.{IfSome, ℤ, option_map};
 ghost use Rattle.quantity.specs.rule.Duration.{end_of_time};
 ghost use Rattle.histories.specs.rule.Histories.{recorded, IsFirstMoment, last_moment};
 ghost use Rattle.manifest.specs.declared.pod.ContainerSpec.{ContainerSpec};
@@ -12,6 +12,7 @@ ghost use Rattle.state_diff.specs.state.Instances.{IsAcceptable};
 ghost use Rattle.state_diff.specs.declared.differ.Differ.{Differ};
 ghost use Rattle.state_diff.specs.state.Differ.{IsStateOf as IsDifferOf, Accepts as DifferAccepts, AreChanges};
 ghost use Rattle.state_diff.specs.state.Differ.{IsOfNewest};
+ghost use Rattle.restarts.specs.rule.Own.{WantsRestartBy};
 ghost use Rattle.restarts.specs.rule.Exits.{Exit};
 ghost use Rattle.restarts.specs.rule.Delays.{IsRestartDue};
 ghost use Rattle.restarts.specs.state.Backoff.{IsStateOf as IsBackoffOf};
@@ -20,7 +21,7 @@ ghost use Rattle.containers.specs.rule.Probed.{Serves, IsStarted, IsContainerRea
 ghost use Rattle.containers.specs.rule.Exits.{AreExits, IsToRestart};
 ghost use Rattle.containers.specs.rule.Events.{AreEvents};
 ghost use Rattle.containers.specs.rule.Shown.{IsShown};
-ghost use Rattle.containers.specs.state.Shown.{IsViewOf};
+ghost use Rattle.containers.specs.state.Shown.{IsViewOf, IsRestartViewOf};
 ghost use Rattle.containers.specs.state.Container.{Accepts, IsBefore, IsStateOf, IsFollowing};
 ghost use Rattle.containers.specs.state.Step.{AreVerdictsOf, AreCounted};
 
@@ -29,11 +30,11 @@ use crate::exits::{count_both, is_backed_off, run_until, to_restart};
 use crate::follow::{Followed, begin, is_running, lists_running, take};
 use crate::places;
 use crate::status::ContainerStatus;
-use manifest::{ContainerSpec, MaxRestartDelay, Policy, Role};
+use manifest::{ContainerSpec, MaxRestartDelay, OwnRestarts, Policy, Role};
 use observations::ContainerObs;
-use phase::{ContainerView, container_state};
+use phase::{ContainerView, RestartView, container_state};
 use probes::ProbeSet;
-use restarts::Backoff;
+use restarts::{Backoff, wants_restart_by};
 use state_diff::{Changes, Differ, Seen};
 
 /// One container of a pod, as its ticks so far leave it. It keeps counters, and no ticks.
@@ -79,7 +80,7 @@ impl Container {
         self.differ.last_at()
     }
 
-    /// What its listings so far say of its newest instance.
+    /// The state of its newest instance, by its listings so far.
     pub fn differ(&self) -> Differ
         ensures { (spec : ContainerSpec) (max_restart_delay : ℕ) (h : List ContainerTick)
             → IsStateOf spec max_restart_delay h self.now → IsDifferOf (listings h) result }
@@ -97,6 +98,20 @@ impl Container {
             seen: self.differ.newest(),
             set_up: self.differ.set_up(),
             was_started: self.was_started,
+        }
+    }
+
+    /// The container as the rules on phases see it, with whether it is restarted: in a pod with this policy, where the
+    /// container has these restart policy and rules of its own.
+    pub fn restart_view(&self, policy: Policy, own: Option<&OwnRestarts>) -> RestartView
+        ensures { (spec : ContainerSpec) (max_restart_delay : ℕ) (h : List ContainerTick)
+            → option_map (λ o. o.now) own.entry ≡ spec.own_restarts → IsStateOf spec max_restart_delay h self.now
+            → IsRestartViewOf policy spec h result }
+    {
+        let view = self.view();
+        RestartView {
+            view,
+            wants_restart: wants_after(policy, own, view.role, view.exit_code()),
         }
     }
 
@@ -141,12 +156,12 @@ impl Container {
     }
 
     /// The newest instance, if it has exited and is to be started again.
-    fn to_restart(&self, policy: Policy) -> Option<u32>
+    fn to_restart(&self, policy: Policy, own: Option<&OwnRestarts>) -> Option<u32>
         ensures { (spec : ContainerSpec) (h : List ContainerTick)
-            → IsFollowing spec h self.now
+            → option_map (λ o. o.now) own.entry ≡ spec.own_restarts → IsFollowing spec h self.now
             → (a : ℕ) → ((result ≡ Some a) ↔ IsToRestart policy spec h a) }
     {
-        to_restart(policy, self.role, self.differ.newest())
+        to_restart(policy, own, self.role, self.differ.newest())
     }
 
     /// Whether the restart after the last exit falls due at this moment, and was not due at the last
@@ -161,13 +176,13 @@ impl Container {
     }
 
     /// Whether the newest instance has exited at the moment, and is to be started again.
-    fn backs_off(&self, policy: Policy, at: u64) -> bool
+    fn backs_off(&self, policy: Policy, own: Option<&OwnRestarts>, at: u64) -> bool
         ensures { (spec : ContainerSpec) (h : List ContainerTick)
-            → IsFollowing spec h self.now
+            → option_map (λ o. o.now) own.entry ≡ spec.own_restarts → IsFollowing spec h self.now
             → (IsTrue result ↔ ((a : ℕ) × IsToRestart policy spec h a
             × IsFirstMoment (listings h) (Ends (listings h) a) (Some at))) }
     {
-        is_backed_off(self.to_restart(policy), self.differ.exited_at(), at)
+        is_backed_off(self.to_restart(policy, own), self.differ.exited_at(), at)
     }
 
     /// Takes what the tick lists, and its results: the changes, and the verdicts of the instance
@@ -221,8 +236,15 @@ impl Container {
     }
 
     /// A tick comes, at the moment, in seconds, before `END_OF_TIME` and later than the last tick's,
-    /// with what it shows of the container: a listing that may come next, and results.
-    pub fn step(&mut self, policy: Policy, at: u64, observed: ContainerObs) -> ContainerEvents
+    /// with what it shows of the container: a listing that may come next, and results. The policy is that of the pod;
+    /// `own` has the container's own restart policy and rules, if it has them.
+    pub fn step(
+        &mut self,
+        policy: Policy,
+        own: Option<&OwnRestarts>,
+        at: u64,
+        observed: ContainerObs,
+    ) -> ContainerEvents
         requires accepted { Accepts self.old observed.seen }
         requires later { IsBefore self.old at }
         requires bounded { at < end_of_time }
@@ -230,7 +252,7 @@ impl Container {
             → IsStateOf spec max_restart_delay h self.old
             → IsStateOf spec max_restart_delay (h ++ recorded at observed ∷ []) self.new }
         ensures events { (spec : ContainerSpec) (max_restart_delay : ℕ) (h : List ContainerTick)
-            → IsStateOf spec max_restart_delay h self.old
+            → option_map (λ o. o.now) own.entry ≡ spec.own_restarts → IsStateOf spec max_restart_delay h self.old
             → AreEvents policy max_restart_delay spec (h ++ recorded at observed ∷ []) (length h) result }
     {
         let last_at = self.differ.last_at();
@@ -247,9 +269,20 @@ impl Container {
             passed: places::passed(observed.seen, followed.verdicts),
             kill: places::kill(observed.seen, followed.verdicts),
             readiness: places::readiness(was_ready, self.is_ready()),
-            backoff: places::backoff(delay, self.backs_off(policy, at)),
-            restart: places::restart(self.to_restart(policy), is_due),
+            backoff: places::backoff(delay, self.backs_off(policy, own, at)),
+            restart: places::restart(self.to_restart(policy, own), is_due),
         }
+    }
+}
+
+/// Whether a restart follows an exit with this code, if there is one.
+fn wants_after(policy: Policy, own: Option<&OwnRestarts>, role: Role, code: Option<i32>) -> bool
+    ensures { (n : ℤ) → code ≡ Some n
+        → (IsTrue result ↔ WantsRestartBy policy (option_map (λ o. o.now) own.entry) role n) }
+{
+    match code {
+        Some(code) => wants_restart_by(policy, own, role, code),
+        None => false,
     }
 }
 

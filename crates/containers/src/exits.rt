@@ -1,16 +1,16 @@
 //! The exits of a tick, and what they make of the back-off.
 
 ghost use Rattle.std.specs.Prelude.{◌≡◌, ◌⊎◌, ◌↔◌, ◌<◌, ◌-◌, ◌++◌, ℕ, List, Option, Some, None, IsTrue, IsSome};
-ghost use Rattle.std.specs.Prelude.{IsSomeAnd, unwrap_or, if◌then◌else◌};
+ghost use Rattle.std.specs.Prelude.{IsSomeAnd, unwrap_or, if◌then◌else◌, option_map};
 ghost use Rattle.quantity.specs.rule.Duration.{end_of_time};
-ghost use Rattle.restarts.specs.rule.Policy.{WantsRestart};
+ghost use Rattle.restarts.specs.rule.Own.{WantsRestartBy};
 ghost use Rattle.restarts.specs.rule.Exits.{Exit};
 ghost use Rattle.restarts.specs.rule.Delays.{IsDelay};
 ghost use Rattle.restarts.specs.state.Backoff.{IsStateOf};
 ghost use Rattle.containers.specs.state.Step.{exits_at};
 
-use manifest::{Policy, Role};
-use restarts::{Backoff, wants_restart};
+use manifest::{OwnRestarts, Policy, Role};
+use restarts::{Backoff, wants_restart_by};
 use state_diff::Seen;
 
 /// For how many seconds an instance ran that exits at this moment, if it does; 0 without a start.
@@ -44,9 +44,9 @@ fn count(backoff: &mut Backoff, at: u64, run: Option<u64>) -> Option<u64>
     }
 }
 
-/// Counts the exits of a tick at this moment, each after its run: first that of the instance which is
-/// no longer listed, and then that of the listed one. Gives by how many seconds the restart after the
-/// last of them is backed off.
+/// Counts the exits of a tick at this moment, each after its run: first the exit of the instance which is no longer
+/// listed, and then the exit of the listed one. Returns by how many seconds the restart after the last of them is
+/// backed off.
 pub fn count_both(
     backoff: &mut Backoff,
     at: u64,
@@ -68,13 +68,19 @@ pub fn count_both(
 }
 
 /// The attempt of the newest instance, if it has exited and is to be started again.
-pub fn to_restart(policy: Policy, role: Role, newest: Option<Seen>) -> Option<u32>
+pub fn to_restart(
+    policy: Policy,
+    own: Option<&OwnRestarts>,
+    role: Role,
+    newest: Option<Seen>,
+) -> Option<u32>
     ensures { (a : ℕ) → ((result ≡ Some a)
-        ↔ IsSomeAnd newest (λ s. (s.attempt ≡ a) × IsSomeAnd s.code (λ code. WantsRestart policy role code))) }
+        ↔ IsSomeAnd newest (λ s. (s.attempt ≡ a)
+        × IsSomeAnd s.code (λ code. WantsRestartBy policy (option_map (λ o. o.now) own.entry) role code))) }
 {
     let newest = newest?;
     let code = newest.code?;
-    if wants_restart(policy, role, code) {
+    if wants_restart_by(policy, own, role, code) {
         Some(newest.attempt)
     } else {
         None

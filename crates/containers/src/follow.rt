@@ -29,7 +29,7 @@ pub fn begin(probes: &mut ProbeSet, at: u64, starts: bool)
     }
 }
 
-/// Hands the results to the instance that has begun, if the tick lists it while it is running.
+/// Gives the results to the instance that has begun, if the tick lists it while it is running.
 pub fn take(
     probes: &mut ProbeSet,
     at: u64,

@@ -6,7 +6,7 @@ use probes::Cause;
 /// What happened to a container or to a pod in a tick. An attempt names an instance.
 #[derive(Clone, Copy, Debug, PartialEq, Eq)]
 pub enum PodEventKind {
-    /// The attempt died, with this exit code: 137 where it is only no longer listed.
+    /// The attempt died, with this exit code: 137 if it is only no longer listed.
     Died { attempt: u32, exit_code: i32 },
     /// The attempt started.
     Started { attempt: u32 },

@@ -22,6 +22,6 @@ pub enum EventKind {
     Node(NodeEvent),
     /// A pod was evicted. (Kubernetes, "Node-pressure Eviction".)
     Evicted(Eviction),
-    /// The rules would evict a pod, on a node whose trace says itself whom it evicted.
+    /// The rules would evict a pod, on a node whose trace reports itself whom it evicted.
     Named(Eviction),
 }

@@ -13,8 +13,8 @@ pub fn one_list_of_events()
     ensures { laws.OneListOfEvents }
 {}
 
-/// A tick has the event `evicted` just when the list of evictions has that eviction at the tick: the events and the list
-/// name the same pod for the same threshold.
+/// A tick has the event `evicted` just when the list of evictions has that eviction at the tick: the events and the
+/// list name the same pod for the same threshold.
 pub fn evicted_as_listed()
     ensures { laws.EvictedAsListed }
 {}

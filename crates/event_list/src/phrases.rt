@@ -14,8 +14,7 @@ pub(crate) fn add(text: &mut String, words: &str) -> Result<(), AllocError>
     text.push_str(words)
 }
 
-/// Cuts the text back to the length that it had, where memory was refused for a part of what was to
-/// be added.
+/// Cuts the text back to the length that it had, if an allocation failed for a part of what was to be added.
 pub(crate) fn whole_or_nothing(
     text: &mut String,
     length: usize,
@@ -32,8 +31,7 @@ pub(crate) fn whole_or_nothing(
     added
 }
 
-/// Appends the words, and then the number in decimal digits. Where memory is refused, the text stays
-/// as it was.
+/// Appends the words, and then the number in decimal digits. If an allocation fails, the text stays as it was.
 pub fn add_with_number<N: Integer>(
     text: &mut String,
     words: &str,

@@ -127,8 +127,8 @@ fn add_key_and_order(
     add_order(text, eviction.order)
 }
 
-/// Appends an eviction: `KEY SIGNAL KIND GRACE`, with the key of its pod and the grace period in
-/// seconds. Where memory is refused, the text stays as it was.
+/// Appends an eviction: `KEY SIGNAL KIND GRACE`, with the key of its pod and the grace period in seconds. If an
+/// allocation fails, the text stays as it was.
 pub fn add_eviction_words(
     text: &mut String,
     eviction: Eviction,
@@ -204,8 +204,7 @@ fn add_line(text: &mut String, event: &Event, names: Names<'_>) -> Result<(), Al
     add(text, "\n")
 }
 
-/// Appends the line of an event, as `event_text` writes it. Where memory is refused, the text stays
-/// as it was.
+/// Appends the line of an event, as `event_text` writes it. If an allocation fails, the text stays as it was.
 pub fn add_event_text(text: &mut String, event: &Event, names: Names<'_>) -> Result<(), AllocError>
     ensures ok { OnOk result (string_bytes text.new
         ≡ string_bytes text.old ++ event_line (pods_in names.entry.pods.now) event.now) }

@@ -117,7 +117,7 @@ fn add_events_of_node(events: &mut Vec<Event>, ticks: &[TickEvents]) -> Result<(
     Ok(())
 }
 
-/// Sorts events by their moments; those of one moment keep their order.
+/// Sorts events by their moments; the events of one moment keep their order.
 fn sort_by_moment(alloc: Global, events: &mut [Event]) -> Result<(), AllocError>
     ensures { OnOk result (IsInOrder events.old events.new) }
 {
@@ -125,7 +125,7 @@ fn sort_by_moment(alloc: Global, events: &mut [Event]) -> Result<(), AllocError>
     events.sort_by_key(alloc, |event| event.at)
 }
 
-/// Sorts the events from this place on by their moments; those of one moment keep their order.
+/// Sorts the events from this place on by their moments; the events of one moment keep their order.
 fn sort_from(events: &mut Vec<Event>, place: usize) -> Result<(), AllocError>
     requires { place ≤ length events.old.items }
     ensures { OnOk result ((sorted : List AnEvent) × IsInOrder (drop place events.old.items) sorted
@@ -135,9 +135,9 @@ fn sort_from(events: &mut Vec<Event>, place: usize) -> Result<(), AllocError>
     sort_by_moment(alloc, &mut events[place..])
 }
 
-/// Adds the events of these ticks, whose moments rise, tick after tick: those that the rounds of these pods made in
-/// the tick, by the pods' numbers, and the node's. Each tick of the rounds is one of these ticks. An `Err` says that
-/// memory was refused, and nothing of the list.
+/// Adds the events of these ticks, whose moments rise, tick after tick: the events that the rounds of these pods made
+/// in the tick, by the pods' numbers, and the node's. Each tick of the rounds is one of these ticks. Returns `Err` if
+/// an allocation fails; nothing is promised of the list then.
 pub fn add_events(
     events: &mut Vec<Event>,
     pieces: &[PodPiece],
@@ -156,7 +156,7 @@ pub fn add_events(
     Ok(())
 }
 
-/// What a choice of the rules is: an eviction, or, where the trace says whom the node evicted, a name alone.
+/// What a choice of the rules is: an eviction, or only a name if the trace reports whom the node evicted.
 fn kind_of_choice(recorded: bool, choice: Eviction) -> EventKind
     ensures { result ≡ kind_of_choice recorded choice }
 {
@@ -167,8 +167,8 @@ fn kind_of_choice(recorded: bool, choice: Eviction) -> EventKind
     }
 }
 
-/// Adds the event of the choice at the moment, in seconds, if there is one: an eviction, or, where the trace says
-/// whom the node evicted, a name alone. An `Err` says that memory was refused, and nothing of the list.
+/// Adds the event of the choice at the moment, in seconds, if there is one: an eviction, or only a name if the trace
+/// reports whom the node evicted. Returns `Err` if an allocation fails; nothing is promised of the list then.
 pub fn add_choice(
     events: &mut Vec<Event>,
     recorded: bool,

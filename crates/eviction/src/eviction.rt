@@ -39,7 +39,7 @@ pub fn order_for(config: &NodeConfig, pod: &PodSpec, at: u64, key: ThresholdKey)
     }
 }
 
-/// The eviction that a choice of the rules leads to: it is carried out, unless the trace says whom the node evicted.
+/// The eviction that a choice of the rules leads to: it is carried out, unless the trace reports whom the node evicted.
 pub fn unless_recorded(config: &NodeConfig, choice: Option<Eviction>) -> Option<Eviction>
     ensures { result ≡ unless_recorded config.now.evictions_recorded choice }
 {

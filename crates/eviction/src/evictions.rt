@@ -62,7 +62,7 @@ fn still(config: &NodeConfig, tick: &TickObs, pausing: Option<Eviction>) -> Opti
 }
 
 impl Evictions {
-    /// Those of no tick. It takes no memory.
+    /// The evictions of no tick. Doesn't allocate.
     pub fn new(alloc: Global) -> Evictions
         ensures { result ≡ kept [] None }
     {
@@ -79,7 +79,7 @@ impl Evictions {
         self.each.len()
     }
 
-    /// That of each tick, or none, in the order of the ticks.
+    /// The eviction of each tick, or none, in the order of the ticks.
     pub fn as_slice(&self) -> &[Option<Eviction>]
         ensures { result.now ≡ self.now.each }
     {
@@ -93,7 +93,8 @@ impl Evictions {
         self.pausing = still(config, tick, self.pausing);
     }
 
-    /// Adds that of one more tick, or none. An `Err` says that memory was refused, and changes nothing.
+    /// Adds the eviction of one more tick, or none. Returns `Err` if an allocation fails; the evictions are then as
+    /// they were.
     pub fn push(&mut self, eviction: Option<Eviction>) -> Result<(), AllocError>
         ensures ok { OnOk result (self.new
             ≡ kept (self.old.each ++ eviction ∷ []) (option_or eviction self.old.pausing)) }
@@ -104,7 +105,7 @@ impl Evictions {
         Ok(())
     }
 
-    /// The threshold that is served at a moment, in seconds, or none while evictions pause; in versions 1 and 2 they
+    /// The threshold that is acted on at a moment, in seconds, or none while evictions pause; in versions 1 and 2 they
     /// never do. The tick of the moment was looked at.
     pub fn unless_paused(
         &self,

@@ -29,7 +29,7 @@ pub fn one_choice()
     ensures { laws.OneChoice }
 {}
 
-/// Where the trace says whom the node evicted, the rules evict nobody.
+/// If the trace reports whom the node evicted, the rules evict nobody.
 pub fn recorded_alone()
     ensures { laws.RecordedAlone }
 {}
@@ -44,8 +44,8 @@ pub fn evicted_pod_lived()
     ensures { laws.EvictedPodLived }
 {}
 
-/// A tick that evicts a pod serves one threshold. That one is due and not reclaimed, and the order is
-/// of its signal and kind, at the tick's moment.
+/// A tick that evicts a pod acts on one threshold. That one is due and not reclaimed, and the order is of its signal
+/// and kind, at the tick's moment.
 pub fn served_alone()
     ensures { laws.ServedAlone }
 {}

@@ -1,5 +1,6 @@
 -- Gates whose names are borrowed, with one more.
-use Rattle.std.proofs.Common.{◌≡◌, ◌≤◌, ◌<◌, ◌∙◌, ◌||◌, ℕ, Bool, true, false, List, [], ◌∷◌, ◌++◌, length, map, Bor, Ok, Err}
+use Rattle.std.proofs.Common.{◌≡◌, ◌≤◌, ◌<◌, ◌∙◌, ◌||◌, ℕ, Bool, true, false, List, [], ◌∷◌, ◌++◌, length, map, Bor}
+use Rattle.std.proofs.Common.{Ok, Err}
 use Rattle.std.proofs.Common.{Result, refl, ap, sym, arith, bytes_eq, nat_le}
 use Rattle.std.specs.Prelude.{if◌then◌else◌}
 use Rattle.std.specs.List.{list_any}
@@ -32,9 +33,9 @@ chosen_by names name there full e f =
     ∙ ap (λ n. chosen there (nat_le most_gates n) (texts names) name) (length-map names (λ n. n.now))
     ∙ ap (λ b. chosen there b (texts names) name) f
 
-pub gate_there : (names : List (Bor (List ℕ))) (name : List ℕ) → has_name names name ≡ true
+pub is_there : (names : List (Bor (List ℕ))) (name : List ℕ) → has_name names name ≡ true
     → with_gate (texts names) name ≡ Ok (texts names)
-gate_there names name e = chosen_by names name true (nat_le most_gates (length names)) e refl
+is_there names name e = chosen_by names name true (nat_le most_gates (length names)) e refl
 
 pub no_room : (names : List (Bor (List ℕ))) (name : List ℕ) → has_name names name ≡ false → most_gates ≤ length names
     → with_gate (texts names) name ≡ Err TooMany

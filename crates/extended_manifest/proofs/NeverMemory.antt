@@ -1,5 +1,6 @@
 -- The faults of a manifest in the extended format, none of which is that memory ran out.
-use Rattle.std.proofs.Common.{◌≡◌, ◌∙◌, ℕ, Bool, List, [], ◌∷◌, ◌++◌, length, Option, Some, None, Result, Ok, Err, ap, nat_le}
+use Rattle.std.proofs.Common.{◌≡◌, ◌∙◌, ℕ, Bool, true, List, [], ◌∷◌, ◌++◌, length, Option, Some, None, Result}
+use Rattle.std.proofs.Common.{Ok, Err, ap, nat_le}
 use Rattle.std.specs.Prelude.{codes, bytes_eq}
 use Rattle.std.specs.List.{list_any}
 use Rattle.serde_json.specs.Data.{Data}
@@ -12,10 +13,11 @@ use Rattle.manifest.specs.rule.Resources.{nothing, no_resources, some_above}
 use Rattle.manifest_fields.specs.declared.fault.Field.TheVariants as fields
 use Rattle.manifest_fields.specs.declared.fault.ManifestFault.{ManifestFault}
 use Rattle.manifest_fields.specs.declared.fault.ManifestFault.TheVariants.{RequestAboveLimit, TooMany}
-use Rattle.manifest_fields.specs.rule.ResourceFields.{pod_amounts_in, pod_amounts_of, pod_resources_in, pod_resources_of}
-use Rattle.manifest_reader.specs.rule.Manifest.{pod_at}
+use Rattle.manifest_fields.specs.rule.ResourceFields.{pod_amounts_in, pod_amounts_of, pod_resources_in}
+use Rattle.manifest_fields.specs.rule.ResourceFields.{pod_resources_of}
+use Rattle.manifest_reader.specs.rule.Manifest.{pod_in}
 use Rattle.manifest_reader.proofs.NeverMemory.{IsFound, object_only, quantity_only, array_or_none_only, required_only}
-use Rattle.manifest_reader.proofs.NeverMemory.{pod_at_only}
+use Rattle.manifest_reader.proofs.NeverMemory.{pod_only}
 use Rattle.extended_manifest.specs.rule.Extended.{in_spec, gate_of, with_gate, gates_from, gates_of, Additions}
 use Rattle.extended_manifest.specs.rule.Extended.{additions_of, extended_by, extended_pod_at}
 
@@ -73,14 +75,14 @@ additions_only d =
 
 pub extended_only : (d : Data) → Only IsFound (extended_pod_at d)
 extended_only d =
-    only_bind IsFound (pod_at d) _ (pod_at_only d) (λ pod.
+    only_bind IsFound (pod_in true d) _ (pod_only true d) (λ pod.
     only_bind IsFound (additions_of d) _ (additions_only d) (λ more. only_ok IsFound (extended_by pod more)))
 
 -- the pod has the containers that it has in the standard format
 pub extended_of : (d : Data) (pod : PodSpec) → extended_pod_at d ≡ Ok pod
-    → (standard : PodSpec) × (pod_at d ≡ Ok standard) × (standard.containers ≡ pod.containers)
+    → (standard : PodSpec) × (pod_in true d ≡ Ok standard) × (standard.containers ≡ pod.containers)
 extended_of d pod e =
-    let first = bind_ok (pod_at d) _ pod e in
+    let first = bind_ok (pod_in true d) _ pod e in
     let second = bind_ok (additions_of d) _ pod first.2 in (
       first.0,
       first.1,

@@ -42,7 +42,7 @@ fn has_name(names: &[&str], name: &str) -> bool
 }
 
 /// Appends a gate, unless it is there. Returns `TooMany` if there is no room for it; the gates are then as they were.
-#[tactic(auto, using(crate::proofs::Names::gate_there, crate::proofs::Names::no_room, crate::proofs::Names::gate_added))]
+#[tactic(auto, using(crate::proofs::Names::is_there, crate::proofs::Names::no_room, crate::proofs::Names::gate_added))]
 fn add_gate<'a>(
     names: &mut ArrayVec<&'a str, MOST_GATES>,
     name: &'a str,

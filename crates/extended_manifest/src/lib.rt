@@ -1,4 +1,5 @@
-//! What the extended format reads of a manifest besides: the resources of the pod as a whole and its readiness gates.
+//! A manifest as the extended format reads it: also the resources of the pod as a whole, its readiness gates, and the
+//! restart policy and rules of each container.
 #![tactic(auto)]
 
 mod gates;

@@ -12,7 +12,7 @@ use arrayvec::ArrayVec;
 use json_fields::field;
 use manifest::{MOST_GATES, PodSpec, Resources};
 use manifest_fields::{ManifestFault, pod_resources_of};
-use manifest_reader::read_pod;
+use manifest_reader::read_pod_in;
 use serde_json::Value;
 use std::alloc::Global;
 
@@ -41,15 +41,16 @@ fn additions_of(manifest: &Value) -> Result<Additions<'_>, ManifestFault>
 }
 
 /// The pod that a manifest describes in the extended format, or the manifest's first fault: in the order of
-/// `manifest_reader::read_pod`, then of `spec.resources`, then of `spec.readinessGates`, each gate in its place.
-/// `OutOfMemory` only if the manifest has no fault. (Kubernetes, "Pod Quality of Service Classes" and "Pod Lifecycle",
-/// "Pod readiness".)
+/// `manifest_reader::read_pod_in`, where each container may have a restart policy and rules of its own, then of
+/// `spec.resources`, then of `spec.readinessGates`, each gate in its place. `OutOfMemory` only if the manifest has no
+/// fault. (Kubernetes, "Pod Quality of Service Classes"; "Pod Lifecycle", "Pod readiness" and "Individual container
+/// restart policy and rules".)
 #[tactic(auto, using(crate::proofs::Additions::first_besides))]
 pub fn read_extended_pod(alloc: Global, manifest: &Value) -> Result<PodSpec, ManifestFault>
     ensures gives { GivesUnless is_memory (λ p. p) result (extended_pod_at (view manifest.now)) }
     ensures faults { IfErr (extended_pod_at (view manifest.now)) (IsErrOf result) }
 {
-    match read_pod(alloc, manifest) {
+    match read_pod_in(alloc, true, manifest) {
         Ok(pod) => {
             let more = additions_of(manifest)?;
             let gates = kept(alloc, more.gates.as_slice())?;

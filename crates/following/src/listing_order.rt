@@ -18,7 +18,7 @@ pub struct ListingOrder {
 }
 
 impl ListingOrder {
-    /// No pods and no ticks yet. It takes no memory.
+    /// No pods and no ticks yet. Doesn't allocate.
     pub fn new(alloc: Global) -> ListingOrder
         ensures { HasFollowed [] [] result }
     {
@@ -27,7 +27,7 @@ impl ListingOrder {
         }
     }
 
-    /// Takes in a pod with this many containers, behind the others. No tick so far shows it.
+    /// Appends a pod with this many containers. No tick so far shows it.
     pub fn with_pod(self, alloc: Global, containers: usize) -> Result<ListingOrder, AllocError>
         ensures { IfOk result (HasNewPod self containers) }
     {
@@ -37,14 +37,14 @@ impl ListingOrder {
         Ok(ListingOrder { differs })
     }
 
-    /// Whether each listing of the tick may come after its container's earlier ones. It takes no memory.
+    /// Whether each listing of the tick may come after its container's earlier ones. Doesn't allocate.
     pub fn accepts(&self, tick: &TickObs) -> bool
         ensures { Tells result self.now tick.now }
     {
         pods_accept(&self.differs, tick)
     }
 
-    /// Follows the tick, each of whose listings may come next. It takes no memory.
+    /// Follows the tick, each of whose listings may come next. Doesn't allocate.
     pub fn step(&mut self, tick: &TickObs)
         requires { MayFollow self.old tick.now }
         ensures { HasNewTick self.old tick.now self.new }

@@ -1,4 +1,4 @@
-//! The values of `json`, whose texts are those of the text that was read.
+//! The values of `json`, whose texts are part of the text that was read.
 
 ghost use Rattle.std.specs.Prelude.{◌≡◌, ◌&&◌, not};
 ghost use Rattle.json.specs.Value.{value_view, items_view, members_view};

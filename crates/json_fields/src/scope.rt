@@ -9,9 +9,9 @@ use signals::Signal;
 /// The signals that a map may name.
 #[derive(Clone, Copy)]
 pub enum Scope {
-    /// Those of a whole node, which are all.
+    /// The signals of a whole node, which are all.
     Node,
-    /// Those of the file systems alone.
+    /// The signals of the file systems alone.
     FileSystems,
 }
 

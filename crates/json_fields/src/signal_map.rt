@@ -71,10 +71,10 @@ fn read_in<R: ReadSignal, V: Json>(
     })
 }
 
-/// What the reader reads of each signal in a map, which may be left out. The fault is the given one
-/// where this is no object, or where a name that no signal of the scope has stands beside a value
-/// other than null; otherwise the first one that the reader answers, in the order of the signals.
-/// (Kubernetes, "Kubelet Configuration": `evictionHard` and the like.)
+/// What the reader reads of each signal in a map, which may be left out. The fault is the given one if this is no
+/// object, or if a name that no signal of the scope has comes with a value other than null; otherwise the first fault
+/// that the reader returns, in the order of the signals. (Kubernetes, "Kubelet Configuration": `evictionHard` and the
+/// like.)
 #[tactic(auto, unfolding(crate::specs::rule::SignalMaps::read_map))]
 pub fn read_map<R: ReadSignal, V: Json>(
     scope: Scope,

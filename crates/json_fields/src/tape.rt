@@ -1,4 +1,4 @@
-//! The values of a line on a tape, whose texts are those of the text that was read.
+//! The values of a line on a tape, whose texts are part of the text that was read.
 
 ghost use Rattle.std.specs.Prelude.{◌≡◌, ◌<◌, ◌∷◌, [], length, Some, None, option_map, is_some, MatchOption};
 ghost use Rattle.std.specs.Prelude.{◌≤◌, ℕ, List, IfSome, IfOk, IsTrue, OnSome};
@@ -23,7 +23,7 @@ use std::marker::Model;
 /// Arrays and objects nest no deeper in a line that is read, as in `serde_json`.
 pub const MAX_DEPTH: usize = 127;
 
-/// How many more arrays and objects may open behind the node; none where that is too deep, or a number is not plain.
+/// How many more arrays and objects may open after the node; none if that is too deep, or a number is not plain.
 #[tactic(auto, unfolding(crate::specs::state::Tape::room_after))]
 fn room_after(room: usize, node: &Node<'_>) -> Option<usize>
     ensures { result ≡ room_after room (node_token node.now) }
@@ -87,7 +87,7 @@ impl<'t, 'a> Model for TapeValue<'t, 'a> {
     ghost invariant = { λ v. HasValue v.element };
 }
 
-/// The text, the number, the truth value or the null that this is; none where it is an array or an object.
+/// The text, the number, the truth value or the null that this is; none if it is an array or an object.
 fn scalar_of<'a, A: Allocator>(element: &Element<'_, 'a>) -> Option<Value<'a, A>>
     ensures { IfSome result (λ v. (j : Json) → BeginsWith element.now j → value_view v ≡ j) }
 {
@@ -202,14 +202,14 @@ impl<'t, 'a> TapeValue<'t, 'a> {
         }
     }
 
-    /// The text, the number, the truth value or the null that this is; none where it is an array or an object.
+    /// The text, the number, the truth value or the null that this is; none if it is an array or an object.
     pub fn scalar<A: Allocator>(&self) -> Option<Value<'a, A>>
         ensures { IfSome result (λ v. data_of (value_view v) ≡ data_at self.now) }
     {
         scalar_of(&self.element)
     }
 
-    /// What an object's field holds, where null counts as absent; none where it is an array or an object.
+    /// What an object's field holds, where null counts as absent; none if it is an array or an object.
     pub fn scalar_at<A: Allocator>(&self, name: &str) -> Option<Option<Value<'a, A>>>
         ensures { IfSome result (λ found.
             option_map (λ v. data_of (value_view v)) found ≡ field_at name.now (data_at self.now)) }

@@ -12,7 +12,7 @@ pub trait MemberNames {
         ensures { result ≡ includes self.now name.now };
 }
 
-/// A value that stands for JSON data.
+/// A value that has JSON data.
 pub trait HasData {
     ghost use Rattle.serde_json.specs.Data.{Data};
 

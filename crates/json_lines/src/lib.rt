@@ -1,4 +1,4 @@
-//! The lines of a text, each with what it says by itself.
+//! The lines of a text, each with its content by itself.
 #![tactic(auto)]
 
 mod line;

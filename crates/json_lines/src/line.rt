@@ -1,4 +1,4 @@
-//! What a line says by itself.
+//! The content of a line by itself.
 
 ghost use Rattle.std.specs.Prelude.{◌≡◌, true, false, IfNone, IfOk, IsOk, MatchOption, OnOk, OnErr, option_map};
 ghost use Rattle.serde_json.specs.Errors.{IsMemory};
@@ -15,7 +15,7 @@ use std::alloc::{AllocError, Global};
 /// The most bytes of a line, 1 MiB.
 const LONGEST_LINE: usize = 1_048_576;
 
-/// What a line of a text says by itself.
+/// The content of a line of a text by itself.
 #[derive(Drop)]
 pub enum TextLine {
     /// Spaces, tabs and carriage returns alone.
@@ -30,7 +30,7 @@ pub enum TextLine {
     Json(Value),
 }
 
-/// Goes on where the line is no JSON; `Err` where memory was refused, and nowhere else.
+/// Goes on if the line is no JSON. Returns `Err` only if an allocation fails.
 fn refused_memory(error: &Error) -> Result<(), AllocError>
     ensures refused { OnErr result (IsMemory error.now) }
     ensures not_json { OnOk result (¬ IsMemory error.now) }
@@ -54,7 +54,7 @@ fn json(alloc: Global, line: &[u8]) -> Result<Option<Value>, AllocError>
     }
 }
 
-/// What a JSON value says. A tick's is dropped here, by the thread that made it.
+/// The content of a JSON value. A tick's value is dropped here, by the thread that made it.
 #[tactic(auto, unfolding(crate::specs::state::Lines::said_by))]
 fn said_by(alloc: Global, value: Value) -> Result<TextLine, AllocError>
     ensures { IfOk result (λ read. data_of read ≡ said_by (view value)) }
@@ -67,7 +67,7 @@ fn said_by(alloc: Global, value: Value) -> Result<TextLine, AllocError>
     Ok(TextLine::Tick(tick?))
 }
 
-/// What a line says, other than blanks, that is not too long, as `serde_json` reads it.
+/// The content of a line that is not blank and not too long, as `serde_json` reads it.
 fn said_by_value(alloc: Global, line: &[u8]) -> Result<TextLine, AllocError>
     ensures { IfOk result (λ read. data_of read ≡ said_in line.now) }
 {
@@ -77,7 +77,7 @@ fn said_by_value(alloc: Global, line: &[u8]) -> Result<TextLine, AllocError>
     }
 }
 
-/// What a line says that is neither blank nor too long; a plain tick is read faster.
+/// The content of a line that is neither blank nor too long; a plain tick is read faster.
 fn said_in(alloc: Global, line: &[u8], buffers: &mut LineBuffers) -> Result<TextLine, AllocError>
     ensures { IfOk result (λ read. data_of read ≡ said_in line.now) }
 {
@@ -87,7 +87,7 @@ fn said_in(alloc: Global, line: &[u8], buffers: &mut LineBuffers) -> Result<Text
     said_by_value(alloc, line)
 }
 
-/// What a line says that is not read: one of blanks alone, or one that is too long.
+/// The content of a line that is not read: a blank one, or one that is too long.
 fn unread(line: &[u8]) -> Option<TextLine>
     ensures says { MatchOption result (line_data line.now ≡ said_in line.now)
         (λ read. data_of read ≡ line_data line.now) }
@@ -102,8 +102,8 @@ fn unread(line: &[u8]) -> Option<TextLine>
     None
 }
 
-/// What a line says by itself, whatever the lines beside it are. One that is not read takes no memory. An `Err` says
-/// that memory was refused, and nothing of the line.
+/// The content of a line by itself, whatever the other lines are. Doesn't allocate for a line that is not read. Returns
+/// `Err` if an allocation fails.
 pub fn text_line(
     alloc: Global,
     line: &[u8],
@@ -118,9 +118,9 @@ pub fn text_line(
     }
 }
 
-/// What a line says, as [`text_line`] reads it, of which [`tick_tape`](crate::tick_tape) made no tape: it has another
-/// shape than the common one, so that `serde_json` alone can read it. One that is not read takes no memory. An `Err`
-/// says that memory was refused.
+/// The content of a line, as [`text_line`] reads it, of which [`tick_tape`](crate::tick_tape) made no tape: it has
+/// another shape than the common one, so that only `serde_json` can read it. Doesn't allocate for a line that is not
+/// read. Returns `Err` if an allocation fails.
 pub fn other_line(alloc: Global, line: &[u8]) -> Result<TextLine, AllocError>
     ensures says { IfOk result (λ read. data_of read ≡ line_data line.now) }
     ensures unread { is_unread line.now ≡ true → IsOk result }

@@ -21,7 +21,7 @@ const SHARED: usize = 1_048_576;
 /// The lines at the beginning of a text, and the text after them.
 #[derive(Drop)]
 pub struct Window<'t> {
-    /// What each line says, in their order.
+    /// The content of each line, in their order.
     pub lines: Vec<TextLine>,
     /// The text after them.
     pub rest: &'t [u8],
@@ -46,7 +46,7 @@ fn next_lines(alloc: Global, text: &[u8], bytes: usize) -> Result<(Vec<&[u8]>, &
     Ok((found, rest))
 }
 
-/// What each line says, in their order.
+/// The content of each line, in their order.
 fn read_each(alloc: Global, lines: &[&[u8]]) -> Result<Vec<TextLine>, AllocError>
     ensures { IfOk result (λ reads. map data_of reads.items ≡ map (λ line. line_data line.now) lines.now) }
 {
@@ -57,7 +57,7 @@ fn read_each(alloc: Global, lines: &[&[u8]]) -> Result<Vec<TextLine>, AllocError
     Ok(reads)
 }
 
-/// What each line says, in their order; this many workers share the lines.
+/// The content of each line, in their order; this many workers share the lines.
 fn read_shared<R: Threads + Sync>(
     rt: &R,
     alloc: Global,

@@ -6,7 +6,7 @@ ghost use Rattle.json_lines.specs.state.Parts.{read_in};
 
 use std::alloc::{AllocError, Global};
 
-/// What the parts have read, one after the other. An `Err` says that memory was refused, to one of them or here.
+/// What the parts have read, one after the other. Returns `Err` if an allocation failed, in one of them or here.
 pub fn joined<T: Drop>(
     alloc: Global,
     parts: Vec<Result<Vec<T>, AllocError>>,

@@ -21,11 +21,11 @@ const MISSES: u32 = 4;
 /// Of such a writer no more lines in a row are left untried than these.
 const MOST_UNTRIED: u32 = 32;
 
-/// A map of samples in a plain line has at most this many members: beside those of the signals there may be others, and
-/// whether the last one of such a name is null is looked for once for each. `serde_json` keeps each name once.
+/// A map of samples in a plain line has at most this many members: there may be members of other names than the
+/// signals', and each such name needs a look whether its last member is null. `serde_json` keeps each name once.
 const MOST_SAMPLES: usize = 64;
 
-/// Goes on where the text is no JSON; `Err` where memory was refused, and nowhere else.
+/// Goes on if the text is no JSON. Returns `Err` only if an allocation fails.
 pub(crate) fn refused_memory(error: Error) -> Result<(), AllocError>
     ensures refused { OnErr result (error ≡ OutOfMemory) }
     ensures not_json { OnOk result (error ≢ OutOfMemory) }
@@ -36,9 +36,9 @@ pub(crate) fn refused_memory(error: Error) -> Result<(), AllocError>
     }
 }
 
-/// Which lines are worth a try to read them as plain ones: all but behind several that were not. Then one line is left
-/// untried before the next try, and behind each try in vain twice as many: a few lines that are not plain leave few
-/// others untried.
+/// Which lines are worth a try to read them as plain ones: all except those after several that were not. Then one line
+/// is left untried before the next try, and after each try in vain twice as many: a few lines that are not plain leave
+/// few others untried.
 #[derive(Clone, Copy)]
 pub(crate) struct Tries {
     /// This many lines in a row that were tried were not plain ones.
@@ -91,7 +91,7 @@ pub struct LineBuffers {
 }
 
 impl LineBuffers {
-    /// Nothing is kept yet. It takes no memory.
+    /// Nothing is kept yet. Doesn't allocate.
     pub fn new(alloc: Global) -> LineBuffers {
         LineBuffers {
             scratch: Scratch::new(alloc),
@@ -144,9 +144,9 @@ fn has_many_samples<A: Allocator>(alloc: Global, line: &Value<'_, A>) -> bool {
     are_read
 }
 
-/// What the text says, if it is a tick line, each of its numbers is one that digits alone write, below 2^64, and no map
-/// of samples that is read has many members: so a line is read some four times as fast as by `serde_json`, which reads
-/// the others.
+/// The content of the text, if it is a tick line, each of its numbers consists of digits alone and is below 2^64, and
+/// no map of samples that is read has many members: so a line is read some four times as fast as by `serde_json`, which
+/// reads the others.
 #[tactic(auto, using(crate::proofs::Said::plain_said))]
 fn tick_in<A: Allocator + Copy>(
     alloc: Global,
@@ -185,7 +185,7 @@ pub(crate) fn plain_tick(
     } else {
         tick_in(alloc, line, &mut buffers.scratch, &buffers.values)
     };
-    // no value is left; where it refused all the same, the next line's would come beside this one's
+    // no value is left; if one stayed all the same, the next line's would come after it
     let _given_up = buffers.values.reset();
     buffers.tries.note(matches!(found, Ok(Some(_))));
     found

@@ -42,16 +42,16 @@ fn tape_in<'a>(
     }
 }
 
-/// Whether the value on the tape says that it is a tick.
+/// Whether the value on the tape is a tick by its kind.
 fn is_tick_tape(tape: &Tape<'_>) -> bool
     ensures { result ≡ is_tick (data_at tape.now) }
 {
     TapeValue::root(tape).text_at("kind") == Some("tick")
 }
 
-/// The tape of a line, if it is a tick line of the common shape. So almost every tick line is read; the other lines are
-/// read by `other_line`. Of a line without the word of ticks no tape is begun: a pod's would be long, and of no use.
-/// That a tape is made of any line no clause says.
+/// The tape of a line, if it is a tick line of the common shape. So almost every tick line is read; `other_line` reads
+/// the other lines. For a line without the word of ticks no tape is begun: a pod's would be long, and of no use. No
+/// clause promises that a tape is made of any line.
 pub fn tick_tape<'a>(
     alloc: Global,
     line: &'a [u8],

@@ -9,16 +9,16 @@ use json_fields::{Json, field, text_at};
 use std::alloc::{AllocError, Global};
 use tick_lines::{TickLine, TickLineFault, TickValue, tick_line_of};
 
-/// What a tick line says by itself: the tree of its JSON value is no longer needed.
+/// The content of a tick line by itself: the tree of its JSON value is no longer needed.
 #[derive(Drop)]
 pub struct TickRecord {
     /// The whole number that it gives as its moment, in seconds.
     pub at: Option<u64>,
-    /// What it says beside its moment, or its first fault.
+    /// The contents of the line except its moment, or the line's first fault.
     pub written: Result<TickLine, TickLineFault>,
 }
 
-/// Whether a JSON value says that it is a tick.
+/// Whether a JSON value is a tick by its kind.
 pub(crate) fn is_tick<V: Json>(line: &V) -> bool
     ensures { result ≡ is_tick (V.data line.now) }
 {
@@ -32,8 +32,8 @@ pub(crate) fn moment_written<V: Json>(found: Option<&V>) -> Option<u64>
     found?.unsigned()
 }
 
-/// What a tick line says of its moment, and beside it. An `Err` says that memory was refused, and comes only where the
-/// line has no fault.
+/// The moment of a tick line, and its other contents. Returns `Err` only if an allocation fails and the line has no
+/// fault.
 pub fn tick_record<V: TickValue>(alloc: Global, line: &V) -> Result<TickRecord, AllocError>
     ensures at { IfOk result (λ tick. tick.at ≡ moment_at (V.data line.now)) }
     ensures written { IfOk result (λ tick. tick.written ≡ tick_line_of (V.data line.now)) }

@@ -8,7 +8,7 @@ use crate::tape::LONGEST_TAPE;
 use memchr::memmem::find;
 use std::alloc::{AllocError, Global};
 
-/// Lines that tell of a pod itself mostly have one of these words near their beginning.
+/// Lines about a pod itself mostly have one of these words near their beginning.
 const WORDS_OF_PODS: [&[u8]; 2] = [b"\"metadata\"", b"\"gone\""];
 
 /// Tick lines have this word, mostly near their beginning.
@@ -17,7 +17,7 @@ const WORD_OF_TICKS: &[u8] = b"\"tick\"";
 /// This many bytes are near the beginning of a line.
 const BEGINNING: usize = 128;
 
-/// Lines are read together up to this many blank ones in a row: those behind them can be skipped unread.
+/// Lines are read together up to this many blank ones in a row: the blank ones after them can be skipped unread.
 const MOST_BLANKS: usize = 1024;
 
 /// Lines of trees are read together up to this many bytes, 1 MiB, and the end of the last one.
@@ -26,20 +26,20 @@ const MOST_OF_TREES: usize = 1_048_576;
 /// What a line seems to be. Nothing rests on it but how many lines are read together.
 #[derive(Clone, Copy)]
 enum Looks {
-    /// Blank, and short: a long line is looked through where it is read, and nowhere else.
+    /// Blank, and short: a long line is searched only where it is read.
     Blank,
-    /// A line of which a tree stays until its turn has come: one that tells of a pod itself or stands among no ticks,
-    /// or one that is too long for a tape.
+    /// A line of which a tree stays until its turn has come: one about a pod itself or one between lines that are no
+    /// ticks, or one that is too long for a tape.
     OfTree,
     Other,
 }
 
-/// Whether the word of ticks stands in a line.
+/// Whether a line has the word of ticks.
 pub(crate) fn names_ticks(line: &[u8]) -> bool {
     find(line, WORD_OF_TICKS).is_some()
 }
 
-/// Whether a line that is not blank looks as one that tells of a pod itself, or as one of no kind.
+/// Whether a line that is not blank looks like one about a pod itself, or like one of no kind.
 fn looks_of_pod(line: &[u8]) -> bool {
     let beginning = &line[..line.len().min(BEGINNING)];
     if names_ticks(beginning) {
@@ -63,9 +63,9 @@ fn looks_of(line: &[u8]) -> Looks {
     }
 }
 
-/// The next lines, of at least this many bytes with their newlines where there are this many, and the text after them;
-/// or fewer: this many lines at most, and none behind lines of trees, which are those of pods and very long ones,
-/// behind 1 MiB of these, or behind many blank ones. How many there are no clause says, but that they are no more than
+/// The next lines, of at least this many bytes with their newlines if there are this many, and the text after them.
+/// There may be fewer: this many lines at most, and none after lines of trees, which are about pods or very long, after
+/// 1 MiB of these, or after many blank ones. No clause promises how many there are, except that there are no more than
 /// asked for.
 pub fn next_tick_lines(
     alloc: Global,

@@ -1,4 +1,4 @@
-//! Why a replay was refused.
+//! Why a replay failed.
 
 ghost use Rattle.std.specs.Prelude.{◌≡◌, Some, IfOk, MatchResult, string_bytes};
 ghost use Rattle.kubelet_replay.specs.declared.fault.RunFault.TheVariants.{Line};
@@ -20,7 +20,7 @@ pub enum RunFault {
     /// The input is no trace.
     #[error("{0}")]
     Line(LineFault),
-    /// A growth of memory was refused.
+    /// An allocation failed.
     #[error("out of memory")]
     OutOfMemory,
     /// The writer failed, or took nothing.
@@ -39,7 +39,7 @@ pub fn status_of(fault: &RunFault) -> u8
     }
 }
 
-/// Why the manifest was refused, if it was.
+/// Why the manifest was rejected, if it was.
 fn reason_of(kind: FaultKind) -> Option<u8>
     ensures { result ≡ reason_of kind }
 {
@@ -71,7 +71,7 @@ fn line_of_kind(alloc: Global, line: u64, kind: FaultKind) -> Result<String, All
     }
 }
 
-/// The fault of a line of the input; else the words of any other fault, which take no memory.
+/// The fault of a line of the input; else the words of any other fault, without an allocation.
 fn named_line(fault: &RunFault) -> Result<LineFault, &'static str>
     ensures { MatchResult result (λ named. fault.now ≡ Line named) (λ words. line_of fault.now ≡ words.now) }
 {

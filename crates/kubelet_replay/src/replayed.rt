@@ -36,8 +36,9 @@ fn arrive<U: Ledger, E: Ledger, O: Ledger>(
     Ok(())
 }
 
-/// A new node takes these ticks one after the other, each as a round on one thread that this many workers play by these
-/// steps. Each of these pods arrives before the first tick that shows it, those that no tick shows at the end.
+/// A new node takes these ticks one after the other, each as a round that is simulated on one thread for this many
+/// workers, by these steps. Each of these pods arrives before the first tick that shows it, the ones that no tick shows
+/// at the end.
 pub(crate) fn take_by_steps<U: Ledger, E: Ledger, O: Ledger>(
     node: &mut Node<U, E, O>,
     pods: Vec<PodSpec>,

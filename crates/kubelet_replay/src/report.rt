@@ -24,8 +24,7 @@ use std::sync::ledger::Ledger;
 use tick_round::{Gate, Node, Spawner, Step, TickFault};
 use trace::Trace;
 
-/// A node of the trace's configuration, with a book over these ledgers and no pods yet, beside the trace's pods and
-/// ticks.
+/// A node of the trace's configuration, with a book over these ledgers and no pods yet, and the trace's pods and ticks.
 fn begin<U: Ledger, E: Ledger, O: Ledger>(
     alloc: Global,
     trace: Trace,
@@ -60,7 +59,7 @@ fn begin<U: Ledger, E: Ledger, O: Ledger>(
     }
 }
 
-/// The report of a node that is not halted. An `Err` says that memory was refused.
+/// The report of a node that is not halted. Returns `Err` if an allocation fails.
 fn report_of<U: Ledger, E: Ledger, O: Ledger>(
     alloc: Global,
     node: &Node<U, E, O>,
@@ -76,7 +75,7 @@ fn report_of<U: Ledger, E: Ledger, O: Ledger>(
     Ok(report)
 }
 
-/// The report of a node, where it has taken all its ticks. An `Err` says that memory was refused.
+/// The report of a node that has taken all its ticks. Returns `Err` if an allocation fails.
 fn report_after<U: Ledger, E: Ledger, O: Ledger>(
     alloc: Global,
     taken: Result<(), TickFault>,
@@ -95,8 +94,8 @@ fn report_after<U: Ledger, E: Ledger, O: Ledger>(
     }
 }
 
-/// The report of a trace, on a node with a book over these ledgers, each of whose ticks is a round that this
-/// many workers play by these steps.
+/// The report of a trace, on a node with a book over these ledgers, each of whose ticks is a round that is simulated
+/// for this many workers, by these steps.
 fn by_steps<U: Ledger, E: Ledger, O: Ledger>(
     alloc: Global,
     trace: Trace,
@@ -148,8 +147,8 @@ fn by_workers<U: Ledger + Send, E: Ledger + Send, O: Ledger + Send, R: Spawner, 
     report
 }
 
-/// The report of a trace that may be replayed, as each one may that is read: its ticks are rounds that this many
-/// workers play by these steps. An `Err` says that memory was refused.
+/// The report of a trace that may be replayed, as each trace may that is read: its ticks are rounds that are simulated
+/// for this many workers, by these steps. Returns `Err` if an allocation fails.
 pub fn report_by_steps(
     alloc: Global,
     trace: Trace,
@@ -166,8 +165,8 @@ pub fn report_by_steps(
     by_steps::<Brand, Brand, Brand>(alloc, trace, Blanks::new(), workers, steps)
 }
 
-/// The report of a trace that may be replayed, as each one may that is read: this many workers update its pods by the
-/// gate, in threads of their own. An `Err` says that memory was refused.
+/// The report of a trace that may be replayed, as each trace may that is read: this many workers update its pods by the
+/// gate, in threads of their own. Returns `Err` if an allocation fails.
 pub fn report_by_workers<R: Spawner, G: Gate>(
     rt: &R,
     alloc: Global,

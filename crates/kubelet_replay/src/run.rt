@@ -49,7 +49,7 @@ fn read_text<R: Source>(alloc: Global, input: &mut R) -> Result<Vec<u8>, RunFaul
     ensures memory { IsErrOf result OutOfMemory → TakesWithin (R.left input.old) (R.left input.new) }
     ensures counted { R.failures input.new ≡ R.failures input.old + failed_reads result }
 {
-    // What the answer is, a function without memory says, so no fault can be told as another.
+    // A function that doesn't allocate decides what the answer is, so no fault can be reported as another.
     // (docs/decisions/program.md)
     text_or_fault(read_all(alloc, input, LONGEST_INPUT))
 }
@@ -73,7 +73,7 @@ fn trace_or_fault(read: Result<Trace, LineFault>) -> Result<Trace, RunFault>
     }
 }
 
-/// The text that was made, or that memory was refused.
+/// The text that was made, or a failed allocation.
 fn report_or_fault(text: Result<String, AllocError>) -> Result<String, RunFault>
     ensures { result ≡ report_or_fault text }
 {
@@ -144,19 +144,18 @@ fn write_text<W: Sink>(output: &mut W, text: &str) -> Result<(), RunFault>
     }
 }
 
-/// Replays a trace and writes its report. This many workers, 1 to 64, update the pods of each round in threads of
-/// their own and steal from each other, but no more than there are pods. A round is the ticks up to the next in which
-/// an eviction threshold is heeded, or until 32,768 updates wait: one for each tick of a pod. Where no update waits in
-/// the gate only those workers run that are worth their start, one for 1,024 updates. The gate makes each update. They
-/// share the lines of the text as well, but for its first 64 KiB, in windows of at most 4 MiB. The report is that of
-/// the rules applied by one thread, pod after pod, whatever the workers and the threads do. It may wait for threads
-/// and for the lock of the book.
+/// Replays a trace and writes its report. This many workers, 1 to 64, update the pods of each round in threads of their
+/// own and steal from each other, but no more than there are pods. A round is the ticks up to the next in which the
+/// node acts on an eviction threshold, or until 32,768 updates wait: one for each tick of a pod. If no update waits in
+/// the gate, only those workers run that are worth their start, one for 1,024 updates. The gate makes each update. The
+/// workers share the lines of the text as well, except its first 64 KiB, in windows of at most 4 MiB. The report is
+/// that of the rules applied by one thread, pod after pod, whatever the workers and the threads do. It may wait for
+/// threads and for the lock of the book.
 ///
-/// The input is read to its end and the report is made whole before the first write. So nothing is
-/// written where the reader failed (`Read`), the input has more than 64 MiB (`TooLong`), the text
-/// is no trace (`Line`, with its first faulty line), or a growth of memory was refused
-/// (`OutOfMemory`). Where the writer failed or took nothing (`Write`), a part of the report from
-/// its beginning is written.
+/// Reads the input to its end and makes the whole report before the first write. So nothing is written if the reader
+/// fails (`Read`), the input has more than 64 MiB (`TooLong`), the text is no trace (`Line`, with its first faulty
+/// line), or an allocation fails (`OutOfMemory`). If the writer fails or takes nothing (`Write`), a part of the report
+/// from its beginning is written.
 pub fn replay<H: AllocGlobal + Spawner, R: Source, W: Sink, G: Gate>(
     rt: &H,
     input: &mut R,
@@ -206,8 +205,8 @@ pub fn replay_in<H: AllocGlobal + Spawner, R: Source, W: Sink, G: Gate>(
     write_text(output, report.as_str())
 }
 
-/// Replays a trace on one thread and writes its report, as [`replay`] does. Each tick is a round that this
-/// many workers, 1 to 64, play by these steps, from their beginning; then each worker finishes what it has.
+/// Replays a trace on one thread and writes its report, as [`replay`] does. Each tick is a round that is simulated for
+/// this many workers, 1 to 64, by these steps, from their beginning; then each worker finishes what it has.
 pub fn replay_play<R: Source, W: Sink>(
     alloc: Global,
     input: &mut R,
@@ -229,8 +228,8 @@ pub fn replay_play<R: Source, W: Sink>(
     replay_play_in(alloc, Format::Standard, input, output, workers, steps)
 }
 
-/// Replays a trace in a format on one thread, by steps that workers are played by, as [`replay_play`] does of one in
-/// the standard format.
+/// Replays a trace in a format on one thread, with rounds that are simulated by steps, as [`replay_play`] does of one
+/// in the standard format.
 pub fn replay_play_in<R: Source, W: Sink>(
     alloc: Global,
     format: Format,
@@ -256,8 +255,8 @@ pub fn replay_play_in<R: Source, W: Sink>(
     write_text(output, report.as_str())
 }
 
-/// Reads a trace without replaying it, and writes `ok pods=P ticks=T` and a newline. It refuses as
-/// [`replay`] does.
+/// Reads a trace without replaying it, and writes `ok pods=P ticks=T` and a newline. Rejects a trace as [`replay`]
+/// does.
 pub fn check<R: Source, W: Sink>(
     alloc: Global,
     input: &mut R,

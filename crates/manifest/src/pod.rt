@@ -1,10 +1,11 @@
 //! What a manifest says of a pod.
 
-ghost use Rattle.std.specs.Prelude.{◌≡◌, ◌<◌, List};
+ghost use Rattle.std.specs.Prelude.{◌≡◌, ◌<◌, List, None, option_map};
 ghost use Rattle.lists.specs.rule.Names.{place_of};
 
 use crate::gates::ReadinessGates;
 use crate::grace::GracePeriod;
+use crate::own_restarts::OwnRestarts;
 use crate::policy::Policy;
 use crate::probe::Probes;
 use crate::resources::Resources;
@@ -40,19 +41,36 @@ pub struct ContainerSpec {
     role: Role,
     pub resources: Resources,
     pub probes: Probes,
+    /// The container's own restart policy and rules, where it has them and is no sidecar. (Kubernetes, "Pod Lifecycle",
+    /// "Individual container restart policy and rules"; read in this project's extended format alone.)
+    pub own_restarts: Option<OwnRestarts>,
 }
 
 impl ContainerSpec {
-    /// A container of this name.
+    /// A container of this name, whose pod's policy decides on its restarts.
     pub fn new(name: Text, role: Role, resources: Resources, probes: Probes) -> ContainerSpec
-        ensures { result ≡ record { name = name; role = role; resources = resources; probes = probes } }
+        ensures { result ≡ record {
+          name = name;
+          role = role;
+          resources = resources;
+          probes = probes;
+          own_restarts = None;
+        } }
     {
         ContainerSpec {
             name,
             role,
             resources,
             probes,
+            own_restarts: None,
         }
+    }
+
+    /// The container's own restart policy and rules, if it has them.
+    pub fn own_restarts(&self) -> Option<&OwnRestarts>
+        ensures { option_map (λ own. own.now) result ≡ self.now.own_restarts }
+    {
+        self.own_restarts.as_ref()
     }
 
     /// What the container is to its pod.

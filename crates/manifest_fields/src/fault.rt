@@ -1,4 +1,4 @@
-//! Why a manifest was refused.
+//! Why a manifest was rejected.
 
 ghost use Rattle.std.specs.Prelude.{◌≡◌};
 ghost use Rattle.manifest_fields.specs.declared.fault.ManifestFault.TheVariants.{OutOfMemory};
@@ -19,7 +19,7 @@ pub enum Field {
     /// `metadata.namespace`
     Namespace,
     Spec,
-    /// `spec.restartPolicy`
+    /// `spec.restartPolicy` and, in this project's extended format, a container's `restartPolicy`.
     RestartPolicy,
     /// `spec.priority`
     Priority,
@@ -31,13 +31,16 @@ pub enum Field {
     Containers,
     /// A container's `name`.
     ContainerName,
+    /// A container's `restartPolicyRules`, an item of it, and a field of an item. (This project's extended format.)
+    RestartRules,
     /// `resources` of a container or, in this project's extended format, of the pod's `spec`.
     Resources,
     /// A container's `startupProbe`, `livenessProbe` or `readinessProbe`.
     Probe,
     /// `spec.readinessGates`, an item of it, and an item's `conditionType`. (This project's extended format.)
     ReadinessGates,
-    /// Whether the node spares the pod, which stands beside the manifest. (This project's extended format.)
+    /// Whether the node exempts the pod from eviction (the member `spared`, next to the manifest). (This project's
+    /// extended format.)
     Spared,
 }
 
@@ -58,9 +61,9 @@ pub enum ManifestFault {
     RequestAboveLimit,
     #[error("two containers have one name")]
     DuplicateContainer,
-    #[error("a container has a restart policy of its own that doesn't make it a sidecar")]
+    #[error("a container has a restart policy, or restart rules, that it may not have")]
     Sidecar,
-    #[error("more than 16 containers or readiness gates")]
+    #[error("more than 16 containers or readiness gates, 20 restart rules or 255 exit codes")]
     TooMany,
     #[error("out of memory")]
     OutOfMemory,
@@ -69,7 +72,7 @@ pub enum ManifestFault {
 impl ManifestFault {
     ghost use Rattle.manifest_fields.specs.state.Fault.{number_of};
 
-    /// The number by which a refusal names the fault.
+    /// The number of the fault in a refusal's line.
     pub fn number(self) -> u8
         ensures { result ≡ number_of self }
     {

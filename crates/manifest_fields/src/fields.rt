@@ -13,7 +13,7 @@ use manifest::{Text, is_label, is_name};
 use serde_json::Value;
 use std::alloc::Global;
 
-/// An object. `Missing` where there is none, `WrongKind` where it is another value; both name the field.
+/// An object. `Missing` if there is none, `WrongKind` if it is another value; both name the field.
 pub fn object(field: Field, found: Option<&Value>) -> Result<&Value, ManifestFault>
     ensures { GivesExactly (λ v. view v.now) result (object_of field (option_map (λ v. view v.now) found.entry)) }
 {
@@ -24,7 +24,7 @@ pub fn object(field: Field, found: Option<&Value>) -> Result<&Value, ManifestFau
     }
 }
 
-/// An array's items. `Missing` where there is none, `WrongKind` where it is another value.
+/// An array's items. `Missing` if there is none, `WrongKind` if it is another value.
 pub fn array(field: Field, found: Option<&Value>) -> Result<&[Value], ManifestFault>
     ensures { GivesExactly (λ v. map view v.now) result (array_of field (option_map (λ v. view v.now) found.entry)) }
 {
@@ -37,7 +37,7 @@ pub fn array(field: Field, found: Option<&Value>) -> Result<&[Value], ManifestFa
     }
 }
 
-/// An array's items, none where it is left out. `WrongKind` where it is another value.
+/// An array's items, none if it is left out. `WrongKind` if it is another value.
 pub fn array_or_none(field: Field, found: Option<&Value>) -> Result<&[Value], ManifestFault>
     ensures { GivesExactly (λ v. map view v.now) result
         (array_or_none field (option_map (λ v. view v.now) found.entry)) }
@@ -96,8 +96,8 @@ fn text(alloc: Global, grammar: Grammar, field: Field, value: &Value) -> Result<
     }
 }
 
-/// A text of this grammar. `Missing` where there is none, `WrongKind` where it is another value or no such name;
-/// `OutOfMemory` where there is no memory for it.
+/// A text of this grammar. `Missing` if there is none, `WrongKind` if it is another value or no such name;
+/// `OutOfMemory` if there is no memory for it.
 pub fn required_text(
     alloc: Global,
     grammar: Grammar,
@@ -113,8 +113,8 @@ pub fn required_text(
     }
 }
 
-/// A text of this grammar, the default where it is left out. `WrongKind` where it is another value or no such name;
-/// `OutOfMemory` where there is no memory for it.
+/// A text of this grammar, the default if it is left out. `WrongKind` if it is another value or no such name;
+/// `OutOfMemory` if there is no memory for it.
 pub fn text_or(
     alloc: Global,
     default: &str,

@@ -109,8 +109,8 @@ fn pod_resources_in(value: &Value) -> Result<Resources, ManifestFault>
     Ok(Resources::new(requests, limits))
 }
 
-/// The resources of a pod as a whole: those of a container, but of cpu and memory alone. Returns `RequestAboveLimit` if
-/// a request is above its limit. (Kubernetes, "Resource Management for Pods and Containers", "Pod-level resource
+/// The resources of a pod as a whole: as of a container, but of cpu and memory alone. Returns `RequestAboveLimit` if a
+/// request is above its limit. (Kubernetes, "Resource Management for Pods and Containers", "Pod-level resource
 /// specification".)
 pub fn pod_resources_of(found: Option<&Value>) -> Result<Resources, ManifestFault>
     ensures { GivesExactly (λ r. r) result (pod_resources_of (option_map (λ v. view v.now) found.entry)) }

@@ -16,7 +16,7 @@ use Rattle.manifest_fields.specs.declared.fault.ManifestFault.TheVariants.{Dupli
 use Rattle.json_fields.specs.state.Reading.{checked}
 use Rattle.manifest_reader.specs.state.Checks.{apart_at}
 use Rattle.manifest_reader.specs.rule.Manifest.{container_of, few, apart, containers_of, containers_in, metadata_of}
-use Rattle.manifest_reader.specs.rule.Manifest.{Spec, settings_in, spec_of, pod_at}
+use Rattle.manifest_reader.specs.rule.Manifest.{Spec, settings_in, spec_of, pod_in}
 use Rattle.manifest_reader.specs.declared.reading.Metadata.{Metadata}
 use Rattle.manifest_reader.specs.declared.reading.Settings.{Settings}
 use Rattle.manifest_reader.proofs.RowLemmas.{doubled}
@@ -26,22 +26,23 @@ last_step : {A : Type 0} (twice : Bool) (x : A)
 last_step true x = refl
 last_step false x = refl
 
-pub containers_checked : (init_items items : List Data) → checked (containers_of init_items items)
-    ≡ (few init_items items >>= λ within. checked (each (container_of InitContainers) init_items)
-    >>= λ init. checked (each (container_of Containers) items) >>= λ apps. apart_at init_items items)
+pub containers_checked : (own : Bool) (init_items items : List Data) → checked (containers_of own init_items items)
+    ≡ (few init_items items >>= λ within. checked (each (container_of own InitContainers) init_items)
+    >>= λ init. checked (each (container_of own Containers) items) >>= λ apps. apart_at init_items items)
 unfolding containers_of
-containers_checked init_items items = there (few init_items items) (each (container_of InitContainers) init_items)
-    (each (container_of Containers) items) refl refl
+containers_checked own init_items items = there (few init_items items)
+    (each (container_of own InitContainers) init_items)
+    (each (container_of own Containers) items) refl refl
   where
     there : (within : Result ⊤ ManifestFault) (init apps : Result (List ContainerSpec) ManifestFault)
-        → each (container_of InitContainers) init_items ≡ init → each (container_of Containers) items ≡ apps
+        → each (container_of own InitContainers) init_items ≡ init → each (container_of own Containers) items ≡ apps
         → checked (within >>= λ u. init >>= λ cs. apps >>= λ ds. apart (cs ++ ds) >>= λ v. Ok (cs ++ ds))
         ≡ (within >>= λ u. checked init >>= λ v. checked apps >>= λ w. apart_at init_items items)
     there (Err fault) init apps e f = refl
     there (Ok u) (Err fault) apps e f = refl
     there (Ok u) (Ok cs) (Err fault) e f = refl
     there (Ok u) (Ok cs) (Ok ds) e f = last_step (has_twice (cs ++ ds)) (cs ++ ds)
-        ∙ ap (λ (twice : Bool). refused_if twice DuplicateContainer) (doubled init_items items cs ds e f)
+        ∙ ap (λ (twice : Bool). refused_if twice DuplicateContainer) (doubled own init_items items cs ds e f)
 
 two_steps : {A B C D : Type 0} (a : Result A ManifestFault) (b : Result B ManifestFault) (f : A → B → C) (g : C → D)
     → checked ((a >>= λ x. b >>= λ y. Ok (f x y)) >>= λ z. Ok (g z)) ≡ (a >>= λ x. checked b)
@@ -65,33 +66,33 @@ pod_with metadata spec = record {
   spared = false;
 }
 
-of_spec : (metadata : Metadata) (found : Result Data ManifestFault)
-    → checked ((found >>= λ spec. settings_in spec >>= λ settings. containers_in spec >>= λ containers.
+of_spec : (own : Bool) (metadata : Metadata) (found : Result Data ManifestFault)
+    → checked ((found >>= λ spec. settings_in spec >>= λ settings. containers_in own spec >>= λ containers.
     Ok (spec_with settings containers)) >>= λ spec. Ok (pod_with metadata spec))
-    ≡ (found >>= λ spec. settings_in spec >>= λ settings. checked (containers_in spec))
-of_spec metadata (Err fault) = refl
-of_spec metadata (Ok spec) = two_steps (settings_in spec) (containers_in spec) spec_with (pod_with metadata)
+    ≡ (found >>= λ spec. settings_in spec >>= λ settings. checked (containers_in own spec))
+of_spec own metadata (Err fault) = refl
+of_spec own metadata (Ok spec) = two_steps (settings_in spec) (containers_in own spec) spec_with (pod_with metadata)
 
-of_metadata : (found : Option Data) (metadata : Result Metadata ManifestFault)
-    → checked (metadata >>= λ m. spec_of found >>= λ spec. Ok (pod_with m spec))
+of_metadata : (own : Bool) (found : Option Data) (metadata : Result Metadata ManifestFault)
+    → checked (metadata >>= λ m. spec_of own found >>= λ spec. Ok (pod_with m spec))
     ≡ (checked metadata >>= λ m. object_of fields.Spec found
-    >>= λ spec. settings_in spec >>= λ settings. checked (containers_in spec))
+    >>= λ spec. settings_in spec >>= λ settings. checked (containers_in own spec))
 unfolding spec_of
-of_metadata found (Err fault) = refl
-of_metadata found (Ok metadata) = of_spec metadata (object_of fields.Spec found)
+of_metadata own found (Err fault) = refl
+of_metadata own found (Ok metadata) = of_spec own metadata (object_of fields.Spec found)
 
-of_pod : (found : Result Data ManifestFault)
+of_pod : (own : Bool) (found : Result Data ManifestFault)
     → checked (found >>= λ pod. metadata_of (field_at (codes "metadata") pod)
-    >>= λ m. spec_of (field_at (codes "spec") pod) >>= λ spec. Ok (pod_with m spec))
+    >>= λ m. spec_of own (field_at (codes "spec") pod) >>= λ spec. Ok (pod_with m spec))
     ≡ (found >>= λ pod. checked (metadata_of (field_at (codes "metadata") pod))
     >>= λ m. object_of fields.Spec (field_at (codes "spec") pod) >>= λ spec. settings_in spec
-    >>= λ settings. checked (containers_in spec))
-of_pod (Err fault) = refl
-of_pod (Ok pod) = of_metadata (field_at (codes "spec") pod) (metadata_of (field_at (codes "metadata") pod))
+    >>= λ settings. checked (containers_in own spec))
+of_pod own (Err fault) = refl
+of_pod own (Ok pod) = of_metadata own (field_at (codes "spec") pod) (metadata_of (field_at (codes "metadata") pod))
 
-pub pod_checked : (d : Data) → checked (pod_at d)
+pub pod_checked : (own : Bool) (d : Data) → checked (pod_in own d)
     ≡ (object_of fields.Pod (Some d) >>= λ pod. checked (metadata_of (field_at (codes "metadata") pod))
     >>= λ metadata. object_of fields.Spec (field_at (codes "spec") pod) >>= λ spec. settings_in spec
-    >>= λ settings. checked (containers_in spec))
-unfolding pod_at
-pod_checked d = of_pod (object_of fields.Pod (Some d))
+    >>= λ settings. checked (containers_in own spec))
+unfolding pod_in
+pod_checked own d = of_pod own (object_of fields.Pod (Some d))

@@ -1,5 +1,6 @@
 -- The faults of a manifest, none of which is that memory ran out.
-use Rattle.std.proofs.Common.{◌≢◌, ℕ, ℤ, Bool, List, [], ◌∷◌, ◌+◌, ◌++◌, length, Option, Some, None, Result, Ok, Err}
+use Rattle.std.proofs.Common.{◌≢◌, ℕ, ℤ, Bool, true, false, List, [], ◌∷◌, ◌+◌, ◌++◌, length, Option, Some, None}
+use Rattle.std.proofs.Common.{Result, Ok, Err}
 use Rattle.std.proofs.Common.{is_some}
 use Rattle.std.specs.Prelude.{pos, option_and_then, nat_lt, codes}
 use Rattle.serde_json.specs.Data.{Data, Items}
@@ -30,10 +31,16 @@ use Rattle.manifest_fields.specs.rule.ProbeFields.{some_probes, unprobed, probes
 use Rattle.manifest.specs.rule.Resources.{nothing, no_resources, some_above}
 use Rattle.manifest_fields.specs.rule.ResourceFields.{quantity_read, quantity_at, amounts_in, amounts_of}
 use Rattle.manifest_fields.specs.rule.ResourceFields.{resources_in, resources_of}
-use Rattle.manifest_reader.specs.rule.Manifest.{policy_from, policy_of, priority_from, priority_of, grace_period_from}
+use Rattle.manifest.specs.declared.own_restarts.ExitCodeOperator.TheVariants.{In, NotIn}
+use Rattle.manifest_reader.specs.rule.Policies.{policy_from}
+use Rattle.manifest_reader.specs.rule.OwnRestarts.{at_most, most_rules, most_codes, action_from, action_of}
+use Rattle.manifest_reader.specs.rule.OwnRestarts.{operator_from, operator_of, code_from, code_of, code_items_of}
+use Rattle.manifest_reader.specs.rule.OwnRestarts.{exit_codes_of, rule_of, rule_items_of, own_policy_of, role_with}
+use Rattle.manifest_reader.specs.rule.OwnRestarts.{restarts_of}
+use Rattle.manifest_reader.specs.rule.Manifest.{policy_of, priority_from, priority_of, grace_period_from}
 use Rattle.manifest_reader.specs.rule.Manifest.{grace_period_of, field_of, sidecar_from, role_of, container_of}
 use Rattle.manifest_reader.specs.rule.Manifest.{containers_of, app_items_of, containers_in, metadata_of, settings_in}
-use Rattle.manifest_reader.specs.rule.Manifest.{spec_of, pod_at}
+use Rattle.manifest_reader.specs.rule.Manifest.{role_by, restarts_by, spec_of, pod_in}
 use Rattle.manifest.specs.rule.Containers.{has_twice, most_containers}
 use Rattle.json_fields.proofs.Only.{Only, only_ok, only_err, only_bind, only_if, only_refused, only_each}
 
@@ -210,6 +217,86 @@ probes_only Init d = unprobed_only d
 probes_only IsSidecar d = some_probes_only d
 probes_only App d = some_probes_only d
 
+-- a container's own restart policy and rules
+action_from_only : (found : Option (List ℕ)) → Only IsFound (action_from found)
+action_from_only None = only_err IsFound (WrongKind fields.RestartRules) (wrong fields.RestartRules)
+action_from_only (Some text) = only_if IsFound _ (Ok tt) _ (only_ok IsFound tt)
+    (only_err IsFound (WrongKind fields.RestartRules) (wrong fields.RestartRules))
+
+action_only : (found : Option Data) → Only IsFound (action_of found)
+action_only None = only_err IsFound (Missing fields.RestartRules) (missing fields.RestartRules)
+action_only (Some d) = action_from_only (as_str d)
+
+operator_from_only : (found : Option (List ℕ)) → Only IsFound (operator_from found)
+operator_from_only None = only_err IsFound (WrongKind fields.RestartRules) (wrong fields.RestartRules)
+operator_from_only (Some text) =
+    only_if IsFound _ (Ok In) _ (only_ok IsFound In)
+    (only_if IsFound _ (Ok NotIn) _ (only_ok IsFound NotIn)
+    (only_err IsFound (WrongKind fields.RestartRules) (wrong fields.RestartRules)))
+
+operator_only : (found : Option Data) → Only IsFound (operator_of found)
+operator_only None = only_err IsFound (Missing fields.RestartRules) (missing fields.RestartRules)
+operator_only (Some d) = operator_from_only (as_str d)
+
+code_from_only : (found : Option ℤ) → Only IsFound (code_from found)
+code_from_only None = only_err IsFound (WrongKind fields.RestartRules) (wrong fields.RestartRules)
+code_from_only (Some z) = only_if IsFound _ (Ok z) _ (only_ok IsFound z)
+    (only_err IsFound (WrongKind fields.RestartRules) (wrong fields.RestartRules))
+
+code_only : (d : Data) → Only IsFound (code_of d)
+code_only d = code_from_only (option_and_then as_i64 (as_number d))
+
+at_most_only : (most : ℕ) (items : List Data) → Only IsFound (at_most most items)
+at_most_only most items = only_bind IsFound _ _ (only_refused IsFound _ TooMany (λ is. absurd (cc)))
+    (λ within. only_ok IsFound items)
+
+code_items_only : (found : Option Data) → Only IsFound (code_items_of found)
+unfolding code_items_of
+code_items_only found =
+    let P = IsFound in
+    only_bind P _ _ (array_only fields.RestartRules found) (λ listed.
+    only_bind P _ _ (some_items_only fields.RestartRules listed) (λ some. at_most_only most_codes some))
+
+exit_codes_only : (d : Data) → Only IsFound (exit_codes_of d)
+unfolding exit_codes_of
+exit_codes_only d =
+    let P = IsFound in
+    only_bind P _ _ (object_only fields.RestartRules (Some d)) (λ rule.
+    only_bind P _ _ (action_only (field_at (codes "action") rule)) (λ restarts.
+    object_only fields.RestartRules (field_at (codes "exitCodes") rule)))
+
+rule_only : (d : Data) → Only IsFound (rule_of d)
+unfolding rule_of
+rule_only d =
+    let P = IsFound in
+    only_bind P _ _ (exit_codes_only d) (λ exit_codes.
+    only_bind P _ _ (operator_only (field_at (codes "operator") exit_codes)) (λ operator.
+    only_bind P _ _ (code_items_only (field_at (codes "values") exit_codes)) (λ items.
+    only_bind P _ _ (only_each P code_of code_only items) (λ values. only_ok P _))))
+
+rule_items_only : (found : Option Data) → Only IsFound (rule_items_of found)
+unfolding rule_items_of
+rule_items_only found = only_bind IsFound _ _ (array_or_none_only fields.RestartRules found)
+    (λ listed. at_most_only most_rules listed)
+
+own_policy_only : (found : Option Data) → Only IsFound (own_policy_of found)
+own_policy_only None = only_ok IsFound None
+own_policy_only (Some d) = only_bind IsFound (policy_from (as_str d)) _ (policy_from_only (as_str d))
+    (λ policy. only_ok IsFound (Some policy))
+
+restarts_only : (role : Role) (d : Data) → Only IsFound (restarts_of role d)
+unfolding restarts_of
+restarts_only role d =
+    let P = IsFound in
+    only_bind P _ _ (own_policy_only (field_at (codes "restartPolicy") d)) (λ policy.
+    only_bind P _ _ (rule_items_only (field_at (codes "restartPolicyRules") d)) (λ items.
+    only_bind P _ _ (only_each P rule_of rule_only items) (λ rules.
+    only_bind P _ _ (only_refused P _ Sidecar (λ is. absurd (cc))) (λ may_have. only_ok P _))))
+
+restarts_by_only : (own : Bool) (role : Role) (d : Data) → Only IsFound (restarts_by own role d)
+restarts_by_only true role d = restarts_only role d
+restarts_by_only false role d = only_ok IsFound None
+
 -- containers
 sidecar_from_only : (found : Option (List ℕ)) → Only IsFound (sidecar_from found)
 sidecar_from_only None = only_err IsFound Sidecar (λ is. absurd (cc))
@@ -222,24 +309,31 @@ role_only InitContainers (Some d) = sidecar_from_only (as_str d)
 role_only Containers None = only_ok IsFound App
 role_only Containers (Some d) = only_err IsFound Sidecar (λ is. absurd (cc))
 
-container_only : (place : Place) (d : Data) → Only IsFound (container_of place d)
+role_by_only : (own : Bool) (place : Place) (found : Option Data) → Only IsFound (role_by own place found)
+role_by_only true place found = only_bind IsFound (own_policy_of found) _ (own_policy_only found)
+    (λ policy. only_ok IsFound (role_with place policy))
+role_by_only false place found = role_only place found
+
+container_only : (own : Bool) (place : Place) (d : Data) → Only IsFound (container_of own place d)
 unfolding container_of
-container_only place d =
+container_only own place d =
     let P = IsFound in
     only_bind P _ _ (object_only (field_of place) (Some d)) (λ object.
     only_bind P _ _ (required_only is_label fields.ContainerName (field_at (codes "name") object)) (λ name.
-    only_bind P _ _ (role_only place (field_at (codes "restartPolicy") object)) (λ role.
+    only_bind P _ _ (role_by_only own place (field_at (codes "restartPolicy") object)) (λ role.
+    only_bind P _ _ (restarts_by_only own role object) (λ restarts.
     only_bind P _ _ (resources_only (field_at (codes "resources") object)) (λ resources.
-    only_bind P _ _ (probes_only role object) (λ probes. only_ok P _)))))
+    only_bind P _ _ (probes_only role object) (λ probes. only_ok P _))))))
 
-containers_only : (init_items items : List Data) → Only IsFound (containers_of init_items items)
+containers_only : (own : Bool) (init_items items : List Data) → Only IsFound (containers_of own init_items items)
 unfolding containers_of
-containers_only init_items items =
+containers_only own init_items items =
     let P = IsFound in
     let many = nat_lt most_containers (length init_items + length items) in
     only_bind P _ _ (only_refused P many TooMany (λ is. absurd (cc))) (λ few.
-    only_bind P _ _ (only_each P (container_of InitContainers) (container_only InitContainers) init_items) (λ init.
-    only_bind P _ _ (only_each P (container_of Containers) (container_only Containers) items) (λ apps.
+    only_bind P _ _ (only_each P (container_of own InitContainers) (container_only own InitContainers) init_items)
+    (λ init.
+    only_bind P _ _ (only_each P (container_of own Containers) (container_only own Containers) items) (λ apps.
     only_bind P _ _ (only_refused P (has_twice (init ++ apps)) DuplicateContainer (λ is. absurd (cc)))
     (λ apart. only_ok P (init ++ apps)))))
 
@@ -248,12 +342,13 @@ unfolding app_items_of
 app_items_only found = only_bind IsFound _ _ (array_only fields.Containers found)
     (λ listed. some_items_only fields.Containers listed)
 
-containers_in_only : (spec : Data) → Only IsFound (containers_in spec)
+containers_in_only : (own : Bool) (spec : Data) → Only IsFound (containers_in own spec)
 unfolding containers_in
-containers_in_only spec =
+containers_in_only own spec =
     let P = IsFound in
     only_bind P _ _ (array_or_none_only fields.InitContainers (field_at (codes "initContainers") spec)) (λ init_items.
-    only_bind P _ _ (app_items_only (field_at (codes "containers") spec)) (λ items. containers_only init_items items))
+    only_bind P _ _ (app_items_only (field_at (codes "containers") spec))
+    (λ items. containers_only own init_items items))
 
 metadata_only : (found : Option Data) → Only IsFound (metadata_of found)
 unfolding metadata_of
@@ -271,18 +366,18 @@ settings_only spec =
     (priority_only (field_at (codes "priority") spec))
     (grace_period_only (field_at (codes "terminationGracePeriodSeconds") spec))
 
-spec_only : (found : Option Data) → Only IsFound (spec_of found)
+spec_only : (own : Bool) (found : Option Data) → Only IsFound (spec_of own found)
 unfolding spec_of
-spec_only found =
+spec_only own found =
     let P = IsFound in
     only_bind P _ _ (object_only fields.Spec found) (λ spec.
     only_bind P _ _ (settings_only spec) (λ settings.
-    only_bind P _ _ (containers_in_only spec) (λ containers. only_ok P _)))
+    only_bind P _ _ (containers_in_only own spec) (λ containers. only_ok P _)))
 
-pub pod_at_only : (d : Data) → Only IsFound (pod_at d)
-unfolding pod_at
-pod_at_only d =
+pub pod_only : (own : Bool) (d : Data) → Only IsFound (pod_in own d)
+unfolding pod_in
+pod_only own d =
     let P = IsFound in
     only_bind P _ _ (object_only fields.Pod (Some d)) (λ pod.
     only_bind P _ _ (metadata_only (field_at (codes "metadata") pod)) (λ metadata.
-    only_bind P _ _ (spec_only (field_at (codes "spec") pod)) (λ spec. only_ok P _)))
+    only_bind P _ _ (spec_only own (field_at (codes "spec") pod)) (λ spec. only_ok P _)))

@@ -31,10 +31,11 @@ use Rattle.manifest.specs.rule.Resources.{some_above}
 use Rattle.manifest_fields.specs.rule.ResourceFields.{quantity_at, amounts_in, amounts_of, resources_in, resources_of}
 use Rattle.json_fields.specs.rule.Numbers.{max_int32, is_int32}
 use Rattle.manifest_fields.specs.rule.ProbeFields.{number_of, probe_in, probe_of, some_probes, unprobed, probes_of}
-use Rattle.manifest_reader.specs.rule.Manifest.{policy_from, policy_of, priority_from, priority_of, grace_period_from}
+use Rattle.manifest_reader.specs.rule.Policies.{policy_from}
+use Rattle.manifest_reader.specs.rule.Manifest.{policy_of, priority_from, priority_of, grace_period_from}
 use Rattle.manifest_reader.specs.rule.Manifest.{grace_period_of, field_of, sidecar_from, role_of, container_of}
 use Rattle.manifest_reader.specs.rule.Manifest.{containers_of, app_items_of, containers_in, metadata_of, settings_in}
-use Rattle.manifest_reader.specs.rule.Manifest.{spec_of, pod_at}
+use Rattle.manifest_reader.specs.rule.Manifest.{role_by, restarts_by, spec_of, pod_in, pod_at}
 use Rattle.manifest_reader.specs.state.Found.{fault_of, fails_if, is_so, must_be, may_be, is_some_and, is_object}
 use Rattle.manifest_reader.specs.state.Found.{is_array}
 use Rattle.manifest_reader.specs.state.Found.{is_text, is_policy, is_priority, is_grace_period, items_from, items_in}
@@ -296,7 +297,7 @@ probes_read InitContainers (Some policy) role d e = rw (is_sidecar (as_str polic
 probes_read Containers None role d e = let is : role ≡ App = cc in rw is (some_probes_read d)
 probes_read Containers (Some policy) role d e = absurd (cc)
 
-container_read : (place : Place) (d : Data) → Reads (container_of place d) (container_rows place d)
+container_read : (place : Place) (d : Data) → Reads (container_of false place d) (container_rows place d)
 unfolding container_of container_rows
 container_read place d =
     let name = field_at (codes "name") d in
@@ -323,14 +324,16 @@ required_given test field (Some d) s e = there (as_str d) e
     there None e = absurd (cc)
     there (Some text) e = tested (test text) text e
 
-name_given : (place : Place) (d : Data) (c : ContainerSpec) → container_of place d ≡ Ok c → c.name ≡ name_in d
+name_given : (own : Bool) (place : Place) (d : Data) (c : ContainerSpec) → container_of own place d ≡ Ok c
+    → c.name ≡ name_in d
 unfolding container_of
-name_given place d c e =
+name_given own place d c e =
     let object = bind_ok (object_of (field_of place) (Some d)) _ c e in
     let same = object_same (field_of place) d object.0 object.1 in
     let name = bind_ok (required_text is_label fields.ContainerName (field_at (codes "name") object.0)) _ c object.2 in
-    let role = bind_ok (role_of place (field_at (codes "restartPolicy") object.0)) _ c name.2 in
-    let resources = bind_ok (resources_of (field_at (codes "resources") object.0)) _ c role.2 in
+    let role = bind_ok (role_by own place (field_at (codes "restartPolicy") object.0)) _ c name.2 in
+    let restarts = bind_ok (restarts_by own role.0 object.0) _ c role.2 in
+    let resources = bind_ok (resources_of (field_at (codes "resources") object.0)) _ c restarts.2 in
     let probes = bind_ok (probes_of role.0 object.0) _ c resources.2 in
     let is : name.0 ≡ c.name = named probes.2 in
     let read : List ℕ → Option (List ℕ) → List ℕ = λ default o. unwrap_or o default in
@@ -339,14 +342,14 @@ name_given place d c e =
     named : {a b : ContainerSpec} → ◌≡◌ {A = Result ContainerSpec ManifestFault} (Ok a) (Ok b) → a.name ≡ b.name
     named {a = a} {b = b} e = let is : a ≡ b = cc in ap (λ (x : ContainerSpec). x.name) is
 
-names_given : (place : Place) (ds : List Data) (cs : List ContainerSpec) → each (container_of place) ds ≡ Ok cs
-    → names_of cs ≡ map name_in ds
-names_given place [] cs e = let is : cs ≡ [] = cc in rw is refl
-names_given place (d ∷ ds) cs e =
-    let one = bind_ok (container_of place d) _ cs e in
-    let rest = bind_ok (each (container_of place) ds) _ cs one.2 in
+names_given : (own : Bool) (place : Place) (ds : List Data) (cs : List ContainerSpec)
+    → each (container_of own place) ds ≡ Ok cs → names_of cs ≡ map name_in ds
+names_given own place [] cs e = let is : cs ≡ [] = cc in rw is refl
+names_given own place (d ∷ ds) cs e =
+    let one = bind_ok (container_of own place d) _ cs e in
+    let rest = bind_ok (each (container_of own place) ds) _ cs one.2 in
     let is : one.0 ∷ rest.0 ≡ cs = cc in
-    rw (← is, name_given place d one.0 one.1, names_given place ds rest.0 rest.1) refl
+    rw (← is, name_given own place d one.0 one.1, names_given own place ds rest.0 rest.1) refl
 
 any_named : (name : List ℕ) (cs : List ContainerSpec) → list_any (λ (c : ContainerSpec). bytes_eq c.name name)
     cs ≡ list_any (λ (other : List ℕ). bytes_eq other name) (names_of cs)
@@ -366,29 +369,29 @@ named_in [] ys = refl
 named_in (x ∷ xs) ys = ap (λ (names : List (List ℕ)). name_in x ∷ names) (named_in xs ys)
 
 -- two of the containers have one name where two of the items have
-pub doubled : (init_items items : List Data) (init apps : List ContainerSpec)
-    → each (container_of InitContainers) init_items ≡ Ok init → each (container_of Containers) items ≡ Ok apps
+pub doubled : (own : Bool) (init_items items : List Data) (init apps : List ContainerSpec)
+    → each (container_of own InitContainers) init_items ≡ Ok init → each (container_of own Containers) items ≡ Ok apps
     → has_twice (init ++ apps) ≡ has_double (map name_in (init_items ++ items))
-doubled init_items items init apps f g =
+doubled own init_items items init apps f g =
     twice_double (init ++ apps)
     ∙ ap has_double (names_joined init apps
-    ∙ (rw (names_given InitContainers init_items init f, names_given Containers items apps g) refl)
+    ∙ (rw (names_given own InitContainers init_items init f, names_given own Containers items apps g) refl)
     ∙ sym (named_in init_items items))
 
-containers_read : (init_items items : List Data) → Reads (containers_of init_items items)
+containers_read : (init_items items : List Data) → Reads (containers_of false init_items items)
     (containers_rows init_items items)
 unfolding containers_of containers_rows
 containers_read init_items items =
     let many = nat_lt most_containers (length init_items + length items) in
     step_row (refused_if many TooMany) _ _ _ (refused many TooMany) (λ u e.
-    step (each (container_of InitContainers) init_items) _ (flat_map (container_rows InitContainers) init_items) _
-    (each_rows (container_of InitContainers) (container_rows InitContainers) (container_read InitContainers)
+    step (each (container_of false InitContainers) init_items) _ (flat_map (container_rows InitContainers) init_items) _
+    (each_rows (container_of false InitContainers) (container_rows InitContainers) (container_read InitContainers)
     init_items) (λ init f.
-    step (each (container_of Containers) items) _ (flat_map (container_rows Containers) items) _
-    (each_rows (container_of Containers) (container_rows Containers) (container_read Containers) items) (λ apps g.
+    step (each (container_of false Containers) items) _ (flat_map (container_rows Containers) items) _
+    (each_rows (container_of false Containers) (container_rows Containers) (container_read Containers) items) (λ apps g.
     step_row (refused_if (has_twice (init ++ apps)) DuplicateContainer) _ _ _
     (refused (has_twice (init ++ apps)) DuplicateContainer ∙ ap (λ (b : Bool). fails_if b DuplicateContainer)
-    (doubled init_items items init apps f g)) (λ v h. read _))))
+    (doubled false init_items items init apps f g)) (λ v h. read _))))
 
 -- a pod
 metadata_read : (found : Option Data) → Reads (metadata_of found) (metadata_rows found)
@@ -410,7 +413,7 @@ containers_in_rows spec =
     ∷ containers_rows (items_in (field_at (codes "initContainers") spec))
     (items_in (field_at (codes "containers") spec))
 
-containers_in_read : (spec : Data) → Reads (containers_in spec) (containers_in_rows spec)
+containers_in_read : (spec : Data) → Reads (containers_in false spec) (containers_in_rows spec)
 unfolding containers_in
 containers_in_read spec =
     let init_containers = field_at (codes "initContainers") spec in
@@ -418,19 +421,19 @@ containers_in_read spec =
     array_step fields.InitContainers init_containers _ _
     (items_step containers _ _ (containers_read (items_in init_containers) (items_in containers)))
 
-spec_read : (found : Option Data) → Reads (spec_of found) (spec_rows found)
+spec_read : (found : Option Data) → Reads (spec_of false found) (spec_rows found)
 unfolding spec_of spec_rows
 spec_read None = record { same = refl }
 spec_read (Some d) =
     object_step fields.Spec d _ _ (
     step (settings_in d) _ (setting_rows d) _ (settings_read d) (λ settings e.
-    last_step (containers_in d) _ (containers_in_rows d) (containers_in_read d)))
+    last_step (containers_in false d) _ (containers_in_rows d) (containers_in_read d)))
 
 pub pod_read : (d : Data) → Reads (pod_at d) (rows_of d)
-unfolding pod_at rows_of
+unfolding pod_in rows_of
 pod_read d =
     let metadata = field_at (codes "metadata") d in
     let spec = field_at (codes "spec") d in
     object_step fields.Pod d _ _ (
     step (metadata_of metadata) _ (metadata_rows metadata) _ (metadata_read metadata) (λ m e.
-    last_step (spec_of spec) _ (spec_rows spec) (spec_read spec)))
+    last_step (spec_of false spec) _ (spec_rows spec) (spec_read spec)))

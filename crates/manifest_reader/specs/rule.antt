@@ -1,1 +1,3 @@
+pub mod Policies
+pub mod OwnRestarts
 pub mod Manifest

@@ -1,5 +1,5 @@
-//! Whether a manifest can be read, or its first fault, without memory: where a growth was refused, the reading may not
-//! have come to the fault.
+//! Whether a manifest can be read, or its first fault, without an allocation: after a failed allocation the reading may
+//! not have come to the fault.
 
 ghost use Rattle.std.specs.Prelude.{◌≡◌, map, option_map, bytes_eq};
 ghost use Rattle.std.specs.List.{list_any};
@@ -11,11 +11,12 @@ ghost use Rattle.manifest_fields.specs.state.Grammar.{passes};
 ghost use Rattle.manifest_reader.specs.state.Checks.{apart_at, is_name_twice, is_name_twice_before};
 ghost use Rattle.manifest_reader.specs.state.Found.{name_in};
 ghost use Rattle.manifest_reader.specs.rule.Manifest.{container_of, containers_of, containers_in, metadata_of};
-ghost use Rattle.manifest_reader.specs.rule.Manifest.{pod_at};
+ghost use Rattle.manifest_reader.specs.rule.Manifest.{restarts_by, pod_in};
 
-use crate::reading::{app_items_of, few, field_of, role_of, settings_in};
+use crate::own_restarts::check_restarts;
+use crate::reading::{app_items_of, few, field_of, role_by, settings_in};
 use json_fields::{field, text_at};
-use manifest::{Place, is_label, is_name};
+use manifest::{Place, Role, is_label, is_name};
 use manifest_fields::{
     Field, Grammar, ManifestFault, array_or_none, object, probes_of, resources_of,
 };
@@ -83,23 +84,34 @@ fn check_metadata(found: Option<&Value>) -> Result<(), ManifestFault>
     Ok(())
 }
 
+fn check_restarts_by(own: bool, role: Role, container: &Value) -> Result<(), ManifestFault>
+    ensures { result ≡ checked (restarts_by own role (view container.now)) }
+{
+    if own {
+        check_restarts(role, container)
+    } else {
+        Ok(())
+    }
+}
+
 #[tactic(auto, unfolding(crate::specs::rule::Manifest::container_of))]
-fn check_container(place: Place, value: &Value) -> Result<(), ManifestFault>
-    ensures { result ≡ checked (container_of place (view value.now)) }
+fn check_container(own: bool, place: Place, value: &Value) -> Result<(), ManifestFault>
+    ensures { result ≡ checked (container_of own place (view value.now)) }
 {
     let object = object(field_of(place), Some(value))?;
     required_text(Grammar::Label, Field::ContainerName, field(object, "name"))?;
-    let role = role_of(place, field(object, "restartPolicy"))?;
+    let role = role_by(own, place, field(object, "restartPolicy"))?;
+    check_restarts_by(own, role, object)?;
     resources_of(field(object, "resources"))?;
     probes_of(role, object)?;
     Ok(())
 }
 
-fn check_each(place: Place, values: &[Value]) -> Result<(), ManifestFault>
-    ensures { result ≡ checked (each (container_of place) (map view values.now)) }
+fn check_each(own: bool, place: Place, values: &[Value]) -> Result<(), ManifestFault>
+    ensures { result ≡ checked (each (container_of own place) (map view values.now)) }
 {
     for value in values {
-        check_container(place, value)?;
+        check_container(own, place, value)?;
     }
     Ok(())
 }
@@ -131,7 +143,7 @@ fn is_name_twice(values: &[Value]) -> bool
     false
 }
 
-/// Whether two of the items and of those that stand behind them have one name.
+/// Whether two of the items and of those that come after them have one name.
 fn is_name_twice_before(values: &[Value], behind: &[Value]) -> bool
     ensures { result ≡ is_name_twice_before (λ v. name_in (view v)) values.now behind.now }
 {
@@ -158,32 +170,36 @@ fn check_apart(init_items: &[Value], items: &[Value]) -> Result<(), ManifestFaul
 }
 
 #[tactic(auto, using(crate::proofs::CheckedSteps::containers_checked))]
-fn check_containers_of(init_items: &[Value], items: &[Value]) -> Result<(), ManifestFault>
-    ensures { result ≡ checked (containers_of (map view init_items.now) (map view items.now)) }
+fn check_containers_of(
+    own: bool,
+    init_items: &[Value],
+    items: &[Value],
+) -> Result<(), ManifestFault>
+    ensures { result ≡ checked (containers_of own (map view init_items.now) (map view items.now)) }
 {
     few(init_items, items)?;
-    check_each(Place::InitContainers, init_items)?;
-    check_each(Place::Containers, items)?;
+    check_each(own, Place::InitContainers, init_items)?;
+    check_each(own, Place::Containers, items)?;
     check_apart(init_items, items)
 }
 
 #[tactic(auto, unfolding(crate::specs::rule::Manifest::containers_in))]
-fn check_containers_in(spec: &Value) -> Result<(), ManifestFault>
-    ensures { result ≡ checked (containers_in (view spec.now)) }
+fn check_containers_in(own: bool, spec: &Value) -> Result<(), ManifestFault>
+    ensures { result ≡ checked (containers_in own (view spec.now)) }
 {
     let init_items = array_or_none(Field::InitContainers, field(spec, "initContainers"))?;
     let items = app_items_of(field(spec, "containers"))?;
-    check_containers_of(init_items, items)
+    check_containers_of(own, init_items, items)
 }
 
-/// Whether a manifest can be read, or its first fault. It takes no memory.
+/// Whether a manifest can be read, or its first fault. Doesn't allocate.
 #[tactic(auto, using(crate::proofs::CheckedSteps::pod_checked))]
-pub(crate) fn check_pod(value: &Value) -> Result<(), ManifestFault>
-    ensures { result ≡ checked (pod_at (view value.now)) }
+pub(crate) fn check_pod(own: bool, value: &Value) -> Result<(), ManifestFault>
+    ensures { result ≡ checked (pod_in own (view value.now)) }
 {
     let pod = object(Field::Pod, Some(value))?;
     check_metadata(field(pod, "metadata"))?;
     let spec = object(Field::Spec, field(pod, "spec"))?;
     settings_in(spec)?;
-    check_containers_in(spec)
+    check_containers_in(own, spec)
 }

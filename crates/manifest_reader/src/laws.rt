@@ -2,17 +2,17 @@
 //! functions do nothing; their contracts are the laws.
 ghost use Rattle.manifest_reader.specs.state.Laws as laws;
 
-/// A manifest is refused exactly with the fault of the first check of the table that it fails.
+/// A manifest is rejected exactly with the fault of the first check of the table that it fails.
 pub fn first_check()
     ensures { laws.FirstCheck }
 {}
 
-/// A manifest describes a pod exactly where it passes every check of the table.
+/// A manifest describes a pod exactly if it passes every check of the table.
 pub fn every_check()
     ensures { laws.EveryCheck }
 {}
 
-/// No manifest is refused because memory ran out: that is a call's answer alone.
+/// No manifest is rejected because an allocation failed: only a call returns that.
 pub fn never_memory()
     ensures { laws.NeverMemory }
 {}

@@ -3,7 +3,8 @@
 
 mod checks;
 pub mod laws;
+mod own_restarts;
 mod reading;
 
 pub use manifest_fields::{Field, ManifestFault};
-pub use reading::read_pod;
+pub use reading::{read_pod, read_pod_in};

@@ -14,13 +14,15 @@ ghost use Rattle.manifest_reader.specs.rule.Manifest.{policy_of, priority_from, 
 ghost use Rattle.manifest_reader.specs.rule.Manifest.{grace_period_of, field_of, sidecar_from, role_of, container_of};
 ghost use Rattle.manifest_reader.specs.rule.Manifest.{few};
 ghost use Rattle.manifest_reader.specs.rule.Manifest.{apart, containers_of, app_items_of, containers_in, metadata_of};
-ghost use Rattle.manifest_reader.specs.rule.Manifest.{settings_in, pod_at};
+ghost use Rattle.manifest_reader.specs.rule.Manifest.{role_by, restarts_by, settings_in, pod_in, pod_at};
+ghost use Rattle.manifest_reader.specs.rule.OwnRestarts.{role_with};
 
 use crate::checks::check_pod;
+use crate::own_restarts::{own_policy_of, policy_in, restarts_of, role_with};
 use json_fields::field;
 use manifest::{
-    ContainerList, ContainerSpec, GracePeriod, MOST_CONTAINERS, Place, PodSpec, Policy,
-    ReadinessGates, Resources, Role, Text,
+    ContainerList, ContainerSpec, GracePeriod, MOST_CONTAINERS, OwnRestarts, Place, PodSpec,
+    Policy, ReadinessGates, Resources, Role, Text,
 };
 use manifest_fields::{
     Field, Grammar, ManifestFault, array, array_or_none, object, probes_of, required_text,
@@ -33,14 +35,9 @@ use std::alloc::{AllocError, Global};
 fn policy_of(found: Option<&Value>) -> Result<Policy, ManifestFault>
     ensures { GivesExactly (λ p. p) result (policy_of (option_map (λ v. view v.now) found.entry)) }
 {
-    let Some(value) = found else {
-        return Ok(Policy::Always);
-    };
-    match value.as_str() {
-        Some("Always") => Ok(Policy::Always),
-        Some("OnFailure") => Ok(Policy::OnFailure),
-        Some("Never") => Ok(Policy::Never),
-        _ => Err(ManifestFault::WrongKind(Field::RestartPolicy)),
+    match found {
+        None => Ok(Policy::Always),
+        Some(value) => policy_in(value),
     }
 }
 
@@ -112,9 +109,54 @@ pub(crate) fn role_of(place: Place, own_policy: Option<&Value>) -> Result<Role, 
     }
 }
 
+/// What a container is to its pod; `own` is whether the format reads its own restart policy.
+pub(crate) fn role_by(
+    own: bool,
+    place: Place,
+    own_policy: Option<&Value>,
+) -> Result<Role, ManifestFault>
+    ensures gives { GivesExactly (λ r. r) result (role_by own place (option_map (λ v. view v.now) own_policy.entry)) }
+    ensures may_have { IfOk result (MayHave place) }
+{
+    if own {
+        Ok(own_role(place, own_policy_of(own_policy)?))
+    } else {
+        role_of(place, own_policy)
+    }
+}
+
+/// The role of a container with this policy of its own.
+fn own_role(place: Place, policy: Option<Policy>) -> Role
+    ensures value { result ≡ role_with place policy }
+    ensures may_have { MayHave place result }
+{
+    role_with(place, policy)
+}
+
+/// What a container has of its own to decide on its restarts, in a format that reads it or not.
+fn restarts_by(
+    alloc: Global,
+    own: bool,
+    role: Role,
+    container: &Value,
+) -> Result<Option<OwnRestarts>, ManifestFault>
+    ensures { GivesUnless is_memory (λ o. o) result (restarts_by own role (view container.now)) }
+{
+    if own {
+        restarts_of(alloc, role, container)
+    } else {
+        Ok(None)
+    }
+}
+
 #[tactic(auto, unfolding(crate::specs::rule::Manifest::container_of))]
-fn container_of(alloc: Global, place: Place, value: &Value) -> Result<ContainerSpec, ManifestFault>
-    ensures gives { GivesUnless is_memory (λ c. c) result (container_of place (view value.now)) }
+fn container_of(
+    alloc: Global,
+    own: bool,
+    place: Place,
+    value: &Value,
+) -> Result<ContainerSpec, ManifestFault>
+    ensures gives { GivesUnless is_memory (λ c. c) result (container_of own place (view value.now)) }
     ensures of { IfOk result (IsOf place) }
 {
     let object = object(field_of(place), Some(value))?;
@@ -124,25 +166,30 @@ fn container_of(alloc: Global, place: Place, value: &Value) -> Result<ContainerS
         Field::ContainerName,
         field(object, "name"),
     )?;
-    let role = role_of(place, field(object, "restartPolicy"))?;
+    let role = role_by(own, place, field(object, "restartPolicy"))?;
+    let own_restarts = restarts_by(alloc, own, role, object)?;
     let resources = resources_of(field(object, "resources"))?;
     let probes = probes_of(role, object)?;
-    Ok(ContainerSpec::new(name, role, resources, probes))
+    let mut container = ContainerSpec::new(name, role, resources, probes);
+    container.own_restarts = own_restarts;
+    Ok(container)
 }
 
 #[tactic(auto, using(crate::proofs::Placed::all_of_none))]
 fn containers(
     alloc: Global,
+    own: bool,
     place: Place,
     values: &[Value],
 ) -> Result<Vec<ContainerSpec>, ManifestFault>
-    ensures gives { GivesUnless is_memory (λ cs. cs.items) result (each (container_of place) (map view values.now)) }
+    ensures gives { GivesUnless is_memory (λ cs. cs.items) result
+        (each (container_of own place) (map view values.now)) }
     ensures as_many { IfOk result (λ cs. length cs.items ≡ length values.now) }
     ensures of { IfOk result (λ cs. AllOf place cs.items) }
 {
     let mut all = Vec::new(alloc);
     for value in values {
-        let container = container_of(alloc, place, value)?;
+        let container = container_of(alloc, own, place, value)?;
         let Ok(()) = all.push(container) else {
             return Err(ManifestFault::OutOfMemory);
         };
@@ -205,15 +252,17 @@ fn joined(
 #[tactic(auto, unfolding(crate::specs::rule::Manifest::containers_of))]
 fn containers_of(
     alloc: Global,
+    own: bool,
     init_items: &[Value],
     items: &[Value],
 ) -> Result<ContainerList, ManifestFault>
     requires { 0 < length items.now }
-    ensures { GivesUnless is_memory (λ cs. cs) result (containers_of (map view init_items.now) (map view items.now)) }
+    ensures { GivesUnless is_memory (λ cs. cs) result
+        (containers_of own (map view init_items.now) (map view items.now)) }
 {
     few(init_items, items)?;
-    let init = containers(alloc, Place::InitContainers, init_items)?;
-    let apps = containers(alloc, Place::Containers, items)?;
+    let init = containers(alloc, own, Place::InitContainers, init_items)?;
+    let apps = containers(alloc, own, Place::Containers, items)?;
     let all = joined(init, apps)?;
     apart(&all)?;
     Ok(ContainerList::new(all))
@@ -231,12 +280,12 @@ pub(crate) fn app_items_of(found: Option<&Value>) -> Result<&[Value], ManifestFa
 }
 
 #[tactic(auto, unfolding(crate::specs::rule::Manifest::containers_in))]
-fn containers_in(alloc: Global, spec: &Value) -> Result<ContainerList, ManifestFault>
-    ensures { GivesUnless is_memory (λ cs. cs) result (containers_in (view spec.now)) }
+fn containers_in(alloc: Global, own: bool, spec: &Value) -> Result<ContainerList, ManifestFault>
+    ensures { GivesUnless is_memory (λ cs. cs) result (containers_in own (view spec.now)) }
 {
     let init_items = array_or_none(Field::InitContainers, field(spec, "initContainers"))?;
     let items = app_items_of(field(spec, "containers"))?;
-    containers_of(alloc, init_items, items)
+    containers_of(alloc, own, init_items, items)
 }
 
 /// What is read of a pod's `metadata`.
@@ -262,7 +311,7 @@ fn metadata_of(alloc: Global, found: Option<&Value>) -> Result<Metadata, Manifes
     Ok(Metadata { name, namespace })
 }
 
-/// What a pod's `spec` says of the pod as a whole.
+/// What a pod's `spec` has on the pod as a whole.
 #[derive(Clone, Copy)]
 pub(crate) struct Settings {
     policy: Policy,
@@ -281,15 +330,15 @@ pub(crate) fn settings_in(spec: &Value) -> Result<Settings, ManifestFault>
     })
 }
 
-#[tactic(auto, unfolding(crate::specs::rule::Manifest::pod_at, crate::specs::rule::Manifest::spec_of))]
-fn pod_of(alloc: Global, value: &Value) -> Result<PodSpec, ManifestFault>
-    ensures { GivesUnless is_memory (λ p. p) result (pod_at (view value.now)) }
+#[tactic(auto, unfolding(crate::specs::rule::Manifest::pod_in, crate::specs::rule::Manifest::spec_of))]
+fn pod_of(alloc: Global, own: bool, value: &Value) -> Result<PodSpec, ManifestFault>
+    ensures { GivesUnless is_memory (λ p. p) result (pod_in own (view value.now)) }
 {
     let pod = object(Field::Pod, Some(value))?;
     let metadata = metadata_of(alloc, field(pod, "metadata"))?;
     let spec = object(Field::Spec, field(pod, "spec"))?;
     let settings = settings_in(spec)?;
-    let containers = containers_in(alloc, spec)?;
+    let containers = containers_in(alloc, own, spec)?;
     Ok(PodSpec {
         name: metadata.name,
         namespace: metadata.namespace,
@@ -311,10 +360,21 @@ pub fn read_pod(alloc: Global, value: &Value) -> Result<PodSpec, ManifestFault>
     ensures gives { GivesUnless is_memory (λ p. p) result (pod_at (view value.now)) }
     ensures faults { IfErr (pod_at (view value.now)) (IsErrOf result) }
 {
-    match pod_of(alloc, value) {
+    read_pod_in(alloc, false, value)
+}
+
+/// The pod that a manifest describes, or the manifest's first fault, in the order of [`read_pod`]. With `own` a
+/// container may have a restart policy of its own, and then, directly after it, restart rules; without `own` the
+/// manifest is read as [`read_pod`] reads it. `OutOfMemory` only if the manifest has no fault. (Kubernetes, "Pod
+/// Lifecycle", "Individual container restart policy and rules".)
+pub fn read_pod_in(alloc: Global, own: bool, value: &Value) -> Result<PodSpec, ManifestFault>
+    ensures gives { GivesUnless is_memory (λ p. p) result (pod_in own (view value.now)) }
+    ensures faults { IfErr (pod_in own (view value.now)) (IsErrOf result) }
+{
+    match pod_of(alloc, own, value) {
         Ok(pod) => Ok(pod),
         Err(_) => {
-            check_pod(value)?;
+            check_pod(own, value)?;
             Err(ManifestFault::OutOfMemory)
         }
     }

@@ -26,9 +26,9 @@ pub enum Version {
     One,
     /// A pod line may follow a tick line.
     Two,
-    /// This project's extended format: as version 2; also pods may leave (lines of the kind `gone`), evictions may pause
-    /// or be recorded ones, and pod lines, tick lines and entries may have the members `spared`, `judged`, `unsampled`,
-    /// `deleting` and `failed`.
+    /// This project's extended format: as version 2; also pods may leave (lines of the kind `gone`), evictions may
+    /// pause or be recorded ones, and pod lines, tick lines and entries may have the members `spared`, `judged`,
+    /// `unsampled`, `deleting` and `failed`.
     Three,
 }
 

@@ -1,5 +1,6 @@
 -- Which fault a node line answers.
-use Rattle.std.proofs.Common.{◌≡◌, ◌⊎◌, inl, inr, ℕ, false, List, Option, Some, None, is_some, Result, Ok, Err, refl, ap, ◌∙◌}
+use Rattle.std.proofs.Common.{◌≡◌, ◌⊎◌, inl, inr, ℕ, false, List, Option, Some, None, is_some, Result, Ok, Err, refl}
+use Rattle.std.proofs.Common.{ap, ◌∙◌}
 use Rattle.std.specs.Prelude.{option_and_then, codes}
 use Rattle.serde_json.specs.Data.{Data}
 use Rattle.serde_json.specs.Find.{as_bool, as_object, as_str}
@@ -162,7 +163,8 @@ unfolding settings_in
 settings_only d =
     let P = IsConfig in
     only_bind P _ _ (version_only (field_at (codes "version") d)) (λ a.
-    only_bind P _ _ (delay_in_only a (field_at (codes "maxRestartDelay") d) (field_at (codes "crashLoopBackOff") d)) (λ b.
+    only_bind P _ _ (delay_in_only a (field_at (codes "maxRestartDelay") d) (field_at (codes "crashLoopBackOff") d))
+    (λ b.
     only_bind P _ _ (flag_only (field_at (codes "dedicatedImagefs") d)) (λ c.
     only_bind P _ _ (seconds_only (field_at (codes "evictionMaxPodGracePeriod") d)) (λ f.
     only_bind P _ _ (duration_only (field_at (codes "evictionPressureTransitionPeriod") d)) (λ g.

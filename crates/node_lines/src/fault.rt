@@ -1,4 +1,4 @@
-//! Why a node line was refused.
+//! Why a node line was rejected.
 
 ghost use Rattle.std.specs.Prelude.{◌≡◌};
 ghost use Rattle.node_lines.specs.rule.Maps.{or_config};

@@ -17,7 +17,7 @@ use node_config::{NodeConfig, Version};
 use serde_json::Value;
 use std::alloc::Global;
 
-/// What a node line says besides its name and its thresholds.
+/// What a node line has in addition to its name and its thresholds.
 #[derive(Clone, Copy)]
 pub(crate) struct Settings {
     version: Version,
@@ -196,10 +196,9 @@ fn settings_in(node: &Value) -> Result<Settings, NodeFault>
     })
 }
 
-/// The configuration that a node line gives. The fault is `Config` where any field is refused, and
-/// `SoftWithoutGrace` where none is and a soft threshold has no grace period; `OutOfMemory` where
-/// neither is and there is no memory for the name, which is copied behind every check. (Kubernetes,
-/// "Node-pressure Eviction"; "Kubelet Configuration".)
+/// The configuration that a node line gives. The fault is `Config` if any field is rejected, and `SoftWithoutGrace` if
+/// none is and a soft threshold has no grace period; `OutOfMemory` if there is neither fault and there is no memory for
+/// the name, which is copied after every check. (Kubernetes, "Node-pressure Eviction"; "Kubelet Configuration".)
 #[tactic(auto, unfolding(crate::specs::rule::Node::node_of))]
 pub fn node_of(alloc: Global, node: &Value) -> Result<NodeConfig, NodeFault>
     ensures gives { GivesUnless is_memory (λ n. n) result (node_of (view node.now)) }

@@ -28,7 +28,7 @@ fn shown_at(shown: &[Option<PodObs>], number: usize) -> Option<&PodObs>
     shown[number].as_ref()
 }
 
-/// Whether the observation is of this moment, and may be handed to the pod.
+/// Whether the observation is of this moment, and may be given to the pod.
 fn may_be_handed(piece: &PodPiece, observed: &PodObs, at: u64) -> bool
     requires free { piece.now.waiting ≡ 0 }
     requires later { EndsBefore piece.now.handed at }
@@ -37,8 +37,8 @@ fn may_be_handed(piece: &PodPiece, observed: &PodObs, at: u64) -> bool
     observed.at() == at && at < END_OF_TIME && piece.accepts(observed)
 }
 
-/// Whether the moment is later than all that was handed to the pod, and what is shown of it, if anything, is of this
-/// moment and may be handed to it.
+/// Whether the moment is later than all that the pod has, and what is shown of it, if anything, is of this moment and
+/// may be given to it.
 fn is_next(piece: &PodPiece, shown: Option<&PodObs>, at: u64) -> bool
     requires { piece.now.waiting ≡ 0 }
     ensures { IsTrue result ↔ IsNextAt at piece.now (option_map (λ o. o.now) shown.entry) }
@@ -52,8 +52,8 @@ fn is_next(piece: &PodPiece, shown: Option<&PodObs>, at: u64) -> bool
     }
 }
 
-/// Whether the moment is later than all that was handed to the pods, and what is shown of each, if anything, is of this
-/// moment and may be handed to it.
+/// Whether the moment is later than all that the pods have, and what is shown of each, if anything, is of this moment
+/// and may be given to it.
 pub(crate) fn are_next(pieces: &[PodPiece], shown: &[Option<PodObs>], at: u64) -> bool
     requires many { length shown.now ≡ length pieces.now }
     requires free { AreFree pieces.now }
@@ -67,7 +67,7 @@ pub(crate) fn are_next(pieces: &[PodPiece], shown: &[Option<PodObs>], at: u64) -
     true
 }
 
-/// Hands the pod with the number what is shown of it, if it is present.
+/// Gives the pod with the number what is shown of it, if it is present.
 fn hand_at(
     pieces: &mut Vec<PodPiece>,
     number: usize,
@@ -85,7 +85,7 @@ fn hand_at(
     Ok(())
 }
 
-/// Hands each pod that is present what is shown of it, by number; at an `Err` those below some number.
+/// Gives each pod that is present what is shown of it, by number; after an `Err` the pods below some number have it.
 pub(crate) fn hand_all(
     pieces: &mut Vec<PodPiece>,
     shown: Vec<Option<PodObs>>,

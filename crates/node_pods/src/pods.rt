@@ -38,8 +38,8 @@ impl Model for NodePods {
 }
 
 impl NodePods {
-    /// No pods, on a node with this maximum restart delay. Whether images have a file system of their own
-    /// decides how pods are ranked. It takes no memory.
+    /// No pods, on a node with this maximum restart delay. Whether images have a file system of their own decides how
+    /// pods are ranked. Doesn't allocate.
     pub fn new(
         alloc: Global,
         max_restart_delay: MaxRestartDelay,
@@ -55,7 +55,7 @@ impl NodePods {
         }
     }
 
-    /// The pods by their numbers. All that was handed to them has come into their statuses.
+    /// The pods by their numbers. All their ticks have come into their statuses.
     pub fn pieces(&self) -> &[PodPiece]
         ensures same { result.now ≡ self.now.pieces }
         ensures placed { ArePlaced self.now }
@@ -63,8 +63,7 @@ impl NodePods {
         &self.pieces
     }
 
-    /// A pod arrives, with the next number. An `Err` says that memory was refused, and changes
-    /// nothing.
+    /// Adds a pod, with the next number. Returns `Err` if an allocation fails; the pods are then as they were.
     pub fn arrive(&mut self, pod: PodSpec) -> Result<(), AllocError>
         ensures ok { OnOk result (self.new ≡ with_pod self.old pod) }
         ensures err { OnErr result (self.new ≡ self.old) }
@@ -75,9 +74,9 @@ impl NodePods {
         Ok(())
     }
 
-    /// Whether the tick may come next: it says of each pod what it shows of it, at the tick's moment, or that the pod
-    /// is not present; its moment is later than that of each pod's last tick, and before `END_OF_TIME` where a pod is
-    /// present; and each container's listing may come after its earlier ones. It takes no memory.
+    /// Whether the tick may come next: it has for each pod what it shows of it, at the tick's moment, or that the pod
+    /// is not present; its moment is later than the moment of each pod's last tick, and before `END_OF_TIME` if a pod
+    /// is present; and each container's listing may come after its earlier ones. Doesn't allocate.
     pub fn fits(&self, tick: &TickObs) -> bool
         ensures { IsTrue result ↔ Fits self.now tick.now }
     {
@@ -85,7 +84,7 @@ impl NodePods {
         shown.len() == self.pieces.len() && are_next(&self.pieces, shown, tick.at)
     }
 
-    /// These pods as they are, to which ticks may be handed from now on: a round begins.
+    /// These pods as they are, ready for the ticks of a round that begins.
     pub fn open(self) -> OpenPods
         ensures { result ≡ self }
     {
@@ -103,10 +102,10 @@ impl NodePods {
         }
     }
 
-    /// The number of the pod that is evicted first under the signal by the tick of the moment, in seconds; none, where
-    /// all pods that are present have ended. The index of the signal is made here, so that a signal that serves no
-    /// threshold costs nothing. An `Err` says that memory was refused. (Kubernetes, "Node-pressure Eviction", "Pod
-    /// selection for kubelet eviction".)
+    /// The number of the pod that is evicted first under the signal by the tick of the moment, in seconds; none if all
+    /// pods that are present have ended. The index of the signal is made here, so that a signal whose threshold the
+    /// node never acts on costs nothing. Returns `Err` if an allocation fails. (Kubernetes, "Node-pressure Eviction",
+    /// "Pod selection for kubelet eviction".)
     pub fn first(&self, signal: Signal, moment: u64) -> Result<Option<usize>, AllocError>
         ensures { IfOk result
             (IsVictim signal self.now.has_dedicated_imagefs (IsCandidate self.now.pieces moment)) }
@@ -116,7 +115,7 @@ impl NodePods {
         Ok(index.first())
     }
 
-    /// Evicts the pod with the number by the tick that came last. It takes no memory.
+    /// Evicts the pod with the number by the tick that came last. Doesn't allocate.
     pub fn evict(&mut self, number: usize, order: EvictOrder)
         requires { IsEvictable self.old.pieces number order.at }
         ensures evicted { AreEvicted self.old.pieces number order self.new.pieces }
@@ -127,8 +126,8 @@ impl NodePods {
     }
 }
 
-/// The pods of a node in the midst of a round, by their numbers: ticks are handed to them, one after the other, and
-/// then those for which some wait go out for their updates.
+/// The pods of a node in the midst of a round, by their numbers: they get ticks, one after the other, and then the pods
+/// for which some wait go out for their updates.
 #[derive(Drop)]
 pub struct OpenPods {
     alloc: Global,
@@ -155,8 +154,8 @@ impl OpenPods {
         &self.pieces
     }
 
-    /// Hands each pod that is present what a tick shows of it, by number. After an `Err`, which says that memory was
-    /// refused, some have it, and others not.
+    /// Gives each pod that is present what a tick shows of it, by number. Returns `Err` if an allocation fails; then
+    /// some pods have it, and others don't.
     pub fn hand(&mut self, shown: Vec<Option<PodObs>>) -> Result<(), AllocError>
         requires { AreNext self.old.pieces shown.items }
         ensures pieces { OnOk result (self.new.pieces ≡ handed_each self.old.pieces shown.items) }
@@ -166,8 +165,8 @@ impl OpenPods {
         hand_all(&mut self.pieces, shown)
     }
 
-    /// The pieces for which ticks wait go out of the node's hands, the place of each as its number, and come back by
-    /// `AwaitedPods::with`. An `Err` says that memory was refused.
+    /// The pieces for which ticks wait go out, the place of each as its number, and come back by `AwaitedPods::with`.
+    /// Returns `Err` if an allocation fails.
     pub fn send(self) -> Result<(Vec<PodPiece>, AwaitedPods), AllocError>
         ensures sent { IfOk result (λ r. r.0.items ≡ sent_from 0 self.pieces) }
         ensures awaited { IfOk result (λ r. r.1
@@ -192,7 +191,7 @@ impl OpenPods {
         ))
     }
 
-    /// The round is over, as all that was handed to the pods has come into their statuses. It takes no memory.
+    /// Ends the round, as all ticks of the pods have come into their statuses. Doesn't allocate.
     pub fn close(self) -> NodePods
         requires { AreFree self.pieces }
         ensures { result ≡ pods_of (map at_rest self.pieces) self.max_restart_delay self.has_dedicated_imagefs }
@@ -231,8 +230,7 @@ impl Model for AwaitedPods {
 }
 
 impl AwaitedPods {
-    /// The pods of the node with the pieces that come back, each with its number. An `Err` says that memory was
-    /// refused.
+    /// The pods of the node with the pieces that come back, each with its number. Returns `Err` if an allocation fails.
     pub fn with(self, back: Vec<PodPiece>) -> Result<OpenPods, AllocError>
         requires { AreNumbered (joined self back.items) }
         ensures { IfOk result (λ pods. pods ≡ joined self back.items) }

@@ -31,7 +31,8 @@ fn choice_of(
     })
 }
 
-/// The choice at this moment, in seconds, for the threshold that is served. An `Err` says that memory was refused.
+/// The choice at this moment, in seconds, for the threshold on which the node acts. Returns `Err` if an allocation
+/// fails.
 pub fn choice_for(
     config: &NodeConfig,
     pods: &NodePods,

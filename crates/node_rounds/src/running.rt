@@ -60,7 +60,7 @@ impl<U: Ledger, E: Ledger, O: Ledger> Model for Running<U, E, O> {
 }
 
 impl<U: Ledger, E: Ledger, O: Ledger> Running<U, E, O> {
-    /// A node without pods and ticks, with an empty book. It takes no memory.
+    /// A node without pods and ticks, with an empty book. Doesn't allocate.
     pub fn new(alloc: Global, config: NodeConfig, book: WholeBook<U, E, O>) -> Running<U, E, O>
         requires { book ≡ nothing }
         ensures config { result.config ≡ config }
@@ -119,7 +119,7 @@ impl<U: Ledger, E: Ledger, O: Ledger> Running<U, E, O> {
         Ok(())
     }
 
-    /// Whether the tick may come next. It takes no memory.
+    /// Whether the tick may come next. Doesn't allocate.
     pub fn fits(&self, tick: &TickObs) -> bool
         ensures { IsTrue result ↔ Fits self.now tick.now }
     {
@@ -130,8 +130,8 @@ impl<U: Ledger, E: Ledger, O: Ledger> Running<U, E, O> {
             && self.pods.fits(tick)
     }
 
-    /// Begins a round with a tick: takes its samples, and hands each pod that is present what the tick shows of it. The
-    /// book goes out. A refused growth of memory drops the node.
+    /// Begins a round with a tick: takes its samples, and gives each pod that is present what the tick shows of it. The
+    /// book goes out. Drops the node if an allocation fails.
     fn begin(self, tick: TickObs) -> Result<(Stretch, WholeBook<U, E, O>), AllocError>
         requires { AreNext self.pods.pieces tick.pods }
         ensures kept { IfOk result (λ r. IsKept self) }
@@ -171,8 +171,8 @@ impl<U: Ledger, E: Ledger, O: Ledger> Running<U, E, O> {
         }
     }
 
-    /// Begins a round of one tick, and sends the pieces of the pods that are present out for their updates, beside the
-    /// book and what is left of the node. A refused growth of memory drops the node.
+    /// Begins a round of one tick, and sends the pieces of the pods that are present out for their updates, with the
+    /// book and the rest of the node. Drops the node if an allocation fails.
     pub fn begin_one(
         self,
         tick: TickObs,
@@ -191,7 +191,7 @@ impl<U: Ledger, E: Ledger, O: Ledger> Running<U, E, O> {
     }
 
     /// Begins a round with this tick and as many more as it takes, and sends the pieces of the pods that they show out
-    /// for their updates, beside the book and what is left of the node. A refused growth of memory drops the node.
+    /// for their updates, with the book and the rest of the node. Drops the node if an allocation fails.
     pub fn begin_some(
         self,
         tick: TickObs,
@@ -215,7 +215,7 @@ impl<U: Ledger, E: Ledger, O: Ledger> Running<U, E, O> {
         }
     }
 
-    /// What the node has come to. It takes no memory.
+    /// What the node has come to. Doesn't allocate.
     pub fn summary(&self) -> Summary<'_>
         ensures { (config : NodeConfig) (pods : List PodSpec) (ticks : List TickObs) → self.now.config ≡ config
             → HasTaken pods ticks self.now → IsSummary config pods ticks result }

@@ -26,11 +26,11 @@ use std::alloc::{AllocError, Global};
 use std::sync::ledger::Ledger;
 use std::vec::IntoIter;
 
-/// A round takes no further tick once so many updates wait: by then its threads have cost little beside them, and what
-/// waits takes little memory.
+/// A round takes no further tick once so many updates wait: by then its threads have cost little in comparison with
+/// them, and what waits takes little memory.
 const MOST_WAITING: usize = 32_768;
 
-/// What a node that has begun a round keeps beside its pods and its book.
+/// What a node that has begun a round keeps in addition to its pods and its book.
 #[derive(Drop)]
 pub(crate) struct Begun {
     pub(crate) alloc: Global,
@@ -43,8 +43,8 @@ pub(crate) struct Begun {
     pub(crate) at: u64,
 }
 
-/// A node that takes ticks into a round. In each but the last no threshold is heeded, so that nobody is evicted by it,
-/// and what becomes of a pod depends on its own ticks alone.
+/// A node that takes ticks into a round. It acts on no threshold in each tick except the last, so that it evicts nobody
+/// by it, and what becomes of a pod depends on its own ticks alone.
 #[derive(Drop)]
 pub(crate) struct Stretch {
     pub(crate) begun: Begun,
@@ -72,7 +72,7 @@ fn count_present(pods: &[Option<PodObs>]) -> usize {
 }
 
 impl Stretch {
-    /// Takes the samples of a tick, and hands each pod that is present what the tick shows of it.
+    /// Takes the samples of a tick, and gives each pod that is present what the tick shows of it.
     pub(crate) fn take_tick(&mut self, tick: TickObs) -> Result<(), AllocError>
         requires { AreNext self.old.pods.pieces tick.pods }
         ensures { OnOk result (Takes tick self.old self.new) }
@@ -97,24 +97,24 @@ impl Stretch {
         self.pods.hand(tick.pods.into_vec())
     }
 
-    /// Nobody is evicted by the last tick, in which no threshold is heeded: another one may come.
+    /// The last tick evicts nobody, as the node acts on no threshold in it: another one may come.
     fn evict_nobody(&mut self) -> Result<(), AllocError>
         ensures { OnOk result (IsPassed self.old self.new) }
     {
         self.begun.evictions.push(None)
     }
 
-    /// Whether another tick may come: no threshold is heeded in the last one, and not so many updates wait yet.
+    /// Whether another tick may come: the node acts on no threshold in the last one, and not so many updates wait yet.
     fn has_room(&self) -> bool
         ensures { IsTrue result ↔ HasRoom self.now }
     {
-        // Whether a threshold is heeded depends on no pod, so up to then none depends on another.
+        // Whether the node acts on a threshold depends on no pod, so up to then none depends on another.
         // (docs/decisions/rounds.md)
         self.begun.heeded.is_none() && self.waiting < MOST_WAITING
     }
 
-    /// Takes more ticks, up to the next in which a threshold is heeded, or until so many updates wait. An `Err` says
-    /// that memory was refused to a tick for which there was room.
+    /// Takes more ticks, up to the next in which the node acts on a threshold, or until so many updates wait. Returns
+    /// `Err` if an allocation fails for a tick for which there was room.
     pub(crate) fn go_on(&mut self, more: &mut IntoIter<TickObs>) -> Result<(), AllocError>
         requires { MayGoOn self.old more.old.rest.items }
         ensures goes { (s : State) (calm : List ATick) (tick : ATick) → IsOpen s calm tick self.old
@@ -135,7 +135,7 @@ impl Stretch {
         Ok(())
     }
 
-    /// The pieces for which ticks wait go out for their updates, beside what is left of the node.
+    /// The pieces for which ticks wait go out for their updates, with the rest of the node.
     pub(crate) fn send(self) -> Result<(Vec<PodPiece>, Round), AllocError>
         ensures begun { IfOk result (λ r. r.1.begun ≡ self.begun) }
         ensures sent { IfOk result (λ r. r.0.items ≡ sent_from 0 self.pods.pieces) }
@@ -247,8 +247,8 @@ impl Round {
     }
 
     /// The node after the round, with the pieces that come back, which have taken its ticks into their statuses, and
-    /// this book, in which they were entered: one pod at most is evicted, by the last tick. A refused growth of memory
-    /// drops the node.
+    /// this book, in which they were entered: the last tick evicts one pod at most. Drops the node if an allocation
+    /// fails.
     pub fn end<U: Ledger, E: Ledger, O: Ledger>(
         self,
         back: Vec<PodPiece>,
@@ -263,8 +263,7 @@ impl Round {
             pods,
             waiting: _,
         } = self;
-        // Another tick may follow only a whole node: where memory is refused here it is gone.
-        // (docs/decisions/rounds.md)
+        // Another tick may follow only a whole node: if an allocation fails here it is gone. (docs/decisions/rounds.md)
         match pods.with(back) {
             Ok(pods) => close(begun, pods, book),
             Err(fault) => {

@@ -101,7 +101,7 @@ pub(crate) fn add_condition_events(
     Ok(())
 }
 
-/// Whether the node judges the tick, and the threshold at this place is due and the node has freed enough by itself.
+/// Whether the tick is a sync tick, and the threshold at this place is due and the node has freed enough by itself.
 fn reclaim_event(
     watches: &Watches,
     eviction: &EvictionConfig,

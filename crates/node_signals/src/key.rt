@@ -17,8 +17,8 @@ pub struct ThresholdKey {
 /// How many thresholds a node may have: of each signal one of each kind.
 pub(crate) const THRESHOLDS: usize = 12;
 
-/// The order in which thresholds are served: signal after signal, and of one signal the hard
-/// threshold before the soft one. (This profile's rule.)
+/// The order in which the node acts on thresholds: signal after signal, and of one signal the hard threshold before the
+/// soft one. (This profile's rule.)
 const SERVING_ORDER: [ThresholdKey; THRESHOLDS] = [
     ThresholdKey {
         signal: Signal::MemoryAvailable,

@@ -3,12 +3,12 @@
 
 ghost use Rattle.node_signals.specs.state.Laws as laws;
 
-/// At most one threshold is served in a tick.
+/// The node acts on at most one threshold in a tick.
 pub fn one_served()
     ensures { laws.OneServed }
 {}
 
-/// What is served is due, and the node has not freed enough for it by itself.
+/// The threshold that is acted on is due, and the node has not freed enough for it by itself.
 pub fn served_is_due()
     ensures { laws.ServedIsDue }
 {}

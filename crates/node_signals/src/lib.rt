@@ -1,8 +1,8 @@
-//! What the samples of a node's signals make of the node: which of its thresholds are active, due
-//! and served, and which of its conditions are true. (Kubernetes, "Node-pressure Eviction".)
+//! What the samples of a node's signals make of the node: which of its thresholds are active and due, on which one it
+//! acts, and which of its conditions are true. (Kubernetes, "Node-pressure Eviction".)
 //!
-//! A `NodeSignals` takes one tick after the other and keeps none of them. What it answers is defined
-//! in `specs/` over the whole list of ticks.
+//! A `NodeSignals` takes one tick after the other and keeps none of them. The definitions of its answers are in
+//! `specs/`, over the whole list of ticks.
 #![tactic(auto)]
 
 mod condition;

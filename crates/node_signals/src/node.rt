@@ -38,7 +38,7 @@ impl NodeSignals {
         }
     }
 
-    /// The node after one more tick. One that it doesn't judge changes nothing.
+    /// The node after one more tick. A tick that is no sync tick changes nothing.
     fn after(&self, tick: &TickObs) -> NodeSignals
         ensures { (eviction : EvictionConfig) (period : ℕ) (before : List TickObs)
             → IsStateOf eviction period before self.now
@@ -74,9 +74,9 @@ impl NodeSignals {
         Ok(events)
     }
 
-    /// Takes one more tick of a node with these thresholds, and gives its events: thresholds that
-    /// became active or were cleared, conditions that changed, and thresholds for which the node
-    /// freed enough by itself; none of a tick that the node doesn't judge. An `Err` changes nothing.
+    /// Takes one more tick of a node with these thresholds. Returns its events: thresholds that became active or were
+    /// cleared, conditions that changed, and thresholds for which the node freed enough by itself; none if the tick is
+    /// no sync tick. After an `Err` the node is as it was.
     pub fn take(
         &mut self,
         alloc: Global,
@@ -97,9 +97,8 @@ impl NodeSignals {
         Ok(events)
     }
 
-    /// The threshold for which a pod is to be evicted in the last tick taken: the first in the
-    /// serving order that is due and for which the node has not freed enough by itself; none in a
-    /// tick that the node doesn't judge.
+    /// The threshold for which a pod is to be evicted in the last tick taken: the first in the serving order that is
+    /// due and for which the node has not freed enough by itself; none if the tick is no sync tick.
     pub fn served(&self, eviction: &EvictionConfig, tick: &TickObs) -> Option<ThresholdKey>
         ensures { (period : ℕ) (before : List TickObs)
             → IsStateOf eviction.now period (before ++ tick.now ∷ []) self.now

@@ -139,7 +139,7 @@ pub(crate) fn is_reclaimed(eviction: &EvictionConfig, key: ThresholdKey, tick: &
     key.signal.is_of_file_system() && is_enough(threshold, capacity, freed)
 }
 
-/// Whether the threshold at this place asks for an eviction: the node judges the tick, the threshold is due, and the
+/// Whether the threshold at this place asks for an eviction: the tick is a sync tick, the threshold is due, and the
 /// node has not freed enough by itself.
 fn asks(watches: &Watches, eviction: &EvictionConfig, tick: &TickObs, place: usize) -> bool
     requires { place < THRESHOLDS }
@@ -151,7 +151,7 @@ fn asks(watches: &Watches, eviction: &EvictionConfig, tick: &TickObs, place: usi
     tick.judged && is_due(watches, place) && !is_reclaimed(eviction, key_at(place), tick)
 }
 
-/// The threshold that is served.
+/// The threshold that is acted on.
 pub(crate) fn served(
     watches: &Watches,
     eviction: &EvictionConfig,

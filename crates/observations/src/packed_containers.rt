@@ -42,7 +42,7 @@ pub(crate) struct Told {
     pub(crate) words: PodWords,
 }
 
-/// What a tick shows of a pod, in 32 bytes. Three containers or more take a block beside these, and so do a sample of
+/// What a tick shows of a pod, in 32 bytes. Three containers or more take a block of their own, and so do a sample of
 /// more than the memory and each word: all are rarer than one or two containers without a sample, or with one of their
 /// memory.
 #[derive(Drop)]
@@ -58,7 +58,7 @@ pub(crate) enum PackedContainers {
     Told(Box<Told>),
 }
 
-/// What is kept of containers where the tick says nothing of samples.
+/// What is kept of containers if the tick has nothing of samples.
 fn unused(alloc: Global, containers: &[ContainerObs]) -> Result<PackedContainers, AllocError>
     ensures containers { IfOk result (λ s. map shown_as (kept_in s) ≡ containers.now) }
     ensures sampling { IfOk result (λ s. sampling_in s ≡ Unsaid) }
@@ -138,7 +138,7 @@ fn are_none(gates: &[Option<bool>]) -> bool
     gates.iter().all(|gate| gate.is_none())
 }
 
-/// Whether no status of any condition is said.
+/// Whether no condition has a status.
 #[tactic(auto, using(crate::proofs::Gates::none_said))]
 fn says_no_gate(gates: &[Option<bool>; MOST_GATES]) -> bool
     ensures { IsTrue result → gates.now ≡ no_gates }
@@ -166,7 +166,7 @@ impl PackedContainers {
         }
     }
 
-    /// What is kept of containers, of what the tick says of samples, and of its words.
+    /// What is kept of containers, of the sampling, and of the tick's words.
     pub(crate) fn told(
         alloc: Global,
         containers: &[ContainerObs],
@@ -223,7 +223,7 @@ impl PackedContainers {
         }
     }
 
-    /// What the tick says of the pod's samples.
+    /// The sampling of the pod's use of the node.
     pub(crate) fn sampling(&self) -> Sampling
         ensures { result ≡ sampling_in self.now }
     {
@@ -243,7 +243,8 @@ impl PackedContainers {
         }
     }
 
-    /// What the tick says of the condition that the pod's readiness gate with the number names, if it says something.
+    /// The status that the tick gives of the condition that the pod's readiness gate with the number names, if it gives
+    /// one.
     pub(crate) fn gate(&self, number: usize) -> Option<bool>
         ensures { result ≡ option_flatten (slice_get (words_in self.now).gates number) }
     {
@@ -253,7 +254,7 @@ impl PackedContainers {
         }
     }
 
-    /// Whether the tick says that the pod is being deleted.
+    /// Whether the tick marks the pod as being deleted.
     pub(crate) fn deleting(&self) -> bool
         ensures { result ≡ (words_in self.now).deleting }
     {
@@ -263,7 +264,7 @@ impl PackedContainers {
         }
     }
 
-    /// Why the tick says that the node has ended the pod, if it does.
+    /// Why the tick reports that the node has ended the pod, if it does.
     pub(crate) fn failed(&self) -> Option<&EndReason>
         ensures { option_map (λ r. r.now) result ≡ (words_in self.now).failed }
     {

@@ -13,7 +13,7 @@ use std::alloc::{AllocError, Global};
 use std::marker::Model;
 
 /// What a tick shows of one pod, in 40 bytes: a trace has millions of these. Contracts see the moment, an observation
-/// for each container by number, what the tick says of the samples of its use of the node, and its words.
+/// for each container by number, the sampling of its use of the node, and the tick's words.
 #[derive(Drop)]
 pub struct PodObs {
     at: u64,
@@ -32,8 +32,8 @@ impl Model for PodObs {
 }
 
 impl PodObs {
-    /// What a tick at the moment, in seconds, shows of a pod: one observation for each container, by number, and what
-    /// it says of the samples of its use of the node.
+    /// What a tick at the moment, in seconds, shows of a pod: one observation for each container, by number, and the
+    /// sampling of its use of the node.
     pub fn new(
         alloc: Global,
         at: u64,
@@ -82,21 +82,21 @@ impl PodObs {
         Some(kept.shown())
     }
 
-    /// What the tick says of the samples of the pod's use of the node.
+    /// The sampling of the pod's use of the node.
     pub fn sampling(&self) -> Sampling
         ensures { result ≡ self.now.sampling }
     {
         self.shown.sampling()
     }
 
-    /// Whether the tick says that the pod is being deleted. (Kubernetes, "Pod Lifecycle", "Termination of Pods".)
+    /// Whether the tick marks the pod as being deleted. (Kubernetes, "Pod Lifecycle", "Termination of Pods".)
     pub fn deleting(&self) -> bool
         ensures { result ≡ self.now.words.deleting }
     {
         self.shown.deleting()
     }
 
-    /// Why the tick says that with it the node has ended the pod, if it does. (Kubernetes, "Pod Lifecycle", "Pod
+    /// Why the tick reports that the node has ended the pod with it, if it does. (Kubernetes, "Pod Lifecycle", "Pod
     /// phase".)
     pub fn failed(&self) -> Option<&EndReason>
         ensures { option_map (λ r. r.now) result ≡ self.now.words.failed }
@@ -104,8 +104,8 @@ impl PodObs {
         self.shown.failed()
     }
 
-    /// What the tick says of the condition that the pod's readiness gate with the number names, if it says something.
-    /// (Kubernetes, "Pod Lifecycle", "Pod readiness".)
+    /// The status that the tick gives of the condition that the pod's readiness gate with the number names, if it gives
+    /// one. (Kubernetes, "Pod Lifecycle", "Pod readiness".)
     pub fn gate(&self, number: usize) -> Option<bool>
         ensures { result ≡ option_flatten (slice_get self.now.words.gates number) }
     {

@@ -74,7 +74,7 @@ impl EndReason {
         }
     }
 
-    /// The reason once more. It takes no memory.
+    /// The reason once more. Doesn't allocate.
     pub fn again(&self) -> EndReason
         ensures { result ≡ self.now }
     {

@@ -20,8 +20,8 @@ pub struct TickObs {
     pub signals: BySignal<Option<Quantity>>,
     /// The values of the file system signals after space was reclaimed, where the tick has one.
     pub after_reclaim: BySignal<Option<Quantity>>,
-    /// Whether the node judges its signals in this tick. (This project's extended format; without a word of it each
-    /// tick is judged.)
+    /// Whether the tick is a sync tick, in which the node evaluates its signals. (This project's extended format; each
+    /// tick is one, unless its line denies it.)
     pub judged: bool,
 }
 

@@ -2,9 +2,8 @@
 
 use quantity::Quantity;
 
-/// What a tick tells of a pod's use of the node, by which pods are ranked for eviction. A sample
-/// that the tick lacks is `None`. (Kubernetes, "Node-pressure Eviction", "Pod selection for kubelet
-/// eviction".)
+/// The samples in a tick of a pod's use of the node, by which pods are ranked for eviction. A sample that the tick
+/// lacks is `None`. (Kubernetes, "Node-pressure Eviction", "Pod selection for kubelet eviction".)
 #[derive(Clone, Copy, Debug, PartialEq, Eq)]
 pub struct Usage {
     /// Memory, in bytes.
@@ -21,10 +20,10 @@ pub struct Usage {
     pub pids: Option<Quantity>,
 }
 
-/// What a tick says of the samples of a pod's use of the node.
+/// Whether and how a tick samples a pod's use of the node.
 #[derive(Clone, Copy, Debug, PartialEq, Eq)]
 pub enum Sampling {
-    /// The tick says nothing of them.
+    /// The tick has nothing of it.
     Unsaid,
     /// From this tick on it has none, until one comes. (This project's extended format.)
     Unsampled,

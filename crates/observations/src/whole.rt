@@ -6,7 +6,7 @@ ghost use Rattle.observations.specs.state.Whole.{amount_as, memory_as, usage_as}
 use crate::usage::Usage;
 use quantity::Quantity;
 
-/// What stands for an amount that is absent: no quantity has this many units.
+/// Marks an amount that is absent: no quantity has this many units.
 const ABSENT: u64 = u64::MAX;
 
 /// An amount in whole units, or none, in 8 bytes.

@@ -1,4 +1,4 @@
-//! What a tick says of a pod beside its listings and samples.
+//! What a tick has of a pod in addition to its listings and samples.
 
 use crate::reason::EndReason;
 use manifest::MOST_GATES;
@@ -18,7 +18,7 @@ pub struct PodWords {
 /// No status of any condition.
 pub const NO_GATES: [Option<bool>; MOST_GATES] = [None; MOST_GATES];
 
-/// The words of a tick that says none of the pod.
+/// The words of a tick that has none on the pod.
 pub const NO_WORDS: PodWords = PodWords {
     deleting: false,
     failed: None,

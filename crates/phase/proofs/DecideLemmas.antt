@@ -12,10 +12,14 @@ use Rattle.restarts.specs.rule.Policy.{WantsRestart}
 use Rattle.phase.specs.declared.phase.Phase.{Phase}
 use Rattle.phase.specs.declared.phase.Phase.TheVariants.{Pending, Running, Succeeded, Failed}
 use Rattle.phase.specs.declared.view.ContainerView.{ContainerView}
-use Rattle.phase.specs.rule.Facts.{Facts, HasCompleted, HasFailed, HasFinished}
+use Rattle.phase.specs.rule.Facts.{Facts, HasCompleted, HasFailed}
+use Rattle.phase.specs.declared.restart_view.RestartView.{RestartView}
 use Rattle.phase.specs.state.Facts.{of_view, exit_code}
-use Rattle.phase.specs.rule.RawPhase.{IsRawPhase, IsFailedInit, IsAwaited, HaveFinished, HasInitialized}
-use Rattle.phase.specs.rule.RawPhase.{AreInitialized, IsTerminal}
+use Rattle.phase.specs.state.Restarts.{of_restart_view, Wants}
+use Rattle.phase.specs.rule.ByContainer.{HasStopped, HasFailedForGood, HaveStopped, IsRawPhaseBy}
+use Rattle.phase.proofs.PhaseLemmas.{Cases}
+use Rattle.phase.specs.rule.RawPhase.{IsAwaited, HasInitialized, AreInitialized, IsTerminal}
+use Rattle.phase.specs.state.PolicyPhase.{HasFinished, IsFailedInit, HaveFinished, IsRawPhase}
 
 -- the codes
 zero_or_not : (code : ℤ) → OrNot (code ≡ pos 0)
@@ -91,42 +95,75 @@ pub record IsDecided {C : Type 0} (facts : Facts C) (policy : Policy) (container
   pub completes : OrNot (facts.is container App → HasCompleted facts container)
   pub failed_app : OrNot (facts.is container App × HasFailed facts container)
 
+awaited_or_not : (view : ContainerView) → OrNot (IsAwaited of_view view)
+awaited_or_not view =
+    either (both (role_or_not Init view.role) (negated (completed_or_not view)))
+    (either (both (role_or_not Sidecar view.role) (negated (true_or_not view.was_started)))
+    (both (role_or_not App view.role) (negated (true_or_not view.set_up))))
+
 -- that of a view
 view_decided : (policy : Policy) (view : ContainerView) → IsDecided of_view policy view
 view_decided policy view = record {
   failed_init = both (role_or_not Init view.role) (failed_or_not view);
-  awaited = either (both (role_or_not Init view.role) (negated (completed_or_not view)))
-      (either (both (role_or_not Sidecar view.role) (negated (true_or_not view.was_started)))
-      (both (role_or_not App view.role) (negated (true_or_not view.set_up))));
+  awaited = awaited_or_not view;
   finishes = implied (role_or_not App view.role) (finished_or_not policy view);
   completes = implied (role_or_not App view.role) (completed_or_not view);
   failed_app = both (role_or_not App view.role) (failed_or_not view);
 }
 
 -- the first case that holds
-pub some_raw_phase : {C : Type 0} (facts : Facts C) (policy : Policy)
+some_case : (One Two Three Four : Type 0) → OrNot One → OrNot Two → OrNot Three → OrNot Four
+    → (p : Phase) × Cases One Two Three Four p
+some_case One Two Three Four (inl one) two three four = (Failed, inl (one, refl))
+some_case One Two Three Four (inr not_one) (inl two) three four = (Pending, inr (not_one, inl (two, refl)))
+some_case One Two Three Four (inr not_one) (inr not_two) (inl three) four =
+    (Succeeded, inr (not_one, inr (not_two, inl (three, refl))))
+some_case One Two Three Four (inr not_one) (inr not_two) (inr not_three) (inl four) =
+    (Failed, inr (not_one, inr (not_two, inr (not_three, inl (four, refl)))))
+some_case One Two Three Four (inr not_one) (inr not_two) (inr not_three) (inr not_four) =
+    (Running, inr (not_one, inr (not_two, inr (not_three, inr (not_four, refl)))))
+
+some_raw_phase : {C : Type 0} (facts : Facts C) (policy : Policy)
     → ((container : C) → IsDecided facts policy container)
     → (containers : List C) → (p : Phase) × IsRawPhase facts policy containers p
 some_raw_phase facts policy each containers =
-    elim (both (never_or_not policy) (any_or_not _ (λ c. (each c).failed_init) containers)) [
-      | inl one ↦ (Failed, inl (one, refl))
-      | inr not_one ↦ elim (any_or_not _ (λ c. (each c).awaited) containers) [
-        | inl two ↦ (Pending, inr (not_one, inl (two, refl)))
-        | inr not_two ↦ elim (both finished (all_or_not _ (λ c. (each c).completes) containers)) [
-          | inl three ↦ (Succeeded, inr (not_one, inr (not_two, inl (three, refl))))
-          | inr not_three ↦ elim (both finished (any_or_not _ (λ c. (each c).failed_app) containers)) [
-            | inl four ↦ (Failed, inr (not_one, inr (not_two, inr (not_three, inl (four, refl)))))
-            | inr not_four ↦ (Running, inr (not_one, inr (not_two, inr (not_three, inr (not_four, refl)))))
-          ]
-        ]
-      ]
-    ]
-  where
-    finished : OrNot (HaveFinished facts policy containers)
-    finished = all_or_not _ (λ c. (each c).finishes) containers
+    let finished : OrNot (HaveFinished facts policy containers) = all_or_not _ (λ c. (each c).finishes) containers in
+    some_case _ _ _ _ (both (never_or_not policy) (any_or_not _ (λ c. (each c).failed_init) containers))
+    (any_or_not _ (λ c. (each c).awaited) containers)
+    (both finished (all_or_not _ (λ c. (each c).completes) containers))
+    (both finished (any_or_not _ (λ c. (each c).failed_app) containers))
 
 pub some_of_views : (policy : Policy) (views : List ContainerView) → (p : Phase) × IsRawPhase of_view policy views p
 some_of_views policy views = some_raw_phase of_view policy (view_decided policy) views
+
+-- so too by what each container has of its own
+stopped_or_not : (container : RestartView) → OrNot (HasStopped of_restart_view Wants container)
+stopped_or_not container = there (exit_code container.view) refl
+  where
+    there : (o : Option ℤ) → exit_code container.view ≡ o → OrNot (HasStopped of_restart_view Wants container)
+    there None e = inr (λ w. let x : exit_code container.view ≡ Some w.code = w.exited in let y : None ≡ Some w.code =
+        sym e ∙ x in cc)
+    there (Some code) e = elim (true_or_not container.wants_restart) [
+      | inl wants ↦ inr (λ w. w.wants_none wants)
+      | inr none ↦ inl (record { code = code; exited = e; wants_none = none })
+    ]
+
+for_good_or_not : (container : RestartView) → OrNot (HasFailedForGood of_restart_view Wants container)
+for_good_or_not container = elim (both (role_or_not Init container.view.role)
+    (both (failed_or_not container.view) (negated (true_or_not container.wants_restart)))) [
+      | inl w ↦ inl (record { init = w.0; code = w.1.0.0; exited = w.1.0.1; failed = w.1.0.2; wants_none = w.1.1 })
+      | inr not ↦ inr (λ w. not (w.init, ((w.code, w.exited, w.failed), w.wants_none)))
+    ]
+
+pub some_by_views : (containers : List RestartView) → (p : Phase) × IsRawPhaseBy of_restart_view Wants containers p
+some_by_views containers =
+    let role = λ (c : RestartView). role_or_not App c.view.role in
+    let stopped : OrNot (HaveStopped of_restart_view Wants containers) =
+    all_or_not _ (λ c. implied (role c) (stopped_or_not c)) containers in
+    some_case _ _ _ _ (any_or_not _ for_good_or_not containers)
+    (any_or_not _ (λ c. awaited_or_not c.view) containers)
+    (both stopped (all_or_not _ (λ c. implied (role c) (completed_or_not c.view)) containers))
+    (both stopped (any_or_not _ (λ c. both (role c) (failed_or_not c.view)) containers))
 
 -- the pod is initialized, or not
 prepared_or_not : (view : ContainerView) → OrNot (HasInitialized of_view view)
@@ -140,6 +177,15 @@ prepared_or_not view = elim (implied (role_or_not Init view.role) (completed_or_
 
 pub initialized_or_not : (views : List ContainerView) → OrNot (AreInitialized of_view views)
 initialized_or_not views = all_or_not (HasInitialized of_view) prepared_or_not views
+
+pub initialized_by_or_not : (containers : List RestartView) → OrNot (AreInitialized of_restart_view containers)
+initialized_by_or_not containers = all_or_not (HasInitialized of_restart_view) prepared containers
+  where
+    prepared : (container : RestartView) → OrNot (HasInitialized of_restart_view container)
+    prepared container = elim (prepared_or_not container.view) [
+      | inl w ↦ inl (record { init = w.init; sidecar = w.sidecar })
+      | inr not ↦ inr (λ w. not (record { init = w.init; sidecar = w.sidecar }))
+    ]
 
 -- a phase is terminal or not
 pub terminal_cases : (p : Phase) → IsTerminal p ⊎ (IsTerminal p → ⊥)

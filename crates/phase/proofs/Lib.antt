@@ -1,3 +1,4 @@
 pub mod ConditionLemmas
 pub mod PhaseLemmas
 pub mod DecideLemmas
+pub mod PolicyLemmas

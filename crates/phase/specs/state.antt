@@ -1,4 +1,6 @@
 pub mod Facts
+pub mod PolicyPhase
+pub mod Restarts
 pub mod Conditions
 pub mod Views
 pub mod Laws

@@ -3,10 +3,11 @@
 ghost use Rattle.std.specs.Prelude.{◌≡◌, ◌↔◌, All, Any, IsTrue};
 ghost use Rattle.manifest.specs.declared.policy.Policy.TheVariants.{Never};
 ghost use Rattle.manifest.specs.declared.pod.Role.TheVariants.{App};
-ghost use Rattle.phase.specs.rule.Facts.{HasFailed, HasCompleted, HasFinished};
+ghost use Rattle.phase.specs.rule.Facts.{HasFailed, HasCompleted};
 ghost use Rattle.phase.specs.state.Facts.{of_view};
-ghost use Rattle.phase.specs.rule.RawPhase.{IsRawPhase, IsFailedInit, AllApps, AnyApp, InitHasFailed, IsStarting};
-ghost use Rattle.phase.specs.rule.RawPhase.{HaveFinished, HaveSucceeded, HaveFailed, IsTerminal, AreInitialized};
+ghost use Rattle.phase.specs.rule.RawPhase.{AllApps, AnyApp, IsStarting, IsTerminal, AreInitialized};
+ghost use Rattle.phase.specs.state.PolicyPhase.{IsRawPhase, HasFinished, IsFailedInit, InitHasFailed};
+ghost use Rattle.phase.specs.state.PolicyPhase.{HaveFinished, HaveSucceeded, HaveFailed};
 
 use crate::view::ContainerView;
 use manifest::Policy;

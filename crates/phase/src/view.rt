@@ -3,7 +3,8 @@
 ghost use Rattle.std.specs.Prelude.{◌≡◌, ◌↔◌, IsTrue};
 ghost use Rattle.manifest.specs.declared.pod.Role.TheVariants.{Init, App};
 ghost use Rattle.phase.specs.state.Views.{restarts_of};
-ghost use Rattle.phase.specs.rule.Facts.{HasFailed, HasCompleted, HasFinished};
+ghost use Rattle.phase.specs.rule.Facts.{HasFailed, HasCompleted};
+ghost use Rattle.phase.specs.state.PolicyPhase.{HasFinished};
 ghost use Rattle.phase.specs.state.Facts.{exit_code as code_of, of_view, IsRunning};
 ghost use Rattle.phase.specs.rule.RawPhase.{IsAwaited, HasInitialized};
 

@@ -1,4 +1,5 @@
-//! A round that is played on one thread: the workers of a tick, each with a deque, update its pods by a list of steps.
+//! A round that is simulated on one thread: the workers of a tick, each with a deque, update its pods by a list of
+//! steps.
 #![tactic(auto)]
 
 mod played;

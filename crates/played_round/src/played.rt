@@ -1,4 +1,4 @@
-//! The whole of a played round.
+//! The whole of a simulated round.
 
 ghost use Rattle.std.specs.Prelude.{◌≡◌, ◌+◌, ◌<◌, ◌≤◌, List, All, IsTrue, length, map, OnOk, IfOk, replicate};
 ghost use Rattle.observations.specs.rule.Limits.{most_pods};
@@ -21,7 +21,7 @@ use round_steps::Step;
 use std::alloc::{AllocError, Global};
 use std::sync::ledger::Ledger;
 
-/// What a played round gives.
+/// What a simulated round gives.
 #[derive(Drop)]
 pub struct Played<U: Ledger, E: Ledger, O: Ledger> {
     /// The pieces, updated, by their numbers.
@@ -128,9 +128,9 @@ fn close<U: Ledger, E: Ledger, O: Ledger>(
     })
 }
 
-/// Plays a round of pending pieces on one thread: deals them to the workers, takes these steps, and drains what is
+/// Simulates a round of waiting pieces on one thread: deals them to the workers, takes these steps, and drains what is
 /// left. Each piece is updated once, and entered in the book with a part of its share for each worker. A step that is
-/// not possible, or that names a worker that is not there, is skipped. The one error is a refused growth of memory.
+/// not possible, or that names a worker that is not there, is skipped. The one error is a failed allocation.
 pub fn update_played<U: Ledger, E: Ledger, O: Ledger>(
     alloc: Global,
     pieces: Vec<PodPiece>,

@@ -28,7 +28,7 @@ fn update(piece: &mut PodPiece) -> Result<Entry, AllocError>
     Ok(Entry::last_of(piece))
 }
 
-/// The pieces of a round by their numbers, and beside each what its update adds to the totals.
+/// The pieces of a round by their numbers, and for each what its update adds to the totals.
 #[derive(Drop)]
 pub(crate) struct Table {
     pub(crate) pieces: Vec<PodPiece>,

@@ -1,4 +1,4 @@
-//! A worker of a played round.
+//! A worker of a simulated round.
 
 ghost use Rattle.std.specs.Prelude.{◌≡◌, ◌∷◌, [], length, OnOk, MatchOption};
 ghost use Rattle.totals.specs.state.Totals.{plus, nothing, one_update};
@@ -61,7 +61,7 @@ impl<U: Ledger, E: Ledger, O: Ledger> Worker<U, E, O> {
         self.hand
     }
 
-    /// How many pieces stand in the worker's deque.
+    /// How many pieces are in the worker's deque.
     pub(crate) fn deque_len(&self) -> usize
         ensures { result ≡ length self.now.deque }
     {

@@ -12,17 +12,17 @@ pub trait Gate: Sync {
     // Whether an update may wait in it until others have begun.
     ghost may_wait: { Self → Bool } = { λ _. true };
 
-    // Whether it has made an update that leaves this piece, or has tried to, and memory was refused. Who knows a gate
-    // by its bound alone knows that it has by its update alone.
+    // Whether it has made an update that leaves this piece, or has tried to and an allocation failed. Whoever knows a
+    // gate only by its bound knows this only after its update.
     ghost left: { Self → Piece → Bool → Bool } = { λ _ _ _. true };
 
-    /// Whether an update may wait in it until others have begun. Where it may, each of the workers runs, as long as
-    /// there is a pod for each, however few updates there are.
+    /// Whether an update may wait in it until others have begun. If it may, each of the workers runs, as long as there
+    /// is a pod for each, however few updates there are.
     fn waits(&self) -> bool
         ensures { result ≡ may_wait self.now };
 
-    /// Takes the next tick of a piece that waits into its status, in its place. An `Err` says that memory was refused,
-    /// and changes nothing, so it is still pending.
+    /// Applies the oldest waiting tick of a piece to its status, in place. Returns `Err` if an allocation fails; the
+    /// piece is then as it was, so the tick still waits.
     fn update(&self, piece: &mut PodPiece) -> Result<(), AllocError>
         requires { 0 < piece.old.waiting }
         ensures ok { OnOk result (piece.new ≡ updated piece.old) }

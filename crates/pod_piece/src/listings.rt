@@ -1,4 +1,4 @@
-//! Which listings of a pod's containers may come next, over all that it was handed.
+//! Which listings of a pod's containers may come next, over all its ticks.
 
 ghost use Rattle.std.specs.Prelude.{◌≡◌, ◌↔◌, ℕ, List, ◌∷◌, ◌++◌, [], length, Option, IfOk, IsTrue};
 ghost use Rattle.manifest.specs.declared.pod.PodSpec.{PodSpec};
@@ -59,8 +59,8 @@ pub(crate) fn may_come(state: &PodState, differs: &[Differ], observed: &PodObs) 
     }
 }
 
-/// The differs of a pod after a tick that leaves it in this state: those of its containers, where the tick ends it,
-/// which follow each tick from then on.
+/// The instance trackers of a pod after a tick that leaves it in this state: the ones of its containers. If the tick
+/// ends the pod, they follow each tick from then on.
 pub(crate) fn follow_on(
     differs: &mut Vec<Differ>,
     state: &PodState,

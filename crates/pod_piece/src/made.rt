@@ -21,8 +21,8 @@ pub struct MadeTick {
     pub events: Vec<PodEvent>,
 }
 
-/// Where the round of a piece begins that is handed a tick behind so many: a new one, without earlier events, unless
-/// some wait.
+/// Where the round of a piece begins that gets one more tick after so many: a new one, without earlier events, unless
+/// some ticks wait.
 pub(crate) fn begin_round(
     waiting: usize,
     handed: usize,
@@ -51,8 +51,8 @@ pub(crate) fn make_room(earlier: &mut Vec<MadeTick>, goes_on: bool) -> Result<()
     Ok(())
 }
 
-/// Adds the events of a tick behind those of the ticks before it, for which there is room. Without events there is
-/// nothing to add.
+/// Adds the events of a tick after those of the earlier ticks, for which there is room. Without events there is nothing
+/// to add.
 fn add_tick(earlier: &mut Vec<MadeTick>, at: u64, events: Vec<PodEvent>)
     requires { vec_len earlier.old < vec_capacity earlier.old }
     ensures { made_of earlier.new.items ≡ made_of earlier.old.items ++ made_at at events.items }
@@ -62,7 +62,7 @@ fn add_tick(earlier: &mut Vec<MadeTick>, at: u64, events: Vec<PodEvent>)
     }
 }
 
-/// Where a round goes on, the events of the tick before the place go behind those of the ticks before it.
+/// If a round goes on, the events of the tick before the place go after those of the ticks before it.
 pub(crate) fn move_on(
     earlier: &mut Vec<MadeTick>,
     goes_on: bool,

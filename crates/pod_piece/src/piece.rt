@@ -57,8 +57,8 @@ struct Parts {
     events: Vec<PodEvent>,
 }
 
-/// One pod: its specification, all that was handed to it, and what the rules make of that. By the invariant of
-/// the type each counter is the state of the history beside it. A piece is a pointer, and so cheap to move.
+/// One pod: its specification, its ticks so far, and what the rules make of them. By the invariant of the type each
+/// counter is the state of the history that is kept with it. A piece is a pointer, and so cheap to move.
 #[derive(Drop)]
 pub struct PodPiece {
     parts: Box<Parts>,
@@ -92,7 +92,7 @@ const UNLISTED: ContainerStatus = ContainerStatus {
     started: false,
 };
 
-/// The status of a pod that nothing was handed to.
+/// The status of a pod without ticks.
 fn first_status(
     alloc: Global,
     number: usize,
@@ -122,7 +122,7 @@ fn first_status(
     })
 }
 
-/// Notes how the node has ended a pod with the tick, as the tick says, if that counts.
+/// Notes how the node has ended a pod with the tick, if the tick reports it and counts.
 fn note_failure(failure: &mut Option<PodFailure>, counts: bool, observed: &PodObs)
     ensures { failure.new ≡ (if counts then failure_in (pod_tick observed.now) else failure.old) }
 {
@@ -138,7 +138,7 @@ fn note_failure(failure: &mut Option<PodFailure>, counts: bool, observed: &PodOb
     };
 }
 
-/// Whether the node has ended a pod, by this eviction or as a tick says.
+/// Whether the node has ended a pod, by this eviction or as a tick reports.
 fn is_ended_by_node(eviction: Option<EvictionRecord>, failure: &Option<PodFailure>) -> bool
     ensures { result ≡ (is_some eviction || is_some failure.now) }
 {
@@ -157,8 +157,8 @@ fn moment_before(history: &ChunkedList<PodObs>, place: usize) -> Option<u64>
 }
 
 impl PodPiece {
-    /// The pod with this number and specification, on a node with this maximum restart delay.
-    /// Nothing was handed to it yet. An `Err` says that memory was refused, and the specification is dropped.
+    /// The pod with this number and specification, without ticks, on a node with this maximum restart delay. Returns
+    /// `Err` if an allocation fails; the specification is then dropped.
     pub fn new(
         alloc: Global,
         number: usize,
@@ -197,15 +197,15 @@ impl PodPiece {
         &self.parts.pod
     }
 
-    /// Whether a tick was handed to it that has not come into its status yet.
+    /// Whether it has a tick that has not come into its status yet.
     pub fn pending(&self) -> bool
         ensures { IsTrue result ↔ 0 < self.now.waiting }
     {
         self.parts.waiting > 0
     }
 
-    /// How many ticks have come into its status since its present round began. A round begins where a piece with no
-    /// tick waiting is handed one, and at `rest`.
+    /// How many ticks have come into its status since its present round began. A round begins when a piece with no
+    /// waiting tick gets one, and at `rest`.
     pub fn round_length(&self) -> usize
         ensures is { result ≡ round_length self.now }
         ensures few { result ≤ end_of_time }
@@ -233,8 +233,8 @@ impl PodPiece {
             && may_come(&parts.state, &parts.differs, observed)
     }
 
-    /// Hands it what a tick shows of the pod, behind what was handed to it before; it waits until an update takes it.
-    /// An `Err` says that memory was refused: the piece is as it was, and what was handed is dropped.
+    /// Appends what a tick shows of the pod to its history; the tick waits until an update takes it. Returns `Err` if
+    /// an allocation fails: the piece is then as it was, and the tick is dropped.
     pub fn hand(&mut self, observed: PodObs) -> Result<(), AllocError>
         requires { IsNextTick self.old.pod self.old.handed (pod_tick observed) }
         ensures ok { OnOk result (self.new ≡ with_tick self.old (pod_tick observed)) }
@@ -248,8 +248,8 @@ impl PodPiece {
         Ok(())
     }
 
-    /// Takes the next tick that was handed to it into its status. A refused growth of memory gives the piece back as it
-    /// was, so its tick still waits.
+    /// Applies the oldest waiting tick to its status. If an allocation fails, returns the piece as it was, so the tick
+    /// still waits.
     pub fn update(mut self) -> Result<PodPiece, Refused>
         requires { 0 < self.waiting }
         ensures ok { IfOk result (λ piece. piece ≡ updated self) }
@@ -261,8 +261,8 @@ impl PodPiece {
         }
     }
 
-    /// Takes the next tick that was handed to it into its status, in its place. An `Err` says that memory was refused,
-    /// and changes nothing, so it is still pending.
+    /// Applies the oldest waiting tick to its status, in place. Returns `Err` if an allocation fails; the piece is then
+    /// as it was, so the tick still waits.
     pub fn update_in_place(&mut self) -> Result<(), AllocError>
         requires { 0 < self.old.waiting }
         ensures ok { OnOk result (self.new ≡ updated self.old) }
@@ -274,7 +274,7 @@ impl PodPiece {
         make_room(&mut parts.earlier, goes_on)?;
         let observed = parts.history.at(place);
         let had_ended = parts.state.lifecycle().has_ended();
-        let events = parts.state.take(parts.alloc, parts.pod.policy, observed)?;
+        let events = parts.state.take(parts.alloc, &parts.pod, observed)?;
         follow_on(&mut parts.differs, &parts.state, had_ended, observed);
         parts.status.usage = newer_while(!had_ended, parts.status.usage, observed.sampling());
         note_failure(&mut parts.status.failure, !had_ended, observed);
@@ -289,7 +289,7 @@ impl PodPiece {
         Ok(())
     }
 
-    /// Its present round is over: the events of its ticks are `earlier_events` no longer. It takes no memory.
+    /// Ends its present round: the events of its ticks are `earlier_events` no longer. Doesn't allocate.
     pub fn rest(&mut self)
         ensures { self.new ≡ at_rest self.old }
     {
@@ -298,8 +298,8 @@ impl PodPiece {
         parts.earlier.clear();
     }
 
-    /// Evicts the pod by the tick that came last: one that has not ended, or that the node has ended with that tick, as
-    /// the tick says. It makes no event, and takes no memory.
+    /// Evicts the pod by the tick that came last. The pod has not ended, or that tick reports that the node has ended
+    /// it. Makes no event, and doesn't allocate.
     pub fn evict(&mut self, order: EvictOrder)
         requires free { self.old.waiting ≡ 0 }
         requires evictable { IsEvictableAt order.at self.old }
@@ -319,7 +319,7 @@ impl PodPiece {
         parts.eviction = Some(EvictionRecord { place, order });
     }
 
-    /// Replaces its number by this one. It takes no memory.
+    /// Replaces its number by this one. Doesn't allocate.
     pub fn renumber(&mut self, number: usize)
         ensures { self.new ≡ with_number self.old number }
     {
@@ -336,8 +336,8 @@ impl PodPiece {
         &self.parts.status
     }
 
-    /// The events of the ticks that have come into its status since its present round began, but for those of the last
-    /// of them; a tick without events may be left out.
+    /// The events of the ticks that have come into its status since its present round began, except the last of these
+    /// ticks; a tick without events may be left out.
     pub fn earlier_events(&self) -> &[MadeTick]
         ensures { AreEarlierEvents self.now result.now }
     {

@@ -12,8 +12,8 @@ use observations::{EndReason, Usage};
 use phase::{Conditions, Phase};
 use qos::{Qos, pod_request};
 
-/// How the node has ended a pod, but for an eviction, as a tick says. (Kubernetes, "Pod Lifecycle"; that a trace can
-/// say it is this project's extended format.)
+/// How the node has ended a pod, except by an eviction, as a tick reports. (Kubernetes, "Pod Lifecycle"; that a trace
+/// can report it is this project's extended format.)
 #[derive(Drop)]
 pub struct PodFailure {
     /// The moment of that tick, in seconds.
@@ -29,9 +29,9 @@ fn disrupts(reason: &str) -> bool
     reason == "Evicted" || reason == "Preempting" || reason == "Terminated"
 }
 
-/// The requests of a pod, in thousandths: those of the pod as a whole, if it has them, else the effective requests of
-/// its containers. (Kubernetes, "Init Containers" and "Sidecar Containers", "Resource sharing within containers";
-/// "Resource Management for Pods and Containers", "Pod-level resource specification".)
+/// The requests of a pod, in thousandths: the requests of the pod as a whole, if it has them, else the effective
+/// requests of its containers. (Kubernetes, "Init Containers" and "Sidecar Containers", "Resource sharing within
+/// containers"; "Resource Management for Pods and Containers", "Pod-level resource specification".)
 #[derive(Clone, Copy, Debug, PartialEq, Eq)]
 pub struct EffectiveRequests {
     /// The CPUs, in thousandths of one.
@@ -43,7 +43,7 @@ pub struct EffectiveRequests {
 }
 
 impl EffectiveRequests {
-    /// Those of a pod.
+    /// The requests of a pod.
     pub(crate) fn of(pod: &PodSpec) -> EffectiveRequests
         ensures { result ≡ requests_of pod.now }
     {
@@ -58,16 +58,16 @@ impl EffectiveRequests {
 /// What a pod uses of its node, by the newest sample of each resource.
 #[derive(Clone, Copy, Debug, PartialEq, Eq)]
 pub struct NewestUsage {
-    /// The newest samples, since a tick last said that there is none.
+    /// The newest samples, since a tick last reported that there is none.
     pub samples: Usage,
-    /// Whether a tick said that there is none, and none has come since. (This project's extended format.)
+    /// Whether a tick reported that there is none, and none has come since. (This project's extended format.)
     pub is_unsampled: bool,
 }
 
 /// The status of a pod. (Kubernetes, "Pod Lifecycle".)
 #[derive(Drop)]
 pub struct PodStatus {
-    /// The pod's number among those of its node.
+    /// The pod's number among the pods of its node.
     pub number: usize,
     /// The phase.
     pub phase: Phase,
@@ -84,7 +84,7 @@ pub struct PodStatus {
     pub usage: NewestUsage,
     /// Its priority.
     pub priority: i32,
-    /// Whether the node spares it. (This project's extended format.)
+    /// Whether the node exempts it from eviction. (This project's extended format.)
     pub spared: bool,
     /// The order that evicted it, if it was evicted.
     pub order: Option<EvictOrder>,
@@ -121,8 +121,8 @@ impl PodStatus {
         }
     }
 
-    /// Whether a tick at the moment, in seconds, may evict the pod: the node doesn't spare it, and it has not ended, or
-    /// the node has ended it with that very tick, as the tick says.
+    /// Whether a tick at the moment, in seconds, may evict the pod: the node doesn't exempt it, and it has not ended,
+    /// or that very tick reports that the node has ended it.
     pub fn may_be_evicted(&self, at: u64) -> bool
         ensures { IsTrue result ↔ MayBeEvicted at self.now }
     {

@@ -39,14 +39,14 @@ fn newer_of(old: Option<Quantity>, new: Option<Quantity>) -> Option<Quantity>
     new.or(old)
 }
 
-/// The newest samples, with those of a tick more, if that counts.
+/// The newest samples, with one more tick, if that counts.
 pub(crate) fn newer_while(counts: bool, old: NewestUsage, sampling: Sampling) -> NewestUsage
     ensures { result ≡ (if counts then newer old sampling else old) }
 {
     if counts { newer(old, sampling) } else { old }
 }
 
-/// The newest samples, with those of a tick more.
+/// The newest samples, with one more tick.
 fn newer(old: NewestUsage, sampling: Sampling) -> NewestUsage
     ensures { result ≡ newer old sampling }
 {

@@ -1,4 +1,4 @@
-//! What the definitions of the deal and of a refused update imply. A function does nothing; its contract is the law.
+//! What the definitions of the deal and of a failed update imply. A function does nothing; its contract is the law.
 
 ghost use Rattle.pool_workers.specs.state.Dealing.{DealtByRemainder};
 ghost use Rattle.worker_results.specs.state.Done.{LeftAsDealt};
@@ -9,7 +9,7 @@ pub fn dealt_by_remainder()
     ensures { DealtByRemainder }
 {}
 
-/// A piece in which one tick waited comes back as it was handed in where that update was refused.
+/// A piece in which one tick waited comes back as it was if that update failed.
 pub fn left_as_dealt()
     ensures { LeftAsDealt }
 {}

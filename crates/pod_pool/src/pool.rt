@@ -65,8 +65,8 @@ fn pool<
     ensures gated { OnOk result (AreGated (G.left gate.now) pieces.items) }
     ensures refused { IfErr result (IsRefusalOf (G.left gate.now)) }
 {
-    // All memory is taken before the first piece is dealt, so a refusal gives pieces and share
-    // back. (docs/decisions/rounds.md)
+    // All memory is allocated before the first piece is dealt, so a failure returns pieces and share.
+    // (docs/decisions/rounds.md)
     let Ok(buffers) = make_buffers::<D, U, E, O>(alloc, pieces.len(), workers) else {
         return Err(PoolFault::NoRoom(pieces, share));
     };
@@ -86,15 +86,15 @@ fn pool<
     }
 }
 
-/// Takes all waiting ticks of each pending piece of a round into its status, in their order, and enters it once in the
+/// Takes all waiting ticks of each waiting piece of a round into its status, in their order, and enters it once in the
 /// book with the whole share of the book: this many workers, 1 to 64, do it in threads of their own, no more than there
-/// are pieces, and take what is left in the deques of others once their own are empty. It gives the pieces in the order
+/// are pieces, and take what is left in the deques of others once their own are empty. Returns the pieces in the order
 /// of their numbers, whatever the threads do, and the share, whose totals have grown by what the round of each piece
 /// adds: an update for each of its ticks, with their events.
 ///
-/// An `Err` says that memory was refused. At `NoRoom` no piece was dealt: pieces and share are as they were handed in.
-/// At `Update` one of the pieces comes back with those of its ticks left that are still to come, one at least and no
-/// more than it was dealt with; the others and the share are dropped. Each update is one of the gate, made or refused.
+/// Returns `Err` if an allocation fails. At `NoRoom` no piece was dealt: pieces and share are as they were. At `Update`
+/// one of the pieces comes back with the ticks left that are still to come, one at least and no more than it was dealt
+/// with; the others and the share are dropped. Each update is one of the gate, made or failed.
 pub fn update_all<U: Ledger + Send, E: Ledger + Send, O: Ledger + Send, R: Spawner, G: Gate>(
     rt: &R,
     alloc: Global,

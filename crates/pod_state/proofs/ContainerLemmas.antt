@@ -1,8 +1,8 @@
 -- The containers of a pod, as its ticks leave them.
 use Rattle.std.proofs.Common.{◌≡◌, inl, inr, ℕ, ◌+◌, ◌<◌, Bool, List, [], ◌∷◌, ◌++◌, length, get_or, Option, Some}
-use Rattle.std.proofs.Common.{None, refl, subst, sym, ◌∙◌, arith}
+use Rattle.std.proofs.Common.{None, refl, ap, subst, sym, ◌∙◌, arith}
 use Rattle.std.proofs.lemmas.Bool.{cases_lt}
-use Rattle.std.specs.Prelude.{◌↔◌, ◌≢◌, IsSomeAnd, IsTrue, slice_get, unwrap_or}
+use Rattle.std.specs.Prelude.{◌↔◌, ◌≢◌, IsSomeAnd, IsTrue, slice_get, unwrap_or, option_and_then}
 use Rattle.histories.specs.rule.Histories.{recorded}
 use Rattle.histories.proofs.Items.{any_default}
 use Rattle.histories.proofs.Places.{length-project}
@@ -10,7 +10,7 @@ use Rattle.manifest.specs.declared.pod.ContainerSpec.{ContainerSpec}
 use Rattle.manifest.specs.declared.pod.PodSpec.{PodSpec}
 use Rattle.manifest.specs.declared.pod.Role.TheVariants.{Init}
 use Rattle.observations.specs.rule.Pods.{PodObs}
-use Rattle.phase.specs.declared.view.ContainerView.{ContainerView}
+use Rattle.phase.specs.declared.restart_view.RestartView.{RestartView}
 use Rattle.containers.specs.declared.container.Container.{Container}
 use Rattle.containers.specs.rule.Ticks.{ContainerTick, listings}
 use Rattle.state_diff.specs.declared.seen.Seen.{Seen}
@@ -18,7 +18,7 @@ use Rattle.state_diff.specs.state.Instances.{IsAcceptable}
 use Rattle.containers.specs.state.Container.{IsStateOf}
 use Rattle.containers.specs.declared.events.ContainerEvents.{ContainerEvents}
 use Rattle.containers.specs.rule.Events.{AreEvents}
-use Rattle.manifest.specs.declared.policy.Policy.{Policy}
+use Rattle.manifest.specs.declared.own_restarts.OwnRestarts.{OwnRestarts}
 use Rattle.containers.specs.rule.Probed as probed
 use Rattle.containers.specs.rule.Shown as shown
 use Rattle.containers.specs.state.Shown as viewed
@@ -28,9 +28,9 @@ use Rattle.pod_state.specs.rule.Pods.{PodEntry, PodTick, pod_tick, ticks_of, uns
 use Rattle.pod_state.specs.state.Pods.{IsViewOf}
 use Rattle.pod_state.specs.rule.Pods.{IsEnd, counted, EndsByNode}
 use Rattle.pod_state.specs.rule.Containers.{IsShownOf, AreStatusesOf}
-use Rattle.pod_state.specs.state.Containers.{AreShown, IsContainerOf, AreContainersOf, AreKept}
+use Rattle.pod_state.specs.state.Containers.{AreShown, IsContainerOf, AreContainersOf, AreKept, own_restarts_of}
 use Rattle.pod_state.proofs.EndLemmas.{IsEnd-unique}
-use Rattle.pod_state.proofs.TickLemmas.{ticks_more, of_spec, implies, within}
+use Rattle.pod_state.proofs.TickLemmas.{ticks_more, of_spec, implies, implied_at, within}
 use Rattle.pod_state.proofs.ViewLemmas.{serves_is}
 
 -- one that no tick has shown
@@ -56,36 +56,42 @@ next_is pod max_restart_delay n h observed before after step is =
     (λ spec st. subst (λ (k : List ContainerTick). IsStateOf spec max_restart_delay k after) more
     (step spec (ticks_of h n) st)) is
 
+-- what a container has of its own, by its number
+own_given : (pod : PodSpec) (n : ℕ) (own : Option OwnRestarts) (spec : ContainerSpec) → own ≡ own_restarts_of pod n
+    → slice_get pod.containers n ≡ Some spec → own ≡ spec.own_restarts
+own_given pod n own spec is at = is ∙ ap (λ (o : Option ContainerSpec). option_and_then (λ s. s.own_restarts) o) at
+
 -- and what the tick makes of it
-pub made_is : (pod : PodSpec) (max_restart_delay n : ℕ) (h : List PodTick) (observed : PodObs) (policy : Policy)
-    (before : Container) (made : ContainerEvents) → pod.policy ≡ policy
-    → ((spec : ContainerSpec) (k : List ContainerTick) → IsStateOf spec max_restart_delay k before
-    → AreEvents policy max_restart_delay spec
+pub made_is : (pod : PodSpec) (max_restart_delay n : ℕ) (h : List PodTick) (observed : PodObs)
+    (own : Option OwnRestarts)
+    (before : Container) (made : ContainerEvents) → own ≡ own_restarts_of pod n
+    → ((spec : ContainerSpec) (k : List ContainerTick) → own ≡ spec.own_restarts
+    → IsStateOf spec max_restart_delay k before
+    → AreEvents pod.policy max_restart_delay spec
     (k ++ recorded observed.at (unwrap_or (slice_get observed.containers n) unseen) ∷ []) (length k) made)
     → IsContainerOf pod max_restart_delay h n before → IsMadeOf pod max_restart_delay h (pod_tick observed) n made
-made_is pod max_restart_delay n h observed policy before made same step is =
+made_is pod max_restart_delay n h observed own before made has step is =
     let more = sym (ticks_more h (pod_tick observed) n) in
     let long = length-project (λ (entry : PodEntry). unwrap_or (slice_get entry.containers n) unseen) h in
     let Q : ContainerSpec → Type 0 = λ spec. AreEvents pod.policy max_restart_delay spec
     (ticks_of (h ++ pod_tick observed ∷ []) n) (length h) made in
-    implies pod n (λ spec. IsStateOf spec max_restart_delay (ticks_of h n) before) Q
-    (λ spec st.
-    subst (λ (p : Policy). AreEvents p max_restart_delay spec (ticks_of (h ++ pod_tick observed ∷ []) n)
-    (length h) made)
-    (sym same)
-    (subst (λ (t : ℕ). AreEvents policy max_restart_delay spec (ticks_of (h ++ pod_tick observed ∷ []) n) t made) long
-    (subst (λ (k : List ContainerTick). AreEvents policy max_restart_delay spec k (length (ticks_of h n)) made) more
-    (step spec (ticks_of h n) st)))) is
+    implied_at pod n (λ spec. IsStateOf spec max_restart_delay (ticks_of h n) before) Q
+    (λ spec at st.
+    subst (λ (t : ℕ). AreEvents pod.policy max_restart_delay spec (ticks_of (h ++ pod_tick observed ∷ []) n) t made)
+    long
+    (subst (λ (k : List ContainerTick). AreEvents pod.policy max_restart_delay spec k (length (ticks_of h n)) made) more
+    (step spec (ticks_of h n) (own_given pod n own spec has at) st))) is
 
 -- as a view shows it
-pub view_is : (pod : PodSpec) (max_restart_delay n : ℕ) (h : List PodTick) (container : Container)
-    (view : ContainerView)
-    → ((spec : ContainerSpec) (k : List ContainerTick) → IsStateOf spec max_restart_delay k container
-    → viewed.IsViewOf spec k view)
+pub view_is : (pod : PodSpec) (max_restart_delay n : ℕ) (h : List PodTick) (own : Option OwnRestarts)
+    (container : Container) (view : RestartView) → own ≡ own_restarts_of pod n
+    → ((spec : ContainerSpec) (k : List ContainerTick) → own ≡ spec.own_restarts
+    → IsStateOf spec max_restart_delay k container → viewed.IsRestartViewOf pod.policy spec k view)
     → IsContainerOf pod max_restart_delay h n container → IsViewOf pod h n view
-view_is pod max_restart_delay n h container view shows is =
-    implies pod n (λ spec. IsStateOf spec max_restart_delay (ticks_of h n) container)
-    (λ spec. viewed.IsViewOf spec (ticks_of h n) view) (λ spec st. shows spec (ticks_of h n) st) is
+view_is pod max_restart_delay n h own container view has shows is =
+    implied_at pod n (λ spec. IsStateOf spec max_restart_delay (ticks_of h n) container)
+    (λ spec. viewed.IsRestartViewOf pod.policy spec (ticks_of h n) view)
+    (λ spec at st. shows spec (ticks_of h n) (own_given pod n own spec has at) st) is
 
 -- whether it is ready if it serves
 pub serving_ready : (pod : PodSpec) (max_restart_delay n : ℕ) (h : List PodTick) (container : Container) (ready : Bool)

@@ -11,14 +11,15 @@ use Rattle.phase.specs.declared.phase.Phase.{Phase}
 use Rattle.phase.specs.declared.phase.Phase.TheVariants.{Pending, Succeeded, Failed}
 use Rattle.manifest.specs.declared.pod.PodSpec.{PodSpec}
 use Rattle.phase.specs.rule.RawPhase.{IsTerminal, AreInitialized}
-use Rattle.pod_state.specs.rule.Pods.{PodTick, facts, numbers, AllReady, IsRawPhaseAfter, EndsPod, IsEnd, counted}
+use Rattle.pod_state.specs.rule.Pods.{PodTick, facts, WantsRestart, numbers, AllReady, IsRawPhaseAfter, EndsPod, IsEnd}
+use Rattle.pod_state.specs.rule.Pods.{counted}
 use Rattle.pod_state.specs.rule.Pods.{IsPhaseBy, IsPhase, IsInitialized, AreContainersReady, HasEnded, EndsByNode}
 use Rattle.pod_state.specs.rule.Pods.{IsEndedByNode}
 use Rattle.pod_state.specs.state.Lifecycles.{EndsWith}
 use Rattle.pod_state.proofs.NodeEnds.{ended_up_to, ended_old, ended_now}
 use Rattle.containers.specs.declared.container.Container.{Container}
 use Rattle.pod_state.specs.state.Containers.{AreContainersOf, AreKept}
-use Rattle.phase.proofs.PhaseLemmas.{where_same, IsRawPhase-unique}
+use Rattle.phase.proofs.PhaseLemmas.{where_same, IsRawPhaseBy-unique}
 use Rattle.phase.proofs.DecideLemmas.{terminal_cases}
 
 pub IsEnd-unique : (pod : PodSpec) (evicted : Option ℕ) (h : List PodTick) (o p : Option ℕ) → IsEnd pod evicted h o
@@ -30,7 +31,7 @@ some_more h x e = let n : length (h ++ x ∷ []) ≡ 0 = ap length e in absurd (
 
 pub raw_unique : (pod : PodSpec) (h : List PodTick) (p q : Phase) → IsRawPhaseAfter pod h p → IsRawPhaseAfter pod h q
     → p ≡ q
-raw_unique pod h p q = IsRawPhase-unique (facts pod h) pod.policy (numbers pod) p q
+raw_unique pod h p q = IsRawPhaseBy-unique (facts pod h) (WantsRestart pod) (numbers pod) p q
 
 -- there is one phase
 pub IsPhase-unique : (pod : PodSpec) (evicted : Option ℕ) (h : List PodTick) (p q : Phase) → IsPhase pod evicted h p

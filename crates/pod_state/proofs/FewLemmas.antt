@@ -1,6 +1,6 @@
 -- A pod of one container, or of two, after one more tick.
 use Rattle.std.proofs.Common.{◌≡◌, ℕ, zero, suc, ◌<◌, List, [], ◌∷◌, ◌++◌, length, get_or, arith, refl, sym}
-use Rattle.phase.specs.declared.view.ContainerView.{ContainerView}
+use Rattle.phase.specs.declared.restart_view.RestartView.{RestartView}
 use Rattle.manifest.specs.declared.pod.PodSpec.{PodSpec}
 use Rattle.containers.specs.declared.container.Container.{Container}
 use Rattle.containers.specs.declared.events.ContainerEvents.{ContainerEvents}
@@ -94,7 +94,7 @@ two_made pod max_restart_delay h tick containers one other made also long is is_
     record { as_many = all.0; each = all.1 }
 
 -- and their views
-pub one_view : (pod : PodSpec) (max_restart_delay : ℕ) (h : List PodTick) (container : Container) (view : ContainerView)
+pub one_view : (pod : PodSpec) (max_restart_delay : ℕ) (h : List PodTick) (container : Container) (view : RestartView)
     → (IsContainerOf pod max_restart_delay h 0 container → IsViewOf pod h 0 view)
     → AreContainersOf pod max_restart_delay h (container ∷ []) → AreViewsOf pod h (view ∷ [])
 one_view pod max_restart_delay h container view shows are =
@@ -103,7 +103,7 @@ one_view pod max_restart_delay h container view shows are =
     record { as_many = all.0; each = all.1 }
 
 pub two_views : (pod : PodSpec) (max_restart_delay : ℕ) (h : List PodTick) (one other : Container)
-    (view also : ContainerView)
+    (view also : RestartView)
     → (IsContainerOf pod max_restart_delay h 0 one → IsViewOf pod h 0 view)
     → (IsContainerOf pod max_restart_delay h 1 other → IsViewOf pod h 1 also)
     → AreContainersOf pod max_restart_delay h (one ∷ other ∷ []) → AreViewsOf pod h (view ∷ also ∷ [])

@@ -14,14 +14,14 @@ use Rattle.manifest.specs.declared.pod.Role.TheVariants.{Sidecar, App}
 use Rattle.phase.specs.declared.phase.Phase.{Phase}
 use Rattle.phase.specs.declared.phase.Phase.TheVariants.{Pending, Failed}
 use Rattle.phase.specs.declared.conditions.Condition.{Condition}
-use Rattle.phase.specs.declared.view.ContainerView.{ContainerView}
+use Rattle.phase.specs.declared.restart_view.RestartView.{RestartView}
 use Rattle.phase.specs.rule.RawPhase.{IsTerminal, AreInitialized}
-use Rattle.phase.proofs.DecideLemmas.{role_or_not, initialized_or_not as views_initialized_or_not}
+use Rattle.phase.proofs.DecideLemmas.{role_or_not, initialized_by_or_not as views_initialized_or_not}
 use Rattle.phase.proofs.DecideLemmas.{terminal_cases}
 use Rattle.containers.specs.rule.Shown as shown
 use Rattle.containers.specs.state.Shown as viewed
 use Rattle.containers.specs.declared.status.ContainerStatus.{ContainerStatus}
-use Rattle.containers.proofs.FoundLemmas.{view_of, status_of, ready_or_not}
+use Rattle.containers.proofs.FoundLemmas.{restart_view_of, status_of, ready_or_not}
 use Rattle.pod_state.specs.declared.lifecycle.Lifecycle.{Lifecycle}
 use Rattle.pod_state.specs.rule.Pods.{PodTick, ticks_of, Serves, IsReadyInPod, facts, numbers}
 use Rattle.pod_state.specs.state.Pods.{IsViewOf, AreViewsOf}
@@ -40,13 +40,13 @@ use Rattle.pod_state.proofs.ContainerLemmas.{serving_within}
 
 -- the views
 view_at : (pod : PodSpec) (h : List PodTick) (k : ℕ) → k < length pod.containers
-    → (view : ContainerView) × IsViewOf pod h k view
+    → (view : RestartView) × IsViewOf pod h k view
 view_at pod h k lt =
     let spec = given_at pod.containers k lt in
-    let view = view_of spec.0 (ticks_of h k) in
-    (view.0, of_spec pod k (λ spec. viewed.IsViewOf spec (ticks_of h k) view.0) spec.0 spec.1 view.1)
+    let view = restart_view_of pod.policy spec.0 (ticks_of h k) in
+    (view.0, of_spec pod k (λ spec. viewed.IsRestartViewOf pod.policy spec (ticks_of h k) view.0) spec.0 spec.1 view.1)
 
-pub some_views : (pod : PodSpec) (h : List PodTick) → (views : List ContainerView) × AreViewsOf pod h views
+pub some_views : (pod : PodSpec) (h : List PodTick) → (views : List RestartView) × AreViewsOf pod h views
 some_views pod h =
     let w = list_of (IsViewOf pod h) (length pod.containers) (view_at pod h) in
     (w.0, record { as_many = w.1; each = w.2 })

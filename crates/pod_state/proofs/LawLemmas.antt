@@ -11,12 +11,11 @@ use Rattle.histories.proofs.Transitions.{transition_differs}
 use Rattle.phase.specs.declared.phase.Phase.{Phase}
 use Rattle.manifest.specs.declared.pod.PodSpec.{PodSpec}
 use Rattle.phase.specs.rule.RawPhase.{IsTerminal}
-use Rattle.pod_state.specs.rule.Pods.{PodTick, facts, numbers, IsPhase}
+use Rattle.pod_state.specs.rule.Pods.{PodTick, IsPhase}
 use Rattle.pod_state.specs.state.Laws.{ChangesAt, OnePhase, EndedStaysEnded, OneRawPhase, TransitionsAreChanges}
 use Rattle.pod_state.specs.state.Laws.{OneStatus}
-use Rattle.phase.proofs.DecideLemmas.{some_of_views}
-use Rattle.phase.proofs.PhaseLemmas.{IsRawPhase-unique}
-use Rattle.pod_state.proofs.EndLemmas.{IsPhase-unique, phase_ended}
+use Rattle.phase.proofs.DecideLemmas.{some_by_views}
+use Rattle.pod_state.proofs.EndLemmas.{IsPhase-unique, phase_ended, raw_unique}
 use Rattle.pod_state.proofs.ViewLemmas.{raw_after}
 use Rattle.pod_state.proofs.UniqueLemmas.{status_one, container_one}
 
@@ -43,9 +42,8 @@ ended_stays_ended = record {
 
 pub one_raw_phase : OneRawPhase
 one_raw_phase = record {
-  some = λ pod h views are. let w = some_of_views pod.policy views in
-      (w.0, raw_after pod pod.policy h views w.0 refl are w.1);
-  no_other = λ pod h p q. IsRawPhase-unique (facts pod h) pod.policy (numbers pod) p q;
+  some = λ pod h views are. let w = some_by_views views in (w.0, raw_after pod h views w.0 are w.1);
+  no_other = raw_unique;
 }
 
 pub one_status : OneStatus

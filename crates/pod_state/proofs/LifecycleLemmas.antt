@@ -14,8 +14,8 @@ use Rattle.phase.specs.declared.conditions.Conditions.{Conditions}
 use Rattle.phase.specs.declared.conditions.Values.{Values}
 use Rattle.manifest.specs.declared.pod.PodSpec.{PodSpec}
 use Rattle.pod_state.specs.declared.lifecycle.Lifecycle.{Lifecycle}
-use Rattle.phase.specs.declared.view.ContainerView.{ContainerView}
-use Rattle.phase.specs.state.Facts.{of_view}
+use Rattle.phase.specs.declared.restart_view.RestartView.{RestartView}
+use Rattle.phase.specs.state.Restarts.{of_restart_view}
 use Rattle.phase.specs.rule.RawPhase.{IsTerminal, AreInitialized}
 use Rattle.phase.specs.state.Conditions.{last_or, IsConditionOf, IsStateOf}
 use Rattle.pod_state.specs.rule.Pods.{PodTick, facts, numbers, counted, AllReady, IsPhase, IsInitialized}
@@ -98,8 +98,8 @@ counted-none : (o : Option ℕ) → counted [] o ≡ []
 counted-none None = refl
 counted-none (Some t) = refl
 
-no_initialized : (pod : PodSpec) (evicted : Option ℕ) (views : List ContainerView) (initialized : Bool)
-    → AreViewsOf pod [] views → (IsTrue initialized ↔ AreInitialized of_view views)
+no_initialized : (pod : PodSpec) (evicted : Option ℕ) (views : List RestartView) (initialized : Bool)
+    → AreViewsOf pod [] views → (IsTrue initialized ↔ AreInitialized of_restart_view views)
     → (IsTrue (not (not initialized)) ↔ IsInitialized pod evicted [])
 no_initialized pod evicted views initialized are is =
     let after = initialized_after pod [] views are in
@@ -113,9 +113,9 @@ no_initialized pod evicted views initialized are is =
     not_not true = refl
     not_not false = refl
 
-pub progress_new : (pod : PodSpec) (evicted : Option ℕ) (views : List ContainerView) (initialized : Bool)
+pub progress_new : (pod : PodSpec) (evicted : Option ℕ) (views : List RestartView) (initialized : Bool)
     (conditions : Conditions) → AreViewsOf pod [] views
-    → (IsTrue initialized ↔ AreInitialized of_view views) → IsStateOf (not initialized) [] conditions
+    → (IsTrue initialized ↔ AreInitialized of_restart_view views) → IsStateOf (not initialized) [] conditions
     → IsProgressOf pod evicted [] (record { phase = Pending; conditions = conditions })
 progress_new pod evicted views initialized conditions are tested is = record {
   so_far = record {
@@ -190,11 +190,11 @@ progress_more pod evicted h x status phase conditions values is next initialized
 
 -- whether the pod is initialized
 pub initialized_more : (pod : PodSpec) (evicted : Option ℕ) (h : List PodTick) (x : PodTick) (status : Lifecycle)
-    (views : List ContainerView) (next : Phase) (b : Bool)
+    (views : List RestartView) (next : Phase) (b : Bool)
     → ((IsTerminal status.phase → ⊥) → AreViewsOf pod (h ++ x ∷ []) views) → IsLifecycleOf pod evicted h status
     → IsPhase pod evicted (h ++ x ∷ []) next
     → (IsTerminal status.phase → b ≡ status.conditions.initialized.value)
-    → ((IsTerminal status.phase → ⊥) → (IsTrue b ↔ AreInitialized of_view views))
+    → ((IsTerminal status.phase → ⊥) → (IsTrue b ↔ AreInitialized of_restart_view views))
     → (IsTrue b ↔ IsInitialized pod evicted (h ++ x ∷ []))
 initialized_more pod evicted h x status views next b are is then ended living = elim (terminal_cases status.phase) [
   | inl term ↦

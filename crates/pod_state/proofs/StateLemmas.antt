@@ -1,7 +1,7 @@
 -- A pod after one more tick.
 use Rattle.std.proofs.Common.{◌≡◌, ◌∙◌, inl, inr, ℕ, List, [], ◌∷◌, ◌++◌, length, Option, Some, None, true, false}
 use Rattle.std.proofs.Common.{slice_index_or, refl, sym, subst, ap, arith}
-use Rattle.std.specs.Prelude.{◌↔◌, ◌≢◌, ◌||◌, Bool, IsSomeAnd, IsTrue, slice_get, unwrap_or}
+use Rattle.std.specs.Prelude.{◌↔◌, ◌≢◌, ◌||◌, Bool, IsSomeAnd, slice_get, unwrap_or}
 use Rattle.std.specs.List.{list_any}
 use Rattle.std.proofs.lemmas.List.Folds.{list_any-append}
 use Rattle.histories.specs.state.Histories.{EndsBefore}

@@ -31,6 +31,16 @@ pub implies : (pod : PodSpec) (container : ℕ) (P Q : ContainerSpec → Type 0)
     → ((spec : ContainerSpec) → P spec → Q spec) → OfSpec pod container P → OfSpec pod container Q
 implies pod container P Q f p = both (slice_get pod.containers container) P Q f p
 
+-- the same, where the specification is known to be the one with the number
+pub implied_at : (pod : PodSpec) (container : ℕ) (P Q : ContainerSpec → Type 0)
+    → ((spec : ContainerSpec) → slice_get pod.containers container ≡ Some spec → P spec → Q spec)
+    → OfSpec pod container P → OfSpec pod container Q
+implied_at pod container P Q f p = there (slice_get pod.containers container) refl p
+  where
+    there : (o : Option ContainerSpec) → slice_get pod.containers container ≡ o → IsSomeAnd o P → IsSomeAnd o Q
+    there None e p = absurd p
+    there (Some spec) e p = f spec e p
+
 -- two that hold of it
 and_also : (o : Option ContainerSpec) (P Q R : ContainerSpec → Type 0)
     → ((spec : ContainerSpec) → P spec → Q spec → R spec) → IsSomeAnd o P → IsSomeAnd o Q → IsSomeAnd o R

@@ -12,7 +12,7 @@ use std::alloc::{AllocError, Global};
 /// What happened to a pod, or to one of its containers.
 #[derive(Clone, Copy, Debug, PartialEq, Eq)]
 pub struct PodEvent {
-    /// The container's number; none where it happened to the pod.
+    /// The container's number; none for an event of the pod.
     pub container: Option<usize>,
     /// What happened.
     pub kind: PodEventKind,

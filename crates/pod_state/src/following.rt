@@ -1,7 +1,7 @@
 //! The containers of a pod, one tick after the other.
 
 ghost use Rattle.std.specs.Prelude.{◌≡◌, ◌≢◌, ◌↔◌, ◌<◌, ℕ, List, [], ◌∷◌, ◌++◌, length, slice_get, unwrap_or};
-ghost use Rattle.std.specs.Prelude.{IsTrue, IfOk};
+ghost use Rattle.std.specs.Prelude.{IsTrue, IfOk, option_map};
 ghost use Rattle.quantity.specs.rule.Duration.{end_of_time};
 ghost use Rattle.manifest.specs.declared.pod.ContainerSpec.{ContainerSpec};
 ghost use Rattle.manifest.specs.declared.pod.PodSpec.{PodSpec};
@@ -10,16 +10,16 @@ ghost use Rattle.containers.specs.rule.Ticks.{ContainerTick};
 ghost use Rattle.containers.specs.rule.Probed.{IsContainerReady};
 ghost use Rattle.containers.specs.state.Container.{Accepts, IsBefore, IsStateOf};
 ghost use Rattle.pod_state.specs.rule.Pods.{PodTick, pod_tick, unseen, AllReady};
-ghost use Rattle.pod_state.specs.state.Pods.{AreViewsOf};
+ghost use Rattle.pod_state.specs.state.Pods.{IsViewOf, AreViewsOf};
 ghost use Rattle.pod_state.specs.state.Listings.{listed_in, AreAcceptable, AreListed};
-ghost use Rattle.pod_state.specs.state.Containers.{IsContainerOf, AreContainersOf, AreShown};
+ghost use Rattle.pod_state.specs.state.Containers.{IsContainerOf, AreContainersOf, AreShown, own_restarts_of};
 ghost use Rattle.pod_state.specs.rule.Events.{IsMadeOf, AreMade};
 ghost use Rattle.pod_state.specs.state.States.{AllAccept, AllBefore};
 
 use containers::{Container, ContainerEvents, ContainerStatus};
-use manifest::{ContainerSpec, MaxRestartDelay, Policy};
+use manifest::{ContainerSpec, MaxRestartDelay, OwnRestarts, PodSpec};
 use observations::{ContainerObs, PodObs};
-use phase::ContainerView;
+use phase::RestartView;
 use state_diff::{Differ, Seen};
 use std::alloc::{AllocError, Global};
 
@@ -60,10 +60,17 @@ pub(crate) struct AllStepped {
     pub(crate) made: Vec<ContainerEvents>,
 }
 
-/// A tick comes, with what it shows of the container, which has this number: the container's events in it.
+/// What the container with the number has of its own to decide on its restarts.
+fn own_restarts_of(pod: &PodSpec, number: usize) -> Option<&OwnRestarts>
+    ensures { option_map (λ o. o.now) result ≡ own_restarts_of pod.now number }
+{
+    pod.containers.as_slice().get(number)?.own_restarts()
+}
+
+/// A tick comes, with what it shows of the container of the pod, which has this number: the container's events in it.
 pub(crate) fn step(
     container: &mut Container,
-    policy: Policy,
+    pod: &PodSpec,
     observed: &PodObs,
     number: usize,
 ) -> ContainerEvents
@@ -73,19 +80,20 @@ pub(crate) fn step(
     ensures state { (pod : PodSpec) (max_restart_delay : ℕ) (h : List PodTick)
         → IsContainerOf pod max_restart_delay h number container.old
         → IsContainerOf pod max_restart_delay (h ++ pod_tick observed.now ∷ []) number container.new }
-    ensures made { (pod : PodSpec) (max_restart_delay : ℕ) (h : List PodTick) → pod.policy ≡ policy
-        → IsContainerOf pod max_restart_delay h number container.old
-        → IsMadeOf pod max_restart_delay h (pod_tick observed.now) number result }
+    ensures made { (max_restart_delay : ℕ) (h : List PodTick)
+        → IsContainerOf pod.now max_restart_delay h number container.old
+        → IsMadeOf pod.now max_restart_delay h (pod_tick observed.now) number result }
 {
     let shown = shown_of(observed, number);
-    container.step(policy, observed.at(), shown)
+    let own = own_restarts_of(pod, number);
+    container.step(pod.policy, own, observed.at(), shown)
 }
 
 /// The containers after one tick more.
 pub(crate) fn next_containers(
     alloc: Global,
     containers: &[Container],
-    policy: Policy,
+    pod: &PodSpec,
     observed: &PodObs,
 ) -> Result<AllStepped, AllocError>
     requires accepted { AllAccept containers.now observed.now.containers }
@@ -95,15 +103,15 @@ pub(crate) fn next_containers(
     ensures containers { IfOk result (λ next. (pod : PodSpec) (max_restart_delay : ℕ) (h : List PodTick)
         → AreContainersOf pod max_restart_delay h containers.now
         → AreContainersOf pod max_restart_delay (h ++ pod_tick observed.now ∷ []) next.containers.items) }
-    ensures made { IfOk result (λ next. (pod : PodSpec) (max_restart_delay : ℕ) (h : List PodTick)
-        → pod.policy ≡ policy → AreContainersOf pod max_restart_delay h containers.now
-        → AreMade pod max_restart_delay h (pod_tick observed.now) next.made.items) }
+    ensures made { IfOk result (λ next. (max_restart_delay : ℕ) (h : List PodTick)
+        → AreContainersOf pod.now max_restart_delay h containers.now
+        → AreMade pod.now max_restart_delay h (pod_tick observed.now) next.made.items) }
 {
     let mut all = Vec::with_capacity(alloc, containers.len())?;
     let mut made = Vec::with_capacity(alloc, containers.len())?;
     for (number, container) in containers.iter().enumerate() {
         let mut next = *container;
-        let events = step(&mut next, policy, observed, number);
+        let events = step(&mut next, pod, observed, number);
         all.push(next)?;
         made.push(events)?;
     }
@@ -113,22 +121,31 @@ pub(crate) fn next_containers(
     })
 }
 
-/// The containers as the rules on phases see them.
+/// The container of the pod, which has this number, as the rules on phases see it.
+pub(crate) fn view_of(container: &Container, pod: &PodSpec, number: usize) -> RestartView
+    ensures { (max_restart_delay : ℕ) (h : List PodTick)
+        → IsContainerOf pod.now max_restart_delay h number container.now → IsViewOf pod.now h number result }
+{
+    container.restart_view(pod.policy, own_restarts_of(pod, number))
+}
+
+/// The containers of the pod as the rules on phases see them.
 pub(crate) fn views_of(
     alloc: Global,
     containers: &[Container],
-) -> Result<Vec<ContainerView>, AllocError>
-    ensures { IfOk result (λ v. (pod : PodSpec) (max_restart_delay : ℕ) (h : List PodTick)
-        → AreContainersOf pod max_restart_delay h containers.now → AreViewsOf pod h v.items) }
+    pod: &PodSpec,
+) -> Result<Vec<RestartView>, AllocError>
+    ensures { IfOk result (λ v. (max_restart_delay : ℕ) (h : List PodTick)
+        → AreContainersOf pod.now max_restart_delay h containers.now → AreViewsOf pod.now h v.items) }
 {
     let mut views = Vec::with_capacity(alloc, containers.len())?;
-    for container in containers {
-        views.push(container.view())?;
+    for (number, container) in containers.iter().enumerate() {
+        views.push(view_of(container, pod, number))?;
     }
     Ok(views)
 }
 
-/// Shows each container in its place; `is_ended` says whether the node has ended the pod.
+/// Shows each container in its place; `is_ended` is whether the node has ended the pod.
 pub(crate) fn show(containers: &[Container], is_ended: bool, statuses: &mut Vec<ContainerStatus>)
     requires { length statuses.old.items ≡ length containers.now }
     ensures { (pod : PodSpec) (max_restart_delay : ℕ) (h : List PodTick)

@@ -9,8 +9,8 @@ ghost use Rattle.pod_state.specs.rule.Gates.{AreGatesTrue};
 use manifest::{MOST_GATES, ReadinessGates};
 use observations::PodObs;
 
-/// The statuses of the conditions that a pod's readiness gates name, after its ticks so far: each is what the last tick
-/// said of it that said something, and else False. (Kubernetes, "Pod Lifecycle", "Pod readiness".)
+/// The statuses of the conditions that a pod's readiness gates name, after its ticks so far: for each the last status
+/// that a tick gave, and False without one. (Kubernetes, "Pod Lifecycle", "Pod readiness".)
 #[derive(Clone, Copy)]
 pub(crate) struct GateStatuses {
     count: usize,

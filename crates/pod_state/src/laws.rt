@@ -17,7 +17,7 @@ pub fn ended_stays_ended()
     ensures { laws.EndedStaysEnded }
 {}
 
-/// The moment of a condition's last transition is that of a tick that changed it, or of the first tick.
+/// The moment of a condition's last transition is the moment of a tick that changed it, or of the first tick.
 pub fn transitions_are_changes()
     ensures { laws.TransitionsAreChanges }
 {}

@@ -18,14 +18,15 @@ ghost use Rattle.pod_state.specs.state.States.{before_of, HasContainers, IsState
 
 use crate::events::{PodEvent, events_of, phase_event};
 use crate::following::{
-    all_ready, are_acceptable, first_containers, list, next_containers, show, step, views_of,
+    all_ready, are_acceptable, first_containers, list, next_containers, show, step, view_of,
+    views_of,
 };
 use crate::gates::GateStatuses;
 use crate::lifecycle::Lifecycle;
 use containers::{Container, ContainerEvents, ContainerStatus};
-use manifest::{MaxRestartDelay, PodSpec, Policy};
+use manifest::{MaxRestartDelay, PodSpec};
 use observations::PodObs;
-use phase::ContainerView;
+use phase::RestartView;
 use state_diff::Differ;
 use std::alloc::{AllocError, Global};
 
@@ -50,14 +51,14 @@ fn deleting_with(before: bool, observed: &PodObs) -> bool
     before || observed.deleting()
 }
 
-/// Whether the tick says that with it the node has ended the pod.
+/// Whether the tick reports that the node has ended the pod with it.
 fn says_failed(observed: &PodObs) -> bool
     ensures { result ≡ says_failed (pod_tick observed.now) }
 {
     observed.failed().is_some()
 }
 
-/// Whether a pod is leaving: it is being deleted, or the tick says that the node has ended it.
+/// Whether a pod is leaving: it is being deleted, or the tick reports that the node has ended it.
 fn is_leaving(deleting: bool, failed: bool) -> bool
     ensures { result ≡ (deleting || failed) }
 {
@@ -65,8 +66,8 @@ fn is_leaving(deleting: bool, failed: bool) -> bool
 }
 
 impl PodState {
-    /// A pod that no tick has shown yet, on a node with this maximum restart delay. An `Err` says that memory was
-    /// refused.
+    /// A pod that no tick has shown yet, on a node with this maximum restart delay. Returns `Err` if an allocation
+    /// fails.
     pub fn new(
         alloc: Global,
         spec: &PodSpec,
@@ -78,7 +79,7 @@ impl PodState {
             → IsProgressOf spec.now evicted [] (before_of state)) }
     {
         let containers = first_containers(alloc, spec.containers.as_slice(), max_restart_delay)?;
-        let views = views_of(alloc, &containers)?;
+        let views = views_of(alloc, &containers, spec)?;
         let lifecycle = Lifecycle::new(&views);
         Ok(PodState {
             containers,
@@ -96,25 +97,25 @@ impl PodState {
         self.lifecycle
     }
 
-    /// Takes a tick that doesn't evict the pod and shows this of it, at a moment before `END_OF_TIME`, and gives the
-    /// events of the tick. Where the tick says that the node has ended the pod, the pod ends. Once it has, only the
-    /// tick's moment is looked at. An `Err` changes nothing.
+    /// Takes a tick that doesn't evict the pod and shows this of it, at a moment before `END_OF_TIME`. Returns the
+    /// events of the tick. The pod ends if the tick reports that the node has ended it. Once it has ended, only the
+    /// tick's moment is looked at. After an `Err` the pod is as it was.
     pub fn take(
         &mut self,
         alloc: Global,
-        policy: Policy,
+        pod: &PodSpec,
         observed: &PodObs,
     ) -> Result<Vec<PodEvent>, AllocError>
         requires follows { MayFollow self.old observed.now.at observed.now.containers }
         requires bounded { observed.now.at < end_of_time }
-        ensures ok { OnOk result (LeadsTo policy (pod_tick observed.now) self.old self.new) }
+        ensures ok { OnOk result (LeadsTo pod.now (pod_tick observed.now) self.old self.new) }
         ensures before { OnOk result (before_of self.new ≡ self.old.lifecycle) }
-        ensures events { IfOk result (λ v. MakesEvents policy (pod_tick observed.now) self.old v.items) }
+        ensures events { IfOk result (λ v. MakesEvents pod.now (pod_tick observed.now) self.old v.items) }
         ensures err { OnErr result (self.new ≡ self.old) }
     {
         let mut lifecycle = self.lifecycle;
         if lifecycle.has_ended() {
-            lifecycle.advance(policy, observed.at(), &[], false, false, false);
+            lifecycle.advance(observed.at(), &[], false, false, false);
             self.before = self.lifecycle;
             self.lifecycle = lifecycle;
             self.deleting = deleting_with(self.deleting, observed);
@@ -124,23 +125,23 @@ impl PodState {
         // Most pods have one or two containers: these take their steps on the stack, and only events take memory.
         if self.containers.len() == 1 {
             let mut next = [self.containers[0]];
-            let made = [step(&mut next[0], policy, observed, 0)];
-            let views = [next[0].view()];
-            return self.settle(alloc, policy, observed, &next, &made, &views);
+            let made = [step(&mut next[0], pod, observed, 0)];
+            let views = [view_of(&next[0], pod, 0)];
+            return self.settle(alloc, pod, observed, &next, &made, &views);
         }
         if self.containers.len() == 2 {
             let mut next = [self.containers[0], self.containers[1]];
             let made = [
-                step(&mut next[0], policy, observed, 0),
-                step(&mut next[1], policy, observed, 1),
+                step(&mut next[0], pod, observed, 0),
+                step(&mut next[1], pod, observed, 1),
             ];
-            let views = [next[0].view(), next[1].view()];
-            return self.settle(alloc, policy, observed, &next, &made, &views);
+            let views = [view_of(&next[0], pod, 0), view_of(&next[1], pod, 1)];
+            return self.settle(alloc, pod, observed, &next, &made, &views);
         }
-        let all = next_containers(alloc, &self.containers, policy, observed)?;
+        let all = next_containers(alloc, &self.containers, pod, observed)?;
         let (next, made) = (&all.containers, &all.made);
-        let views = views_of(alloc, next)?;
-        self.settle(alloc, policy, observed, next, made, &views)
+        let views = views_of(alloc, next, pod)?;
+        self.settle(alloc, pod, observed, next, made, &views)
     }
 
     /// Ends a tick that leaves the containers so, as these views show them, and has made this of them, and gives the
@@ -148,39 +149,32 @@ impl PodState {
     fn settle(
         &mut self,
         alloc: Global,
-        policy: Policy,
+        pod: &PodSpec,
         observed: &PodObs,
         next: &[Container],
         made: &[ContainerEvents],
-        views: &[ContainerView],
+        views: &[RestartView],
     ) -> Result<Vec<PodEvent>, AllocError>
         requires lives { IsTerminal self.old.lifecycle.phase → ⊥ }
         requires count { vec_len self.old.containers ≡ length next.now }
         requires containers { (pod : PodSpec) (max_restart_delay : ℕ) (h : List PodTick)
             → AreContainersOf pod max_restart_delay h self.old.containers.items
             → AreContainersOf pod max_restart_delay (h ++ pod_tick observed.now ∷ []) next.now }
-        requires made { (pod : PodSpec) (max_restart_delay : ℕ) (h : List PodTick)
-            → pod.policy ≡ policy → AreContainersOf pod max_restart_delay h self.old.containers.items
-            → AreMade pod max_restart_delay h (pod_tick observed.now) made.now }
-        requires views { (pod : PodSpec) (max_restart_delay : ℕ) (h : List PodTick)
-            → AreContainersOf pod max_restart_delay h next.now → AreViewsOf pod h views.now }
-        ensures ok { OnOk result (LeadsTo policy (pod_tick observed.now) self.old self.new) }
+        requires made { (max_restart_delay : ℕ) (h : List PodTick)
+            → AreContainersOf pod.now max_restart_delay h self.old.containers.items
+            → AreMade pod.now max_restart_delay h (pod_tick observed.now) made.now }
+        requires views { (max_restart_delay : ℕ) (h : List PodTick)
+            → AreContainersOf pod.now max_restart_delay h next.now → AreViewsOf pod.now h views.now }
+        ensures ok { OnOk result (LeadsTo pod.now (pod_tick observed.now) self.old self.new) }
         ensures before { OnOk result (before_of self.new ≡ self.old.lifecycle) }
-        ensures events { IfOk result (λ v. MakesEvents policy (pod_tick observed.now) self.old v.items) }
+        ensures events { IfOk result (λ v. MakesEvents pod.now (pod_tick observed.now) self.old v.items) }
         ensures err { OnErr result (self.new ≡ self.old) }
     {
         let ready = all_ready(next);
         let mut lifecycle = self.lifecycle;
         let gates = self.gates.next(observed);
         let failed = says_failed(observed);
-        lifecycle.advance(
-            policy,
-            observed.at(),
-            views,
-            ready,
-            gates.are_true(),
-            failed,
-        );
+        lifecycle.advance(observed.at(), views, ready, gates.are_true(), failed);
         let change = phase_event(self.lifecycle.phase, lifecycle.phase);
         let deleting = deleting_with(self.deleting, observed);
         let leaving = is_leaving(deleting, failed);
@@ -211,8 +205,7 @@ impl PodState {
         self.lifecycle = self.before.evicted(at, &self.lifecycle);
     }
 
-    /// Writes the status of each container, by number, in its place; `is_ended` says whether the node has
-    /// ended the pod.
+    /// Writes the status of each container, by number, in its place; `is_ended` is whether the node has ended the pod.
     pub fn show(&self, is_ended: bool, statuses: &mut Vec<ContainerStatus>)
         requires { HasContainers (length statuses.old.items) self.now }
         ensures { (pod : PodSpec) (max_restart_delay : ℕ) (evicted end : Option ℕ) (h : List PodTick)
@@ -224,7 +217,7 @@ impl PodState {
         show(&self.containers, is_ended, statuses);
     }
 
-    /// Writes the differ of each container, by number, in its place: what the listings that count say of it.
+    /// Writes the instance tracker of each container, by number, in its place: the state by the listings that count.
     pub fn list(&self, differs: &mut Vec<Differ>)
         requires { HasContainers (length differs.old.items) self.now }
         ensures { (pod : PodSpec) (max_restart_delay : ℕ) (evicted end : Option ℕ) (h : List PodTick)

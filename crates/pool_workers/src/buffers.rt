@@ -84,7 +84,7 @@ fn make_slots<D: Deal>(
     Ok(slots)
 }
 
-/// Puts the buffers together, which takes no memory: it fails just where one of its parts did.
+/// Puts the buffers together, without an allocation: it fails just if one of its parts did.
 fn assemble<D: Deal, U: Ledger, E: Ledger, O: Ledger>(
     owners: Vec<Owner<D>>,
     slots: Result<Vec<WorkerSlot<D>>, AllocError>,

@@ -15,7 +15,7 @@ use std::sync::ledger::Ledger;
 use std::sync::{Mutex, Wait};
 use worker_results::{RoundGate, WorkerResult};
 
-/// Empties each deque, and puts what is kept together. An `Err` is a piece whose update was refused.
+/// Empties each deque, and puts what is kept together. An `Err` is a piece whose update failed.
 pub(crate) fn collect<D: Deal, U: Ledger, E: Ledger, O: Ledger, R: Wait, G: Gate>(
     rt: &R,
     book: &Mutex<EventBook<U, E, O>>,

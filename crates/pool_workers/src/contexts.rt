@@ -23,7 +23,7 @@ use piece_deques::{Deal, Owner};
 use pod_piece::PodPiece;
 use std::sync::ledger::Ledger;
 
-/// The context of the worker whose deque stands at this place.
+/// The context of the worker whose deque is at this place.
 fn make_context<D: Deal, U: Ledger, E: Ledger, O: Ledger>(
     owner: Owner<D>,
     own: usize,
@@ -81,7 +81,7 @@ fn make_contexts<D: Deal, U: Ledger, E: Ledger, O: Ledger>(
     }
 }
 
-/// Deals the pieces, the permits and the share: a context for each worker. It takes no memory.
+/// Deals the pieces, the permits and the share: a context for each worker. Doesn't allocate.
 pub fn lay_out<D: Deal, U: Ledger, E: Ledger, O: Ledger>(
     buffers: RoundBuffers<D, U, E, O>,
     pieces: Vec<PodPiece>,

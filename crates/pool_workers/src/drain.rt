@@ -30,7 +30,7 @@ impl<D: Deal, U: Ledger, E: Ledger, O: Ledger> FinishedWorker<D, U, E, O> {
         return_permit(&mut self.owner, permit);
     }
 
-    /// Finishes each piece that is left in the deque, unless an update is refused.
+    /// Finishes each piece that is left in the deque, unless an update fails.
     fn drain<R: Wait, G: Gate>(
         &mut self,
         rt: &R,
@@ -59,7 +59,7 @@ impl<D: Deal, U: Ledger, E: Ledger, O: Ledger> FinishedWorker<D, U, E, O> {
         unreachable!()
     }
 
-    /// Finishes what is left in the deque, and gives what is kept then. An `Err` is a piece whose update was refused.
+    /// Finishes what is left in the deque. Returns what is kept then; an `Err` is a piece whose update failed.
     pub(crate) fn finish<R: Wait, G: Gate>(
         self,
         rt: &R,

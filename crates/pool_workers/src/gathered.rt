@@ -42,9 +42,9 @@ impl<D: Deal, U: Ledger, E: Ledger, O: Ledger> ResultBuffers<D, U, E, O> {
     }
 }
 
-/// Takes the contexts of workers that have ended apart, finishes what is left in their deques, and gives the pieces of
-/// the round in order, each with all its ticks, with the whole share, with which each was entered. An `Err` is a piece
-/// an update of which was refused.
+/// Takes the contexts of workers that have ended apart, finishes what is left in their deques, and returns the pieces
+/// of the round in order, each with all its ticks, and with the whole share, with which each was entered. An `Err` is a
+/// piece an update of which failed.
 pub fn gather<D: Deal, U: Ledger, E: Ledger, O: Ledger, R: Wait, G: Gate>(
     rt: &R,
     book: &Mutex<EventBook<U, E, O>>,

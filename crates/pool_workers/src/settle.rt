@@ -56,8 +56,8 @@ pub(crate) fn settle<D: Deal, U: Ledger, E: Ledger, O: Ledger, R: Wait>(
     share.join(theirs);
     let mut done = done;
     let mut uncounted = uncounted;
-    // A worker that met a full book had one part of the share alone; the whole share tells that
-    // there is room. (docs/decisions/rounds.md)
+    // A worker that met a full book had one part of the share alone; the whole share shows that there is room.
+    // (docs/decisions/rounds.md)
     'entered: while let Some(piece) = uncounted.pop() {
         let more = Totals::of_round(&piece);
         book.lock(rt).add_whole(more, &mut share);

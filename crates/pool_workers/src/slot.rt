@@ -9,7 +9,7 @@ use pod_piece::PodPiece;
 use std::sync::ledger::Ledger;
 use worker_results::StealHandle;
 
-/// What a worker will need beside its deque: the thieves' end of each deque, and room.
+/// What a worker will need in addition to its deque: the thieves' end of each deque, and room.
 #[derive(Drop)]
 pub(crate) struct WorkerSlot<D: Deal> {
     pub(crate) thieves: Vec<Thief<D>>,

@@ -17,7 +17,7 @@ use pod_piece::PodPiece;
 use std::sync::ledger::Ledger;
 use worker_results::StealHandle;
 
-/// Parts the permits from the rest. An `Err` is the piece whose update was refused.
+/// Parts the permits from the rest. An `Err` is the piece whose update failed.
 fn take_apart<D: Deal, U: Ledger, E: Ledger, O: Ledger>(
     context: WorkerContext<D, U, E, O>,
 ) -> Result<(FinishedWorker<D, U, E, O>, Vec<StealHandle<D>>), PodPiece>
@@ -49,7 +49,7 @@ fn take_apart<D: Deal, U: Ledger, E: Ledger, O: Ledger>(
     }
 }
 
-/// Parts the permits from each context, in their order. An `Err` is a piece whose update was refused.
+/// Parts the permits from each context, in their order. An `Err` is a piece whose update failed.
 pub(crate) fn take_all_apart<D: Deal, U: Ledger, E: Ledger, O: Ledger>(
     contexts: Vec<WorkerContext<D, U, E, O>>,
     finished: &mut Vec<FinishedWorker<D, U, E, O>>,

@@ -13,9 +13,9 @@ use std::sync::ledger::Ledger;
 use std::thread;
 use worker_results::RoundGate;
 
-/// Runs a worker for each context, in as many threads, which come from halving the range of workers. Where the system
-/// starts fewer threads, those that run do the rest. Each ends when it has found every deque empty, or where an update
-/// is refused.
+/// Runs a worker for each context, in as many threads, which come from halving the range of workers. If the system
+/// starts fewer threads, the running ones do the rest. Each ends when it has found every deque empty, or if an update
+/// fails.
 pub fn run<
     D: Deal + Send + Sync,
     U: Ledger + Send,

@@ -20,8 +20,8 @@ use std::sync::{Mutex, Wait};
 use worker_results::{RoundGate, StealHandle, WorkerResult};
 
 impl<D: Deal, U: Ledger, E: Ledger, O: Ledger> WorkerContext<D, U, E, O> {
-    /// The context of a worker that has done nothing yet, whose deque stands at this place. The vectors have room for
-    /// all that it may keep.
+    /// The context of a worker that has done nothing yet, whose deque is at this place. The vectors have room for all
+    /// that it may keep.
     pub fn new(
         owner: Owner<D>,
         own: usize,
@@ -49,7 +49,7 @@ impl<D: Deal, U: Ledger, E: Ledger, O: Ledger> WorkerContext<D, U, E, O> {
         }
     }
 
-    /// Finishes the pieces of its own deque, until it finds none in it. False where an update is refused.
+    /// Finishes the pieces of its own deque, until it finds none in it. Returns false if an update fails.
     fn empty_own<R: Wait, G: Gate>(
         &mut self,
         rt: &R,
@@ -73,7 +73,7 @@ impl<D: Deal, U: Ledger, E: Ledger, O: Ledger> WorkerContext<D, U, E, O> {
         unreachable!()
     }
 
-    /// Finishes pieces of another deque, until it finds none in it. False where an update is refused.
+    /// Finishes pieces of another deque, until it finds none in it. Returns false if an update fails.
     fn empty_other<R: Wait, G: Gate>(
         &mut self,
         rt: &R,
@@ -102,8 +102,8 @@ impl<D: Deal, U: Ledger, E: Ledger, O: Ledger> WorkerContext<D, U, E, O> {
         unreachable!()
     }
 
-    /// Finishes the pieces of its own deque, and then of each other one, until it finds none in it. It ends early where
-    /// an update is refused.
+    /// Finishes the pieces of its own deque, and then of each other one, until it finds none in it. It ends early if an
+    /// update fails.
     pub fn work<R: Wait, G: Gate>(
         &mut self,
         rt: &R,

@@ -7,9 +7,8 @@ use crate::outcome::belonging;
 use manifest::{Outcome, Probe};
 use std::marker::Model;
 
-/// The probe that a container is configured with, or none. Contracts see the option. It stands
-/// around the option so that a vector can hold what contains it: the toolchain can't follow a bare
-/// one there.
+/// The probe that a container is configured with, or none. Contracts see the option. The type is around the option so
+/// that a vector can hold what contains it: the toolchain can't follow a bare one there.
 #[derive(Clone, Copy, Debug, PartialEq, Eq)]
 pub struct Configured {
     probe: Option<Probe>,

@@ -7,7 +7,7 @@ pub fn one_cause()
     ensures { laws.OneCause }
 {}
 
-/// A kill order stands, whatever results come later.
+/// A kill order remains, whatever results come later.
 pub fn kill_order_stands()
     ensures { laws.KillOrderStands }
 {}

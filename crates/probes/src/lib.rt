@@ -1,8 +1,8 @@
-//! The startup, liveness and readiness probes of one container. (Kubernetes, "Configure Liveness,
-//! Readiness and Startup Probes"; "Pod Lifecycle", "Container probes".)
+//! The startup, liveness and readiness probes of one container. (Kubernetes, "Configure Liveness, Readiness and Startup
+//! Probes"; "Pod Lifecycle", "Container probes".)
 //!
-//! The definitions speak of the ticks of one instance with its start, oldest first. That something comes true in a tick
-//! says that it holds of the ticks up to that one, and of those up to no earlier one.
+//! The definitions are about the ticks of one instance with its start, oldest first. That something comes true in a
+//! tick means that it holds of the ticks up to that one, and not of the ticks up to any earlier one.
 #![tactic(auto)]
 
 mod configured;

@@ -17,13 +17,13 @@ use manifest::{ContainerSpec, Outcome};
 /// (Kubernetes, "Pod Lifecycle", "Types of probe".)
 #[derive(Clone, Copy, Debug, PartialEq, Eq)]
 pub enum Cause {
-    /// The first results of the startup probe, as many as its failure threshold says, all failed.
+    /// The first results of the startup probe, as many as its failure threshold, all failed.
     Startup,
-    /// As many results of the liveness probe in a row as its failure threshold says failed.
+    /// As many results of the liveness probe in a row as its failure threshold failed.
     Liveness,
 }
 
-/// What the results of a tick say of an instance.
+/// The verdicts of a tick's results on an instance.
 #[derive(Clone, Copy, Debug, PartialEq, Eq)]
 pub struct Verdicts {
     /// Whether the startup probe passes in this tick.
@@ -145,8 +145,7 @@ impl ProbeSet {
         }
     }
 
-    /// Hands each probe its result; liveness and readiness count only where startup had passed
-    /// before.
+    /// Gives each probe its result; liveness and readiness count only if startup had passed before.
     fn follow(
         &mut self,
         at: u64,

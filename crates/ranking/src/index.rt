@@ -51,8 +51,8 @@ impl RankIndex {
         }
     }
 
-    /// Gives the pod its present place, or takes it out where a tick of the moment, in seconds, may not evict it, which
-    /// always succeeds. An `Err` says that a growth of memory was refused, and changes nothing.
+    /// Gives the pod its present place, or takes it out if a tick of the moment, in seconds, may not evict it, which
+    /// always succeeds. Returns `Err` if an allocation fails; the index is then as it was.
     pub fn update(&mut self, status: &PodStatus, moment: u64) -> Result<(), AllocError>
         ensures signal { self.new.signal ≡ self.old.signal }
         ensures dedicated { self.new.has_dedicated_imagefs ≡ self.old.has_dedicated_imagefs }
@@ -96,7 +96,7 @@ impl RankIndex {
         Ok(())
     }
 
-    /// Takes the pod with the number out, if it is held. It takes no memory.
+    /// Takes the pod with the number out, if it is held. Doesn't allocate.
     pub fn remove(&mut self, number: usize)
         ensures signal { self.new.signal ≡ self.old.signal }
         ensures dedicated { self.new.has_dedicated_imagefs ≡ self.old.has_dedicated_imagefs }
@@ -108,7 +108,7 @@ impl RankIndex {
         }
     }
 
-    /// The number of the pod that is evicted first; none, where no pod is held. It takes no memory.
+    /// The number of the pod that is evicted first; none if no pod is held. Doesn't allocate.
     pub fn first(&self) -> Option<usize>
         ensures { (held : ℕ → Option PodStatus) → IsIndexOf held self.now
             → IsVictim self.now.signal self.now.has_dedicated_imagefs (λ n p. held n ≡ Some p) result }

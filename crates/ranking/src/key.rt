@@ -17,7 +17,7 @@ pub struct RankKey {
     /// Whether its usage is within its request, where pods request anything of this.
     within_request: bool,
     priority: i32,
-    /// Whether it has a sample, or none was said to be missing.
+    /// Whether it has a sample, or none was reported missing.
     is_sampled: bool,
     /// By how much its usage is above its request, in thousandths.
     excess: Reverse<u128>,
@@ -27,8 +27,8 @@ pub struct RankKey {
     pub(crate) number: usize,
 }
 
-/// The key of the pod with this status, by the signal. Whether images and containers have a file
-/// system of their own decides what counts for the signals of file systems. It takes no memory.
+/// The key of the pod with this status, by the signal. Whether images and containers have a file system of their own
+/// decides what counts for the signals of file systems. Doesn't allocate.
 pub fn rank_key(status: &PodStatus, signal: Signal, has_dedicated_imagefs: bool) -> RankKey
     ensures { result ≡ key_of signal has_dedicated_imagefs status.now }
 {

@@ -3,13 +3,12 @@
 
 ghost use Rattle.ranking.specs.state.Laws as laws;
 
-/// The lesser of two keys is that of the pod that is ranked before the other.
+/// The lesser of two keys belongs to the pod that is ranked before the other.
 pub fn lesser_key_is_before()
     ensures { laws.LesserKeyIsBefore }
 {}
 
-/// Of two pods with different numbers exactly one is ranked before the other, and all pods stand in
-/// one order.
+/// Of two pods with different numbers exactly one is ranked before the other, and all pods are in one order.
 pub fn order_is_total()
     ensures { laws.OrderIsTotal }
 {}

@@ -10,7 +10,7 @@ use crate::index::RankIndex;
 use pod_piece::PodPiece;
 use std::alloc::AllocError;
 
-/// Whether the tick of the moment, in seconds, was handed to the pod.
+/// Whether the pod has the tick of the moment, in seconds.
 fn is_present(piece: &PodPiece, moment: u64) -> bool
     requires { piece.now.waiting ≡ 0 }
     ensures { IsTrue result ↔ (last_moment piece.now.handed ≡ Some moment) }
@@ -20,8 +20,8 @@ fn is_present(piece: &PodPiece, moment: u64) -> bool
 
 impl RankIndex {
     /// Gives the pod its present place, as [`RankIndex::update`] does, if the tick of the moment, in seconds, shows it;
-    /// else it changes nothing. An `Err` says that a growth of memory was refused, and changes nothing; it comes for no
-    /// pod that is gone, nor for one that may not be evicted.
+    /// else it changes nothing. Returns `Err` if an allocation fails; the index is then as it was. It never fails for a
+    /// pod that is gone, or for one that may not be evicted.
     pub fn rank(&mut self, piece: &PodPiece, moment: u64) -> Result<(), AllocError>
         requires { piece.now.waiting ≡ 0 }
         ensures signal { self.new.signal ≡ self.old.signal }

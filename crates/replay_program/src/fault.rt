@@ -24,7 +24,7 @@ const USAGE: u8 = 3;
 pub(crate) enum Fault {
     /// The trace was not replayed, or not read, or the answer was not written.
     Run(RunFault),
-    /// The steps file says no steps.
+    /// The steps file has no steps.
     Steps(StepsFault),
     /// The words ask for no job, or for help.
     Usage(UsageFault),
@@ -86,7 +86,7 @@ impl From<ReadAllFault> for Fault {
     }
 }
 
-/// Tells a line on standard error. Where there is no memory for it, the status alone tells.
+/// Prints a line on standard error. If there is no memory for it, only the status shows the fault.
 fn tell(rt: &impl Eprint, line: Result<String, AllocError>) {
     if let Ok(line) = line {
         let _told = eprintln!(rt; "{line}");
@@ -96,7 +96,7 @@ fn tell(rt: &impl Eprint, line: Result<String, AllocError>) {
 impl Fault {
     ghost use Rattle.replay_program.specs.state.Fault.{status, EndsWith};
 
-    /// Tells the user, and answers whether clap's text was printed, where that is what there is to tell.
+    /// Prints the error. Returns whether clap's help text was printed.
     fn tell(&self, rt: &(impl Print + Eprint + AllocGlobal)) -> bool {
         let alloc: Global = rt.alloc();
         match self {
@@ -130,7 +130,7 @@ impl Fault {
         }
     }
 
-    /// Tells the user, and gives the status with which the program exits.
+    /// Prints the error. Returns the status with which the program exits.
     pub(crate) fn exit_code(&self, rt: &(impl Print + Eprint + AllocGlobal)) -> ExitCode
         ensures { EndsWith self.now (exit_status result) }
     {

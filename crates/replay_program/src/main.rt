@@ -1,5 +1,4 @@
-//! Writes the report of a node's trace, or says whether a file is a trace. With no words at all it
-//! reads standard input.
+//! Writes the report of a node's trace, or checks whether a file is a trace. Without arguments it reads standard input.
 #![tactic(auto)]
 
 mod fault;
@@ -28,7 +27,7 @@ use progress::{Input, Output, Progress};
 use replay_stream::read_all;
 use std::process::ExitCode;
 
-/// The number of workers where no word says how many, as `--workers` has it.
+/// The number of workers without `--workers`, as the option has it by default.
 const DEFAULT_WORKERS: usize = 4;
 
 /// Replays the file of this path by this many workers.
@@ -56,7 +55,7 @@ fn run<H: Outside + Eprint + AllocGlobal + Spawner, W: Sink>(
     Ok(done?)
 }
 
-/// Says whether the file of this path is a trace.
+/// Checks whether the file of this path is a trace.
 #[tactic(auto, using(crate::proofs::Failing::file_refused))]
 fn check<H: Outside + Eprint + AllocGlobal, W: Sink>(
     rt: &H,

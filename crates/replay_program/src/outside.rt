@@ -43,8 +43,8 @@ impl<H: Files + Env + AllocGlobal> Outside for H {
 
     fn words(&self) -> io::Result<Vec<String>> {
         let mut words = Vec::new(self.alloc());
-        // No contract says what the words of a program are: by this trait clauses can speak of
-        // them. (docs/decisions/program.md)
+        // No contract describes the arguments of a program: by this trait clauses can name them.
+        // (docs/decisions/program.md)
         for word in env::args(self)? {
             words.push(word)?;
         }

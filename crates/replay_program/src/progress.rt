@@ -1,4 +1,4 @@
-//! How far a replay of a long input has come, told on a terminal.
+//! How far a replay of a long input has come, shown on a terminal.
 
 ghost use Rattle.std.specs.Prelude.{◌≡◌};
 
@@ -10,13 +10,13 @@ use std::sync::atomic::{AtomicUsize, Ordering};
 /// Shorter inputs are read and replayed before a line could be read, 8 MiB.
 const WORTH_TELLING: usize = 8 << 20;
 
-/// A line is told for this many bytes more, 1 MiB.
+/// A line is shown for this many bytes more, 1 MiB.
 const BYTES_A_LINE: usize = 1 << 20;
 
-/// A line is told for this many ticks more.
+/// A line is shown for this many ticks more.
 const TICKS_A_LINE: usize = 1_000;
 
-/// How many bytes were read and how many ticks begun. It is told where standard error is a terminal and the input is
+/// How many bytes were read and how many ticks begun. It is shown if standard error is a terminal and the input is
 /// long, each line in the place of the one before.
 #[derive(Drop)]
 pub(crate) struct Progress<'h, E> {
@@ -63,7 +63,7 @@ impl<'h, E: Eprint> Progress<'h, E> {
         }
     }
 
-    /// The line goes, so that what is told next stands on a line of its own.
+    /// Clears the line, so that the next output is on a line of its own.
     pub(crate) fn clear(&self) {
         if self.is_long() {
             let _told = eprint!(self.rt; "\r\x1b[K");

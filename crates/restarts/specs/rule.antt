@@ -1,3 +1,4 @@
 pub mod Policy
+pub mod Own
 pub mod Delays
 pub mod Exits

@@ -3,7 +3,9 @@
 
 mod backoff;
 pub mod laws;
+mod own;
 mod wanted;
 
 pub use backoff::Backoff;
+pub use own::{policy_after, wants_restart_by};
 pub use wanted::wants_restart;

@@ -16,7 +16,7 @@ pub(crate) fn holder_of(keys: &NameList, holders: &[Option<usize>], key: &str) -
     *holder
 }
 
-/// Sets of which pod a key is that was mentioned before, and says whether it was. It takes no memory.
+/// Sets which pod has a key that was mentioned before. Returns whether it was. Doesn't allocate.
 fn set(keys: &NameList, holders: &mut Vec<Option<usize>>, key: &str, pod: Option<usize>) -> bool
     requires { length holders.old.items ≡ length keys.now }
     ensures set { IsTrue result → HasHeld keys.now holders.old.items key.now pod keys.now holders.new.items }
@@ -32,7 +32,7 @@ fn set(keys: &NameList, holders: &mut Vec<Option<usize>>, key: &str, pod: Option
     }
 }
 
-/// The key is of no pod any more. It takes no memory.
+/// No pod has the key any more. Doesn't allocate.
 pub(crate) fn release(keys: &NameList, holders: &mut Vec<Option<usize>>, key: &str)
     requires { length holders.old.items ≡ length keys.now }
     ensures { HasHeld keys.now holders.old.items key.now None keys.now holders.new.items }

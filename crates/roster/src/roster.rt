@@ -10,7 +10,7 @@ use std::alloc::{AllocError, Global};
 use std::marker::Model;
 
 /// The pods of a trace by their numbers, in the order of their arrivals, each with the number of ticks before its
-/// arrival and, where it has left, before that. No two pods that are present have one key.
+/// arrival and, if it has left, before its departure. No two pods that are present have one key.
 #[derive(Drop)]
 pub struct Roster {
     pods: Sequence<PodSpec>,
@@ -31,7 +31,7 @@ impl Model for Roster {
     ghost invariant = { λ r. IsKept r.pods r.departures.items r.keys r.holders.items };
 }
 
-/// Adds a pod behind the others, with the number of ticks before it.
+/// Appends a pod, with the number of ticks before it.
 fn enlist(
     pods: &mut Sequence<PodSpec>,
     arrivals: &mut Sequence<usize>,
@@ -50,7 +50,7 @@ fn enlist(
 }
 
 impl Roster {
-    /// No pods. It takes no memory.
+    /// No pods. Doesn't allocate.
     pub fn new(alloc: Global) -> Roster
         ensures { result ≡ nothing }
     {
@@ -120,7 +120,7 @@ impl Roster {
         }
     }
 
-    /// The pod with the number, which is present and has this key, leaves after this many ticks. It takes no memory.
+    /// The pod with the number, which is present and has this key, leaves after this many ticks. Doesn't allocate.
     pub fn leave(&mut self, number: usize, key: &str, ticks: usize)
         requires { number_of self.old key.now ≡ Some number }
         ensures { self.new ≡ without self.old number ticks }
@@ -129,7 +129,7 @@ impl Roster {
         self.departures[number] = Some(ticks);
     }
 
-    /// The pods by number, with the ticks before their arrivals and departures. It takes no memory.
+    /// The pods by number, with the ticks before their arrivals and departures. Doesn't allocate.
     pub fn into_parts(self) -> (Sequence<PodSpec>, Sequence<usize>, Sequence<Option<usize>>)
         ensures pods { result.0 ≡ self.pods }
         ensures arrivals { result.1 ≡ self.arrivals }

@@ -1,4 +1,4 @@
-//! Why a steps file was refused.
+//! Why a steps file was rejected.
 
 ghost use Rattle.std.specs.Prelude.{◌≡◌, IfOk, string_bytes};
 ghost use Rattle.round_steps.specs.state.Fault.{status, line_of};
@@ -15,7 +15,7 @@ pub enum StepsFault {
     /// The line of this number, from 1, is the first faulty one.
     #[error("steps line {0}")]
     Line(u64),
-    /// A growth of memory was refused.
+    /// An allocation failed.
     #[error("out of memory")]
     OutOfMemory,
 }

@@ -7,7 +7,7 @@ pub fn one_spelling()
     ensures { laws.OneSpelling }
 {}
 
-/// Lines say one list of steps, or have one first fault, and never both.
+/// Lines give one list of steps, or have one first fault, and never both.
 pub fn one_answer()
     ensures { laws.OneAnswer }
 {}

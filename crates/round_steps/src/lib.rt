@@ -1,4 +1,4 @@
-//! The steps that a played round is told to take, and the text of a steps file.
+//! The steps of a simulated round, and the text of a steps file.
 #![tactic(auto)]
 
 mod fault;

@@ -3,7 +3,7 @@
 ghost use Rattle.std.specs.Prelude.{◌≡◌, ◌≢◌, ◌∷◌, ◌++◌, [], All, MatchOption};
 ghost use Rattle.round_steps.specs.state.Steps.{lines_of};
 
-/// What stands before the first such byte, and what stands behind it, if there is one.
+/// The bytes before the first such byte, and the bytes after it, if there is one.
 pub(crate) fn cut(text: &[u8], byte: u8) -> (&[u8], Option<&[u8]>)
     ensures before { All (λ b. b ≢ byte) result.0.now }
     ensures whole { MatchOption result.1 (text.now ≡ result.0.now)
@@ -15,7 +15,7 @@ pub(crate) fn cut(text: &[u8], byte: u8) -> (&[u8], Option<&[u8]>)
     }
 }
 
-/// The first line, and the text behind its newline, if it has one.
+/// The first line, and the text after its newline, if it has one.
 pub(crate) fn first_line(text: &[u8]) -> (&[u8], Option<&[u8]>)
     ensures { MatchOption result.1 (lines_of text.now ≡ result.0.now ∷ [])
         (λ behind. lines_of text.now ≡ result.0.now ∷ lines_of behind.now) }

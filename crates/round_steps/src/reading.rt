@@ -25,8 +25,8 @@ fn has_room(steps: usize) -> bool
     steps < MOST_STEPS
 }
 
-/// What the line of this number says behind this many steps: nothing, or a step for which there is room; or that it is
-/// faulty. It takes no memory.
+/// What the line of this number gives after this many steps: nothing, or a step for which there is room; or that it is
+/// faulty. Doesn't allocate.
 fn said_by(steps: usize, number: u64, line: &[u8]) -> Result<Option<Step>, StepsFault>
     ensures { SaysBehind steps number line.now result }
 {
@@ -39,7 +39,7 @@ fn said_by(steps: usize, number: u64, line: &[u8]) -> Result<Option<Step>, Steps
     }
 }
 
-/// Adds what a line says behind the steps. A faulty line is named before memory is taken, and an empty one takes none.
+/// Appends what a line gives to the steps. A faulty line is named before any allocation, and an empty one needs none.
 fn take_line(steps: &mut Sequence<Step>, number: u64, line: &[u8]) -> Result<(), StepsFault>
     ensures ok { OnOk result ((lines : List (List ℕ)) → AreSteps lines steps.old
         → AreSteps (lines ++ line.now ∷ []) steps.new) }
@@ -74,7 +74,7 @@ fn read_lines(alloc: Global, text: &[u8]) -> Result<Sequence<Step>, StepsFault>
     }
 }
 
-/// Whether the text is not too long. It takes no memory.
+/// Whether the text is not too long. Doesn't allocate.
 fn check_length(text: &[u8]) -> Result<(), StepsFault>
     ensures { IsWithin text.now result }
 {
@@ -84,11 +84,11 @@ fn check_length(text: &[u8]) -> Result<(), StepsFault>
     Ok(())
 }
 
-/// The steps that a text says, line by line.
+/// The steps of a text, line by line.
 ///
-/// `TooLong` comes where the text has more than 1 MiB, before any line is looked at, and `Line`
-/// names the first faulty line. Where a growth of memory is refused the answer is `OutOfMemory`; memory is asked for
-/// steps alone, so there is a step then, and no line before it is faulty.
+/// Returns `TooLong` if the text has more than 1 MiB, before any line is looked at, and `Line` with the first faulty
+/// line. If an allocation fails, the answer is `OutOfMemory`; only steps need memory, so there is a step then, and no
+/// line before it is faulty.
 pub fn read_steps(alloc: Global, text: &[u8]) -> Result<Sequence<Step>, StepsFault>
     ensures ok { IfOk result (λ steps. (length text.now ≤ longest_steps_file) × AreSteps (lines_of text.now) steps) }
     ensures err { IfErr result (Refuses text.now) }

@@ -53,7 +53,7 @@ fn workers_of(text: &[u8]) -> Option<(usize, usize)>
     Some((first, second))
 }
 
-/// What stands behind the word with which the line begins.
+/// The rest of the line after the word with which it begins.
 fn after_word<'a>(line: &'a [u8], word: &[u8]) -> Option<&'a [u8]>
     ensures { MatchOption result ((rest : List ℕ) → line.now ≢ word.now ++ rest)
         (λ rest. line.now ≡ word.now ++ rest.now) }

@@ -1,6 +1,6 @@
-//! A step of a played round.
+//! A step of a simulated round.
 
-/// A step of a played round. Workers are numbered from 0.
+/// A step of a simulated round. Workers are numbered from 0.
 #[derive(Clone, Copy, Debug, PartialEq, Eq)]
 pub enum Step {
     /// The worker takes the first pod of its own deque.

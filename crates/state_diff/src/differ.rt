@@ -1,4 +1,4 @@
-//! What the listings so far say of the newest instance of a container, and what each tick changes of it.
+//! The newest instance of a container by the listings so far, and what each tick changes of it.
 
 ghost use Rattle.std.specs.Prelude.{◌≡◌, ◌↔◌, ◌<◌, ◌≤◌, ◌-◌, ℕ, ℤ, List, [], ◌∷◌, ◌++◌, length, Option, Some, None};
 ghost use Rattle.std.specs.Prelude.{IsSomeAnd, IsTrue, IsSome, IfSome, MatchOption};
@@ -30,9 +30,8 @@ pub struct Changes {
     pub died: Option<(u32, i32)>,
 }
 
-/// Follows the listings of one container, of which each tick has at most one, the newest instance.
-/// It keeps what the listings so far say of the newest instance, and the moment of the last tick,
-/// but none of the listings.
+/// Follows the listings of one container, of which each tick has at most one, the newest instance. It keeps the newest
+/// instance by the listings so far, and the moment of the last tick, but none of the listings.
 #[derive(Clone, Copy, Debug, PartialEq, Eq)]
 pub struct Differ {
     newest: Option<Instance>,
@@ -255,7 +254,7 @@ impl Differ {
         changes
     }
 
-    /// The differ as a tick leaves it that it may follow, as `step` says.
+    /// The instance tracker as a tick leaves it that it may follow, as `step` does.
     pub fn after(self, at: u64, seen: Option<Seen>) -> Differ
         requires accepted { Accepts self seen }
         requires later { IsBefore self at }

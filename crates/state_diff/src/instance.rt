@@ -1,4 +1,4 @@
-//! One instance of a container, as the listings so far tell of it.
+//! One instance of a container, by the listings so far.
 
 ghost use Rattle.std.specs.Prelude.{◌≡◌, ◌≢◌, ◌↔◌, ◌≤◌, ◌-◌, ℕ, ℤ, List, [], ◌∷◌, ◌++◌, Option, Some, None};
 ghost use Rattle.std.specs.Prelude.{IsSomeAnd, IfSome, IsTrue, is_some, unwrap_or};

@@ -33,7 +33,7 @@ pub fn acceptable_is_newest()
     ensures { laws.AcceptableIsNewest }
 {}
 
-/// The test that computes says which listings are acceptable.
+/// The test that computes decides which listings are acceptable.
 pub fn acceptable_computes()
     ensures { laws.AcceptableComputes }
 {}

@@ -13,7 +13,7 @@ pub enum CriState {
     Running,
     /// `CONTAINER_EXITED`: it ran to its end, or could not start.
     Exited,
-    /// `CONTAINER_UNKNOWN`: the runtime can't tell. It leaves what was known before.
+    /// `CONTAINER_UNKNOWN`: the runtime doesn't know. It leaves what was known before.
     Unknown,
 }
 
@@ -44,7 +44,7 @@ impl CriState {
         }
     }
 
-    /// Whether the runtime could tell the state.
+    /// Whether the runtime knew the state.
     pub fn is_known(self) -> bool
         ensures { IsTrue result ↔ (self ≢ CriState.Unknown) }
     {

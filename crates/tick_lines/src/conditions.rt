@@ -1,4 +1,4 @@
-//! The member that says the statuses of a pod's conditions.
+//! The member that gives the statuses of a pod's conditions.
 
 ghost use Rattle.std.specs.Prelude.{◌≡◌, option_map, IfOk, OnOk, string_bytes};
 ghost use Rattle.serde_json.specs.View.{view, members_view};
@@ -135,7 +135,7 @@ fn status_of(statuses: &[ConditionStatus], name: &str) -> Option<bool>
     None
 }
 
-/// What an entry says in the member `conditions`. (This project's extended format.)
+/// The content of an entry's member `conditions`. (This project's extended format.)
 #[derive(Drop)]
 pub enum ConditionsMember {
     /// Nothing: it is missing or null.
@@ -224,7 +224,7 @@ fn statuses_of<A: Allocator>(
     Ok(statuses)
 }
 
-/// A copy of an object whose texts are those of the line, if it is one of true, false and null.
+/// A copy of an object whose texts are in the line, if it is one of true, false and null.
 #[tactic(auto, using(crate::proofs::Statuses::borrowed_found, crate::proofs::Statuses::borrowed_other))]
 fn object_of<A: Allocator>(
     alloc: Global,
@@ -240,7 +240,7 @@ fn object_of<A: Allocator>(
     Ok(Some(Value::Object(statuses)))
 }
 
-/// A copy of a value whose texts are those of the line, if it is an object of true, false and null.
+/// A copy of a value whose texts are in the line, if it is an object of true, false and null.
 pub(crate) fn borrowed_statuses_in<A: Allocator>(
     alloc: Global,
     value: &BorrowedValue<'_, A>,
@@ -253,7 +253,7 @@ pub(crate) fn borrowed_statuses_in<A: Allocator>(
     }
 }
 
-/// What such a member says.
+/// The content of such a member.
 pub(crate) fn conditions_of<V: TickValue>(
     alloc: Global,
     found: Option<&V>,

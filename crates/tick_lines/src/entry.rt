@@ -32,11 +32,11 @@ pub struct TickEntry {
     pub results: Sequence<ProbeResult>,
     /// What the pod used, where the entry has a sample of it.
     pub usage: Option<Usage>,
-    /// Whether it says that the pod has no sample. (This project's extended format.)
+    /// Whether it marks the pod as unsampled. (This project's extended format.)
     pub unsampled: TruthMember,
-    /// Whether it says that the pod is being deleted. (This project's extended format.)
+    /// Whether it marks the pod as being deleted. (This project's extended format.)
     pub deleting: TruthMember,
-    /// Whether it says that the node has ended the pod, and why. (This project's extended format.)
+    /// Whether it reports that the node has ended the pod, and why. (This project's extended format.)
     pub failed: ReasonMember,
     /// The statuses of the pod's conditions that it has. (This project's extended format.)
     pub conditions: ConditionsMember,

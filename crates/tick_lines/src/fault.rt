@@ -1,4 +1,4 @@
-//! Why a tick line was refused.
+//! Why a tick line was rejected.
 
 ghost use Rattle.std.specs.Prelude.{◌≡◌};
 ghost use Rattle.tick_lines.specs.declared.fault.TickLineFault.TheVariants.{Usage, OutOfMemory};

@@ -24,11 +24,11 @@ pub(crate) trait ReadItem: Drop + Sized {
     /// What is read of an item, in the definition's words.
     ghost read_of: { Data → Result Self TickLineFault };
 
-    /// What an item says, or its first fault.
+    /// The content of an item, or its first fault.
     fn read<V: TickValue>(alloc: Global, item: &V) -> Result<Self, TickLineFault>
         ensures { GivesUnless is_memory (λ r. r) result (read_of (V.data item.now)) };
 
-    /// Whether an item can be read, or its fault. It takes no memory.
+    /// Whether an item can be read, or its fault. Doesn't allocate.
     fn check<V: TickValue>(item: &V) -> Result<(), TickLineFault>
         ensures { result ≡ checked (read_of (V.data item.now)) };
 }
@@ -66,7 +66,7 @@ fn check_each<R: ReadItem, V: TickValue>(values: &[V]) -> Result<(), TickLineFau
     Ok(())
 }
 
-/// Whether the items of an array that may be left out can be read, or their first fault. It takes no memory.
+/// Whether the items of an array that may be left out can be read, or their first fault. Doesn't allocate.
 pub(crate) fn check_items<R: ReadItem, V: TickValue>(found: Option<&V>) -> Result<(), TickLineFault>
     ensures { result ≡ checked (each_item R.read_of (option_map (λ v. V.data v.now) found.entry)) }
 {

@@ -1,4 +1,4 @@
-//! What a tick line of a trace says, as it is written: the pods' entries and the node's signals.
+//! A tick line of a trace, as it is written: the pods' entries and the node's signals.
 #![tactic(auto)]
 
 mod conditions;

@@ -19,7 +19,7 @@ use quantity::Quantity;
 use signals::BySignal;
 use std::alloc::Global;
 
-/// What a tick line says beside its moment.
+/// The contents of a tick line except its moment.
 #[derive(Drop)]
 pub struct TickLine {
     /// The pods' entries, in the order of the line.
@@ -30,7 +30,7 @@ pub struct TickLine {
     /// What the node has left of each resource of its file systems after images and dead containers were deleted,
     /// where the line has a sample. (Kubernetes, "Node-pressure Eviction", "Reclaiming node level resources".)
     pub after_reclaim: BySignal<Option<Quantity>>,
-    /// Whether it says that the node does not judge the tick. (This project's extended format.)
+    /// Whether it marks the tick as no sync tick. (This project's extended format.)
     pub unjudged: TruthMember,
 }
 
@@ -57,7 +57,7 @@ fn read_line<V: TickValue>(alloc: Global, line: &V) -> Result<TickLine, TickLine
     })
 }
 
-/// Whether a tick line can be read, or its first fault. It takes no memory.
+/// Whether a tick line can be read, or its first fault. Doesn't allocate.
 #[tactic(auto, unfolding(crate::specs::rule::Line::tick_line_of))]
 fn check_line<V: TickValue>(line: &V) -> Result<(), TickLineFault>
     ensures { result ≡ checked (tick_line_of (V.data line.now)) }

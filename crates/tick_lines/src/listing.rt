@@ -15,7 +15,7 @@ use manifest::Text;
 use state_diff::CriState;
 use std::alloc::Global;
 
-/// What a listing says of an instance.
+/// What a listing shows of an instance.
 #[derive(Clone, Copy)]
 pub struct ListedInstance {
     /// Which instance of the container it is, below 2^31: the attempt of its `ContainerMetadata`.
@@ -23,8 +23,7 @@ pub struct ListedInstance {
     pub attempt: u32,
     /// Its state.
     pub state: CriState,
-    /// What the field for the exit code says, if it is a code. In another state than exited nobody
-    /// looks at it.
+    /// The exit code of the field, if it has one. In another state than exited nobody looks at it.
     pub code: Option<i32>,
 }
 

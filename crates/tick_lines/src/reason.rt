@@ -1,4 +1,4 @@
-//! The member that says why the node has ended a pod.
+//! The member with the reason for which the node has ended a pod.
 
 ghost use Rattle.std.specs.Prelude.{◌≡◌, option_map};
 ghost use Rattle.tick_lines.specs.rule.Reasons.{reason_said, reason_member_of};
@@ -6,7 +6,7 @@ ghost use Rattle.tick_lines.specs.rule.Reasons.{reason_said, reason_member_of};
 use crate::value::TickValue;
 use observations::EndReason;
 
-/// What an entry says in the member `failed`. (This project's extended format.)
+/// The content of an entry's member `failed`. (This project's extended format.)
 #[derive(Drop)]
 pub enum ReasonMember {
     /// Nothing: it is missing or null.
@@ -17,7 +17,7 @@ pub enum ReasonMember {
     OfOtherKind,
 }
 
-/// What a value that is not null says, by its text, if it is one.
+/// The content of a value that is not null, by its text, if it is one.
 fn reason_said(text: Option<&str>) -> ReasonMember
     ensures { result ≡ reason_said (option_map (λ s. s.now) text.entry) }
 {
@@ -30,7 +30,7 @@ fn reason_said(text: Option<&str>) -> ReasonMember
     }
 }
 
-/// What such a member says.
+/// The content of such a member.
 pub(crate) fn reason_member_of<V: TickValue>(found: Option<&V>) -> ReasonMember
     ensures { result ≡ reason_member_of (option_map (λ v. V.data v.now) found.entry) }
 {

@@ -1,5 +1,5 @@
-//! What the entries of a tick line say, read from the tape of its tokens without a copy of its texts. Where one of
-//! these answers none, the line has a fault, or a shape that is left to `tick_line_of`.
+//! The entries of a tick line, read from the tape of its tokens without a copy of its texts. If one of these answers
+//! none, the line has a fault, or a shape that is left to `tick_line_of`.
 
 ghost use Rattle.std.specs.Prelude.{◌≡◌, IsTrue, List, Some, option_map, Ok, IfSome};
 ghost use Rattle.json.specs.Token.{Token};
@@ -30,7 +30,7 @@ use observations::Usage;
 use quantity::Quantity;
 use state_diff::CriState;
 
-/// A container's listing, whose name is that of the line.
+/// A container's listing, whose name is a text of the line.
 #[derive(Clone, Copy)]
 pub struct ListingText<'a> {
     /// The container's name.
@@ -39,7 +39,7 @@ pub struct ListingText<'a> {
     pub instance: ListedInstance,
 }
 
-/// A result of a container's probe, whose name is that of the line.
+/// A result of a container's probe, whose name is a text of the line.
 #[derive(Clone, Copy)]
 pub struct ResultText<'a> {
     /// The container's name.
@@ -63,8 +63,8 @@ pub struct EntryText<'t, 'a> {
     pub usage: Option<Usage>,
 }
 
-/// What was read of a listing's members: of one that has to be there nothing, where it is missing, null or at fault. A
-/// later one of the same name may still be good.
+/// What was read of a listing's members. A required member has nothing if it is missing, null or at fault; a later one
+/// of the same name may still be good.
 #[derive(Clone, Copy)]
 struct ListingMembers<'a> {
     name: Option<&'a str>,
@@ -100,7 +100,7 @@ const NOTHING_READ: Usage = Usage {
     pids: None,
 };
 
-/// What a member holds, where null counts as absent; none where it is an array or an object.
+/// What a member holds, where null counts as absent; none if it is an array or an object.
 pub(crate) fn scalar_here<'a>(value: &TapeValue<'_, 'a>) -> Option<Option<Value<'a>>>
     ensures { IfSome result (λ found.
         option_map (λ v. data_of (value_view v)) found ≡ present (Some (data_at value.now))) }
@@ -330,7 +330,7 @@ fn usage_here(value: &TapeValue<'_, '_>) -> Option<Option<Usage>>
     Some(Some(usage))
 }
 
-/// Whether a member that may be true says nothing: it is null or false.
+/// Whether a member that may be true means nothing: it is null or false.
 fn is_silent(value: &TapeValue<'_, '_>) -> bool
     ensures { IsTrue result → truth_in (present (Some (data_at value.now))) ≡ Ok No }
 {
@@ -340,21 +340,21 @@ fn is_silent(value: &TapeValue<'_, '_>) -> bool
     matches!(truth_of(found.as_ref()), TruthMember::No)
 }
 
-/// Whether a member that may be a reason says nothing: it is null.
+/// Whether a member that may be a reason means nothing: it is null.
 fn is_missing(value: &TapeValue<'_, '_>) -> bool
     ensures { IsTrue result → reason_in (present (Some (data_at value.now))) ≡ Ok Missing }
 {
     value.is_null()
 }
 
-/// Whether a member that may have statuses of conditions says nothing: it is null.
+/// Whether a member that may have statuses of conditions means nothing: it is null.
 fn has_no_conditions(value: &TapeValue<'_, '_>) -> bool
     ensures { IsTrue result → conditions_in (present (Some (data_at value.now))) ≡ Ok NoConditions }
 {
     value.is_null()
 }
 
-/// What was read of an entry, and of one member more: none where it has a word, which is rare.
+/// What was read of an entry, and of one more member; none if the entry has a word, which is rare.
 fn entry_with<'t, 'a>(
     entry: EntryMembers<'t, 'a>,
     name: &str,
@@ -391,8 +391,8 @@ fn entry_with<'t, 'a>(
     }
 }
 
-/// What an item of a tick line says of a pod, all but its listings and results; none where it says that the pod has no
-/// sample, that it is being deleted, that the node has ended it, or the statuses of its conditions.
+/// What an item of a tick line has of a pod except its listings and results; none if it marks the pod as unsampled or
+/// as being deleted, or has a reason for its end or the statuses of its conditions.
 pub fn entry_text<'t, 'a>(value: &TapeValue<'t, 'a>) -> Option<EntryText<'t, 'a>>
     ensures { IfSome result (IsEntry (data_at value.now)) }
 {

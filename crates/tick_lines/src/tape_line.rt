@@ -1,6 +1,6 @@
-//! What a tick line says beside its moment, read from the tape of its tokens: one pass over its members finds its
-//! entries and its samples, which are still to be read. Where one of these answers none, the line has a fault, or a
-//! shape that is left to `tick_line_of`.
+//! The contents of a tick line except its moment, read from the tape of its tokens: one pass over its members finds its
+//! entries and its samples, which are still to be read. If one of these answers none, the line has a fault, or a shape
+//! that is left to `tick_line_of`.
 
 ghost use Rattle.std.specs.Prelude.{◌≡◌, List, Some, option_map, Ok, IfOk, IfSome};
 ghost use Rattle.json.specs.Token.{Token};
@@ -28,7 +28,7 @@ pub struct LineText<'t, 'a> {
     pub signals: Option<TapeValue<'t, 'a>>,
     /// Those after images and dead containers were deleted, if the line has some.
     pub after_reclaim: Option<TapeValue<'t, 'a>>,
-    /// Whether it says that the node does not judge the tick. (This project's extended format.)
+    /// Whether it marks the tick as no sync tick. (This project's extended format.)
     pub unjudged: TruthMember,
 }
 
@@ -50,7 +50,7 @@ struct LineMembers<'t, 'a> {
     unjudged: TruthMember,
 }
 
-/// What a member says that says something by false; none where it is an array or an object.
+/// The content of a member that means something by false; none if it is an array or an object.
 fn denial_here(value: &TapeValue<'_, '_>) -> Option<TruthMember>
     ensures { IfSome result (λ said. denial_in (present (Some (data_at value.now))) ≡ Ok said) }
 {
@@ -95,7 +95,7 @@ fn line_with<'t, 'a>(
     }
 }
 
-/// What a tick line says, all but its moment, its entries and its samples.
+/// The contents of a tick line except its moment, its entries and its samples.
 pub fn line_text<'t, 'a>(value: &TapeValue<'t, 'a>) -> Option<LineText<'t, 'a>>
     ensures { IfSome result (IsLine (data_at value.now)) }
 {

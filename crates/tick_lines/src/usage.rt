@@ -1,4 +1,4 @@
-//! What an entry tells of its pod's use of the node.
+//! The usage of an entry: its pod's use of the node.
 
 ghost use Rattle.std.specs.Prelude.{option_map};
 ghost use Rattle.json_fields.specs.state.Reading.{GivesExactly};

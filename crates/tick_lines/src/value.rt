@@ -13,7 +13,7 @@ pub trait TickValue: Json {
     ghost use Rattle.serde_json.specs.View.{view};
     ghost use Rattle.tick_lines.specs.state.Conditions.{if_statuses};
 
-    /// Whether this is true or false, where it is one of these.
+    /// Whether this is true or false, if it is one of these.
     fn truth(&self) -> Option<bool>
         ensures { result ≡ as_bool (Self.data self.now) };
 

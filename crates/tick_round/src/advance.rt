@@ -22,7 +22,7 @@ use std::alloc::AllocError;
 use std::sync::ledger::Ledger;
 use std::vec::IntoIter;
 
-/// The node after one more tick, on one thread. A refused growth of memory drops the node.
+/// The node after one more tick, on one thread. Drops the node if an allocation fails.
 pub(crate) fn advance_alone<U: Ledger, E: Ledger, O: Ledger>(
     node: Running<U, E, O>,
     tick: TickObs,
@@ -40,8 +40,8 @@ pub(crate) fn advance_alone<U: Ledger, E: Ledger, O: Ledger>(
     }
 }
 
-/// The node after one more tick, whose round this many workers play by these steps, and the places, among the pods
-/// that are present, of those that each of them finished. A refused growth of memory drops the node.
+/// The node after one more tick, with the round simulated for this many workers by these steps, and for each worker the
+/// places, among the pods that are present, of the pods that it finished. Drops the node if an allocation fails.
 pub(crate) fn advance_played<U: Ledger, E: Ledger, O: Ledger>(
     node: Running<U, E, O>,
     tick: TickObs,
@@ -69,8 +69,8 @@ pub(crate) fn advance_played<U: Ledger, E: Ledger, O: Ledger>(
     }
 }
 
-/// The node after one more tick, whose pods this many workers update by the gate. A refused growth of memory drops
-/// the node.
+/// The node after one more tick, whose pods this many workers update by the gate. Drops the node if an allocation
+/// fails.
 pub(crate) fn advance<U: Ledger + Send, E: Ledger + Send, O: Ledger + Send, R: Spawner, G: Gate>(
     node: Running<U, E, O>,
     rt: &R,
@@ -95,8 +95,8 @@ pub(crate) fn advance<U: Ledger + Send, E: Ledger + Send, O: Ledger + Send, R: S
     }
 }
 
-/// The node after this tick and as many more as one round takes, whose pods this many workers update. A refused
-/// growth of memory drops the node.
+/// The node after this tick and as many more as one round takes, whose pods this many workers update. Drops the node if
+/// an allocation fails.
 pub(crate) fn advance_some<
     U: Ledger + Send,
     E: Ledger + Send,
@@ -129,8 +129,8 @@ pub(crate) fn advance_some<
     }
 }
 
-/// The node after these ticks, whose pods this many workers update, in rounds of one tick or of several. A refused
-/// growth of memory drops the node.
+/// The node after these ticks, whose pods this many workers update, in rounds of one tick or of several. Drops the node
+/// if an allocation fails.
 pub(crate) fn advance_all<
     U: Ledger + Send,
     E: Ledger + Send,

@@ -2,13 +2,13 @@
 
 use thiserror::Error;
 
-/// Why a node did not take a tick or a pod, or tells nothing.
+/// Why a node did not take a tick or a pod, or has no report.
 #[derive(Clone, Copy, Debug, PartialEq, Eq, Error)]
 pub enum TickFault {
-    /// A growth of memory was refused. Where a tick was refused, the node is halted.
+    /// An allocation failed. If it failed in a tick, the node is halted.
     #[error("out of memory")]
     OutOfMemory,
-    /// The node is halted, since an earlier tick was refused.
+    /// The node is halted, since an earlier tick failed.
     #[error("halted")]
     Halted,
 }

@@ -29,8 +29,8 @@ use std::alloc::{AllocError, Global};
 use std::marker::Model;
 use std::sync::ledger::Ledger;
 
-/// A node with its pods. After a tick that failed because memory ran out it is halted: it takes no
-/// further tick and tells nothing. (Kubernetes, "Node-pressure Eviction".)
+/// A node with its pods. After a tick in which an allocation failed it is halted: it takes no further tick and has no
+/// report. (Kubernetes, "Node-pressure Eviction".)
 #[derive(Drop)]
 pub struct Node<U: Ledger, E: Ledger, O: Ledger> {
     running: Option<Running<U, E, O>>,
@@ -46,8 +46,8 @@ impl<U: Ledger, E: Ledger, O: Ledger> Model for Node<U, E, O> {
 }
 
 impl<U: Ledger, E: Ledger, O: Ledger> Node<U, E, O> {
-    /// A node with these pods, at most 256, numbered in their order, and with an empty book, before any
-    /// tick. An `Err` says that memory was refused, and what was handed in is dropped.
+    /// A node with these pods, at most 256, numbered in their order, and with an empty book, before any tick. Returns
+    /// `Err` if an allocation fails; the pods are then dropped.
     pub fn new(
         alloc: Global,
         config: NodeConfig,
@@ -70,8 +70,8 @@ impl<U: Ledger, E: Ledger, O: Ledger> Node<U, E, O> {
         }
     }
 
-    /// A pod arrives, with the next number, where there are fewer than 256: it is present from the next
-    /// tick on. An `Err` says that memory was refused, or that the node is halted, and changes nothing.
+    /// Adds a pod, with the next number, if there are fewer than 256: it is present from the next tick on. Returns
+    /// `Err` if an allocation fails or the node is halted; the node is then as it was.
     pub fn arrive(&mut self, pod: PodSpec) -> Result<(), TickFault>
         requires { HasRoom self.old }
         ensures arrived { (config : NodeConfig) (pods : List PodSpec) (ticks : List TickObs)
@@ -90,8 +90,8 @@ impl<U: Ledger, E: Ledger, O: Ledger> Node<U, E, O> {
     }
 
     /// Whether the tick may come next: fewer than 20,000 were taken, it is later than the last and below 2^40, and it
-    /// shows each pod with a listing of each container that may come after all earlier ones; or says, in version 3,
-    /// that the pod is not present. Of a halted node it is true. It takes no memory.
+    /// shows each pod with a listing of each container that may come after all earlier ones, or shows, in version 3,
+    /// that the pod is not present. True for a halted node. Doesn't allocate.
     pub fn fits(&self, tick: &TickObs) -> bool
         ensures { IsTrue result ↔ MayTake self.now tick.now }
     {
@@ -101,9 +101,9 @@ impl<U: Ledger, E: Ledger, O: Ledger> Node<U, E, O> {
         }
     }
 
-    /// Takes one tick, on one thread: each pod that is present takes what the tick shows of it, then one of them at
-    /// most is evicted. A pod that is not present stays as it is. An `Err` says that memory was refused, or that the
-    /// node was halted; it is halted then.
+    /// Takes one tick, on one thread: each pod that is present takes what the tick shows of it, then at most one of
+    /// them is evicted. A pod that is not present stays as it is. Returns `Err` if an allocation fails or the node was
+    /// halted; it is halted then.
     pub fn tick_alone(&mut self, tick: TickObs) -> Result<(), TickFault>
         requires { MayTake self.old tick }
         ensures taken { TakesTick tick self.old self.new result }
@@ -122,11 +122,10 @@ impl<U: Ledger, E: Ledger, O: Ledger> Node<U, E, O> {
         }
     }
 
-    /// Takes one tick, whose round is played on one thread: this many workers, 1 to 64, update the pods by
-    /// these steps, then each finishes what it has. A step that is not possible is skipped. It answers
-    /// the places, among the pods that are present, of those that each worker finished. The node is as after
-    /// `tick_alone`, whatever the steps are. An `Err` says that memory was refused, or that the node was halted;
-    /// it is halted then.
+    /// Takes one tick, with the round simulated on one thread: this many workers, 1 to 64, update the pods by these
+    /// steps, then each finishes what it has. A step that is not possible is skipped. Returns for each worker the
+    /// places, among the pods that are present, of the pods that it finished. The node is as after `tick_alone`,
+    /// whatever the steps are. Returns `Err` if an allocation fails or the node was halted; it is halted then.
     pub fn tick_play(
         &mut self,
         tick: TickObs,
@@ -154,8 +153,7 @@ impl<U: Ledger, E: Ledger, O: Ledger> Node<U, E, O> {
         }
     }
 
-    /// What the node has come to, as its ticks leave it. An `Err` says that the node is halted. It takes
-    /// no memory.
+    /// What the node has come to, as its ticks leave it. Returns `Err` if the node is halted. Doesn't allocate.
     pub fn summary(&self) -> Result<Summary<'_>, TickFault>
         ensures taken { (config : NodeConfig) (pods : List PodSpec) (ticks : List TickObs)
             → IsAfter config pods ticks self.now → IfOk result (IsSummary config pods ticks) }
@@ -171,9 +169,9 @@ impl<U: Ledger, E: Ledger, O: Ledger> Node<U, E, O> {
 
 impl<U: Ledger + Send, E: Ledger + Send, O: Ledger + Send> Node<U, E, O> {
     /// Takes one tick, whose pods this many workers, 1 to 64, update in threads of their own: each pod that is present
-    /// takes what the tick shows of it, by an update of the gate, then one of them at most is evicted. The node is as
-    /// after `tick_alone`, whatever the threads do. An `Err` says that memory was refused, or that the node was halted;
-    /// it is halted then.
+    /// takes what the tick shows of it, by an update of the gate, then at most one of them is evicted. The node is as
+    /// after `tick_alone`, whatever the threads do. Returns `Err` if an allocation fails or the node was halted; it is
+    /// halted then.
     pub fn tick<R: Spawner, G: Gate>(
         &mut self,
         rt: &R,
@@ -201,11 +199,11 @@ impl<U: Ledger + Send, E: Ledger + Send, O: Ledger + Send> Node<U, E, O> {
         }
     }
 
-    /// Takes ticks one after the other, as `tick` takes each. From one tick in which an eviction threshold is heeded to
-    /// the next one a pod depends on no other, so that the workers update it by all these ticks at once: a round is the
-    /// ticks up to the next in which a threshold is heeded, or until so many updates wait. The gate makes each update.
-    /// The ticks may tell of fewer pods than have arrived; those are not present. An `Err` says that memory was
-    /// refused, or that the node was halted; it is halted then.
+    /// Takes ticks one after the other, as `tick` takes each. From one tick in which the node acts on an eviction
+    /// threshold to the next one a pod depends on no other, so that the workers update it by all these ticks at once: a
+    /// round is the ticks up to the next in which the node acts on a threshold, or until so many updates wait. The gate
+    /// makes each update. The ticks may show fewer pods than have arrived; the others are not present. Returns `Err` if
+    /// an allocation fails or the node was halted; it is halted then.
     pub fn ticks<R: Spawner, G: Gate>(
         &mut self,
         rt: &R,

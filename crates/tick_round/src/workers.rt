@@ -20,8 +20,8 @@ use std::alloc::{AllocError, Global};
 use std::sync::Mutex;
 use std::sync::ledger::Ledger;
 
-/// A worker is worth the start of its thread where it has this many updates. An update takes less than a microsecond,
-/// and a thread more than thirty.
+/// A worker is worth the start of its thread if it has this many updates. An update takes less than a microsecond, and
+/// a thread more than thirty.
 const UPDATES_A_WORKER: usize = 1024;
 
 /// This many workers are worth their start, where no update waits for others.
@@ -50,8 +50,8 @@ fn workers_to_run<G: Gate>(workers: usize, updates: usize, gate: &G) -> usize
     }
 }
 
-/// The pieces that workers have updated, and the book out of its lock. An `Err` says that memory was refused to the
-/// workers: this takes none.
+/// The pieces that workers have updated, and the book out of its lock. Returns `Err` if an allocation of the workers
+/// failed; doesn't allocate itself.
 fn put_together<U: Ledger, E: Ledger, O: Ledger>(
     updated: Result<(Vec<PodPiece>, Shares<U, E, O>), PoolFault<U, E, O>>,
     events: Mutex<EventBook<U, E, O>>,
@@ -67,9 +67,9 @@ fn put_together<U: Ledger, E: Ledger, O: Ledger>(
 }
 
 /// All pods take the ticks that wait for them into their statuses, and are entered in the book, by this many workers, 1
-/// to 64; where no update waits in the gate, by no more than are worth their start for so many updates. The book is
-/// theirs under a lock until they have ended. One worker needs no thread, no deque and no lock. An `Err` says that
-/// memory was refused: where one worker runs, to an update.
+/// to 64; if no update waits in the gate, by no more than are worth their start for so many updates. The book is theirs
+/// under a lock until they have ended. One worker needs no thread, no deque and no lock. Returns `Err` if an allocation
+/// fails; with one worker only an update allocates.
 pub fn update_by_workers<U: Ledger + Send, E: Ledger + Send, O: Ledger + Send, R: Spawner, G: Gate>(
     rt: &R,
     alloc: Global,

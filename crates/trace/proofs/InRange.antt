@@ -18,9 +18,9 @@ use Rattle.manifest.specs.declared.pod.PodSpec.{PodSpec}
 use Rattle.manifest.specs.declared.pod.Role.{Role}
 use Rattle.manifest.specs.declared.pod.Role.TheVariants.{Init, Sidecar, App}
 use Rattle.manifest_fields.specs.rule.Fields.{object_of, array_or_none, required_text, absent}
-use Rattle.manifest_reader.specs.rule.Manifest.{field_of, role_of, container_of, few, apart, containers_of}
-use Rattle.manifest_reader.specs.rule.Manifest.{app_items_of}
-use Rattle.manifest_reader.specs.rule.Manifest.{containers_in, metadata_of, settings_in, spec_of, pod_at}
+use Rattle.manifest_reader.specs.rule.Manifest.{field_of, role_by, restarts_by, container_of, few, apart}
+use Rattle.manifest_reader.specs.rule.Manifest.{containers_of, app_items_of}
+use Rattle.manifest_reader.specs.rule.Manifest.{containers_in, metadata_of, settings_in, spec_of, pod_in}
 use Rattle.manifest.specs.rule.Names.{is_label}
 use Rattle.manifest.specs.rule.Probe.{Probe, Probes}
 use Rattle.manifest.specs.state.Probe.{IsInRange, HasNumbersInRange}
@@ -151,72 +151,78 @@ probes_given Sidecar d probes e = some_probes_given d probes e
 probes_given App d probes e = some_probes_given d probes e
 
 -- a container, in whichever of the two arrays it is written
-container_given : (place : _) (d : Data) (c : ContainerSpec) → container_of place d ≡ Ok c → HasProbesInRange c
+container_given : (own : Bool) (place : _) (d : Data) (c : ContainerSpec) → container_of own place d ≡ Ok c
+    → HasProbesInRange c
 unfolding container_of
-container_given place d c e =
+container_given own place d c e =
     let object = bind_ok (object_of (field_of place) (Some d)) _ c e in
     let name = bind_ok (required_text is_label fields.ContainerName (field_at (codes "name") object.0)) _ c object.2 in
-    let role = bind_ok (role_of place (field_at (codes "restartPolicy") object.0)) _ c name.2 in
-    let resources = bind_ok (resources_of (field_at (codes "resources") object.0)) _ c role.2 in
+    let role = bind_ok (role_by own place (field_at (codes "restartPolicy") object.0)) _ c name.2 in
+    let restarts = bind_ok (restarts_by own role.0 object.0) _ c role.2 in
+    let resources = bind_ok (resources_of (field_at (codes "resources") object.0)) _ c restarts.2 in
     let probes = bind_ok (probes_of role.0 object.0) _ c resources.2 in
     subst HasProbesInRange (same_value _ _ probes.2) (probes_given role.0 object.0 probes.0 probes.1)
 
 -- the containers of a pod
-each_given : (place : _) (ds : List Data) (cs : List ContainerSpec) → each (container_of place) ds ≡ Ok cs
+each_given : (own : Bool) (place : _) (ds : List Data) (cs : List ContainerSpec)
+    → each (container_of own place) ds ≡ Ok cs
     → All HasProbesInRange cs
-each_given place [] cs e = subst (All HasProbesInRange) (same_value _ _ e) (All-nil HasProbesInRange)
-each_given place (d ∷ ds) cs e =
-    let one = bind_ok (container_of place d) _ cs e in
-    let rest = bind_ok (each (container_of place) ds) _ cs one.2 in
+each_given own place [] cs e = subst (All HasProbesInRange) (same_value _ _ e) (All-nil HasProbesInRange)
+each_given own place (d ∷ ds) cs e =
+    let one = bind_ok (container_of own place d) _ cs e in
+    let rest = bind_ok (each (container_of own place) ds) _ cs one.2 in
     subst (All HasProbesInRange) (same_value _ _ rest.2)
-    (All-cons HasProbesInRange one.0 rest.0 (container_given place d one.0 one.1) (each_given place ds rest.0 rest.1))
+    (All-cons HasProbesInRange one.0 rest.0 (container_given own place d one.0 one.1)
+    (each_given own place ds rest.0 rest.1))
 
-containers_given : (init_items items : List Data) (cs : List ContainerSpec) → containers_of init_items items ≡ Ok cs
-    → All HasProbesInRange cs
+containers_given : (own : Bool) (init_items items : List Data) (cs : List ContainerSpec)
+    → containers_of own init_items items ≡ Ok cs → All HasProbesInRange cs
 unfolding containers_of
-containers_given init_items items cs e =
+containers_given own init_items items cs e =
     let within = bind_ok (few init_items items) _ cs e in
-    let init = bind_ok (each (container_of _) init_items) _ cs within.2 in
-    let apps = bind_ok (each (container_of _) items) _ cs init.2 in
+    let init = bind_ok (each (container_of own _) init_items) _ cs within.2 in
+    let apps = bind_ok (each (container_of own _) items) _ cs init.2 in
     let names = bind_ok (apart (init.0 ++ apps.0)) _ cs apps.2 in
     subst (All HasProbesInRange) (same_value _ _ names.2)
-    (All-append HasProbesInRange init.0 apps.0 (each_given _ init_items init.0 init.1)
-    (each_given _ items apps.0 apps.1))
+    (All-append HasProbesInRange init.0 apps.0 (each_given own _ init_items init.0 init.1)
+    (each_given own _ items apps.0 apps.1))
 
-containers_in_given : (d : Data) (cs : List ContainerSpec) → containers_in d ≡ Ok cs → All HasProbesInRange cs
+containers_in_given : (own : Bool) (d : Data) (cs : List ContainerSpec) → containers_in own d ≡ Ok cs
+    → All HasProbesInRange cs
 unfolding containers_in
-containers_in_given d cs e =
+containers_in_given own d cs e =
     let init_items =
     bind_ok (array_or_none fields.InitContainers (field_at (codes "initContainers") d)) _ cs e in
     let items = bind_ok (app_items_of (field_at (codes "containers") d)) _ cs init_items.2 in
-    containers_given init_items.0 items.0 cs items.2
+    containers_given own init_items.0 items.0 cs items.2
 
-spec_given : (found : Option Data) (spec : _) → spec_of found ≡ Ok spec → All HasProbesInRange spec.containers
+spec_given : (own : Bool) (found : Option Data) (spec : _) → spec_of own found ≡ Ok spec
+    → All HasProbesInRange spec.containers
 unfolding spec_of
-spec_given found spec e =
+spec_given own found spec e =
     let object = bind_ok (object_of fields.Spec found) _ spec e in
     let settings = bind_ok (settings_in object.0) _ spec object.2 in
-    let containers = bind_ok (containers_in object.0) _ spec settings.2 in
+    let containers = bind_ok (containers_in own object.0) _ spec settings.2 in
     let same = same_value _ _ containers.2 in
     let are : containers.0 ≡ spec.containers = λ i. (same i).containers in
-    subst (All HasProbesInRange) are (containers_in_given object.0 containers.0 containers.1)
+    subst (All HasProbesInRange) are (containers_in_given own object.0 containers.0 containers.1)
 
-pod_given : (d : Data) (pod : PodSpec) → pod_at d ≡ Ok pod → All HasProbesInRange pod.containers
-unfolding pod_at
-pod_given d pod e =
+pod_given : (own : Bool) (d : Data) (pod : PodSpec) → pod_in own d ≡ Ok pod → All HasProbesInRange pod.containers
+unfolding pod_in
+pod_given own d pod e =
     let object = bind_ok (object_of fields.Pod (Some d)) _ pod e in
     let metadata = bind_ok (metadata_of (field_at (codes "metadata") object.0)) _ pod object.2 in
-    let spec = bind_ok (spec_of (field_at (codes "spec") object.0)) _ pod metadata.2 in
+    let spec = bind_ok (spec_of own (field_at (codes "spec") object.0)) _ pod metadata.2 in
     subst (λ (p : PodSpec). All HasProbesInRange p.containers) (same_value _ _ spec.2)
-    (spec_given (field_at (codes "spec") object.0) spec.0 spec.1)
+    (spec_given own (field_at (codes "spec") object.0) spec.0 spec.1)
 
 -- what the extended format reads besides says nothing of its containers
 given_by : (heeds : Bool) (d : Data) (pod : PodSpec) → manifest_read heeds d ≡ Ok pod
     → All HasProbesInRange pod.containers
 given_by true d pod e =
     let standard = extended_of d pod e in
-    subst (λ (cs : List ContainerSpec). All HasProbesInRange cs) standard.2 (pod_given d standard.0 standard.1)
-given_by false d pod e = pod_given d pod e
+    subst (λ (cs : List ContainerSpec). All HasProbesInRange cs) standard.2 (pod_given true d standard.0 standard.1)
+given_by false d pod e = pod_given false d pod e
 
 -- the pods of a trace
 read : (r : Result PodSpec ManifestFault) (pod : PodSpec) → of_manifest r ≡ Ok pod → r ≡ Ok pod

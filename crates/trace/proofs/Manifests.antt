@@ -1,12 +1,13 @@
 -- What the fault of a manifest becomes.
-use Rattle.std.proofs.Common.{◌≡◌, ◌∙◌, Bool, true, false, ◌&&◌, Option, Some, None, Result, Ok, Err, refl, ap, IfErr, IsErrOf}
+use Rattle.std.proofs.Common.{◌≡◌, ◌∙◌, Bool, true, false, ◌&&◌, Option, Some, None, Result, Ok, Err, refl, ap, IfErr}
+use Rattle.std.proofs.Common.{IsErrOf}
 use Rattle.std.specs.Prelude.{⊤}
 use Rattle.serde_json.specs.Data.{Data}
 use Rattle.manifest.specs.declared.pod.PodSpec.{PodSpec}
 use Rattle.manifest_fields.specs.declared.fault.ManifestFault.{ManifestFault}
 use Rattle.manifest_fields.specs.declared.fault.ManifestFault.TheVariants as faults
 use Rattle.json_fields.proofs.Only.{Only}
-use Rattle.manifest_reader.proofs.NeverMemory.{IsFound, pod_at_only}
+use Rattle.manifest_reader.proofs.NeverMemory.{IsFound, pod_only}
 use Rattle.extended_manifest.proofs.NeverMemory.{extended_only}
 use Rattle.line_faults.specs.declared.fault.FaultKind.{FaultKind}
 use Rattle.line_faults.specs.declared.fault.FaultKind.TheVariants.{Manifest, OutOfMemory}
@@ -33,7 +34,7 @@ kept faults.OutOfMemory found = absurd (found refl)
 -- no fault of a manifest is that memory ran out
 pub read_only : (heeds : Bool) (d : Data) → Only IsFound (manifest_read heeds d)
 read_only true d = extended_only d
-read_only false d = pod_at_only d
+read_only false d = pod_only false d
 
 -- a fault of the manifest is that of the line
 pub manifest_fault : (heeds : Bool) (d : Data) (fault : ManifestFault) (kind : FaultKind)

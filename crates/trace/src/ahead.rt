@@ -1,4 +1,5 @@
-//! Lines that are read ahead of their turn, each beside the pods that there are, and with words heeded or not.
+//! Lines that are read ahead of their turn, each with the pods that are known then, and with the extension's members
+//! read or not.
 
 ghost use Rattle.std.specs.Prelude.{◌≡◌, ◌≢◌, ◌<◌, false, length, All, IfOk, IfSome, OnErr, OnOk};
 ghost use Rattle.json_lines.specs.state.Lines.{Tick, data_of, line_data};
@@ -19,16 +20,16 @@ use roster::Roster;
 use std::alloc::{AllocError, Global};
 use tick_lines::TickLine;
 
-/// What is read of a line ahead of its turn, beside the pods that there are.
+/// What is read of a line ahead of its turn, with the pods that are known then.
 #[derive(Drop)]
 pub(crate) enum LineAhead {
     /// The tick that it shows of these pods. Nothing in the line is at fault by itself.
     Shown(TickObs),
-    /// What any other line says.
+    /// The content of any other line.
     Said(TextLine),
 }
 
-/// Goes on where the fault is another than that memory was refused.
+/// Goes on if the fault is another than a failed allocation.
 fn unless_memory(kind: FaultKind) -> Result<(), AllocError>
     ensures refused { OnErr result (kind ≡ OutOfMemory) }
     ensures other { OnOk result (kind ≢ OutOfMemory) }
@@ -106,7 +107,7 @@ fn tick_ahead(
     }
 }
 
-/// Reads ahead a line that says this.
+/// Reads ahead a line of this content.
 fn said_ahead(
     alloc: Global,
     heeds: bool,

@@ -9,7 +9,7 @@ ghost use Rattle.trace.specs.rule.Placing.{has_twice, are_of_one_pod};
 use crate::placing::PlacedEntry;
 use std::alloc::{AllocError, Global};
 
-/// Where the pods' entries stand.
+/// The places of the pods' entries.
 #[derive(Drop)]
 pub(crate) struct EntriesByPod {
     /// For each pod the place of its first entry, if it has one.
@@ -18,7 +18,7 @@ pub(crate) struct EntriesByPod {
     pub(crate) has_pod_twice: bool,
 }
 
-/// Notes the place of a pod's entry, unless it has an earlier one, and says whether it has.
+/// Notes the place of a pod's entry, unless it has an earlier one. Returns whether it has.
 fn note(first: &mut [Option<usize>], pod: usize, place: usize) -> bool
     requires { pod < length first.old }
     ensures earlier { result ≡ is_some (slice_index_or first.old pod None) }
@@ -31,7 +31,7 @@ fn note(first: &mut [Option<usize>], pod: usize, place: usize) -> bool
     false
 }
 
-/// Where the entries of this many pods stand.
+/// The places of the entries of this many pods.
 pub(crate) fn entries_by_pod(
     alloc: Global,
     entries: &[PlacedEntry],

@@ -29,7 +29,7 @@ fn unknown() -> ContainerObs
     }
 }
 
-/// Makes a list of containers of which nothing is known one of these containers: where it has as many, it stays.
+/// Makes a list of containers of which nothing is known one of these containers; keeps the list if it has as many.
 pub(crate) fn keep_unknown(
     all: &mut Vec<ContainerObs>,
     containers: &[ContainerSpec],
@@ -40,7 +40,7 @@ pub(crate) fn keep_unknown(
     all.resize(containers.len(), unknown())
 }
 
-/// Begins anew: of each container nothing is known.
+/// Starts again: nothing is known of any container.
 pub(crate) fn clear(
     all: &mut Vec<ContainerObs>,
     containers: &[ContainerSpec],
@@ -51,7 +51,7 @@ pub(crate) fn clear(
     keep_unknown(all, containers)
 }
 
-/// Notes a listing, unless its container has an earlier one, and says whether it has.
+/// Notes a listing, unless its container has an earlier one. Returns whether it has.
 pub(crate) fn note_listing(all: &mut [ContainerObs], listing: PlacedListing) -> bool
     requires { listing.container < length all.old }
     ensures { NotesListing listing all.old all.new result }
@@ -63,7 +63,7 @@ pub(crate) fn note_listing(all: &mut [ContainerObs], listing: PlacedListing) -> 
     false
 }
 
-/// Notes a probe's result, unless the probe has an earlier one, and says whether it has.
+/// Notes a probe's result, unless the probe has an earlier one. Returns whether it has.
 pub(crate) fn note_result(all: &mut [ContainerObs], written: PlacedResult) -> bool
     requires { written.container < length all.old }
     ensures { NotesResult written all.old all.new result }
@@ -86,7 +86,7 @@ fn is_named(pod: &PodSpec, number: usize, name: &str) -> bool
     }
 }
 
-/// The number of the container with this name, found at once where it is this number or the next: entries mostly name
+/// The number of the container with this name, found at once if it is this number or the next: entries mostly name
 /// their containers in order.
 fn number_near(pod: &PodSpec, name: &str, near: usize) -> Option<usize>
     ensures { result ≡ place_of (names_of pod.now.containers) name.now }
@@ -126,7 +126,7 @@ fn result_near(pod: &PodSpec, value: &TapeValue<'_, '_>, near: usize) -> Option<
     })
 }
 
-/// Notes these listings; or says no, where one is at fault or has no such container, or two are of one container.
+/// Notes these listings. Returns false if one is at fault or has no such container, or two are of one container.
 fn has_noted_listings(pod: &PodSpec, mut items: TapeItems<'_, '_>, all: &mut [ContainerObs]) -> bool
     requires { all.old ≡ containers_from [] [] 0 pod.now.containers }
     ensures { IsTrue result → ListingsNoted pod.now (items_in items.entry) all.new }
@@ -144,7 +144,7 @@ fn has_noted_listings(pod: &PodSpec, mut items: TapeItems<'_, '_>, all: &mut [Co
     true
 }
 
-/// Notes these results; or says no, where one is at fault or has no such container, or two are of one probe.
+/// Notes these results. Returns false if one is at fault or has no such container, or two are of one probe.
 fn has_noted_results(pod: &PodSpec, mut items: TapeItems<'_, '_>, all: &mut [ContainerObs]) -> bool
     requires { length all.old ≡ length pod.now.containers }
     ensures { (ls : List PlacedListing) → all.old ≡ containers_from ls [] 0 pod.now.containers
@@ -163,7 +163,7 @@ fn has_noted_results(pod: &PodSpec, mut items: TapeItems<'_, '_>, all: &mut [Con
     true
 }
 
-/// Notes an entry's listings. A no leaves the entry to be read otherwise, and says nothing of what was noted.
+/// Notes an entry's listings. After false the entry is to be read otherwise, and the notes mean nothing.
 pub(crate) fn note_listings(
     pod: &PodSpec,
     items: Option<TapeItems<'_, '_>>,
@@ -178,7 +178,8 @@ pub(crate) fn note_listings(
     }
 }
 
-/// Notes an entry's results beside its listings. A no says as little as at `note_listings`.
+/// Notes an entry's results, after its listings. After false the entry is to be read otherwise, and the notes mean
+/// nothing.
 pub(crate) fn note_results(
     pod: &PodSpec,
     items: Option<TapeItems<'_, '_>>,

@@ -42,7 +42,7 @@ pub(crate) struct PlacedResult {
     pub(crate) outcome: Outcome,
 }
 
-/// What an entry says of its pod beside its listings and results.
+/// What an entry has of its pod in addition to its listings and results.
 #[derive(Drop)]
 pub(crate) struct EntrySaid {
     pub(crate) sampling: Sampling,
@@ -152,7 +152,7 @@ pub(crate) fn sampled_or(other: Sampling, usage: Option<Usage>) -> Sampling
     }
 }
 
-/// What an entry without a sample says of them: that there is none counts where the version heeds it.
+/// The sampling of an entry without a sample: `unsampled` counts if the version reads it.
 fn without_sample(heeds: bool, unsampled: TruthMember) -> Sampling
     ensures { result ≡ without_sample heeds unsampled }
 {
@@ -163,7 +163,7 @@ fn without_sample(heeds: bool, unsampled: TruthMember) -> Sampling
     }
 }
 
-/// Why an entry says that the node has ended its pod, where the version heeds it.
+/// The reason for which an entry reports that the node has ended its pod, if the version reads it.
 fn reason_given(heeds: bool, failed: &ReasonMember) -> Option<EndReason>
     ensures { result ≡ (if heeds then reason_given failed.now else None) }
 {
@@ -194,7 +194,7 @@ fn statuses_given(
     given
 }
 
-/// The same, by what its member says, where the version heeds that.
+/// The statuses that the member `conditions` gives of the conditions that these gates name, if the version reads it.
 fn gates_given(
     heeds: bool,
     gates: &ReadinessGates,
@@ -208,7 +208,7 @@ fn gates_given(
     }
 }
 
-/// The words of an entry, where the version heeds them, on a pod with these gates.
+/// The words of an entry on a pod with these gates, if the version reads them.
 fn words_of(heeds: bool, gates: &ReadinessGates, entry: &TickEntry) -> PodWords
     ensures { result ≡ words_of heeds gates.now entry.now.deleting entry.now.failed entry.now.conditions }
 {
@@ -219,7 +219,7 @@ fn words_of(heeds: bool, gates: &ReadinessGates, entry: &TickEntry) -> PodWords
     }
 }
 
-/// What an entry says of its pod beside its listings and results.
+/// What an entry has of its pod in addition to its listings and results.
 fn said_in(heeds: bool, pod: &PodSpec, entry: &TickEntry) -> EntrySaid
     ensures { result ≡ said_in heeds pod.now entry.now }
 {
@@ -229,7 +229,7 @@ fn said_in(heeds: bool, pod: &PodSpec, entry: &TickEntry) -> EntrySaid
     }
 }
 
-/// What an entry says of the samples of its pod.
+/// The sampling of an entry's pod.
 fn sampling_of(heeds: bool, usage: Option<Usage>, unsampled: TruthMember) -> Sampling
     ensures { result ≡ sampling_of heeds usage unsampled }
 {
@@ -303,7 +303,7 @@ fn check_entries(heeds: bool, roster: &Roster, entries: &[TickEntry]) -> Result<
     Ok(())
 }
 
-/// Whether every pod of a tick line's entries is known, and every container, or the first fault. It takes no memory.
+/// Whether every pod of a tick line's entries is known, and every container, or the first fault. Doesn't allocate.
 #[tactic(auto, unfolding(crate::specs::rule::Placing::placed_of))]
 pub(crate) fn check_placed(
     heeds: bool,

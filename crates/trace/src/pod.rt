@@ -46,8 +46,8 @@ fn manifest_read(alloc: Global, heeds: bool, manifest: &Value) -> Result<PodSpec
     }
 }
 
-/// The pod that a pod line's manifest describes, which says nothing of whether the node spares it. Out of memory only
-/// where the manifest has no fault.
+/// The pod that a pod line's manifest describes; whether the node exempts it is not in the manifest. Out of memory only
+/// if the manifest has no fault.
 #[tactic(auto, using(crate::proofs::Manifests::manifest_fault))]
 fn pod_from(alloc: Global, heeds: bool, found: Option<&Value>) -> Result<PodSpec, FaultKind>
     ensures gives { GivesUnless is_memory (λ p. p) result (pod_from heeds (option_map (λ v. view v.now) found.entry)) }
@@ -57,8 +57,8 @@ fn pod_from(alloc: Global, heeds: bool, found: Option<&Value>) -> Result<PodSpec
     Ok(manifest_read(alloc, heeds, manifest)?)
 }
 
-/// Nothing, unless a member that says whether the node spares the pod is of another kind than a truth value, where the
-/// version heeds it. It takes no memory.
+/// Nothing, unless the member `spared` is of another kind than a truth value and the version reads it. Doesn't
+/// allocate.
 fn known_spared(heeds: bool, spared: TruthMember) -> Result<(), FaultKind>
     ensures { GivesExactly (λ t. t) result
         (refused_if (heeds && is_of_other_kind spared) (Manifest (WrongKind fields.Spared))) }
@@ -69,7 +69,7 @@ fn known_spared(heeds: bool, spared: TruthMember) -> Result<(), FaultKind>
     )
 }
 
-/// The pod that a pod line says. Out of memory only where the line has no other fault.
+/// The pod of a pod line. Out of memory only if the line has no other fault.
 #[tactic(auto, using(crate::proofs::Manifests::first_besides))]
 pub(crate) fn pod_of_line(alloc: Global, heeds: bool, line: &Value) -> Result<PodSpec, FaultKind>
     ensures gives { GivesUnless is_memory (λ p. p) result (pod_of_line heeds (view line.now)) }
@@ -108,14 +108,14 @@ pub(crate) fn room_for_pod(so_far: &TraceSoFar) -> Result<(), FaultKind>
     refused_if(so_far.roster.pods().len() >= MOST_PODS, FaultKind::TooMany)
 }
 
-/// Refuses a key for which the number of a pod was found.
+/// Rejects a key for which the number of a pod was found.
 fn unless_found(number: Option<usize>) -> Result<(), FaultKind>
     ensures { GivesExactly (λ t. t) result (refused_if (is_some number) DuplicatePod) }
 {
     refused_if(number.is_some(), FaultKind::DuplicatePod)
 }
 
-/// No pod that is present has this key. It takes no memory.
+/// No pod that is present has this key. Doesn't allocate.
 fn unused(roster: &Roster, key: &str) -> Result<(), FaultKind>
     ensures { GivesExactly (λ t. t) result (refused_if (has_key roster.now key.now) DuplicatePod) }
 {

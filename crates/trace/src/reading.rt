@@ -1,4 +1,4 @@
-//! A line, behind what the lines before it say.
+//! A line, after the lines before it.
 
 ghost use Rattle.std.specs.Prelude.{◌≡◌, option_map, option_and_then, None, Ok, IfErr, IsErrOf, OnOk, string_bytes};
 ghost use Rattle.json_fields.specs.rule.Fields.{field_at};
@@ -62,7 +62,7 @@ fn kind_from(version: Option<Version>, kind: Option<&str>) -> Option<LineKind>
     }
 }
 
-/// The kind that a line says it is of, in a text of this version.
+/// The kind that a line gives, in a text of this version.
 fn kind_of_line(version: Option<Version>, line: &Value) -> Result<LineKind, FaultKind>
     ensures { GivesExactly (λ k. k) result (kind_of_line version (view line.now)) }
 {
@@ -75,7 +75,7 @@ fn is_three(version: Option<u64>) -> bool
     version == Some(3)
 }
 
-/// Whether the line says version 3, which the standard format does not have.
+/// Whether the line has version 3, which is not in the standard format.
 fn is_foreign(format: Format, line: &Value) -> bool
     ensures { result ≡ is_foreign format (view line.now) }
 {
@@ -85,7 +85,7 @@ fn is_foreign(format: Format, line: &Value) -> bool
     }
 }
 
-/// The configuration that a node line says. Out of memory only where the line has no fault.
+/// The configuration of a node line. Out of memory only if the line has no fault.
 fn node_in(alloc: Global, format: Format, line: &Value) -> Result<NodeConfig, FaultKind>
     ensures gives { GivesUnless is_memory (λ n. n) result (node_in format (view line.now)) }
     ensures faults { IfErr (node_in format (view line.now)) (IsErrOf result) }
@@ -165,7 +165,7 @@ fn with_new_pod(alloc: Global, so_far: TraceSoFar, pod: PodSpec) -> Result<Trace
     }
 }
 
-/// Whether a pod line comes too late behind the ticks so far.
+/// Whether a pod line comes too late, after the ticks so far.
 fn is_late(version: Version, so_far: &TraceSoFar) -> bool
     ensures { result ≡ is_late version so_far.now.ticks }
 {
@@ -175,7 +175,7 @@ fn is_late(version: Version, so_far: &TraceSoFar) -> bool
     }
 }
 
-/// The pod that a pod line says, whatever its key. Out of memory only where it has no other fault.
+/// The pod of a pod line, whatever its key. Out of memory only if the line has no other fault.
 #[tactic(auto, unfolding(crate::specs::rule::Trace::pod_in))]
 fn pod_in(
     alloc: Global,
@@ -265,7 +265,7 @@ fn version_in(so_far: &TraceSoFar) -> Option<Version>
     }
 }
 
-/// Whether a line of the kind may stand after a node line of the version, or as the first line.
+/// Whether a line of the kind may come after a node line of the version, or as the first line.
 fn turn_of(version: Option<Version>, line_kind: LineKind) -> Result<Turn, FaultKind>
     ensures { GivesExactly (λ t. t) result (turn_of version line_kind) }
 {
@@ -325,7 +325,7 @@ fn take_value(alloc: Global, so_far: TraceSoFar, line: &Value) -> Result<TraceSo
     }
 }
 
-/// Takes a tick line, if it may stand where it does.
+/// Takes a tick line, if it may come at its place.
 fn take_tick_line(
     alloc: Global,
     so_far: TraceSoFar,
@@ -342,7 +342,7 @@ fn take_tick_line(
     }
 }
 
-/// Whether a tick whose line was read ahead may stand behind the ticks so far.
+/// Whether a tick whose line was read ahead may follow the ticks so far.
 #[tactic(auto, unfolding(crate::specs::state::Ahead::may_stand))]
 fn may_stand(so_far: &TraceSoFar, tick: &TickObs) -> Result<(), FaultKind>
     requires { IsReadAhead (heeds so_far.now) so_far.now.roll tick.now }
@@ -355,7 +355,7 @@ fn may_stand(so_far: &TraceSoFar, tick: &TickObs) -> Result<(), FaultKind>
     refused_if(is_backwards(so_far, tick), FaultKind::Backwards)
 }
 
-/// Takes a tick whose line was read ahead, beside the pods that there are.
+/// Takes a tick whose line was read ahead, with the pods that are known now.
 pub(crate) fn take_shown(so_far: TraceSoFar, tick: TickObs) -> Result<TraceSoFar, FaultKind>
     requires { IsReadAhead (heeds so_far) so_far.roll tick }
     ensures { (said : LineData) → IsShown (heeds so_far) so_far.roll said tick
@@ -370,7 +370,7 @@ pub(crate) fn take_shown(so_far: TraceSoFar, tick: TickObs) -> Result<TraceSoFar
     }
 }
 
-/// Takes a line. One that is no JSON, or too long, takes no memory.
+/// Takes a line. Doesn't allocate for a line that is no JSON, or too long.
 pub(crate) fn take_line(
     alloc: Global,
     so_far: TraceSoFar,
@@ -386,7 +386,7 @@ pub(crate) fn take_line(
     match line {
         TextLine::Tick(tick) => take_tick_line(alloc, so_far, tick),
         TextLine::Json(value) => take_value(alloc, so_far, value),
-        // A blank line: what is too long or no JSON was refused.
+        // A blank line: what is too long or no JSON was rejected before.
         _ => Ok(so_far),
     }
 }

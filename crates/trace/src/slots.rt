@@ -26,7 +26,7 @@ pub(crate) fn no_pods(alloc: Global, pods: usize) -> Result<Vec<Option<PodObs>>,
     Ok(all)
 }
 
-/// Notes what an entry shows of the pod with the number, unless an earlier one shows something of it, and says whether
+/// Notes what an entry shows of the pod with the number, unless an earlier one shows something of it. Returns whether
 /// one does.
 pub(crate) fn note_pod(slots: &mut [Option<PodObs>], number: usize, shown: PodObs) -> bool
     requires { number < length slots.old }

@@ -1,5 +1,5 @@
-//! The tick that a line shows, read from the tape of its tokens beside the pods that there are: no text is copied, and
-//! names become numbers where they stand. Where one of these finds none, the line is read as a `TextLine`.
+//! The tick that a line shows, read from the tape of its tokens with the pods that are known: no text is copied, and
+//! names become numbers where they are. If one of these finds none, the line is read as a `TextLine`.
 
 ghost use Rattle.std.specs.Prelude.{◌≡◌, ◌++◌, ◌∷◌, [], Bool, true, length, List, IfOk, IfSome};
 ghost use Rattle.serde_json.specs.Data.{Data};
@@ -23,8 +23,8 @@ use roster::Roster;
 use std::alloc::{AllocError, Global};
 use tick_lines::{entry_text, line_text, samples_text};
 
-/// Notes what an entry shows of its pod, and says whether it could: not where the pod is not known, has an earlier
-/// entry, or something in the entry is at fault.
+/// Notes what an entry shows of its pod. Returns false if the pod is not known or has an earlier entry, or something in
+/// the entry is at fault.
 fn note_entry(
     alloc: Global,
     roster: &Roster,
@@ -131,8 +131,8 @@ fn shown_by_value(
     }))
 }
 
-/// The tick that a line shows of these pods, if nothing in it is at fault by itself; none where it is no tick line of
-/// the common shape.
+/// The tick that a line shows of these pods, if nothing in it is at fault by itself; none if it is no tick line of the
+/// common shape.
 pub(crate) fn shown_on_tape(
     alloc: Global,
     heeds: bool,

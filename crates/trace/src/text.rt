@@ -31,7 +31,7 @@ use std::alloc::Global;
 use std::thread::Threads;
 use std::vec::IntoIter;
 
-/// What is said before the first line.
+/// What is known before the first line.
 fn nothing(alloc: Global, format: Format) -> TraceSoFar
     ensures { result ≡ nothing format }
 {
@@ -44,7 +44,7 @@ fn nothing(alloc: Global, format: Format) -> TraceSoFar
     }
 }
 
-/// Takes a line whose turn has come, where the pods are no longer those beside which it was read.
+/// Takes a line whose turn has come, if the pods are no longer the ones with which it was read.
 fn take_anew(alloc: Global, so_far: TraceSoFar, line: &[u8]) -> Result<TraceSoFar, FaultKind>
     ensures { GivesUnless is_memory (λ r. r) result (any_line_at so_far (line_data line.now)) }
 {
@@ -60,7 +60,7 @@ fn take_anew(alloc: Global, so_far: TraceSoFar, line: &[u8]) -> Result<TraceSoFa
     }
 }
 
-/// Takes a line that was read ahead; `is_fresh` says whether the pods are still those beside which it was read.
+/// Takes a line that was read ahead; `is_fresh` is whether the pods are still the ones with which it was read.
 fn take_ahead(
     alloc: Global,
     so_far: TraceSoFar,
@@ -90,7 +90,7 @@ fn keeps_pods(read: &LineAhead) -> bool
     !matches!(read, LineAhead::Said(TextLine::Json(_)))
 }
 
-/// Whether the lines behind this one were read beside the pods that there are then, if this one was.
+/// Whether the lines after this one were read with the pods that there are then, if this one was.
 fn stays_fresh(is_fresh: bool, read: &LineAhead) -> bool
     ensures { IsTrue result → IsTrue is_fresh
         × ((heeds : Bool) (roll : Roll) (said : LineData) → IsAhead heeds roll said read.now → KeepsPods said) }
@@ -98,7 +98,7 @@ fn stays_fresh(is_fresh: bool, read: &LineAhead) -> bool
     is_fresh && keeps_pods(read)
 }
 
-/// Takes the line of this number, and says whether the next one was read beside the pods that there are.
+/// Takes the line of this number. Returns whether the next one was read with the pods that there are.
 fn take_next(
     alloc: Global,
     so_far: TraceSoFar,
@@ -119,7 +119,7 @@ fn take_next(
     }
 }
 
-/// What was read of the next line; none only behind the last one.
+/// What was read of the next line; none only after the last one.
 fn next_read(reads: &mut IntoIter<LineAhead>) -> Option<LineAhead>
     ensures some { IfSome result (λ read. into_iter_items reads.old ≡ read ∷ into_iter_items reads.new) }
     ensures none { IfNone result (into_iter_items reads.old ≡ []) }
@@ -135,7 +135,7 @@ fn was_blank(read: &LineAhead) -> bool
     matches!(read, LineAhead::Said(TextLine::Blank))
 }
 
-/// Whether a tick line was read in vain, since the pods are no longer those beside which it was read: what it shows of
+/// Whether a tick line was read in vain, since the pods are no longer the ones with which it was read: what it shows of
 /// them, or that it shows nothing.
 fn is_in_vain(is_fresh: bool, read: &LineAhead) -> bool {
     !is_fresh
@@ -145,7 +145,7 @@ fn is_in_vain(is_fresh: bool, read: &LineAhead) -> bool {
         )
 }
 
-/// Takes lines that were read ahead, the first of which has this number, and says whether one was read in vain.
+/// Takes lines that were read ahead, the first of which has this number. Returns whether one was read in vain.
 fn take_lines(
     alloc: Global,
     so_far: TraceSoFar,
@@ -166,7 +166,7 @@ fn take_lines(
         let Some(read) = next_read(&mut reads) else {
             unreachable!()
         };
-        // blank lines may come by the thousand: what the lines so far say is not moved for them
+        // blank lines may come by the thousand: what the lines so far gave is not moved for them
         if was_blank(&read) {
             number += 1;
             continue;
@@ -180,7 +180,7 @@ fn take_lines(
     Ok((so_far, some_in_vain))
 }
 
-/// A refused growth of memory, at this line.
+/// A failed allocation, at this line.
 fn no_memory(line: u64) -> LineFault
     ensures { IsTrue (is_memory result.kind) }
 {
@@ -228,7 +228,8 @@ fn ends_blank(reads: &[LineAhead]) -> bool {
     }
 }
 
-/// How many blank lines are skipped at the beginning of a text, and the text after them: all, where it is worth a look.
+/// How many blank lines are skipped at the beginning of a text, and the text after them: all blank lines, if that is
+/// worth the check.
 fn blanks_before(text: &[u8], is_likely: bool) -> (u64, &[u8])
     ensures count { result.0 ≤ prefix_len is_blank (lines_of text.now) }
     ensures rest { lines_of result.1.now ≡ drop result.0 (lines_of text.now) }
@@ -287,12 +288,12 @@ fn read_windows<W: WindowReader>(
     finished(number, so_far)
 }
 
-/// The trace that a text says in a format, or its first faulty line with that line's first fault. Where a
-/// growth of memory is refused the answer is `OutOfMemory`; of its line nothing is promised.
+/// The trace of a text in a format, or its first faulty line with that line's first fault. If an allocation fails, the
+/// answer is `OutOfMemory`; nothing is promised of its line.
 ///
-/// Of each trace that is answered: a listing may follow those before it of its container. Moments rise, and are below
-/// 2^40. Each tick shows exactly the pods that are present, whose lines stand before it and no line of which says that
-/// they are gone, each with one entry a container. A pod arrives once, none before an earlier one, and leaves after
+/// Of each trace that is returned: a listing may follow the earlier ones of its container. Moments rise, and are below
+/// 2^40. Each tick shows exactly the pods that are present, each with one entry a container: their lines come before
+/// the tick, and no line by which they are gone does. A pod arrives once, none before an earlier one, and leaves after
 /// that or never, in version 3 alone. Of two pods of one key the earlier has left before the later arrives. There are
 /// at most 20,000 ticks and 256 pods.
 pub fn read_trace(alloc: Global, format: Format, text: &[u8]) -> Result<Trace, LineFault>
@@ -305,8 +306,8 @@ pub fn read_trace(alloc: Global, format: Format, text: &[u8]) -> Result<Trace, L
     read_windows(&OneThread, alloc, format, text)
 }
 
-/// The trace that a text says in a format, or its first faulty line with that line's first fault, with all that
-/// [`read_trace`] promises of it; this many workers share the lines of a text behind its first 64 KiB.
+/// The trace of a text in a format, or its first faulty line with that line's first fault, with all that [`read_trace`]
+/// promises of it; this many workers share the lines of a text after its first 64 KiB.
 pub fn read_trace_by_workers<R: Threads + Sync>(
     rt: &R,
     alloc: Global,

@@ -53,8 +53,7 @@ fn moment_from(ticks: &[TickObs], written: Option<u64>) -> Result<u64, FaultKind
     }
 }
 
-/// The instance that a listing says. Where the exit code is missing, 0 stands in its place until
-/// that is refused.
+/// The instance that a listing shows. A missing exit code counts as 0 until it is rejected.
 pub(crate) fn seen_listed(instance: ListedInstance) -> Seen
     ensures { result ≡ seen_listed instance }
 {
@@ -135,7 +134,7 @@ fn results_of(entry: Option<&PlacedEntry>) -> &[PlacedResult]
     }
 }
 
-/// The words once more. It takes no memory.
+/// The words once more. Doesn't allocate.
 fn words_again(words: &PodWords) -> PodWords
     ensures { result ≡ words.now }
 {
@@ -304,7 +303,7 @@ pub(crate) fn placed_by(
 {
     match placed_entries(alloc, heeds, roster, written) {
         Err(FaultKind::OutOfMemory) => {
-            // A second pass that takes no memory, so that a fault is never told as out of memory.
+            // A second pass that doesn't allocate, so that no fault is reported as out of memory.
             // (docs/decisions/reading.md)
             check_placed(heeds, roster, written.entries.as_slice())?;
             Err(FaultKind::OutOfMemory)
@@ -333,14 +332,14 @@ fn unless_doubled(has_pod_twice: bool, some_entry_repeats: bool) -> Result<(), F
     refused_if(has_pod_twice || some_entry_repeats, FaultKind::Doubled)
 }
 
-/// No pod has two entries, and no entry repeats a container or a probe. It takes no memory.
+/// No pod has two entries, and no entry repeats a container or a probe. Doesn't allocate.
 fn listed_once(has_pod_twice: bool, placed: &[PlacedEntry]) -> Result<(), FaultKind>
     ensures { GivesExactly (λ t. t) result (refused_if (has_pod_twice || list_any repeats placed.now) Doubled) }
 {
     unless_doubled(has_pod_twice, some_entry_repeats(placed))
 }
 
-/// Where the entries of each pod so far stand.
+/// The places of the entries of each pod so far.
 fn by_pod(
     alloc: Global,
     so_far: &TraceSoFar,
@@ -363,7 +362,7 @@ pub(crate) fn is_backwards(so_far: &TraceSoFar, tick: &TickObs) -> bool
     !so_far.following.accepts(tick)
 }
 
-/// No listing of the tick goes back. It takes no memory.
+/// No listing of the tick goes back. Doesn't allocate.
 fn forwards(so_far: &TraceSoFar, tick: &TickObs) -> Result<(), FaultKind>
     requires { ComesNext so_far.now.ticks (container_counts so_far.now.roll.pods) tick.now }
     ensures gives { GivesExactly (λ t. t) result (refused_if (is_backwards so_far.now.ticks tick.now) Backwards) }
@@ -372,7 +371,7 @@ fn forwards(so_far: &TraceSoFar, tick: &TickObs) -> Result<(), FaultKind>
     refused_if(is_backwards(so_far, tick), FaultKind::Backwards)
 }
 
-/// Each listing of an exited container has its code. It takes no memory.
+/// Each listing of an exited container has its code. Doesn't allocate.
 fn coded(placed: &[PlacedEntry]) -> Result<(), FaultKind>
     ensures { GivesExactly (λ t. t) result (refused_if (some_code_missing placed.now) ExitCode) }
 {
@@ -430,7 +429,7 @@ pub(crate) fn with_tick(so_far: TraceSoFar, tick: TickObs) -> Result<TraceSoFar,
     })
 }
 
-/// The tick that a tick line says.
+/// The tick of a tick line.
 #[tactic(auto, unfolding(crate::specs::state::Taken::tick_of, crate::specs::state::Taken::placed_at))]
 fn tick_of(alloc: Global, so_far: &TraceSoFar, line: &TickRecord) -> Result<TickObs, FaultKind>
     ensures gives { GivesUnless is_memory (λ t. t) result (tick_of so_far.now line.now.at line.now.written) }

@@ -1,4 +1,4 @@
-//! What the lines so far say.
+//! What the lines so far have given.
 
 ghost use Rattle.std.specs.Prelude.{◌≡◌, Some};
 ghost use Rattle.trace.specs.rule.TraceSoFar.{heeds, heeds_words};
@@ -21,7 +21,7 @@ pub(crate) enum LineKind {
     Gone,
 }
 
-/// What a line is taken as that may stand where it does.
+/// What a line that may come at its place is taken as.
 #[derive(Clone, Copy)]
 pub(crate) enum Turn {
     Node,
@@ -31,7 +31,7 @@ pub(crate) enum Turn {
     Gone,
 }
 
-/// What the lines so far say, and what follows the pods' containers.
+/// What the lines so far have given, and what follows the pods' containers.
 #[derive(Drop)]
 pub(crate) struct TraceSoFar {
     pub(crate) format: Format,
@@ -81,10 +81,10 @@ pub struct Trace {
     pub node: NodeConfig,
     /// The pods, by number.
     pub pods: Sequence<PodSpec>,
-    /// For each pod how many ticks stand before its line; the pod is present from the next tick on.
+    /// For each pod how many ticks come before its line; the pod is present from the next tick on.
     pub arrivals: Sequence<usize>,
-    /// For each pod how many ticks stand before the line by which it is gone, if it has one; it is not present from
-    /// the next tick on.
+    /// For each pod how many ticks come before the line by which it is gone, if it has one; it is not present from the
+    /// next tick on.
     pub departures: Sequence<Option<usize>>,
     /// The ticks, in the order of their moments.
     pub ticks: Sequence<TickObs>,

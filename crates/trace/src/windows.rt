@@ -17,20 +17,20 @@ use std::thread::{Threads, map_chunks};
 pub(crate) const SMALLEST_WINDOW: usize = 65_536;
 
 /// A window that workers share has no more bytes than these, 4 MiB, and the end of its last line: the threads start
-/// anew for each.
+/// again for each.
 const GREATEST_WINDOW: usize = 4_194_304;
 
 /// The lines of a window show no more pods together, where each line shows each pod.
 const MOST_SHOWN: usize = 262_144;
 
-/// They show no more pods than these where there were fewer ticks before them: a fault in an early tick is found before
-/// much is made of those behind it.
+/// They show no more pods than these if fewer ticks came before them: a fault in an early tick is found before much is
+/// made of the ticks after it.
 const FIRST_SHOWN: usize = 1024;
 
-/// What is read of a line takes as much memory as this many pods, beside those that it shows.
+/// What is read of a line takes as much memory as this many pods, in addition to the pods that it shows.
 const WEIGHT_OF_LINE: usize = 8;
 
-/// The most lines that a window has behind this many ticks.
+/// The most lines that a window has after this many ticks.
 fn most_lines(roster: &Roster, ticks: usize) -> usize
     ensures some { 0 < result }
     ensures few { AreFew roster.now result }
@@ -43,7 +43,7 @@ fn most_lines(roster: &Roster, ticks: usize) -> usize
         .max(1)
 }
 
-/// How many bytes the window behind one has that had this many.
+/// How many bytes the window has after one that had this many.
 pub(crate) fn window_behind(had: usize, some_in_vain: bool) -> usize
     ensures { result ≡ window_behind had some_in_vain }
 {
@@ -88,8 +88,8 @@ pub(crate) trait WindowReader {
     // What holds of a reader that can read.
     ghost can_read: { Self → Type 0 };
 
-    /// The next window, of this many bytes or fewer and the end of its last line, behind this many ticks, read beside
-    /// these pods, and with words heeded or not. It is never without a line where the text isn't empty.
+    /// The next window, of this many bytes or fewer and the end of its last line, after this many ticks, read with
+    /// these pods, and with the extension's members read or not. It always has a line, unless the text is empty.
     fn window<'t>(
         &self,
         alloc: Global,

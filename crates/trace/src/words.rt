@@ -1,5 +1,5 @@
-//! The words of a tick line, which version 3 alone heeds: members that say something by true, by false or by a reason.
-//! (This project's extended format.)
+//! The words of a tick line, which only version 3 reads: members whose value is true, false or a reason. (This
+//! project's extended format.)
 
 ghost use Rattle.std.specs.Prelude.{◌≡◌};
 ghost use Rattle.json_fields.specs.state.Reading.{GivesExactly};
@@ -17,7 +17,7 @@ pub(crate) fn says_so(member: TruthMember) -> bool
     matches!(member, TruthMember::Yes)
 }
 
-/// Whether the node judges the tick: unless the line says that it doesn't and the version heeds that.
+/// Whether the tick is a sync tick: unless the line denies it and the version reads that.
 pub(crate) fn is_judged(heeds: bool, unjudged: TruthMember) -> bool
     ensures { result ≡ is_judged heeds unjudged }
 {
@@ -67,7 +67,7 @@ pub(crate) fn line_has_other_kind(written: &TickLine) -> bool
     is_of_other_kind(written.unjudged) || has_other_kind(written.entries.as_slice())
 }
 
-/// Refuses these members where the version heeds them.
+/// Rejects these members if the version reads them.
 fn heeded(heeds: bool, written: &TickLine) -> Result<&TickLine, FaultKind>
     ensures { GivesExactly (λ t. t.now) result (heeded heeds written.now) }
 {
@@ -75,7 +75,7 @@ fn heeded(heeds: bool, written: &TickLine) -> Result<&TickLine, FaultKind>
     Ok(written)
 }
 
-/// What a tick line says beside its moment.
+/// The contents of a tick line except its moment.
 pub(crate) fn written_in(
     heeds: bool,
     said: &Result<TickLine, TickLineFault>,

@@ -21,8 +21,8 @@ use std::sync::ledger::Ledger;
 use std::sync::{Mutex, Wait};
 use totals::Totals;
 
-/// Takes all ticks of a piece that wait into its status, in their order, each by an update of the gate. An `Err` leaves
-/// the piece pending: the ticks before the refused one are taken.
+/// Takes all waiting ticks of a piece into its status, in their order, each by an update of the gate. After an `Err`
+/// the piece still waits: the ticks before the failed one are taken.
 pub fn update_waiting<G: Gate>(gate: &G, piece: &mut PodPiece) -> Result<(), AllocError>
     requires { 0 < piece.old.waiting }
     ensures ok { OnOk result (piece.new ≡ all_updated piece.old) }
@@ -74,8 +74,8 @@ impl<D: Deal, U: Ledger, E: Ledger, O: Ledger> WorkerResult<D, U, E, O> {
         }
     }
 
-    /// Keeps a piece, and says whether it was updated: enters it where it was, else keeps it as the refused one. It
-    /// takes no memory.
+    /// Keeps a piece, and returns whether it was updated: enters it if it was, else keeps it as the failed one. Doesn't
+    /// allocate.
     fn keep<R: Wait>(
         &mut self,
         rt: &R,
@@ -108,8 +108,8 @@ impl<D: Deal, U: Ledger, E: Ledger, O: Ledger> WorkerResult<D, U, E, O> {
         }
     }
 
-    /// Takes all ticks of a piece that wait into its status, and enters it with what they add. False where an update
-    /// was refused: then it is kept as that left it.
+    /// Takes all waiting ticks of a piece into its status, and enters it with what they add. Returns false if an update
+    /// failed: then it is kept as the update left it.
     pub fn finish<R: Wait, G: Gate>(
         &mut self,
         rt: &R,
@@ -131,7 +131,7 @@ impl<D: Deal, U: Ledger, E: Ledger, O: Ledger> WorkerResult<D, U, E, O> {
         self.keep(rt, book, piece, updated)
     }
 
-    /// The result where no update was refused, else the piece whose update was.
+    /// The result if no update failed, else the piece whose update did.
     pub fn complete(self) -> Result<WorkerResult<D, U, E, O>, PodPiece>
         ensures ok { IfOk result (λ worker_result. worker_result ≡ self) }
         ensures none { IfOk result (λ worker_result. worker_result.refused ≡ None) }

@@ -21,7 +21,7 @@ pub struct StealHandle<D: Deal> {
 }
 
 impl<D: Deal> StealHandle<D> {
-    /// Takes the first piece of the deque. None where it found no piece in it.
+    /// Takes the first piece of the deque. None if it found no piece in it.
     pub fn take<R: Wait>(&mut self, rt: &R) -> Option<PodPiece>
         ensures deque { stealer_deque self.new.thief ≡ stealer_deque self.old.thief }
         ensures pushed { (view self.new.permit).pushed ≡ (view self.old.permit).pushed }

@@ -11,10 +11,10 @@ use pod_piece::PodPiece;
 use std::marker::PhantomData;
 use std::sync::ledger::Ledger;
 
-/// What a worker keeps: updated pieces that are entered in the book, those that are not counted yet, since the book had
-/// no room for them, the piece whose update was refused, and the share with which it enters.
+/// What a worker keeps: updated pieces that are entered in the book, pieces that are not counted yet, since the book
+/// had no room for them, the piece whose update failed, and the share with which it enters.
 ///
-/// By its type these are pieces of the round, and the gate has made their updates. Of the refused one some ticks still
+/// By its type these are pieces of the round, and the gate has made their updates. Of the failed one some ticks still
 /// wait, and of the others none; the totals of the share are what the rounds of the entered ones add.
 #[derive(Drop)]
 pub struct WorkerResult<D: Deal, U: Ledger, E: Ledger, O: Ledger> {

@@ -10,14 +10,15 @@ from replay_tools import amounts
 from replay_tools.record import formats
 from replay_tools.record.gates import OF_PODS
 from replay_tools.record.pods import MOST_CONTAINERS, PROBE_FIELDS, RESOURCES
+from replay_tools.record.restarts import is_sidecar
+from replay_tools.restarting import POLICIES
 
-from . import gates
+from . import gates, restarts
 from .found import Found, at, is_, kind_words
 from .node import quantity_advice
 
 MISSING, WRONG_KIND, QUANTITY, PROBE_RANGE, INIT_PROBE, REQUEST_ABOVE_LIMIT = 11, 12, 13, 14, 15, 16
-DUPLICATE_CONTAINER, SIDECAR, TOO_MANY = 17, 18, 19
-POLICIES = ("Always", "OnFailure", "Never")
+DUPLICATE_CONTAINER, TOO_MANY = 17, 19
 PROBES = ("startupProbe", "livenessProbe", "readinessProbe")
 MOST_SECONDS = 2**31 - 1
 AS_KUBECTL = "take the manifest as kubectl get pod -o json prints it"
@@ -35,7 +36,7 @@ def faults_of(line: dict[str, Any], version: int) -> Iterator[tuple[int, Found]]
         if fault:
             yield fault
             return
-    yield from spec_faults(line["pod"]["spec"])
+    yield from spec_faults(line["pod"]["spec"], version)
     if version == 3:
         yield from resource_faults(line["pod"]["spec"], ("pod", "spec"), OF_PODS)
         yield from gates.faults_of(line["pod"]["spec"])
@@ -78,7 +79,7 @@ def text_faults(around: Any, path: tuple[Any, ...], fault_of: Callable[..., Any]
                               "ends")
 
 
-def spec_faults(spec: Any) -> Iterator[tuple[int, Found]]:
+def spec_faults(spec: Any, version: int) -> Iterator[tuple[int, Found]]:
     path = ("pod", "spec")
     if spec.get("restartPolicy") not in (None, *POLICIES):
         yield WRONG_KIND, is_((*path, "restartPolicy"), spec["restartPolicy"], f"there are {', '.join(POLICIES)}")
@@ -91,7 +92,7 @@ def spec_faults(spec: Any) -> Iterator[tuple[int, Found]]:
             return
     if not spec.get("containers"):
         yield MISSING, at((*path, "containers"), "has no container: a pod has at least one", AS_KUBECTL)
-    yield from containers_faults(spec)
+    yield from containers_faults(spec, version)
 
 
 def whole_faults(around: Any, path: tuple[Any, ...], least: int, most: int) -> Iterator[tuple[int, Found]]:
@@ -101,7 +102,7 @@ def whole_faults(around: Any, path: tuple[Any, ...], least: int, most: int) -> I
                               "write it without quotes and point")
 
 
-def containers_faults(spec: Any) -> Iterator[tuple[int, Found]]:
+def containers_faults(spec: Any, version: int) -> Iterator[tuple[int, Found]]:
     found = [(("pod", "spec", field, index), container) for field in ("initContainers", "containers")
              for index, container in enumerate(spec.get(field) or [])]
     if len(found) > MOST_CONTAINERS:
@@ -109,7 +110,7 @@ def containers_faults(spec: Any) -> Iterator[tuple[int, Found]]:
                            f"at most {MOST_CONTAINERS}")
     names = {}
     for path, container in found:
-        yield from container_faults(container, path)
+        yield from container_faults(container, path, version)
         if not isinstance(container, dict):
             return
     for path, container in found:
@@ -119,12 +120,13 @@ def containers_faults(spec: Any) -> Iterator[tuple[int, Found]]:
         names[name] = path
 
 
-def container_faults(container: Any, path: tuple[Any, ...]) -> Iterator[tuple[int, Found]]:
+def container_faults(container: Any, path: tuple[Any, ...], version: int) -> Iterator[tuple[int, Found]]:
     if not isinstance(container, dict):
         yield WRONG_KIND, is_(path, container, "it is an object, a container", AS_KUBECTL)
         return
     yield from text_faults(container, (*path, "name"), formats.label_fault, True)
-    yield from role_faults(container, path)
+    restart_faults = restarts.faults_of if version == 3 else restarts.of_sidecars
+    yield from restart_faults(container, path, is_init(path))
     yield from resource_faults(container, path)
     for field in PROBES:
         yield from probe_faults(container, (*path, field))
@@ -132,14 +134,6 @@ def container_faults(container: Any, path: tuple[Any, ...]) -> Iterator[tuple[in
 
 def is_init(path: tuple[Any, ...]) -> bool:
     return path[2] == "initContainers"
-
-
-def role_faults(container: Any, path: tuple[Any, ...]) -> Iterator[tuple[int, Found]]:
-    policy = container.get("restartPolicy")
-    if policy is not None and not (is_init(path) and policy == "Always"):
-        yield SIDECAR, is_((*path, "restartPolicy"), policy,
-                           "an init container has Always, which makes it a sidecar, or none" if is_init(path) else
-                           "a container of containers has none of its own", "leave it out")
 
 
 def resource_faults(owner: Any, path: tuple[Any, ...],
@@ -192,7 +186,7 @@ def probe_faults(container: Any, path: tuple[Any, ...]) -> Iterator[tuple[int, F
     probe = container.get(path[-1])
     if probe is None:
         return
-    if is_init(path) and container.get("restartPolicy") is None:
+    if is_init(path) and not is_sidecar(container, True):
         yield INIT_PROBE, at(path, "is a probe of an init container that is no sidecar", "leave it out, or make it a "
                              'sidecar: "restartPolicy":"Always"')
         return

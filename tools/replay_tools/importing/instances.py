@@ -175,14 +175,11 @@ class Instances:
         most = 1 if pod is None else len(pod.containers())
         self.find_sandboxes(self.sandbox_before(most, is_ending) if is_before and not has_known else None)
         names = pod.containers() if pod is not None else list(self.names)
-        of_inits = pod.manifest["spec"].get("initContainers") or [] if pod is not None else []
-        inits = [each["name"] for each in of_inits]
-        sidecars = {each["name"] for each in of_inits if each.get("restartPolicy") == "Always"}
-        policy = pod.manifest["spec"].get("restartPolicy") or "Always" if pod is not None else "Always"
+        decides = pod.restarting if pod is not None else {}
         kept = [Chain([each for each in chain.instances if each.written is not None], chain.name)
                 for chain in self.chains]
         chains = [chain for chain in kept if chain.instances]
-        linking = Linking(chains, names, inits, sidecars, policy, self.hints, pod is not None)
+        linking = Linking(chains, names, decides, self.hints, pod is not None)
         unwritten = sorted((each for each in self.by_id.values() if each.written is None and not each.is_sandbox
                             and each.seen is not None), key=lambda each: each.seen or 0)
         linking.count_extra(unwritten)

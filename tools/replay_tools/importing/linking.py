@@ -6,6 +6,8 @@ from __future__ import annotations
 import bisect
 from typing import Optional
 
+from replay_tools.restarting import ALWAYS, Restarting
+
 from .chains import LOOK_SECONDS, MOST_CHAINS, MOST_NEXT, UNNAMED, Chain, Hints, Instance
 
 # a line that names a container which is started stands so long before the poll that finds it
@@ -31,17 +33,20 @@ def serial(instances: list[Instance]) -> int:
 class Linking:
     """Puts instances into the chains of their containers, in the order of their starts."""
 
-    def __init__(self, chains: list[Chain], names: list[str], inits: list[str], sidecars: set[str], policy: str,
-                 hints: Hints, has_manifest: bool) -> None:
+    def __init__(self, chains: list[Chain], names: list[str], decides: dict[str, Restarting], hints: Hints,
+                 has_manifest: bool) -> None:
         # the containers that no manifest has, as ephemeral ones, are not among those of which one is found by exclusion
         self.has_manifest = has_manifest
         self.others = [chain for chain in chains if has_manifest and chain.name is not None and chain.name not in names]
         self.chains = [chain for chain in chains if chain not in self.others]
         self.names = names
-        self.inits = inits
+        # what decides about the restarts of each container of its manifest
+        self.decides = decides
+        self.inits = [name for name, each in decides.items() if each.is_init]
         # those of them that run on next to what comes after them, and come again
-        self.sidecars = sidecars
-        self.policy = policy
+        self.sidecars = {name for name, each in decides.items() if each.is_sidecar}
+        # of a container that is not known yet the pod's policy decides
+        self.of_pod = Restarting(next((each.of_pod for each in decides.values()), ALWAYS))
         self.hints = hints
         self.created = sorted(hints.created)
         self.waits = sorted(hints.waits)
@@ -182,9 +187,8 @@ class Linking:
         return min(apps, key=lambda chain: chain.newest.seen or 0)
 
     def comes_again(self, chain: Chain) -> bool:
-        code = chain.newest.code
-        is_kept = self.policy == "Always" or chain.name in self.sidecars
-        return is_kept or (self.policy == "OnFailure" and code != 0)
+        code, decides = chain.newest.code, self.decides.get(str(chain.name), self.of_pod)
+        return decides.may_want() if code is None else decides.wants(code)
 
     # --- names ---
 

@@ -325,14 +325,15 @@ class Life(Account):
         instance.ended_in = placing.timeline.listed_in(pod, name) or 0
         self.end_probes(name)
         self.codes[name] = None if is_guessed else code
-        self.mark_phase(pod, instance.ended_in, placing)
+        if not pod.restarting[name].wants(code):
+            self.mark_phase(pod, instance.ended_in, placing)
 
     def mark_phase(self, pod: recorded.Pod, second: int, placing: Placing) -> None:
         """Of a pod that is not started again, and of which no container has a known code that makes it failed, the
         phase is not known where a code is not."""
-        policy = pod.manifest["spec"].get("restartPolicy") or "Always"
-        apps = [each["name"] for each in pod.manifest["spec"]["containers"]]
-        if policy == "Never" and not any(code for code in self.codes.values()) and self.decision is None \
+        apps = {name: decides for name, decides in pod.restarting.items() if not decides.is_init}
+        is_left = not any(decides.wants(0) or decides.wants(LOST_CODE) for decides in apps.values())
+        if is_left and not any(code for code in self.codes.values()) and self.decision is None \
                 and all(name in self.codes for name in apps) and any(self.codes[name] is None for name in apps):
             placing.put_beside(self.key, second, marks.PHASE, None)
             placing.count(UNKNOWN_PHASES, self.key)
@@ -344,17 +345,21 @@ class Life(Account):
 
     def code_of(self, pod: recorded.Pod, chain: Chain, instance: Instance, placing: Placing) -> tuple[int, bool]:
         """The code of an exit, and whether it is guessed: then it is 0 where what came behind it says so, else that of
-        an instance that is lost, which the rules take as a failure."""
+        an instance that is lost, which the rules take as a failure; or one after which a rule has the restart come that
+        came."""
         if instance.code is not None:
             return instance.code, False
         has_next = chain.newest is not instance
-        names, policy = pod.containers(), pod.manifest["spec"].get("restartPolicy") or "Always"
+        names, decides = pod.containers(), pod.restarting[str(chain.name)]
         place = names.index(str(chain.name))
-        is_init = place < len(pod.manifest["spec"].get("initContainers") or [])
-        is_passed = is_init and any(names.index(str(other.name)) > place for other in self.instances.chains
-                                    if other.name in names and (other.newest.seen or 0) >= (instance.gone or 0))
-        is_left_so = policy == "OnFailure" and not is_init and self.is_left(chain, instance, placing)
+        is_passed = decides.is_init and any(
+            names.index(str(other.name)) > place for other in self.instances.chains
+            if other.name in names and (other.newest.seen or 0) >= (instance.gone or 0))
+        is_left_so = decides.wants(LOST_CODE) and not decides.wants(0) and not decides.is_init \
+            and self.is_left(chain, instance, placing)
         is_success = not has_next and (is_passed or is_left_so) and not instance.is_killed
+        if has_next and not decides.wants(LOST_CODE):
+            return decides.restarted_code(LOST_CODE), True
         return (0 if is_success else LOST_CODE), True
 
     def is_left(self, chain: Chain, instance: Instance, placing: Placing) -> bool:

@@ -9,8 +9,8 @@ import time
 from collections.abc import Callable, Iterator
 from dataclasses import dataclass, field
 
-from replay_tools import (decided, endings, entry, events, kubelet as kubelets, readiness, report as reports, telling,
-                          traces)
+from replay_tools import (decided, endings, entry, events, kubelet as kubelets, own_restarts, readiness,
+                          report as reports, telling, traces)
 from replay_tools.cli.statuses import Status
 from replay_tools.joined import asked as asking_for, files, join
 
@@ -70,7 +70,8 @@ class Follower:
         kubelet = kubelets.beside(trace, report)
         for event in report.events:
             if least < event.at <= certain and not event.was_so and self.is_wanted(event.pod):
-                yield event.at, event_line(event, trace, kubelet is not None)
+                of_pod = "" if event.number is None else own_restarts.clause(report.pods[event.number], event, trace)
+                yield event.at, event_line(event, trace, kubelet is not None) + of_pod
                 for wrote in telling.last_lines(event, trace):
                     yield event.at, f"{event.pod} {event.container} {wrote}"
         for pod in report.pods:

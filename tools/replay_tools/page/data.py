@@ -301,7 +301,7 @@ def pod_of(report: reports.Report, trace: traces.Trace | None, span: Span, pod: 
            ticks: why.Ticks, budget: Budget, words: Words) -> dict[str, Any]:
     """What the page shows of a pod: that of the report, and with a trace its listings and results."""
     ended, seen = reports.end_of(pod), summing.has_ticks(report, pod, trace)
-    found = {
+    found: dict[str, Any] = {
         "key": pod.key, "phase": provenance.phase_words(trace, pod), "reason": records.none_of(pod.reason),
         "qos": provenance.class_words(trace.pods[pod.number] if trace else None, pod.qos),
         "first": span.of(reports.first_tick(pod)) if seen else None,
@@ -319,6 +319,8 @@ def pod_of(report: reports.Report, trace: traces.Trace | None, span: Span, pod: 
         of_pod = ticks.of(trace, ours)
         if ours.is_guessed:
             found["guessed"] = True
+        if any(one.restarting.is_own for one in ours.containers):
+            found["policies"] = [one.restarting.policy_words() for one in ours.containers]
         found |= {"policy": ours.policy, "priority": ours.priority,
                   "listings": [listings_of(span, of_pod, container.name) for container in pod.containers],
                   "probes": probes_of(span, ours, of_pod, budget), "waits": waits_of(span, lanes, words)}

@@ -209,7 +209,8 @@ function exitParts(pod, event) {
   if (!newest) return [said('No exit is in the report.')];
   const counted = exits.slice(exits.length - newest.rest[2]);
   const kept = counted.slice(-MOST_ROWS);
-  const policy = pod.policy ? ` (policy ${pod.policy})` : '';
+  const name = pod.policies ? pod.policies[event.place] : pod.policy;
+  const policy = name ? ` (policy ${name})` : '';
   const columns = kept.some(reasonOf) ? 6 : 5;
   const parts = [said(`Exits that count${policy}; the delay goes by the last number:`),
     tableOf(['number', 'attempt', 'died', 'run', 'code', 'reason'].slice(0, columns),

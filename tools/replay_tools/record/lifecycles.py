@@ -10,6 +10,7 @@ from typing import TYPE_CHECKING
 from .decisions import EVICTED, REFUSED
 from .formats import MOST_PODS
 from .gates import turned, types_in
+from .restarts import with_own
 from .runtime import EXITED, RUNNING
 from .seen import Recorded
 from .statuses import turns_between
@@ -129,8 +130,15 @@ class Lifecycles:
             self.see_gates(recorded, pod, seen)
             self.see_ready(recorded, pod, seen)
             self.texts_left_out += pod.beside.left_out
-            for name in pod.ruled:
-                self.say(f"{pod.key} {name}: its own rules of restarts are left out, and it restarts as its pod does")
+            self.say_lost(pod)
+
+    def say_lost(self, pod: Pod) -> None:
+        """Which containers of a pod that comes have policies or rules of restarts that the trace lacks."""
+        own = [] if self.says_gone else with_own(pod.manifest)
+        for name in own:
+            self.say(f"{pod.key} {name}: its own rules of restarts are left out, and it restarts as its pod does")
+        for name in set(pod.ruled).difference(own):
+            self.say(f"{pod.key} {name}: the rules of restarts that the formats reject are left out")
 
     def reason_to_leave_out(self, pod: Pod) -> str | None:
         """Why a pod has no line, by what came before; None where it can have one."""

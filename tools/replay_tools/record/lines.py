@@ -7,6 +7,7 @@ from dataclasses import dataclass, replace
 from typing import Any, Optional, TYPE_CHECKING
 
 from .formats import LONGEST_LINE, shown, without_nones
+from .restarts import INITS, ROLES, without_own
 from .runtime import CREATED, RUNNING, UNKNOWN
 
 if TYPE_CHECKING:
@@ -60,14 +61,23 @@ def line_of_text(text: str) -> str:
 
 
 def pod_line(pod: Pod, is_extended: bool = True) -> str:
-    """The line of a pod. In the standard format it has neither that the pod is exempt nor its readiness gates."""
-    manifest = pod.manifest if is_extended else without_gates(pod.manifest)
+    """The line of a pod. In the standard format it has neither that the pod is exempt, nor its readiness gates, nor
+    policies and rules of containers that are no sidecars."""
+    manifest = pod.manifest if is_extended else standard(pod.manifest)
     return line_of(pod_fields(pod.known_uid(), manifest, is_extended and pod.is_spared, pod.is_guessed))
 
 
 def without_gates(manifest: dict[str, Any]) -> dict[str, Any]:
     spec = {name: value for name, value in manifest["spec"].items() if name != "readinessGates"}
     return {**manifest, "spec": spec}
+
+
+def standard(manifest: dict[str, Any]) -> dict[str, Any]:
+    """A manifest as the standard format takes it."""
+    found = without_gates(manifest)
+    spec = {name: [without_own(each, name == INITS) for each in value] if name in ROLES else value
+            for name, value in found["spec"].items()}
+    return {**found, "spec": spec}
 
 
 def pod_fields(uid: str | None, manifest: dict[str, Any], is_spared: bool = False,

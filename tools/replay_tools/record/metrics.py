@@ -11,6 +11,8 @@ from collections import Counter
 from collections.abc import Callable, Iterator
 from typing import Any, TYPE_CHECKING
 
+from replay_tools.restarting import Restarting
+
 from .folder import why
 from .near import Nearness
 from .part import created
@@ -200,13 +202,13 @@ def is_container_ready(container: Container) -> bool:
 
 
 def has_ended(pod: Pod) -> bool:
-    """Whether it was ended, or its containers have exited, and its policy starts none of them again."""
+    """Whether it was ended, or its containers have exited, and none of them is started again. A sidecar goes by the
+    pod's policy here."""
     if pod.failed is not None:
         return True
-    policy, listings = pod.fields["spec"].get("restartPolicy", "Always"), [each.listing for each in lasting(pod)]
-    return policy != "Always" and all(
-        listing is not None and listing["state"] == EXITED and (policy == "Never" or listing["exitCode"] == 0)
-        for listing in listings)
+    decides = {name: Restarting(each.of_pod) if each.is_sidecar else each for name, each in pod.restarting.items()}
+    return all(each.listing is not None and each.listing["state"] == EXITED
+               and not decides[each.name].wants(each.listing["exitCode"]) for each in lasting(pod))
 
 
 def fault_of(path: str) -> str | None:

@@ -9,12 +9,15 @@ from collections.abc import Iterator
 from dataclasses import dataclass, field
 from typing import Any, Optional, TYPE_CHECKING
 
+from replay_tools.restarting import Restarting, restartings_in
+
 from .answers import read_parts
 from .decisions import ENDED, Decision, end_of
 from .formats import (at_place, first_fault, is_whole, label_fault, name_fault, quantity_fault, whole_fault,
                       without_nones)
 from .gates import gates_of, pod_resources, statuses_in
 from .reasons import reason_of, waits_in
+from .restarts import can_fail, is_sidecar, own_restarts, with_lost_rules
 from .runtime import End, code_fault, moment_of
 from .sources import Failed, reads
 from .statuses import Beside, ReadyTurn, beside_in, deletion_in, picked, ready_turn_in, resources_of
@@ -40,10 +43,11 @@ class Pod:
     instances that its status says have ended, by their ids, and is None where its status has no container; `waits` why
     its containers wait, by their names; `probed` has of each container that runs its restarts, whether it has started,
     and whether it is ready. `ended` is the decision by which the node has ended it, of whatever kind, and `is_spared`
-    whether a kubelet evicts it for no lack of the node's. `ruled` names its containers whose own rules of restarts are
-    left out, and `deletion` has by whom it is deleted, and its grace. `is_static` is whether the kubelet has it of a
-    file, `is_guessed` that its manifest is made up, `ready` its condition Ready with the moment at which that turned,
-    and `conditions` the statuses of its conditions by their types, if it has readiness gates."""
+    whether a kubelet evicts it for no lack of the node's. `ruled` names its containers of whose policies and rules of
+    restarts the extended format takes less, and `deletion` has by whom it is deleted, and its grace. `is_static` is
+    whether the kubelet has it of a file, `is_guessed` that its manifest is made up, `ready` its condition Ready with
+    the moment at which that turned, and `conditions` the statuses of its conditions by their types, if it has readiness
+    gates."""
     key: str
     uid: str
     manifest: dict
@@ -94,13 +98,16 @@ class Pod:
     def initial_delay(self, container_name: str, probe: str) -> int:
         return self.probe(container_name, probe).get("initialDelaySeconds", 0)
 
+    @functools.cached_property
+    def restarting(self) -> dict[str, Restarting]:
+        """What decides about the restarts of its containers, by their names."""
+        return restartings_in(self.manifest["spec"])
+
     def is_restarted(self, container_name: str, exit_code: int) -> bool:
-        """Whether the pod's policy, or a sidecar's own, starts a container again that has exited with a code."""
-        inits = {each["name"]: each.get("restartPolicy") for each in self.manifest["spec"].get("initContainers") or []}
-        policy = self.manifest["spec"].get("restartPolicy", "Always")
-        if inits.get(container_name) == "Always" or (policy == "Always" and container_name not in inits):
-            return True
-        return policy != "Never" and exit_code != 0
+        """Whether a container is started again that has exited with a code: by the pod's policy, its own or its rules.
+        """
+        found = self.restarting.get(container_name)
+        return found is not None and found.wants(exit_code)
 
     def successes_wanted(self, container_name: str, probe: str) -> int:
         return self.probe(container_name, probe).get("successThreshold", 1)
@@ -126,7 +133,7 @@ def pod_of(item: Any) -> Pod:
     metadata = item.get("metadata") or {}
     status = item.get("status") or {}
     try:
-        manifest, volumes, ruled = manifest_of(item), local_volumes(item), with_own_rules(item)
+        manifest, volumes, ruled = manifest_of(item), local_volumes(item), with_lost_rules(item)
         fault = manifest_fault(manifest)
     except (KeyError, TypeError, AttributeError):
         manifest, volumes, ruled, fault = {}, frozenset(), [], "no manifest"
@@ -149,10 +156,9 @@ def is_spared(metadata: dict[str, Any], spec: dict[str, Any]) -> bool:
 
 
 def is_restarted(item: Any) -> bool:
-    """Whether a pod's policy starts its containers whatever their codes, and it is not being deleted: it does not fail
-    by itself."""
-    policy = (item.get("spec") or {}).get("restartPolicy")
-    return policy in (None, "Always") and (item.get("metadata") or {}).get("deletionTimestamp") is None
+    """Whether a pod does not fail by itself, whatever the codes of its containers: by their policies, while it is not
+    being deleted."""
+    return not can_fail(item.get("spec")) and (item.get("metadata") or {}).get("deletionTimestamp") is None
 
 
 def seen_at(metadata: dict[str, Any]) -> float | None:
@@ -209,14 +215,9 @@ def all_containers(manifest: Any) -> list[dict[str, Any]]:
     return (manifest["spec"].get("initContainers") or []) + manifest["spec"]["containers"]
 
 
-def is_sidecar(container: dict[str, Any], is_init: bool) -> bool:
-    return is_init and container.get("restartPolicy") == "Always"
-
-
 def container_of(container: dict[str, Any], is_init: bool) -> dict[str, Any]:
-    """A container without a restart policy of its own, which the formats take of a sidecar alone."""
     return without_nones({
-        "name": container["name"], "restartPolicy": "Always" if is_sidecar(container, is_init) else None,
+        "name": container["name"], **own_restarts(container, is_init),
         "resources": resources_of(container.get("resources"), RESOURCES),
         **{field: picked(container.get(field), PROBE_FIELDS) for field in PROBES.values()}})
 
@@ -230,14 +231,6 @@ def manifest_of(item: Any) -> dict[str, dict[str, Any]]:
                 "resources": pod_resources(spec), "readinessGates": gates_of(spec),
                 "initContainers": None if inits is None else [container_of(each, True) for each in inits],
                 "containers": [container_of(each, False) for each in spec["containers"]]})}
-
-
-def with_own_rules(item: Any) -> list[str]:
-    """The containers that have rules of their own for when they are restarted, which are left out."""
-    spec = item["spec"]
-    roles = [(each, True) for each in spec.get("initContainers") or []] + [(each, False) for each in spec["containers"]]
-    return [each["name"] for each, is_init in roles if each.get("restartPolicyRules")
-            or (each.get("restartPolicy") is not None and not is_sidecar(each, is_init))]
 
 
 # --- what the formats do not take ---
@@ -270,7 +263,7 @@ def resource_faults(container: dict[str, Any]) -> Iterator[str | None]:
 def init_probe_fault(container: dict[str, Any], is_init: bool) -> str | None:
     """An init container has no probes, but where its own policy makes it a sidecar."""
     has_probe = any(field in container for field in PROBES.values())
-    return "a probe of an init container" if is_init and "restartPolicy" not in container and has_probe else None
+    return "a probe of an init container" if is_init and not is_sidecar(container, True) and has_probe else None
 
 
 def container_fault(container: dict[str, Any], is_init: bool) -> str | None:

@@ -6,6 +6,8 @@ from __future__ import annotations
 from collections.abc import Iterator
 from typing import Any
 
+from replay_tools.restarting import restartings_in
+
 from .formats import without_nones
 from .gates import types_in
 from .lines import line_of, pod_fields
@@ -76,6 +78,7 @@ class Container:
 
     def __init__(self, fields: dict[str, Any], is_sidecar: bool) -> None:
         self.fields = fields
+        self.name = fields["name"]
         self.is_sidecar = is_sidecar
         # whether some instance of a sidecar was started, without which its pod is pending
         self.was_started = False
@@ -234,9 +237,9 @@ class Pod:
         self.uid = uid
         self.is_spared = is_spared
         self.fields = manifest
-        inits = spec.get("initContainers") or []
-        self.containers = {each["name"]: Container(each, each in inits and each.get("restartPolicy") == "Always")
-                           for each in inits + spec["containers"]}
+        self.restarting = restartings_in(spec)
+        self.containers = {each["name"]: Container(each, self.restarting[each["name"]].is_sidecar)
+                           for each in (spec.get("initContainers") or []) + spec["containers"]}
         self.usage: dict[str, Any] = {}
         self.is_unsampled = False
         self.is_deleting = False

@@ -19,7 +19,7 @@ pub record IsNumber (text : List ℕ) (n : ℕ) : Type 0 where
   pub numeral : IsNumeral 10 (without_leading_plus text)
   pub value : n ≡ digits_value 10 (without_leading_plus text)
 
--- `--workers` has this number, one that may be asked for; clap gives it its default where it isn't written
+-- `--workers` has this number, which is allowed; clap gives the option its default if it isn't written
 pub record HasWorkers (rows : List Row) (workers : ℕ) : Type 0 where
   pub text : List ℕ
   pub given : one_of (codes "workers") rows ≡ Some text
@@ -60,12 +60,12 @@ pub record IsAskedBy (words : List Text) (job : Job) : Type 0 where
   pub taken : fault_of program words ≡ []
   pub found : IsJobOf (subcommand_of program words) job
 
--- clap's error is handed on, but where memory ran out
+-- clap's error is passed on, unless an allocation failed
 abbrev pub IsRefusal : Error → UsageFault → Type 0
 IsRefusal error (Refused same) = (same ≡ error) × (kind_of error ≢ kinds.OutOfMemory)
 IsRefusal error OutOfMemory = kind_of error ≡ kinds.OutOfMemory
 
--- the job is handed on, or clap's error
+-- the job is passed on, or clap's error
 abbrev pub IsJobAs : Result Job Error → Result Job UsageFault → Type 0
 IsJobAs (Ok job) (Ok same) = same ≡ job
 IsJobAs (Ok job) (Err fault) = ⊥
@@ -81,7 +81,7 @@ IsFaultIn words error =
 abbrev pub Refutes : List Text → Error → Type 0
 Refutes words error = kind_of error ≢ kinds.OutOfMemory → IsFaultIn words error
 
--- the words are refused for a fault that clap finds, or since they ask for no job
+-- the arguments are rejected for a fault that clap finds, or since they ask for no job
 abbrev pub Refuses : List Text → UsageFault → Type 0
 Refuses words (Refused error) = IsFaultIn words error
 Refuses words OutOfMemory = Unit {0}

@@ -45,7 +45,7 @@ check = with_rule (of_trace (codes "check")) extended_rule
 abbrev pub play : App
 play = with_rule (with_rule (with_rule (of_trace (codes "play")) steps_rule) workers_rule) extended_rule
 
--- the command wants one of its subcommands
+-- the command needs one of its subcommands
 abbrev pub needing_one : App → App
 needing_one app = record app { top = record app.top { subcommand_required = true } }
 

@@ -1,11 +1,11 @@
--- The exits of a container, and the restart after the last one. (Kubernetes, "Pod Lifecycle",
--- "Container restart policy"; that every exit counts towards the delay, and that a restart falls
--- due at one tick alone, are this profile's rules.)
+-- The exits of a container, and the restart after the last one. (Kubernetes, "Pod Lifecycle", "Container restart
+-- policy" and "Individual container restart policy and rules"; that every exit counts towards the delay, and that a
+-- restart falls due at one tick alone, are this profile's rules.)
 use Rattle.std.specs.Prelude.{◌≡◌, ◌↔◌, ℕ, ℤ, ◌<◌, ◌≤◌, List, [], ◌∷◌, slice_get, Contains, Some, IsSomeAnd}
 use Rattle.histories.specs.rule.Histories.{IsFirst, IsFirstMoment, moment_at}
 use Rattle.manifest.specs.declared.policy.Policy.{Policy}
 use Rattle.manifest.specs.declared.pod.ContainerSpec.{ContainerSpec}
-use Rattle.restarts.specs.rule.Policy.{WantsRestart}
+use Rattle.restarts.specs.rule.Own.{WantsRestartBy}
 use Rattle.state_diff.specs.rule.Instances.{Tick, Ends, IsNewest, IsExit, IsExitCode, IsRun}
 use Rattle.restarts.specs.rule.Exits.{Exit}
 use Rattle.restarts.specs.rule.Delays.{IsDelay, IsRestartDue}
@@ -27,19 +27,20 @@ AreExitsOf h (a ∷ attempts) (exit ∷ exits) = IsExitOf h a exit × AreExitsOf
 abbrev pub IsRisingList : List ℕ → Type 0
 IsRisingList attempts = (i j a b : ℕ) → i < j → slice_get attempts i ≡ Some a → slice_get attempts j ≡ Some b → a < b
 
--- all exits of the container, in the order of their attempts, which is that of their moments
+-- all exits of the container, in the order of their attempts, which is also the order of their moments
 pub record AreExits (h : List Tick) (exits : List Exit) : Type 0 where
   pub attempts : List ℕ
   pub in_order : IsRisingList attempts
   pub all : (a : ℕ) → (Contains attempts a ↔ ((t : ℕ) × IsExit h a t))
   pub each : AreExitsOf h attempts exits
 
--- the newest instance has exited, and is to be started again
+-- the newest instance has exited, and is to be started again: by the pod's policy and by what the container has of its
+-- own
 pub record IsToRestart (policy : Policy) (spec : ContainerSpec) (h : List ContainerTick) (a : ℕ) : Type 0 where
   pub newest : IsNewest (listings h) a
   pub code : ℤ
   pub exited : IsExitCode (listings h) a code
-  pub wanted : WantsRestart policy spec.role code
+  pub wanted : WantsRestartBy policy spec.own_restarts spec.role code
 
 -- the delay after the last exit, on a node with a maximum delay
 abbrev pub IsDelayed : ℕ → List ContainerTick → ℕ → Type 0

@@ -17,7 +17,7 @@ state_behind Waiting = Created
 state_behind Running = IsRunning
 state_behind Terminated = Exited
 
--- the state of a container: that of its newest instance, and waiting before any is listed
+-- the state of a container: the state of its newest instance, and waiting before any is listed
 abbrev pub IsContainerState : List Tick → ContainerState → Type 0
 IsContainerState h shown =
     (((a t : ℕ) → Listed h a t → ⊥) × (shown ≡ Waiting))

@@ -29,7 +29,7 @@ results_of tick = results_at tick.moment tick.entry.results
 abbrev pub AreTicksOf : List ContainerTick → ℕ → List ProbeTick → Type 0
 AreTicksOf h a ticks = ArePicked (HoldsAt (BelongsTo a) h) (map results_of h) ticks
 
--- the moment at which the instance starts: that of the first tick that lists it as running
+-- the moment at which the instance starts: the moment of the first tick that lists it as running
 abbrev pub StartsAt : List ContainerTick → ℕ → ℕ → Type 0
 StartsAt h a start = IsFirstMoment (listings h) (ListedAs (listings h) a Running) (Some start)
 

@@ -21,12 +21,12 @@ abbrev pub exits_at : ℕ → Option ℕ → List Exit
 exits_at at None = []
 exits_at at (Some run) = recorded at run ∷ []
 
--- the tick as the probes see it, where it is the instance's
+-- the tick as the probes see it, if it is the instance's
 abbrev pub ticks_at : Bool → ℕ → List (Option Outcome) → List Tick
 ticks_at true at results = tick at results ∷ []
 ticks_at false at results = []
 
--- the tick is one more of those of an instance that has started
+-- the tick is one more tick of an instance that has started
 pub record IsTaken (h : List ContainerTick) (x : ContainerTick) (a start : ℕ) (ticks : List Tick) : Type 0 where
   pub belongs : BelongsTo a (h ++ x ∷ [])
   pub starts : StartsAt (h ++ x ∷ []) a start
@@ -35,7 +35,7 @@ pub record IsTaken (h : List ContainerTick) (x : ContainerTick) (a start : ℕ) 
   -- before the start there are none
   pub begun : StartsAt h a start ⊎ (ticks ≡ [])
 
--- the verdicts of a tick: those of its results on the instance that they belong to, if they do
+-- the verdicts of a tick: the verdicts of its results on the instance that they belong to, if they do
 abbrev pub AreVerdictsOf : ContainerSpec → List ContainerTick → ContainerTick → Option Verdicts → Type 0
 AreVerdictsOf spec h x None = AreInRange spec.probes × ((a : ℕ) → BelongsTo a (h ++ x ∷ []) → ⊥)
 AreVerdictsOf spec h x (Some verdicts) =
@@ -43,7 +43,7 @@ AreVerdictsOf spec h x (Some verdicts) =
     × ((a : ℕ) × (start : ℕ) × (ticks : List Tick) × IsTaken h x a start ticks
     × AreVerdicts spec.probes start (ticks ++ results_of x ∷ []) (length ticks) verdicts)
 
--- the exits are counted, with those of the tick; where the tick has one, the delay after it is known
+-- the exits are counted, with the exits of the tick; if the tick has one, the delay after it is known
 pub record AreCounted (max_restart_delay : ℕ) (h : List ContainerTick) (x : ContainerTick) (backoff : RestartBackoff)
     (delay : Option ℕ) : Type 0 where
   pub exits : List Exit

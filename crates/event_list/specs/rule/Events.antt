@@ -1,5 +1,5 @@
--- The events of a node, tick by tick: those of its pods by their numbers, those of the node, and the
--- choice of the pod to evict. (Kubernetes, "Pod Lifecycle" and "Node-pressure Eviction"; the order is this profile's.)
+-- The events of a node, tick by tick: the events of its pods by their numbers, the node's own, and the choice of the
+-- pod to evict. (Kubernetes, "Pod Lifecycle" and "Node-pressure Eviction"; the order is this profile's.)
 use Rattle.std.specs.Prelude.{◌≡◌, ℕ, ◌+◌, ◌≤◌, Bool, true, false, List, [], ◌∷◌, ◌++◌, length, map, take, slice_get}
 use Rattle.std.specs.Prelude.{Option, Some, None}
 use Rattle.std.specs.List.{flat_map}
@@ -46,7 +46,7 @@ of_pods at n (events ∷ made) = map (λ (e : PodEvent). event at (Pod n e)) eve
 abbrev pub of_node : ℕ → List NodeEvent → List Event
 of_node at events = map (λ (e : NodeEvent). event at (Node e)) events
 
--- who is chosen is evicted; where the trace says whom the node evicted, the rules name him alone
+-- the chosen pod is evicted; if the trace reports whom the node evicted, the rules only name it
 abbrev pub kind_of_choice : Bool → Eviction → EventKind
 kind_of_choice true choice = Named choice
 kind_of_choice false choice = Evicted choice

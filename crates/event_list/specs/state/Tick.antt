@@ -22,7 +22,7 @@ pub record AreMadeBy (pieces : List Piece) (made : List (List MadeEvent)) : Type
 abbrev pub event_at : ℕ → MadeEvent → Option PodEvent
 event_at at made = if made.at == at then Some made.event else None
 
--- of these events those of the moment
+-- the events of the moment among these
 abbrev pub events_at : ℕ → List MadeEvent → List PodEvent
 events_at at made = filter_map (event_at at) made
 
@@ -58,12 +58,12 @@ MomentsRise ticks =
 abbrev pub events_of : ℕ → List MadeEvent → List Event
 events_of n made = map (λ (e : MadeEvent). event e.at (Pod n e.event)) made
 
--- those of all these pods, which are numbered from n on
+-- the events of all these pods, which are numbered from n on
 abbrev pub events_by_pod : ℕ → List (List MadeEvent) → List Event
 events_by_pod n [] = []
 events_by_pod n (events ∷ made) = events_of n events ++ events_by_pod (n + 1) made
 
--- those of the node
+-- the events of the node
 abbrev pub events_of_node : List TickEvents → List Event
 events_of_node ticks = flat_map (λ (tick : TickEvents). of_node tick.at tick.node_events.items) ticks
 
@@ -71,7 +71,7 @@ events_of_node ticks = flat_map (λ (tick : TickEvents). of_node tick.at tick.no
 abbrev pub is_at : ℕ → Event → Bool
 is_at at e = e.at == at
 
--- the same events by their moments, where those of one moment keep their order
+-- the same events by their moments, where the events of one moment keep their order
 pub record IsInOrder (old new : List Event) : Type 0 where
   pub rising : IsNonDecreasingBy (λ (e : Event). e.at) new
   pub same : IsPermutation old new

@@ -60,8 +60,8 @@ own_eviction n ticks evictions =
 abbrev pub IsStatusIn : List TickObs → List (Option Eviction) → ℕ → PodSpec → PodStatus → Type 0
 IsStatusIn ticks evictions n pod = IsStatusAfter n pod (own_eviction n ticks evictions) (pod_ticks ticks n)
 
--- a pod that may be evicted, and its status after the tick's update: it is present, and has not ended, unless with this
--- tick, which says that the node has ended it
+-- a pod that may be evicted, and its status after the tick's update: it is present, and has not ended, unless that tick
+-- reports that the node has ended it
 pub record IsCandidate (pods : List PodSpec) (before : List TickObs) (tick : TickObs)
     (evictions : List (Option Eviction)) (n : ℕ) (status : PodStatus) : Type 0 where
   pub pod : PodSpec
@@ -95,7 +95,7 @@ IsOfVictim config pods at key None eviction = eviction ≡ None
 IsOfVictim config pods at key (Some n) None = ⊥
 IsOfVictim config pods at key (Some n) (Some eviction) = Evicts config pods at key n eviction
 
--- one pod at most is evicted, for the threshold that is served
+-- one pod at most is evicted, for the threshold that is acted on
 abbrev pub IsEvictionFor : NodeConfig → List PodSpec → List TickObs → TickObs → List (Option Eviction)
     → Option ThresholdKey → Option Eviction → Type 0
 IsEvictionFor config pods before tick evictions None eviction = eviction ≡ None
@@ -134,7 +134,7 @@ abbrev pub ends_early : NodeConfig → Eviction → List TickObs → Bool
 ends_early config eviction later = config.pauses_until_gone && list_any (is_over_in eviction.pod) later
 
 -- the eviction of a tick, if it has one, pauses others: it is less than the node's pause ago at this moment, and the
--- ticks after its own, up to that of this moment, have not ended the pause early
+-- ticks after its own, up to the tick of this moment, have not ended the pause early
 abbrev pub pauses : NodeConfig → ℕ → Option Eviction → List TickObs → Bool
 pauses config at None later = false
 pauses config at (Some eviction) later =
@@ -148,7 +148,7 @@ is_paused config at (tick ∷ later) [] = false
 is_paused config at (tick ∷ later) (eviction ∷ evictions) =
     pauses config at eviction later || is_paused config at later evictions
 
--- the threshold that is served, or none while evictions pause
+-- the threshold that is acted on, or none while evictions pause
 abbrev pub unless_paused : Bool → Option ThresholdKey → Option ThresholdKey
 unless_paused true served = None
 unless_paused false served = served
@@ -161,7 +161,7 @@ pub record IsChoiceOfTick (config : NodeConfig) (pods : List PodSpec) (before : 
   pub is_for : IsEvictionFor config pods before tick evictions
       (unless_paused (is_paused config tick.at (before ++ tick ∷ []) evictions) served) choice
 
--- a choice is carried out, unless the trace says whom the node evicted (this project's extended format)
+-- a choice is carried out, unless the trace reports itself whom the node evicted (this project's extended format)
 abbrev pub unless_recorded : Bool → Option Eviction → Option Eviction
 unless_recorded true choice = None
 unless_recorded false choice = choice

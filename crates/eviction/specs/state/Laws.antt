@@ -51,7 +51,7 @@ OneChoice =
     → IsChoiceOfTick config pods before tick evictions one → IsChoiceOfTick config pods before tick evictions other
     → one ≡ other
 
--- where the trace says whom the node evicted, the rules evict nobody
+-- if the trace reports whom the node evicted, the rules evict nobody
 abbrev pub RecordedAlone : Type 0
 RecordedAlone =
     (config : NodeConfig) (pods : List PodSpec) (ticks : List TickObs) (evictions : List (Option Eviction))
@@ -78,8 +78,8 @@ OfEachEviction P =
     → slice_get ticks t ≡ Some tick → slice_get evictions t ≡ Some (Some eviction)
     → P config pods (take t ticks) tick (take t evictions) eviction
 
--- a tick that comes after these, with these evictions, shows the pod of this number; and if the pod has ended after
--- the tick's update, the node has ended it, not by an eviction, as a tick of this moment says
+-- a tick that comes after these, with these evictions, shows the pod of this number; and if the pod has ended after the
+-- tick's update, the node has ended it, not by an eviction, as a tick of this moment reports
 pub record Lived (pods : List PodSpec) (before : List TickObs) (tick : TickObs)
     (evictions : List (Option Eviction)) (n : ℕ) : Type 0 where
   pub pod : PodSpec
@@ -90,14 +90,13 @@ pub record Lived (pods : List PodSpec) (before : List TickObs) (tick : TickObs)
       → (own_eviction n (before ++ tick ∷ []) evictions ≡ None)
       × (option_map (λ (f : PodFailure). f.at) (failure_at (pod_ticks (before ++ tick ∷ []) n) end) ≡ Some tick.at)
 
--- the pod that a tick evicts had not ended when it had taken the tick into its status, unless with that tick, as it
--- says
+-- the pod that a tick evicts had not ended when it had taken the tick into its status, unless the tick reports its end
 abbrev pub EvictedPodLived : Type 0
 EvictedPodLived =
     OfEachEviction (λ config pods before tick evictions eviction. Lived pods before tick evictions eviction.pod)
 
--- a tick that comes after these serves one threshold, which is due and not reclaimed, and it is for
--- this one, at the tick's moment, that the pod is evicted
+-- a tick that comes after these acts on one threshold, which is due and not reclaimed, and it is for this one, at the
+-- tick's moment, that the pod is evicted
 pub record ServesOne (config : NodeConfig) (before : List TickObs) (tick : TickObs)
     (eviction : Eviction) : Type 0 where
   pub key : ThresholdKey
@@ -107,7 +106,7 @@ pub record ServesOne (config : NodeConfig) (before : List TickObs) (tick : TickO
   pub kind : eviction.order.kind ≡ key.kind
   pub moment : eviction.order.at ≡ tick.at
 
--- a tick that evicts a pod serves one threshold so
+-- a tick that evicts a pod acts on one threshold so
 abbrev pub ServedAlone : Type 0
 ServedAlone =
     OfEachEviction (λ config pods before tick evictions eviction. ServesOne config before tick eviction)
@@ -121,7 +120,7 @@ pub record IsOverBetween (ticks : List TickObs) (t u : ℕ) (pod : ℕ) : Type 0
   pub at : slice_get ticks place ≡ Some tick
   pub is_over : is_over_in pod tick ≡ true
 
--- between two evictions at least the node's pause passes; or, where it ends with the evicted pod, that one ends or goes
+-- between two evictions at least the node's pause passes; or, if it ends with the evicted pod, that one ends or goes
 abbrev pub PausedBetween : Type 0
 PausedBetween =
     (config : NodeConfig) (pods : List PodSpec) (ticks : List TickObs) (evictions : List (Option Eviction))

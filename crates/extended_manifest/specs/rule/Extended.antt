@@ -1,7 +1,7 @@
 -- What a manifest says of a pod in the extended format, or its first fault (Kubernetes API, `Pod`; "Pod Quality of
--- Service Classes"; "Pod Lifecycle", "Pod readiness").
+-- Service Classes"; "Pod Lifecycle", "Pod readiness" and "Individual container restart policy and rules").
 use Rattle.std.specs.Prelude.{ℕ, ◌++◌, ◌∷◌, [], List, length, nat_le, Option, Some, option_and_then, if◌then◌else◌}
-use Rattle.std.specs.Prelude.{Result, Ok, bytes_eq, codes}
+use Rattle.std.specs.Prelude.{Result, Ok, bytes_eq, codes, true}
 use Rattle.std.specs.List.{list_any}
 use Rattle.serde_json.specs.Data.{Data}
 use Rattle.json_fields.specs.rule.Fields.{field_at}
@@ -14,7 +14,7 @@ use Rattle.manifest_fields.specs.declared.fault.ManifestFault.{ManifestFault}
 use Rattle.manifest_fields.specs.declared.fault.ManifestFault.TheVariants.{TooMany}
 use Rattle.manifest_fields.specs.rule.Fields.{object_of, array_or_none, required_text}
 use Rattle.manifest_fields.specs.rule.ResourceFields.{pod_resources_of}
-use Rattle.manifest_reader.specs.rule.Manifest.{pod_at}
+use Rattle.manifest_reader.specs.rule.Manifest.{pod_in}
 
 -- the field of this name in the manifest's `spec`
 abbrev pub in_spec : List ℕ → Data → Option Data
@@ -55,6 +55,7 @@ additions_of d = do
 abbrev pub extended_by : PodSpec → Additions → PodSpec
 extended_by pod more = record pod { resources = more.resources; gates = more.gates }
 
--- the pod that a manifest describes: that of the standard format, with its additions
+-- the pod that a manifest describes: the fields of the standard format, each container with its own restart policy and
+-- rules, then the additions
 abbrev pub extended_pod_at : Data → Result PodSpec ManifestFault
-extended_pod_at d = pod_at d >>= λ pod. additions_of d >>= λ more. Ok (extended_by pod more)
+extended_pod_at d = pod_in true d >>= λ pod. additions_of d >>= λ more. Ok (extended_by pod more)

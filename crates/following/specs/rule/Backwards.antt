@@ -1,5 +1,5 @@
--- Whether a tick's listings go back behind those of earlier ticks. What came before a listing is
--- what its pod's own ticks list.
+-- Whether a tick's listings go back in comparison with earlier ticks. What came before a listing is what its pod's own
+-- ticks list.
 use Rattle.std.specs.Prelude.{ℕ, ◌+◌, ◌||◌, Bool, false, not, List, [], ◌∷◌, Option, Some, None}
 use Rattle.state_diff.specs.rule.Acceptable.{is_acceptable}
 use Rattle.observations.specs.declared.container.ContainerObs.{ContainerObs}

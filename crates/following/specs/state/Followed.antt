@@ -36,8 +36,8 @@ pub record AreFollowed (ticks : List TickObs) (counts : List ℕ) (differs : Lis
 abbrev pub HasFollowed : List TickObs → List ℕ → ListingOrder → Type 0
 HasFollowed ticks counts following = AreFollowed ticks counts following.differs.items
 
--- the tick may stand behind these: it says of each of the pods that it is not present, or shows it with this many
--- containers, at its own moment, which is later than theirs
+-- the tick may follow these: for each of the pods it has that it is not present, or shows it with this many containers,
+-- at its own moment, which is later than theirs
 pub record ComesNext (ticks : List TickObs) (counts : List ℕ) (tick : TickObs) : Type 0 where
   pub as_many : length tick.pods ≡ length counts
   pub containers : (pod count : ℕ) (shown : PodObs) → slice_get counts pod ≡ Some count
@@ -50,12 +50,12 @@ abbrev pub HasNewPod : ListingOrder → ℕ → ListingOrder → Type 0
 HasNewPod old containers next = (ticks : List TickObs) (counts : List ℕ) → HasFollowed ticks counts old
     → HasFollowed ticks (counts ++ containers ∷ []) next
 
--- of a tick that may stand behind the ticks that it has followed, the test tells whether none of its listings goes back
+-- of a tick that may follow the ticks that it has followed, the test answers whether none of its listings goes back
 abbrev pub Tells : Bool → ListingOrder → TickObs → Type 0
 Tells test following tick = (ticks : List TickObs) (counts : List ℕ) → HasFollowed ticks counts following
     → ComesNext ticks counts tick → (IsTrue test ↔ is_backwards ticks tick ≡ false)
 
--- the tick may stand behind some ticks that it has followed, and doesn't go back behind them
+-- the tick may follow some ticks that it has followed, and none of its listings goes back
 pub record MayFollow (following : ListingOrder) (tick : TickObs) : Type 0 where
   pub ticks : List TickObs
   pub counts : List ℕ

@@ -10,7 +10,7 @@ use Rattle.observations.specs.declared.tick.TickObs.{TickObs}
 use Rattle.observations.specs.rule.Observations.{shown_of}
 use Rattle.observations.specs.state.Observations.{seen_of}
 
--- this many differs, with no listing behind them
+-- this many instance trackers, without any listing
 pub record AreNew (count : ℕ) (differs : List Differ) : Type 0 where
   pub as_many : length differs ≡ count
   pub new : (c : ℕ) (d : Differ) → c < count → IsStateOf [] (slice_index_or differs c d)
@@ -45,7 +45,7 @@ pub record HaveTaken (tick : TickObs) (pod : ℕ) (old new : List Differ) : Type
   pub each : (c : ℕ) (d e : Differ) → c < length old
       → Takes tick.at (seen_of tick pod c) (slice_index_or old c e) (slice_index_or new c d)
 
--- they have where the tick shows the pod, and are as they were where it doesn't
+-- they have it if the tick shows the pod, and are as they were if it doesn't
 pub record PodHasTaken (tick : TickObs) (pod : ℕ) (old new : List Differ) : Type 0 where
   pub shown : IsSome (shown_of tick pod) → HaveTaken tick pod old new
   pub absent : shown_of tick pod ≡ None → new ≡ old

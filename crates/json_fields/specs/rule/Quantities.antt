@@ -14,7 +14,7 @@ use Rattle.quantity.specs.declared.limit.Limit.TheVariants.{Quantity}
 use Rattle.json_fields.specs.declared.fault.FieldFault.{FieldFault}
 use Rattle.json_fields.specs.declared.fault.FieldFault.TheVariants.{WrongKind, Faulty}
 
--- what a text says
+-- the quantity of a text
 abbrev pub written : {A : Type 0} → Result A QuantityFault → Result A FieldFault
 written (Ok x) = Ok x
 written (Err fault) = Err (Faulty fault)

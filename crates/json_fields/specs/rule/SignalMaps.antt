@@ -28,7 +28,7 @@ includes_named scope (Some signal) = includes scope signal
 abbrev pub may_name : Scope → List ℕ → Bool
 may_name scope name = includes_named scope (named name)
 
--- another name, beside a value other than null
+-- another name, with a value other than null
 abbrev pub has_stranger : Scope → Members → Bool
 has_stranger scope members = has_other (may_name scope) members
 

@@ -3,7 +3,7 @@ use Rattle.std.specs.Prelude.{ℕ, ◌&&◌, ◌||◌, Bool, false, not, List, i
 use Rattle.serde_json.specs.Data.{Data, Members, no_members, member}
 use Rattle.serde_json.specs.Find.{as_null}
 
--- another name, beside a value other than null
+-- another name, with a value other than null
 abbrev pub is_stranger : (List ℕ → Bool) → List ℕ → Data → Bool
 is_stranger includes name d = not (is_some (as_null d)) && not (includes name)
 

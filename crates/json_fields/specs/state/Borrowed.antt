@@ -1,4 +1,4 @@
--- What a JSON value stands for whose texts were not copied.
+-- The data of a JSON value whose texts were not copied.
 use Rattle.std.specs.Prelude.{ℕ, ◌^◌, ◌&&◌, ◌||◌, ◌==◌, List, slice_index, Bool, true, false, not, nat_lt}
 use Rattle.std.specs.Prelude.{if◌then◌else◌, Option, Some, None}
 use Rattle.std.specs.Prelude.{is_some}
@@ -19,7 +19,7 @@ whole_from p = if is_integer p && nat_lt (digits_of p) (2 ^ 64) then Some (digit
 abbrev pub whole : List ℕ → Option ℕ
 whole s = if slice_index s 0 == minus then None else whole_from (scan s)
 
--- any other number stands for none
+-- any other number has none
 abbrev pub number_data : Option ℕ → Num
 number_data None = float nan
 number_data (Some n) = unsigned n

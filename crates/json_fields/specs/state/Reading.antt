@@ -1,4 +1,4 @@
--- What a call that reads answers, beside the definition of what it reads.
+-- The answers of a call that reads, compared with the definition of what it reads.
 use Rattle.std.specs.Prelude.{◌≡◌, ⊤, Bool, false, MatchBool, Result, Ok, Err}
 
 -- What a call answered, seen by view, is what the definition gives; a fault because memory ran out
@@ -7,7 +7,7 @@ abbrev pub GivesUnless : {X Y E : Type 0} → (E → Bool) → (X → Y) → Res
 GivesUnless is_memory view (Ok x) given = given ≡ Ok (view x)
 GivesUnless is_memory view (Err e) given = MatchBool (is_memory e) (Unit {0}) (given ≡ Err e)
 
--- of a call that takes no memory
+-- of a call that doesn't allocate
 abbrev pub GivesExactly : {X Y E : Type 0} → (X → Y) → Result X E → Result Y E → Type 0
 GivesExactly view result given = GivesUnless (λ fault. false) view result given
 

@@ -1,4 +1,4 @@
--- What the tokens of a line stand for, from the place of a value on.
+-- The data of the tokens of a line, from the place of a value on.
 use Rattle.std.specs.Prelude.{◌≡◌, ℕ, Result, Ok, ◌+◌, ◌-◌, ◌==◌, List, [], ◌∷◌, length, Bool, true, false, Option}
 use Rattle.std.specs.Prelude.{Some, None}
 use Rattle.std.specs.Prelude.{is_some, nat_lt, if◌then◌else◌}
@@ -53,8 +53,8 @@ last_in name json.no_members before = before
 last_in name (json.member k j ms) before =
     last_in name ms (if bytes_eq k name then present (Some (data_of j)) else before)
 
--- what an object's field holds, once the members with which the tokens begin, up to the end of the object, come behind
--- what it held before
+-- what an object's field holds, once the members with which the tokens begin, up to the end of the object, follow what
+-- it held before
 unfoldable pub field_behind : List ℕ → List Token → Option Data → Option Data
 field_behind name ts before =
     last_in name (members_from (value (length (begin_object ∷ ts)) (begin_object ∷ ts))) before
@@ -66,7 +66,7 @@ HasMembers ts = (ms : json.Members) × InMembers ts ms
 abbrev pub AreAllPassed : List Token → Type 0
 AreAllPassed ts = (name : List ℕ) (before : Option Data) → field_behind name ts before ≡ before
 
--- the first of the members that are left has this name and value, and these are left behind it
+-- the first of the members that are left has this name and value, and these are left after it
 abbrev pub IsNextMember : List ℕ → List Token → List Token → List Token → Type 0
 IsNextMember k v old new = (name : List ℕ) (before : Option Data) → field_behind name old before
     ≡ field_behind name new (if bytes_eq k name then present (Some (data_at v)) else before)
@@ -84,7 +84,7 @@ one_more room = if nat_lt room max_depth then Some (room + 1) else None
 abbrev pub room_if : Bool → ℕ → Option ℕ
 room_if plain room = if plain then Some room else None
 
--- how many more arrays and objects may open behind this token; none where that is too deep, or a number is not plain
+-- how many more arrays and objects may open after this token; none if that is too deep, or a number is not plain
 unfoldable pub room_after : ℕ → Token → Option ℕ
 room_after room begin_object = one_less room
 room_after room end_object = one_more room

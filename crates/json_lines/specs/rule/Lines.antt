@@ -1,4 +1,4 @@
--- The lines of a text, and what each says by itself.
+-- The lines of a text, and the content of each by itself.
 use Rattle.std.specs.Prelude.{ℕ, ◌==◌, ◌||◌, Bool, List, [], ◌∷◌, Option, None}
 use Rattle.std.specs.Prelude.{if◌then◌else◌}
 use Rattle.std.specs.List.{list_all}

@@ -1,4 +1,4 @@
--- What a line says by itself, whatever the lines before it say.
+-- The content of a line by itself, whatever the lines before it have.
 use Rattle.std.specs.Prelude.{◌≡◌, ℕ, ◌||◌, Bool, List, length, nat_lt, Option, Some, None, Result}
 use Rattle.std.specs.Prelude.{option_and_then}
 use Rattle.std.specs.Prelude.{if◌then◌else◌}
@@ -21,16 +21,16 @@ use Rattle.json_lines.specs.rule.Lines.{longest_line, is_blank, json_in}
 abbrev pub line_value : List ℕ → Option JsonTree
 line_value text = option_and_then (λ p. if_last p.0 p.1) (value max_depth (tokens text))
 
--- what a line says by itself
+-- the content of a line by itself
 pub data LineData : Type 0 where
   Blank : LineData
   TooLong : LineData
   NotJson : LineData
-  -- a tick's moment, and what it says beside it
+  -- a tick's moment, and the rest of its line
   Tick : Option ℕ → Result TickLine TickLineFault → LineData
   Json : Data → LineData
 
--- what a JSON value says by itself
+-- the content of a JSON value by itself
 unfoldable pub said_by : Data → LineData
 said_by d = if is_tick d then Tick (moment_at d) (tick_line_of d) else Json d
 
@@ -38,7 +38,7 @@ abbrev pub said_or_not : Option Data → LineData
 said_or_not None = NotJson
 said_or_not (Some d) = said_by d
 
--- what a line says, other than blanks, that is not too long
+-- the content of a line that is not blank and not too long
 abbrev pub said_in : List ℕ → LineData
 said_in line = said_or_not (json_in line)
 
@@ -51,11 +51,11 @@ line_data line =
 abbrev pub is_unread : List ℕ → Bool
 is_unread line = is_blank line || nat_lt longest_line (length line)
 
--- a line says the tick that is on this tape
+-- a line is the tick that is on this tape
 abbrev pub SaysTickOn : LineData → List Token → Type 0
 SaysTickOn said tape = said ≡ Tick (moment_at (data_at tape)) (tick_line_of (data_at tape))
 
--- what was read of a line, as what the line says
+-- what was read of a line, as the line's content
 abbrev pub data_of : TextLine → LineData
 data_of text_lines.Blank = Blank
 data_of text_lines.TooLong = TooLong

@@ -8,7 +8,7 @@ abbrev pub is_tick_kind : Option (List ℕ) → Bool
 is_tick_kind None = false
 is_tick_kind (Some kind) = bytes_eq kind (codes "tick")
 
--- the value says that it is a tick
+-- the value is a tick by its kind
 abbrev pub is_tick : Data → Bool
 is_tick d = is_tick_kind (text_at (codes "kind") d)
 

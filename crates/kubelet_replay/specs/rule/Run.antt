@@ -1,4 +1,4 @@
--- What a replay writes, and when it refuses.
+-- What a replay writes, and when it rejects its input.
 use Rattle.std.specs.Prelude.{◌≡◌, ℕ, ◌<◌, ◌≤◌, Bool, List, [], ◌∷◌, length, take, codes, Option, Some, None, Result}
 use Rattle.std.specs.Prelude.{Ok, Err}
 use Rattle.std.specs.Fmt.{decimal}
@@ -81,7 +81,7 @@ pub record Writes (IsAnswer : List ℕ → List ℕ → Type 0) (left old new : 
   pub answer : IsAnswer text bytes
   pub written : Appends old new bytes
 
--- the input is a text that is refused at its first faulty line
+-- the input is a text that is rejected at its first faulty line
 pub record IsFaulty (format : Format) (left : Option (List ℕ)) (fault : LineFault) : Type 0 where
   pub text : List ℕ
   pub read : HasRead left text
@@ -109,7 +109,7 @@ pub record Gates (left : Piece → Bool → Bool) (format : Format) (input : Opt
   pub read : HasRead input text
   pub gated : IsReplayGated left format text
 
--- what each refusal says of the input and of what is written, in a format
+-- what each refusal means for the input and for what is written, in a format
 abbrev pub IsRefusalIn : Format → (List ℕ → List ℕ → Type 0) → Option (List ℕ) → Option (List ℕ) → Option (List ℕ)
     → RunFault → Type 0
 IsRefusalIn format IsAnswer left old new Read = new ≡ old
@@ -118,7 +118,7 @@ IsRefusalIn format IsAnswer left old new (Line fault) = IsFaulty format left fau
 IsRefusalIn format IsAnswer left old new OutOfMemory = new ≡ old
 IsRefusalIn format IsAnswer left old new Write = WritesPart IsAnswer left old new
 
--- what each refusal says of the input and of what is written, in the standard format
+-- what each refusal means for the input and for what is written, in the standard format
 abbrev pub IsRefusal : (List ℕ → List ℕ → Type 0) → Option (List ℕ) → Option (List ℕ) → Option (List ℕ) → RunFault
     → Type 0
 IsRefusal = IsRefusalIn Standard

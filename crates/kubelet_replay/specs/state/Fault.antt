@@ -16,7 +16,7 @@ status (Line fault) = 2
 status OutOfMemory = 1
 status Write = 1
 
--- the number of a refused manifest's own fault
+-- the number of a rejected manifest's own fault
 abbrev pub reason_of : FaultKind → Option ℕ
 reason_of (Manifest fault) = Some (manifest_number fault)
 reason_of kind = None

@@ -1,4 +1,4 @@
--- What a call that reads a text and writes an answer hands on of what its callees answered.
+-- What a call that reads a text and writes an answer passes on from its callees.
 use Rattle.std.specs.Prelude.{◌≡◌, ℕ, ◌<◌, List, length, take, Option, Result, Ok, Err}
 use Rattle.std.specs.Io.KnownBytes.{Appends}
 use Rattle.node_config.specs.declared.node.Format.{Format}
@@ -26,7 +26,7 @@ abbrev pub trace_or_fault : Result Trace LineFault → Result Trace RunFault
 trace_or_fault (Ok trace) = Ok trace
 trace_or_fault (Err fault) = Err (fault_of fault)
 
--- the text that was made, or that memory was refused
+-- the text that was made, or a failed allocation
 abbrev pub report_or_fault : {V A : Type 0} → Result V A → Result V RunFault
 report_or_fault (Ok text) = Ok text
 report_or_fault (Err refused) = Err OutOfMemory
@@ -42,7 +42,7 @@ abbrev pub text_or_fault : {V : Type 0} → Result V ReadAllFault → Result V R
 text_or_fault (Ok text) = Ok text
 text_or_fault (Err fault) = Err (read_fault_of fault)
 
--- the input is refused as it is read
+-- the input is rejected as it is read
 abbrev pub Refuses : Option (List ℕ) → RunFault → Type 0
 Refuses left Read = Unit {0}
 Refuses left TooLong = IsTooLong left
@@ -50,7 +50,7 @@ Refuses left (Line fault) = ⊥
 Refuses left OutOfMemory = Unit {0}
 Refuses left Write = ⊥
 
--- the text is refused: at its first faulty line, or because memory ran out
+-- the text is rejected: at its first faulty line, or because an allocation failed
 abbrev pub RefusesText : Format → List ℕ → RunFault → Type 0
 RefusesText format text Read = ⊥
 RefusesText format text TooLong = ⊥

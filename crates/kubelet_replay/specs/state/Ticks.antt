@@ -16,9 +16,9 @@ use Rattle.eviction.specs.rule.Replay.{pod_ticks}
 use Rattle.node_rounds.specs.state.Node.{State, IsWhole}
 use Rattle.tick_round.specs.state.Node.{IsAfter}
 
--- there are not too many of either; what each tick shows of a pod may come after the pod's own ticks before, at
--- the tick's moment; the moments rise and are in range; and no tick tells of fewer pods than one before it, or of
--- more than there are
+-- there are not too many of either; what each tick shows of a pod may come after the pod's own earlier ticks, at the
+-- tick's moment; the moments rise and are in range; and no tick shows fewer pods than one before it, or more than there
+-- are
 pub record AreReplayable (pods : List PodSpec) (ticks : List TickObs) : Type 0 where
   pub next : (t n : ℕ) (tick : TickObs) (pod : PodSpec) (shown : PodObs) → slice_get ticks t ≡ Some tick
       → slice_get pods n ≡ Some pod → shown_of tick n ≡ Some shown

@@ -1,4 +1,4 @@
--- Fields of a manifest: what stands in each, or its fault.
+-- Fields of a manifest: the value of each, or its fault.
 use Rattle.std.specs.Prelude.{ℕ, ⊤, Bool, List, [], ◌∷◌, Option, Some, None, is_some, if◌then◌else◌, Result, Ok, Err}
 use Rattle.serde_json.specs.Data.{Data, Items}
 use Rattle.serde_json.specs.Find.{as_object, as_array, as_str}
@@ -8,7 +8,7 @@ use Rattle.manifest_fields.specs.declared.fault.Field.{Field}
 use Rattle.manifest_fields.specs.declared.fault.ManifestFault.{ManifestFault}
 use Rattle.manifest_fields.specs.declared.fault.ManifestFault.TheVariants.{Missing, WrongKind}
 
--- an object that must stand there
+-- a required object
 abbrev pub object_of : Field → Option Data → Result Data ManifestFault
 object_of field None = Err (Missing field)
 object_of field (Some d) = if is_some (as_object d) then Ok d else Err (WrongKind field)
@@ -21,7 +21,7 @@ tested_text test field (Some s) = if test s then Ok s else Err (WrongKind field)
 abbrev pub text_of : (List ℕ → Bool) → Field → Data → Result (List ℕ) ManifestFault
 text_of test field d = tested_text test field (as_str d)
 
--- a text that must stand there
+-- a required text
 abbrev pub required_text : (List ℕ → Bool) → Field → Option Data → Result (List ℕ) ManifestFault
 required_text test field None = Err (Missing field)
 required_text test field (Some d) = text_of test field d
@@ -35,7 +35,7 @@ abbrev pub items_or : Field → Option Items → Result (List Data) ManifestFaul
 items_or field None = Err (WrongKind field)
 items_or field (Some items) = Ok (items_list items)
 
--- an array that must stand there
+-- a required array
 abbrev pub array_of : Field → Option Data → Result (List Data) ManifestFault
 array_of field None = Err (Missing field)
 array_of field (Some d) = items_or field (as_array d)
@@ -50,6 +50,6 @@ abbrev pub some_items : Field → List Data → Result (List Data) ManifestFault
 some_items field [] = Err (Missing field)
 some_items field (d ∷ ds) = Ok (d ∷ ds)
 
--- a field that must not stand there
+-- a field that must be absent
 abbrev pub absent : ManifestFault → Option Data → Result ⊤ ManifestFault
 absent fault found = refused_if (is_some found) fault

@@ -1,4 +1,4 @@
--- Which fault of a manifest says that memory ran out.
+-- Which fault of a manifest means that an allocation failed.
 use Rattle.std.specs.Prelude.{Bool, true, false}
 use Rattle.manifest_fields.specs.declared.fault.ManifestFault.{ManifestFault}
 use Rattle.manifest_fields.specs.declared.fault.ManifestFault.TheVariants.{OutOfMemory}

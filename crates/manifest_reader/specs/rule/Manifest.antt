@@ -1,7 +1,6 @@
--- What a manifest says of a pod, or its first fault: one line for each field, in the order in which
--- they are read (Kubernetes API, `Pod`; "Pod Lifecycle", "Container restart policy"; "Pod Priority
--- and Preemption").
-use Rattle.std.specs.Prelude.{ℕ, ℤ, pos, ⊤, ◌+◌, List, [], ◌++◌, length, nat_lt, Option, Some, false}
+-- The pod of a manifest, or the manifest's first fault: one line for each field, in the order in which they are read
+-- (Kubernetes API, `Pod`; "Pod Lifecycle", "Container restart policy"; "Pod Priority and Preemption").
+use Rattle.std.specs.Prelude.{ℕ, ℤ, pos, ⊤, ◌+◌, List, [], ◌++◌, length, nat_lt, Option, Some, Bool, true, false}
 use Rattle.std.specs.Prelude.{None, option_and_then, if◌then◌else◌, Result, Ok, Err, bytes_eq, codes}
 use Rattle.quantity.specs.rule.Duration.{end_of_time}
 use Rattle.serde_json.specs.Data.{Data}
@@ -15,7 +14,7 @@ use Rattle.manifest_fields.specs.declared.fault.ManifestFault.{ManifestFault}
 use Rattle.manifest_fields.specs.declared.fault.ManifestFault.TheVariants.{WrongKind, TooMany, DuplicateContainer}
 use Rattle.manifest_fields.specs.declared.fault.ManifestFault.TheVariants as faults
 use Rattle.manifest.specs.declared.policy.Policy.{Policy}
-use Rattle.manifest.specs.declared.policy.Policy.TheVariants.{Always, OnFailure, Never}
+use Rattle.manifest.specs.declared.policy.Policy.TheVariants.{Always}
 use Rattle.manifest.specs.declared.pod.Role.{Role}
 use Rattle.manifest.specs.declared.pod.Role.TheVariants.{Init, Sidecar, App}
 use Rattle.manifest.specs.declared.pod.ContainerSpec.{ContainerSpec}
@@ -30,13 +29,9 @@ use Rattle.manifest_fields.specs.rule.ProbeFields.{probes_of}
 use Rattle.manifest_fields.specs.rule.ResourceFields.{resources_of}
 use Rattle.manifest.specs.rule.Containers.{has_twice, most_containers}
 use Rattle.manifest.specs.rule.Resources.{no_resources}
-
-abbrev pub policy_from : Option (List ℕ) → Result Policy ManifestFault
-policy_from None = Err (WrongKind fields.RestartPolicy)
-policy_from (Some text) =
-    if bytes_eq text (codes "Always") then Ok Always
-    else (if bytes_eq text (codes "OnFailure") then Ok OnFailure
-    else (if bytes_eq text (codes "Never") then Ok Never else Err (WrongKind fields.RestartPolicy)))
+use Rattle.manifest.specs.declared.own_restarts.OwnRestarts.{OwnRestarts}
+use Rattle.manifest_reader.specs.rule.Policies.{policy_from}
+use Rattle.manifest_reader.specs.rule.OwnRestarts.{own_policy_of, role_with, restarts_of}
 
 abbrev pub policy_of : Option Data → Result Policy ManifestFault
 policy_of None = Ok Always
@@ -78,15 +73,26 @@ role_of InitContainers (Some d) = sidecar_from (as_str d)
 role_of Containers None = Ok App
 role_of Containers (Some d) = Err faults.Sidecar
 
--- one container
-unfoldable pub container_of : Place → Data → Result ContainerSpec ManifestFault
-container_of place d = do
+-- what a container is to its pod, in a format that reads its own restart policy or not
+abbrev pub role_by : Bool → Place → Option Data → Result Role ManifestFault
+role_by true place found = own_policy_of found >>= λ policy. Ok (role_with place policy)
+role_by false place found = role_of place found
+
+-- what a container of this role has of its own to decide on its restarts, in such a format or in another
+abbrev pub restarts_by : Bool → Role → Data → Result (Option OwnRestarts) ManifestFault
+restarts_by true role container = restarts_of role container
+restarts_by false role container = Ok None
+
+-- one container; own: whether the format reads its own restart policy and rules
+unfoldable pub container_of : Bool → Place → Data → Result ContainerSpec ManifestFault
+container_of own place d = do
   object ← object_of (field_of place) (Some d)
   name ← required_text is_label fields.ContainerName (field_at (codes "name") object)
-  role ← role_of place (field_at (codes "restartPolicy") object)
+  role ← role_by own place (field_at (codes "restartPolicy") object)
+  restarts ← restarts_by own role object
   resources ← resources_of (field_at (codes "resources") object)
   probes ← probes_of role object
-  Ok (record { name = name; role = role; resources = resources; probes = probes })
+  Ok (record { name = name; role = role; resources = resources; probes = probes; own_restarts = restarts })
 
 -- not too many containers
 abbrev pub few : List Data → List Data → Result ⊤ ManifestFault
@@ -96,12 +102,12 @@ few init apps = refused_if (nat_lt most_containers (length init + length apps)) 
 abbrev pub apart : List ContainerSpec → Result ⊤ ManifestFault
 apart cs = refused_if (has_twice cs) DuplicateContainer
 
--- the containers of the two arrays' items, those of `initContainers` first
-unfoldable pub containers_of : List Data → List Data → Result (List ContainerSpec) ManifestFault
-containers_of init_items items = do
+-- the containers of the two arrays' items, the items of `initContainers` first
+unfoldable pub containers_of : Bool → List Data → List Data → Result (List ContainerSpec) ManifestFault
+containers_of own init_items items = do
   within_limit ← few init_items items
-  init ← each (container_of InitContainers) init_items
-  apps ← each (container_of Containers) items
+  init ← each (container_of own InitContainers) init_items
+  apps ← each (container_of own Containers) items
   names_apart ← apart (init ++ apps)
   Ok (init ++ apps)
 
@@ -111,11 +117,11 @@ app_items_of found = do
   listed ← array_of fields.Containers found
   some_items fields.Containers listed
 
-unfoldable pub containers_in : Data → Result (List ContainerSpec) ManifestFault
-containers_in spec = do
+unfoldable pub containers_in : Bool → Data → Result (List ContainerSpec) ManifestFault
+containers_in own spec = do
   init_items ← array_or_none fields.InitContainers (field_at (codes "initContainers") spec)
   items ← app_items_of (field_at (codes "containers") spec)
-  containers_of init_items items
+  containers_of own init_items items
 
 -- a pod's name, and the namespace that it is in
 unfoldable pub metadata_of : Option Data → Result Metadata ManifestFault
@@ -125,7 +131,7 @@ metadata_of found = do
   namespace ← text_or (codes "default") is_label fields.Namespace (field_at (codes "namespace") metadata)
   Ok (record { name = name; namespace = namespace })
 
--- what a pod's spec says of the pod as a whole
+-- what a pod's spec has on the pod as a whole
 unfoldable pub settings_in : Data → Result Settings ManifestFault
 settings_in spec = do
   policy ← policy_of (field_at (codes "restartPolicy") spec)
@@ -138,19 +144,19 @@ pub record Spec : Type 0 where
   pub settings : Settings
   pub containers : List ContainerSpec
 
-unfoldable pub spec_of : Option Data → Result Spec ManifestFault
-spec_of found = do
+unfoldable pub spec_of : Bool → Option Data → Result Spec ManifestFault
+spec_of own found = do
   spec ← object_of fields.Spec found
   settings ← settings_in spec
-  containers ← containers_in spec
+  containers ← containers_in own spec
   Ok (record { settings = settings; containers = containers })
 
--- of the pod as a whole neither resources nor readiness gates are read
-unfoldable pub pod_at : Data → Result PodSpec ManifestFault
-pod_at d = do
+-- a pod; of the pod as a whole neither resources nor readiness gates are read
+unfoldable pub pod_in : Bool → Data → Result PodSpec ManifestFault
+pod_in own d = do
   pod ← object_of fields.Pod (Some d)
   metadata ← metadata_of (field_at (codes "metadata") pod)
-  spec ← spec_of (field_at (codes "spec") pod)
+  spec ← spec_of own (field_at (codes "spec") pod)
   Ok (record {
     name = metadata.name;
     namespace = metadata.namespace;
@@ -162,3 +168,7 @@ pod_at d = do
     gates = [];
     spared = false;
   })
+
+-- the pod that a manifest describes in the standard format
+abbrev pub pod_at : Data → Result PodSpec ManifestFault
+pod_at d = pod_in false d

@@ -12,7 +12,7 @@ abbrev pub is_name_twice : {V : Type 0} → (V → List ℕ) → List V → Bool
 is_name_twice name [] = false
 is_name_twice name (v ∷ vs) = list_any (λ other. bytes_eq (name other) (name v)) vs || is_name_twice name vs
 
--- so too where others stand behind them
+-- so too if others come after them
 abbrev pub is_name_twice_before : {V : Type 0} → (V → List ℕ) → List V → List V → Bool
 is_name_twice_before name [] behind = is_name_twice name behind
 is_name_twice_before name (v ∷ vs) behind =

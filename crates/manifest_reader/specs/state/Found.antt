@@ -1,5 +1,5 @@
--- What the checks of a manifest look at, and the faults that they answer. What stands in no object
--- has no fields. (Kubernetes API, `Pod`.)
+-- What the checks of a manifest look at, and the faults that they return. A value that is no object has no fields.
+-- (Kubernetes API, `Pod`.)
 use Rattle.std.specs.Prelude.{ℕ, nat_lt, ◌||◌, Bool, true, false, not, List, [], ◌∷◌}
 use Rattle.std.specs.Prelude.{Option, Some, None, is_some, unwrap_or, option_and_then, if◌then◌else◌, Result, Ok, Err}
 use Rattle.std.specs.Prelude.{bytes_eq, codes}
@@ -23,7 +23,7 @@ use Rattle.manifest_fields.specs.rule.ResourceFields.{quantity_at}
 use Rattle.json_fields.specs.rule.Numbers.{max_int32, is_int32}
 use Rattle.manifest_fields.specs.rule.ProbeFields.{number_of}
 
--- the fault of what was refused
+-- the fault of what was rejected
 abbrev pub fault_of : {A : Type 0} → Result A ManifestFault → Option ManifestFault
 fault_of (Ok x) = None
 fault_of (Err fault) = Some fault
@@ -35,7 +35,7 @@ fails_if test fault = if test then Some fault else None
 abbrev pub is_so : (Data → Bool) → Field → Data → Option ManifestFault
 is_so test field d = if test d then None else Some (WrongKind field)
 
--- a field that has to stand there
+-- a field that is required
 abbrev pub must_be : (Data → Bool) → Field → Option Data → Option ManifestFault
 must_be test field None = Some (Missing field)
 must_be test field (Some d) = is_so test field d
@@ -77,7 +77,7 @@ abbrev pub items_from : Option Items → List Data
 items_from None = []
 items_from (Some items) = items_list items
 
--- the items of what was found, where it is an array
+-- the items of what was found, if it is an array
 abbrev pub items_in : Option Data → List Data
 items_in found = items_from (option_and_then as_array found)
 
@@ -85,7 +85,7 @@ abbrev pub is_empty : List Data → Bool
 is_empty [] = true
 is_empty (d ∷ ds) = false
 
--- the amount that was found, where it is a quantity
+-- the amount that was found, if it is a quantity
 abbrev pub amount_read : Result (Option ℕ) ManifestFault → Option ℕ
 amount_read (Ok amount) = amount
 amount_read (Err fault) = None

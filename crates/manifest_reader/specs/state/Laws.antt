@@ -21,14 +21,14 @@ pub record FailsFirst {Check : Type 0} (answer : Check → Option ManifestFault)
   pub passed : All (Passes answer) earlier
   pub failed : answer check ≡ Some fault
 
--- a manifest is refused exactly with the first check of the table that it fails
+-- a manifest is rejected exactly with the first check of the table that it fails
 abbrev pub FirstCheck : Type 0
 FirstCheck = (d : Data) (fault : ManifestFault) → (pod_at d ≡ Err fault ↔ FailsFirst (fault_at d) (checks_of d) fault)
 
--- and it describes a pod exactly where it passes every check
+-- and it describes a pod exactly if it passes every check
 abbrev pub EveryCheck : Type 0
 EveryCheck = (d : Data) → (((pod : PodSpec) × (pod_at d ≡ Ok pod)) ↔ All (Passes (fault_at d)) (checks_of d))
 
--- no manifest is refused because memory ran out
+-- no manifest is rejected because an allocation failed
 abbrev pub NeverMemory : Type 0
 NeverMemory = (d : Data) (fault : ManifestFault) → pod_at d ≡ Err fault → fault ≢ OutOfMemory

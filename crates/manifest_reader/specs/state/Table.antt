@@ -1,6 +1,6 @@
--- The table of a manifest's checks: one constructor for each row, what it answers where it is
--- failed, and the order. Each row is told by itself, by the field that it looks at; it says nothing
--- of what those before it refuse. (Kubernetes API, `Pod`.)
+-- The table of a manifest's checks: one constructor for each row, the fault of a manifest that fails it, and the order.
+-- Each row is defined by itself, by the field that it looks at, whatever the rows before it reject. (Kubernetes API,
+-- `Pod`.)
 use Rattle.std.specs.Prelude.{nat_lt, ◌+◌, Bool, true, false, if◌then◌else◌, List, [], ◌∷◌, ◌++◌, length, map}
 use Rattle.std.specs.Prelude.{Option, None, is_some, codes}
 use Rattle.std.specs.List.{flat_map}

@@ -1,4 +1,4 @@
--- What a node line says.
+-- The configuration of a node line.
 use Rattle.std.specs.Prelude.{ℕ, ◌==◌, ◌^◌, Bool, false, nat_lt, List, Option, Some, None, option_and_then}
 use Rattle.std.specs.Prelude.{is_some, if◌then◌else◌, Result, Ok, Err, codes}
 use Rattle.serde_json.specs.Data.{Data}
@@ -97,13 +97,13 @@ pause_of Two found = Ok 0
 pause_of Three found = seconds_of found
 
 -- true or false in a field that versions 1 and 2 do not have: whether the pause is over once the evicted pod has ended
--- or gone, and whether the trace says whom the node evicted
+-- or gone, and whether the trace reports whom the node evicted
 abbrev pub flag_of_three : Version → Option Data → Result Bool NodeFault
 flag_of_three One found = Ok false
 flag_of_three Two found = Ok false
 flag_of_three Three found = flag_of found
 
--- what a node line says besides its thresholds, one line for each field
+-- what a node line has in addition to its thresholds, one line for each field
 unfoldable pub settings_in : Data → Result Settings NodeFault
 settings_in d = do
   version ← version_of (field_at (codes "version") d)

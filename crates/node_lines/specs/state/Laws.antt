@@ -1,6 +1,5 @@
--- What a node line says of its thresholds (Kubernetes, "Node-pressure Eviction", "Hard eviction
--- thresholds", "Soft eviction thresholds" and "Minimum eviction reclaim"): the statements of the
--- laws.
+-- The thresholds of a node line (Kubernetes, "Node-pressure Eviction", "Hard eviction thresholds", "Soft eviction
+-- thresholds" and "Minimum eviction reclaim"): the statements of the laws.
 use Rattle.std.specs.Prelude.{◌≡◌, ◌⊎◌, ℕ, List, Option, Some, None, option_and_then, unwrap_or, Result, Ok, Err}
 use Rattle.std.specs.Prelude.{IsOk, codes}
 use Rattle.serde_json.specs.Data.{Data}
@@ -46,8 +45,7 @@ reclaim_written d signal = unwrap_or
 abbrev pub SwitchesOff : Limit → Type 0
 SwitchesOff limit = (limit ≡ Percent 0) ⊎ (limit ≡ Percent 10000)
 
--- A node that this line says has the threshold: limit and reclaim are as they are written, and the
--- grace is this.
+-- A node of this line has the threshold: limit and reclaim are as they are written, and the grace is this.
 pub record IsAsWritten (name : List ℕ) (d : Data) (signal : Signal) (grace : Option ℕ) (threshold : Threshold)
     : Type 0 where
   pub has_limit : limit_written name d signal ≡ Some threshold.limit
@@ -94,8 +92,8 @@ pub record SetsThreshold (name : List ℕ) (d : Data) (signal : Signal) (limit :
 abbrev pub threshold_with : Data → Signal → Limit → ℕ → Threshold
 threshold_with d signal limit grace = record { limit = limit; reclaim = reclaim_written d signal; grace = grace }
 
--- a node that a line says has for every limit that is written, and not switched off, the threshold
--- with that limit; a soft one has its written grace, which is there
+-- a node of a line has for every limit that is written, and not switched off, the threshold with that limit; a soft one
+-- has its written grace, which is there
 pub record EveryLimitSetsItsThreshold : Type 0 where
   pub hard : (d : Data) (node : NodeConfig) (signal : Signal) (limit : Limit) → node_of d ≡ Ok node
       → SetsThreshold (codes "evictionHard") d signal limit
@@ -105,13 +103,12 @@ pub record EveryLimitSetsItsThreshold : Type 0 where
       → (grace : ℕ) × (grace_written d signal ≡ Some grace)
       × (threshold_of node.eviction Soft signal ≡ Some (threshold_with d signal limit grace))
 
--- no `evictionHard` stands, and this is the signal's default, which has its capacity
+-- there is no `evictionHard`, and this is the signal's default, which has its capacity
 pub record IsDefault (d : Data) (node : NodeConfig) (signal : Signal) (limit : Limit) : Type 0 where
   pub none_written : field_at (codes "evictionHard") d ≡ None
   pub limit_is : where_possible (of node.eviction.capacity signal) (default_limit signal) ≡ Some limit
 
--- and each of its thresholds is that of a limit that is written, and not switched off, or of a
--- default
+-- and each of its thresholds comes from a limit that is written, and not switched off, or from a default
 pub record EveryThresholdHasItsLimit : Type 0 where
   pub hard : (d : Data) (node : NodeConfig) (signal : Signal) (threshold : Threshold) → node_of d ≡ Ok node
       → threshold_of node.eviction Hard signal ≡ Some threshold

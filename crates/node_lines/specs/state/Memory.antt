@@ -1,4 +1,4 @@
--- Which fault of a node line says that memory ran out.
+-- Which fault of a node line means that an allocation failed.
 use Rattle.std.specs.Prelude.{Bool, true, false}
 use Rattle.node_lines.specs.declared.fault.NodeFault.{NodeFault}
 use Rattle.node_lines.specs.declared.fault.NodeFault.TheVariants.{OutOfMemory}

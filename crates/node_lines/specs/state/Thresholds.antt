@@ -19,7 +19,7 @@ pub record IsBuiltOf (limit : Option Limit) (reclaim : Limit) (threshold : Thres
   pub has_limit : limit ≡ Some threshold.limit
   pub has_reclaim : reclaim ≡ threshold.reclaim
 
--- it has those of its signal
+-- it has the thresholds of its signal
 abbrev pub IsBuiltFor : BySignal (Option Limit) → BySignal Limit → Signal → Threshold → Type 0
 IsBuiltFor limits reclaims signal threshold = IsBuiltOf (of limits signal) (of reclaims signal) threshold
 

@@ -31,7 +31,7 @@ abbrev pub pods_of : List Piece → ℕ → Bool → Pods
 pods_of pieces max_restart_delay has_dedicated_imagefs =
     record { pieces = pieces; max_restart_delay = max_restart_delay; has_dedicated_imagefs = has_dedicated_imagefs }
 
--- one pod more, behind the others
+-- one more pod, after the others
 abbrev pub with_pod : Pods → PodSpec → Pods
 with_pod pods pod =
     pods_of (pods.pieces ++ new_piece (length pods.pieces) pod pods.max_restart_delay ∷ []) pods.max_restart_delay
@@ -47,8 +47,8 @@ abbrev pub AreNumbered : Pods → Type 0
 AreNumbered pods = (n : ℕ) (piece : Piece) → slice_get pods.pieces n ≡ Some piece
     → IsNumbered pods.max_restart_delay n piece
 
--- a pod of a node between two rounds: its number is its place, all that was handed to it has come into its status, and
--- its last round is over
+-- a pod of a node between two rounds: its number is its place, all its ticks have come into its status, and its last
+-- round is over
 pub record IsPlaced (max_restart_delay : ℕ) (n : ℕ) (piece : Piece) : Type 0 where
   pub number_is : piece.number ≡ n
   pub max_restart_delay_is : piece.max_restart_delay ≡ max_restart_delay
@@ -61,7 +61,7 @@ ArePlaced pods = (n : ℕ) (piece : Piece) → slice_get pods.pieces n ≡ Some 
     → IsPlaced pods.max_restart_delay n piece
 
 -- a pod that may be evicted at a moment, and its status: it is present, since the tick of the moment shows it, and it
--- has not ended, unless with that tick, which says that the node has ended it
+-- has not ended, unless that tick reports that the node has ended it
 pub record IsCandidate (pieces : List Piece) (moment n : ℕ) (status : PodStatus) : Type 0 where
   pub piece : Piece
   pub at : slice_get pieces n ≡ Some piece
@@ -69,20 +69,20 @@ pub record IsCandidate (pieces : List Piece) (moment n : ℕ) (status : PodStatu
   pub is_status : IsStatusOf piece status
   pub may : MayBeEvicted moment status
 
--- what is shown of the pods that are present, of each at its number, may be handed to them
+-- what is shown of the pods that are present, of each at its number, may be given to them
 pub record AreNext (pieces : List Piece) (shown : List (Option PodObs)) : Type 0 where
   pub within : length shown ≤ length pieces
   pub each : (n : ℕ) (piece : Piece) (observed : PodObs) → slice_get pieces n ≡ Some piece
       → slice_get shown n ≡ Some (Some observed) → IsNextTick piece.pod piece.handed (pod_tick observed)
 
--- what the tick shows of the pods that are present may be handed to them, at the tick's own moment, which is later than
--- all that was handed to the pods
+-- what the tick shows of the pods that are present may be given to them, at the tick's own moment, which is later than
+-- all that the pods have
 pub record MayBeHanded (pieces : List Piece) (tick : TickObs) : Type 0 where
   pub next : AreNext pieces tick.pods
   pub at_its_moment : (n : ℕ) (observed : PodObs) → shown_of tick n ≡ Some observed → observed.at ≡ tick.at
   pub later : (n : ℕ) (piece : Piece) → slice_get pieces n ≡ Some piece → EndsBefore piece.handed tick.at
 
--- the tick says of each pod what it shows or that it is not present, and what it shows may be handed to it
+-- the tick has for each pod what it shows or that it is not present, and what it shows may be given to it
 pub record Fits (pods : Pods) (tick : TickObs) : Type 0 where
   pub told : length tick.pods ≡ length pods.pieces
   pub handed : MayBeHanded pods.pieces tick
@@ -93,12 +93,12 @@ with_shown f [] shown = []
 with_shown f (p ∷ ps) [] = p ∷ ps
 with_shown f (p ∷ ps) (o ∷ shown) = f p o ∷ with_shown f ps shown
 
--- the piece once it was handed what is shown of its pod, if that is present
+-- the piece once it has what is shown of its pod, if that is present
 abbrev pub handed_one : Piece → Option PodObs → Piece
 handed_one p None = p
 handed_one p (Some observed) = with_tick p (pod_tick observed)
 
--- the pieces once each pod that is present was handed what is shown of it
+-- the pieces once each pod that is present has what is shown of it
 abbrev pub handed_each : List Piece → List (Option PodObs) → List Piece
 handed_each pieces shown = with_shown handed_one pieces shown
 
@@ -124,7 +124,7 @@ joined_from n (Some p ∷ kept) back = p ∷ joined_from (n + 1) kept back
 joined_from n (None ∷ kept) [] = joined_from n kept []
 joined_from n (None ∷ kept) (q ∷ back) = with_number q n ∷ joined_from (n + 1) kept back
 
--- the piece once it was handed a tick, which has come into its status, and its round is over
+-- the piece once it has a tick, which has come into its status, and its round is over
 abbrev pub after_tick : Piece → PodTick → Piece
 after_tick p tick = at_rest (updated (with_tick p tick))
 
@@ -141,8 +141,8 @@ after_each pieces shown = with_shown after_one pieces shown
 abbrev pub closed : Piece → Piece
 closed p = at_rest (all_updated p)
 
--- the pieces once each pod that is present was handed what is shown of it, and has taken it into its status. One that
--- is not present stays as it was
+-- the pieces once each pod that is present has what is shown of it, and has taken it into its status. One that is not
+-- present stays as it was
 pub record AreAfter (old : List Piece) (shown : List (Option PodObs)) (new : List Piece) : Type 0 where
   pub as_many : length new ≡ length old
   pub each : (n : ℕ) (piece : Piece) (observed : PodObs) → slice_get old n ≡ Some piece

@@ -9,7 +9,7 @@ use Rattle.eviction.specs.declared.eviction.Eviction.{Eviction}
 use Rattle.eviction.specs.rule.Replay.{IsOfVictim}
 use Rattle.node_pods.specs.state.Pods.{IsCandidate, IsEvictable, AreEvicted}
 
--- the choice at a moment for the threshold that is served, of these pods
+-- the choice at a moment for the threshold that is acted on, among these pods
 abbrev pub IsChoiceAt : NodeConfig → List Piece → ℕ → Option ThresholdKey → Option Eviction → Type 0
 IsChoiceAt config pieces at None choice = choice ≡ None
 IsChoiceAt config pieces at (Some key) choice =

@@ -94,8 +94,8 @@ IsWhole One tick = list_all is_some tick.pods ≡ true
 IsWhole Two tick = list_all is_some tick.pods ≡ true
 IsWhole Three tick = Unit {0}
 
--- the tick may come next: one more may be taken, it is later than the last, it leaves out no pod that the version does
--- not let it leave out, and it shows each other one so that it may be handed to it
+-- the tick may come next: one more may be taken, it is later than the last, it leaves out only pods that the version
+-- allows it to leave out, and it shows each other pod so that this may be given to the pod
 pub record Fits (s : State) (tick : TickObs) : Type 0 where
   pub few : length s.evictions < most_ticks
   pub later : IfSome s.last (λ last. last < tick.at)
@@ -103,14 +103,14 @@ pub record Fits (s : State) (tick : TickObs) : Type 0 where
   pub whole : IsWhole s.config.version tick
   pub pods : PodsFit s.pods tick
 
--- the ticks may be handed to these pods, one after the other, each later than the one before it
+-- the ticks may be given to these pods, one after the other, each later than the one before it
 abbrev pub MayBeHandedAll : List Piece → Option ℕ → List TickObs → Type 0
 MayBeHandedAll pieces last [] = Unit {0}
 MayBeHandedAll pieces last (tick ∷ ticks) =
     MayBeHanded pieces tick × IfSome last (λ moment. moment < tick.at)
     × MayBeHandedAll (after_each pieces tick.pods) (Some tick.at) ticks
 
--- the ticks may come next, one after the other: so many more may be taken, and they may be handed to the pods
+-- the ticks may come next, one after the other: so many more may be taken, and they may be given to the pods
 pub record FitAll (s : State) (ticks : List TickObs) : Type 0 where
   pub few : length s.evictions + length ticks ≤ most_ticks
   pub handed : MayBeHandedAll s.pods.pieces s.last ticks

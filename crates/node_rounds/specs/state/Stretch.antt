@@ -37,11 +37,12 @@ pub record IsSampled (config : NodeConfig) (old : NodeSignals) (tick : TickObs) 
       → IsStateOf config.eviction config.eviction_pressure_transition_period (before ++ tick ∷ []) new
       → IsServed config.eviction before tick served
 
--- the threshold that is heeded in a tick: the one that is served, unless evictions pause by this one
+-- the threshold on which the node acts in a tick: the first one in the serving order that is due, unless evictions
+-- pause by this one
 abbrev pub heeded_in : NodeConfig → TickObs → Option Eviction → Option ThresholdKey → Option ThresholdKey
 heeded_in config tick pausing served = unless_paused (pauses config tick.at (still config tick pausing) []) served
 
--- the samples of a tick make this of the node, and no threshold is heeded in it
+-- the samples of a tick make this of the node, which acts on no threshold in it
 pub record IsCalm (config : NodeConfig) (old : NodeSignals) (pausing : Option Eviction) (tick : TickObs)
     (new : NodeSignals) (row : TickEvents) : Type 0 where
   pub served : Option ThresholdKey
@@ -49,8 +50,8 @@ pub record IsCalm (config : NodeConfig) (old : NodeSignals) (pausing : Option Ev
   pub at : row.at ≡ tick.at
   pub calm : heeded_in config tick pausing served ≡ None
 
--- in none of these ticks, one after the other, a threshold is heeded; they lead from these signals and the eviction by
--- which others may pause to those, and make these events of the node
+-- in none of these ticks, one after the other, the node acts on a threshold; they lead from these signals and the
+-- eviction by which others may pause to those, and make these events of the node
 abbrev pub AreCalm : NodeConfig → List TickObs → NodeSignals → Option Eviction → List TickEvents → NodeSignals
     → Option Eviction → Type 0
 AreCalm config [] old pausing rows new paused = (rows ≡ []) × (new ≡ old) × (paused ≡ pausing)
@@ -62,12 +63,12 @@ AreCalm config (tick ∷ ticks) old pausing rows new paused =
 abbrev pub no_evictions : List TickObs → List (Option Eviction)
 no_evictions ticks = map (λ (tick : TickObs). None) ticks
 
--- the pieces once each tick was handed to them, one after the other
+-- the pieces once they have each tick, one after the other
 abbrev pub handed_all : List Piece → List TickObs → List Piece
 handed_all pieces [] = pieces
 handed_all pieces (tick ∷ ticks) = handed_all (handed_each pieces tick.pods) ticks
 
--- a node in this state has begun a round with these ticks, in which no threshold is heeded, and this last one
+-- a node in this state has begun a round with these ticks, in which it acts on no threshold, and this last one
 pub record HasBegun (s : State) (calm : List TickObs) (tick : TickObs) (begun : Begun) : Type 0 where
   pub before : NodeSignals
   pub pausing : Option Eviction
@@ -84,13 +85,13 @@ pub record HasBegun (s : State) (calm : List TickObs) (tick : TickObs) (begun : 
   pub events : begun.events.items ≡ s.events
   pub at : begun.at ≡ tick.at
 
--- its pods were handed them, and more may come
+-- its pods have them, and more may come
 pub record IsOpen (s : State) (calm : List TickObs) (tick : TickObs) (stretch : Stretch) : Type 0 where
   pub has_begun : HasBegun s calm tick stretch.begun
   pub pods : stretch.pods
       ≡ pods_of (handed_all s.pods.pieces (calm ++ tick ∷ [])) s.pods.max_restart_delay s.pods.has_dedicated_imagefs
 
--- the stretch is that of some node that may take these ticks behind those that it has taken into it
+-- the stretch belongs to some node that may take these ticks after the ones that it has taken into it
 pub record MayGoOn (stretch : Stretch) (more : List TickObs) : Type 0 where
   pub node : State
   pub kept : IsKept node
@@ -111,12 +112,12 @@ pub record GoesOnWith (s : State) (calm : List TickObs) (tick : TickObs) (more :
 abbrev pub most_waiting : ℕ
 most_waiting = 32768
 
--- another tick may come: no threshold is heeded in the last one, and not so many updates wait yet
+-- another tick may come: the node acts on no threshold in the last one, and not so many updates wait yet
 pub record HasRoom (stretch : Stretch) : Type 0 where
   pub calm : stretch.begun.heeded ≡ None
   pub few : stretch.waiting < most_waiting
 
--- memory was refused to one of these ticks, for which there was room behind those before it, and these are left
+-- an allocation for one of these ticks failed, for which there was room after the earlier ones, and these are left
 pub record IsRefusedIn (s : State) (calm : List TickObs) (tick : TickObs) (more rest : List TickObs) : Type 0 where
   pub stretch : Stretch
   pub refused : TickObs
@@ -187,7 +188,7 @@ pub record MayEnd (s : State) (calm : List TickObs) (tick : TickObs) (round : Ro
   pub back_are : back ≡ map all_updated (sent_from 0 (handed_all s.pods.pieces (calm ++ tick ∷ [])))
   pub added : AreAdded back s.totals totals
 
--- the pieces of such a node are out, beside its book
+-- the pieces of such a node are out, and its book
 pub record IsOut (s : State) (calm : List TickObs) (tick : TickObs) (pieces : List Piece) (totals : Totals)
     (round : Round) : Type 0 where
   pub kept : IsKept s

@@ -1,6 +1,5 @@
--- When a node's conditions are true, and since when (Kubernetes, "Node-pressure Eviction", "Node
--- conditions" and "Node condition oscillation"). A condition turns in no tick but one in which the node judges its
--- signals.
+-- When a node's conditions are true, and since when (Kubernetes, "Node-pressure Eviction", "Node conditions" and "Node
+-- condition oscillation"). A condition turns only in a sync tick, in which the node evaluates its signals.
 use Rattle.std.specs.Prelude.{◌≡◌, ◌↔◌, ℕ, suc, List, [], ◌∷◌, length, take, slice_get, codes, Some, IsSomeAnd}
 use Rattle.histories.specs.rule.Histories.{moment_at}
 use Rattle.signals.specs.declared.signal.Signal.{Signal}
@@ -35,19 +34,18 @@ condition_of PidAvailable = PidPressure
 abbrev pub conditions : List NodeCondition
 conditions = MemoryPressure ∷ DiskPressure ∷ PidPressure ∷ []
 
--- the threshold is one of the condition's, and active after these ticks, which the node has judged
+-- the threshold is one of the condition's, and active after these sync ticks
 pub record Meets (eviction : EvictionConfig) (condition : NodeCondition) (ticks : List TickObs)
     (key : ThresholdKey) : Type 0 where
   pub belongs : condition_of key.signal ≡ condition
   pub active : IsActiveOnNode eviction ticks key
 
--- the condition is met after these ticks, which the node has judged: one of its thresholds is active
+-- the condition is met after these sync ticks: one of its thresholds is active
 abbrev pub IsMet : EvictionConfig → NodeCondition → List TickObs → Type 0
 IsMet eviction condition ticks =
     (place : ℕ) × IsSomeAnd (slice_get serving_order place) (Meets eviction condition ticks)
 
--- one observation for each of these ticks, which the node has judged, at its moment: whether the condition is met
--- after it
+-- one observation for each of these sync ticks, at its moment: whether the condition is met after it
 pub record AreObservations (eviction : EvictionConfig) (condition : NodeCondition) (ticks : List TickObs)
     (h : List Observation) : Type 0 where
   pub as_many : length h ≡ length ticks

@@ -13,11 +13,11 @@ use Rattle.node_signals.specs.rule.Keys.{serving_order}
 use Rattle.node_signals.specs.rule.Thresholds.{IsActiveOnNode, IsDueOnNode, IsReclaimed}
 use Rattle.node_signals.specs.rule.Conditions.{conditions, IsTrueAfter}
 
--- the event that a value has changed: N says whether it is true now, O whether it was before
+-- the event that a value has changed: N is whether it is true now, O whether it was before
 abbrev pub Changes : (Bool → NodeEvent) → Type 0 → Type 0 → NodeEvent → Type 0
 Changes event_of N O event = (value : Bool) × (event ≡ event_of value) × (IsTrue value ↔ N) × ((IsTrue value ↔ O) → ⊥)
 
--- the threshold is active after the tick and was not before, or the other way round, by what the node has judged
+-- the threshold is active after the tick and was not before, or the other way round, by the sync ticks
 abbrev pub ChangesThreshold : EvictionConfig → List TickObs → TickObs → ThresholdKey → NodeEvent → Type 0
 ChangesThreshold eviction before tick key =
     Changes (Threshold key)
@@ -29,7 +29,7 @@ ChangesCondition eviction period before tick condition =
     Changes (Pressure condition)
     (IsTrueAfter eviction period condition (before ++ tick ∷ [])) (IsTrueAfter eviction period condition before)
 
--- the node judges the tick, the threshold is due by what it has judged, and the node has freed enough by itself
+-- the tick is a sync tick, the threshold is due by the sync ticks, and the node has freed enough by itself
 abbrev pub Reclaims : EvictionConfig → List TickObs → TickObs → ThresholdKey → NodeEvent → Type 0
 Reclaims eviction before tick key event =
     (event ≡ Reclaim key) × IsTrue tick.judged

@@ -1,6 +1,6 @@
--- The thresholds that a node may have (Kubernetes, "Node-pressure Eviction", "Eviction thresholds"),
--- and the order in which they are served (this profile's rule): signal after signal, and of one
--- signal the hard threshold before the soft one.
+-- The thresholds that a node may have (Kubernetes, "Node-pressure Eviction", "Eviction thresholds"), and the order in
+-- which the node acts on them (this profile's rule): signal after signal, and of one signal the hard threshold before
+-- the soft one.
 use Rattle.std.specs.Prelude.{List, [], ◌∷◌, Option}
 use Rattle.signals.specs.declared.signal.Signal.{Signal}
 use Rattle.signals.specs.declared.signal.Signal.TheVariants.{MemoryAvailable, NodefsAvailable, ImagefsAvailable}
@@ -15,7 +15,7 @@ use Rattle.node_signals.specs.declared.key.ThresholdKey.{ThresholdKey}
 abbrev pub key : Signal → ThresholdKind → ThresholdKey
 key signal kind = record { signal = signal; kind = kind }
 
--- the order in which thresholds are served
+-- the order in which the node acts on thresholds
 abbrev pub serving_order : List ThresholdKey
 serving_order =
     key MemoryAvailable Hard ∷ key MemoryAvailable Soft

@@ -1,7 +1,7 @@
--- Which of a node's thresholds are active, due and served (Kubernetes, "Node-pressure Eviction",
--- "Eviction thresholds" and "Reclaiming node level resources"; that one threshold alone is served in a
--- tick is this profile's rule). Only the ticks in which the node judges its signals count; the samples are those of
--- such ticks alone, oldest first.
+-- Which of a node's thresholds are active and due, and on which one it acts (Kubernetes, "Node-pressure Eviction",
+-- "Eviction thresholds" and "Reclaiming node level resources"; that it acts on one threshold alone in a tick is this
+-- profile's rule). Only the sync ticks count, in which the node evaluates its signals; the samples are the ones of such
+-- ticks alone, oldest first.
 use Rattle.std.specs.Prelude.{◌≡◌, ℕ, ◌+◌, ◌≤◌, List, [], ◌∷◌, ◌++◌, map, slice_get, true, Option, option_and_then}
 use Rattle.std.specs.Prelude.{IsTrue, IsSomeAnd}
 use Rattle.histories.specs.rule.Histories.{IsFirstPlace}
@@ -22,13 +22,13 @@ use Rattle.node_signals.specs.rule.Keys.{serving_order, threshold_at}
 abbrev pub samples : Signal → List TickObs → List Sample
 samples signal ticks = map (λ (tick : TickObs). sample tick.at (of tick.signals signal)) ticks
 
--- the node has the threshold, and it is active after these ticks, which it has judged
+-- the node has the threshold, and it is active after these sync ticks
 abbrev pub IsActiveOnNode : EvictionConfig → List TickObs → ThresholdKey → Type 0
 IsActiveOnNode eviction ticks key =
     IsSomeAnd (threshold_at eviction key)
     (λ threshold. IsThresholdActive threshold (of eviction.capacity key.signal) (samples key.signal ticks))
 
--- the node has the threshold, and it is due after these ticks, which it has judged
+-- the node has the threshold, and it is due after these sync ticks
 abbrev pub IsDueOnNode : EvictionConfig → List TickObs → ThresholdKey → Type 0
 IsDueOnNode eviction ticks key =
     IsSomeAnd (threshold_at eviction key)
@@ -44,8 +44,8 @@ pub record IsReclaimed (eviction : EvictionConfig) (tick : TickObs) (key : Thres
   pub freed : IsSomeAnd (threshold_at eviction key)
       (λ threshold. IsSomeAnd (of tick.after_reclaim key.signal) (IsEnough (of eviction.capacity key.signal) threshold))
 
--- the threshold asks for an eviction in a tick that comes after these: the node judges the tick, the threshold is due
--- by what the node has judged, and the node has not freed enough by itself
+-- the threshold asks for an eviction in a tick that comes after these: the tick is a sync tick, the threshold is due by
+-- the sync ticks, and the node has not freed enough by itself
 pub record Asks (eviction : EvictionConfig) (before : List TickObs) (tick : TickObs) (key : ThresholdKey) : Type 0 where
   pub judged : IsTrue tick.judged
   pub due : IsDueOnNode eviction (judged_of (before ++ tick ∷ [])) key
@@ -55,7 +55,7 @@ pub record Asks (eviction : EvictionConfig) (before : List TickObs) (tick : Tick
 abbrev pub AsksAt : EvictionConfig → List TickObs → TickObs → ℕ → Type 0
 AsksAt eviction before tick place = IsSomeAnd (slice_get serving_order place) (Asks eviction before tick)
 
--- the threshold that is served: the first in the serving order that asks for an eviction
+-- the threshold that is acted on: the first in the serving order that asks for an eviction
 abbrev pub IsServed : EvictionConfig → List TickObs → TickObs → Option ThresholdKey → Type 0
 IsServed eviction before tick served =
     (place : Option ℕ) × IsFirstPlace (AsksAt eviction before tick) place

@@ -9,13 +9,13 @@ use Rattle.node_signals.specs.rule.Thresholds.{Asks, IsServed}
 use Rattle.node_signals.specs.rule.Conditions.{IsTrueAfter, IsSinceMoment}
 use Rattle.node_signals.specs.rule.Events.{AreNodeEvents}
 
--- at most one threshold is served in a tick
+-- the node acts on at most one threshold in a tick
 abbrev pub OneServed : Type 0
 OneServed =
     (eviction : EvictionConfig) (before : List TickObs) (tick : TickObs) (one other : Option ThresholdKey)
     → IsServed eviction before tick one → IsServed eviction before tick other → one ≡ other
 
--- the threshold that is served is due, and the node has not freed enough by itself
+-- the threshold that is acted on is due, and the node has not freed enough by itself
 abbrev pub ServedIsDue : Type 0
 ServedIsDue =
     (eviction : EvictionConfig) (before : List TickObs) (tick : TickObs) (key : ThresholdKey)

@@ -38,7 +38,7 @@ pub record AreWatches (eviction : EvictionConfig) (ticks : List TickObs) (watche
   pub each : (place : ℕ) (key : ThresholdKey) (watch : Option Watch) → slice_get serving_order place ≡ Some key
       → slice_get watches place ≡ Some watch → IsWatchAt eviction ticks key watch
 
--- the state of a pressure after what these ticks say of its condition
+-- the state of a pressure after what these ticks make of its condition
 abbrev pub IsPressureOf : EvictionConfig → ℕ → NodeCondition → List TickObs → Pressure → Type 0
 IsPressureOf eviction period condition ticks pressure =
     (h : List Observation) × AreObservations eviction condition ticks h × IsPressureState period h pressure

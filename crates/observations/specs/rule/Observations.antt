@@ -17,7 +17,8 @@ shown_of tick pod = option_flatten (slice_get tick.pods pod)
 abbrev pub all_shown : TickObs → List PodObs
 all_shown tick = filter_map (λ (shown : Option PodObs). shown) tick.pods
 
--- the ticks in which the node judges its signals (this project's extended format; without a word of it all of them)
+-- the sync ticks, in which the node evaluates its signals (this project's extended format; all ticks without the member
+-- that denies it)
 abbrev pub judged_of : List TickObs → List TickObs
 judged_of ticks = filter (λ (tick : TickObs). tick.judged) ticks
 

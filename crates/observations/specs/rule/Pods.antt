@@ -13,8 +13,8 @@ no_gates = replicate most_gates None
 abbrev pub no_words : PodWords
 no_words = record { deleting = false; failed = None; gates = no_gates }
 
--- the moment in seconds, an observation for each container by number, what the tick says of the samples of the pod's
--- use of its node, and its words
+-- the moment in seconds, an observation for each container by number, the sampling of the pod's use of its node, and
+-- the tick's words on the pod
 pub record PodObs : Type 0 where
   pub at : ℕ
   pub containers : List ContainerObs

@@ -43,7 +43,7 @@ kept_in (shown.Whole whole) = containers_in whole.value.containers
 kept_in (shown.Used used) = containers_in used.value.containers
 kept_in (shown.Told told) = containers_in told.value.containers
 
--- what the tick says of the pod's samples, as its packed containers keep it
+-- the sampling of a tick, as its packed containers keep it
 abbrev pub sampling_in : PackedContainers → Sampling
 sampling_in (shown.Unsampled containers) = Unsampled
 sampling_in (shown.OneWithMemory one memory) = Sampled (memory_as memory)

@@ -9,7 +9,7 @@ use Rattle.observations.specs.declared.whole.WholeUsage.{WholeUsage}
 abbrev pub units_as : ℕ → ℕ
 units_as units = min (1000 * units) greatest_quantity
 
--- the amount in thousandths; 2^64 - 1 units stand for none
+-- the amount in thousandths; 2^64 - 1 units mean none
 abbrev pub amount_as : Units → Option ℕ
 amount_as units = if units.0 == 2 ^ 64 - 1 then None else Some (units_as units.0)
 

@@ -2,10 +2,7 @@
 -- restart policy"; "Init Containers"; "Sidecar Containers"). C is what stands for the container: a view of
 -- it, or its number in a pod with a history.
 use Rattle.std.specs.Prelude.{◌≢◌, ℤ, pos}
-use Rattle.manifest.specs.declared.policy.Policy.{Policy}
 use Rattle.manifest.specs.declared.pod.Role.{Role}
-use Rattle.manifest.specs.declared.pod.Role.TheVariants.{App}
-use Rattle.restarts.specs.rule.Policy.{WantsRestart}
 
 -- what the rules ask of a container
 pub record Facts (C : Type 0) : Type 1 where
@@ -25,9 +22,3 @@ HasCompleted facts container = facts.exited container (pos 0)
 -- the container's newest instance has exited with a code other than 0
 abbrev pub HasFailed : {C : Type 0} → Facts C → C → Type 0
 HasFailed facts container = (code : ℤ) × facts.exited container code × (code ≢ pos 0)
-
--- the container's newest instance has exited, and an app container is not restarted after such an exit
-pub record HasFinished {C : Type 0} (facts : Facts C) (policy : Policy) (container : C) : Type 0 where
-  pub code : ℤ
-  pub exited : facts.exited container code
-  pub wants_none : WantsRestart policy App code → ⊥

@@ -39,8 +39,8 @@ pub record HasGrown (pool : PoolState) : Type 0 where
   pub events : pool.book.events ≤ 2 ^ 62 + most_events * finished_weight (λ _. 1) pool
   pub orders : pool.book.orders ≤ 2 ^ 62 + most_events * finished_weight (λ _. 1) pool
 
--- what holds after each step: each piece is at one place, and waits for its update as long as no mark says
--- that it had it
+-- what holds after each step: each piece is at one place, and waits for its update as long as no mark shows that it had
+-- it
 pub record Stands (round : RoundState) : Type 0 where
   pub as_many : length round.table.entries ≡ length round.table.pieces
   pub one_place : (n : ℕ) → n < length round.table.pieces → places n round.pool ≡ 1
@@ -59,13 +59,13 @@ abbrev pub Agrees : List Entry → RoundState → Type 0
 Agrees entries round =
     (n : ℕ) → 0 < times_marked n round.pool → entry_at entries n ≡ entry_at round.table.entries n
 
--- the entries of those that are updated now are those of the earlier ones too, and the steps lead from one
+-- the entries of the pieces that are updated now are also the entries of the earlier ones, and the steps lead from one
 -- state of the workers to the other by them
 pub record Follows (entries : List Entry) (before : RoundState) (steps : List Step) (after : RoundState) : Type 0 where
   pub agrees : Agrees entries before
   pub leads : after.pool ≡ run entries before.pool steps
 
--- these steps were played
+-- these steps were taken
 pub record Plays (before : RoundState) (steps : List Step) (after : RoundState) : Type 0 where
   pub stands : Stands after
   pub pieces : map updated after.table.pieces ≡ map updated before.table.pieces

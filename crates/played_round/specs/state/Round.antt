@@ -24,11 +24,11 @@ round_of table pool = record { table = table; pool = pool }
 abbrev pub with_pool : RoundState → PoolState → RoundState
 with_pool round pool = round_of round.table pool
 
--- the workers of a deal beside a book with these totals
+-- the workers of a deal with a book with these totals
 abbrev pub dealt : ℕ → ℕ → Totals → PoolState
 dealt workers pieces book = record { workers = (deal workers pieces).workers; book = book }
 
--- a round that may be played: all its pieces are pending, and its workers have nothing to do
+-- a round that may be simulated: all its pieces wait, and its workers have nothing to do
 pub record IsFresh (workers : ℕ) (round : RoundState) : Type 0 where
   pub pending : All (λ (piece : Piece). piece.waiting ≡ 1) round.table.pieces
   pub few : length round.table.pieces ≤ most_pods
@@ -36,7 +36,7 @@ pub record IsFresh (workers : ℕ) (round : RoundState) : Type 0 where
   pub are_idle : round.pool.workers ≡ replicate workers idle
   pub low : AreLow round.pool.book
 
--- what a round leaves that was played by these steps and drained: each piece is updated, the shares add up to the
+-- what a round leaves that was simulated by these steps and drained: each piece is updated, the shares add up to the
 -- entries of the pieces, and the workers have finished what they do whatever the entries are
 pub record IsWhole (before : RoundState) (workers : ℕ) (steps : List Step) (after : RoundState) : Type 0 where
   pub as_many : length after.pool.workers ≡ workers

@@ -1,4 +1,4 @@
--- A pod, all that was handed to it, and its eviction.
+-- A pod, its ticks so far, and its eviction.
 use Rattle.std.specs.Prelude.{ℕ, zero, suc, ◌-◌, List, length, take, Option, option_map}
 use Rattle.manifest.specs.declared.pod.PodSpec.{PodSpec}
 use Rattle.pod_state.specs.rule.Pods.{PodTick}
@@ -8,13 +8,13 @@ use Rattle.pod_piece.specs.declared.piece.EvictionRecord.{EvictionRecord}
 abbrev pub place_of : Option EvictionRecord → Option ℕ
 place_of eviction = option_map (λ (e : EvictionRecord). e.place) eviction
 
--- a pod, all that was handed to it, and its eviction
+-- a pod, its ticks so far, and its eviction
 pub record Piece : Type 0 where
   pub number : ℕ
   pub pod : PodSpec
   -- the node's maximum restart delay, in seconds
   pub max_restart_delay : ℕ
-  -- every tick that was handed to it
+  -- every tick of the pod so far
   pub handed : List PodTick
   -- this many of the last of them are still to come into its status
   pub waiting : ℕ
@@ -31,6 +31,6 @@ taken (suc waiting) handed = take (length handed - suc waiting) handed
 abbrev pub ticks : Piece → List PodTick
 ticks p = taken p.waiting p.handed
 
--- the piece once the next tick that was handed to it has come into its status
+-- the piece once the oldest waiting tick has come into its status
 abbrev pub updated : Piece → Piece
 updated p = record p { waiting = p.waiting - 1 }

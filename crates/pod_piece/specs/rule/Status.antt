@@ -26,7 +26,7 @@ requests_of pod = record {
   ephemeral_storage = pod_request_of EphemeralStorage pod;
 }
 
--- how the node has ended the pod with this tick, as the tick says
+-- how the node has ended the pod with this tick, if the tick reports it
 abbrev pub failure_in : PodTick → Option PodFailure
 failure_in tick = option_map (λ reason. record { at = tick.moment; reason = reason }) tick.entry.words.failed
 
@@ -34,7 +34,7 @@ failure_in tick = option_map (λ reason. record { at = tick.moment; reason = rea
 abbrev pub failure_at : List PodTick → ℕ → Option PodFailure
 failure_at h t = option_and_then failure_in (slice_get h t)
 
--- how the node has ended the pod, but for an eviction: as the tick says that ended it, if it does
+-- how the node has ended the pod, except by an eviction: as the tick reports it that ended the pod
 abbrev pub IsFailure : PodSpec → Option EvictionRecord → List PodTick → Option PodFailure → Type 0
 IsFailure pod (Some eviction) h failure = failure ≡ None
 IsFailure pod None h failure =
@@ -51,14 +51,14 @@ disrupts reason =
     bytes_eq reason (codes "Evicted")
     || (bytes_eq reason (codes "Preempting") || bytes_eq reason (codes "Terminated"))
 
--- the moment from which on the pod is disrupted by the node: that of its eviction, or of an end for such a reason
+-- the moment from which on the pod is disrupted by the node: the moment of its eviction, or of an end for such a reason
 abbrev pub disrupted_at : Option EvictOrder → Option PodFailure → Option ℕ
 disrupted_at (Some order) failure = Some order.at
 disrupted_at None None = None
 disrupted_at None (Some failure) = if disrupts failure.reason then Some failure.at else None
 
--- a pod of this status may be evicted by a tick of the moment: the node doesn't spare it, and it has not ended, or the
--- node has ended it with that tick, as the tick says
+-- a pod of this status may be evicted by a tick of the moment: the node doesn't exempt it, and it has not ended, or
+-- that tick reports that the node has ended it
 pub record MayBeEvicted (at : ℕ) (status : PodStatus) : Type 0 where
   pub not_spared : status.spared ≡ false
   pub lives : IsTerminal status.phase → option_map (λ (f : PodFailure). f.at) status.failure ≡ Some at

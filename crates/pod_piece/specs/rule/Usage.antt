@@ -12,23 +12,23 @@ use Rattle.observations.specs.declared.usage.Usage.{Usage}
 use Rattle.pod_state.specs.rule.Pods.{PodEntry, PodTick, IsEnd, counted}
 use Rattle.pod_piece.specs.declared.status.NewestUsage.{NewestUsage}
 
--- what a tick says of the samples of a resource: that there are none, or one, where it has one
+-- the sampling of a resource by a tick: that there is no sample, or one, if the tick has one
 abbrev pub sample_said : (Usage → Option ℕ) → Sampling → Option (Option ℕ)
 sample_said resource Unsaid = None
 sample_said resource Unsampled = Some None
 sample_said resource (Sampled usage) = option_map (λ amount. Some amount) (resource usage)
 
--- what a tick says of whether the pod has no sample
+-- whether a tick reports that the pod has no sample
 abbrev pub unsampled_said : Sampling → Option Bool
 unsampled_said Unsaid = None
 unsampled_said Unsampled = Some true
 unsampled_said (Sampled usage) = Some false
 
--- the tick says something of it
+-- the tick has something of it
 abbrev pub Says : {A : Type 0} → (Sampling → Option A) → PodEntry → Type 0
 Says said entry = IsSome (said entry.sampling)
 
--- what the last tick says that says something, if any does
+-- what the last tick reports that has something of it, if any has
 abbrev pub IsLastSaid : {A : Type 0} → (Sampling → Option A) → List PodTick → Option A → Type 0
 IsLastSaid said h None = (t : ℕ) → IsSomeAnd (entry_at h t) (Says said) → ⊥
 IsLastSaid said h (Some last) =
@@ -41,7 +41,7 @@ pub record IsNewestSample (resource : Usage → Option ℕ) (h : List PodTick) (
   pub is_last : IsLastSaid (sample_said resource) h last
   pub amount_is : amount ≡ option_flatten last
 
--- the pod has no sample, as the last tick says that says whether it has one
+-- the pod has no sample, by the last tick that has a sample or reports that there is none
 pub record IsUnsampled (h : List PodTick) (is_unsampled : Bool) : Type 0 where
   pub last : Option Bool
   pub is_last : IsLastSaid unsampled_said h last

@@ -1,4 +1,4 @@
--- What a piece keeps beside its history.
+-- What a piece keeps in addition to its history.
 use Rattle.std.specs.Prelude.{◌≡◌, ℕ, suc, ◌+◌, ◌≤◌, ◌<◌, List, length, take, slice_get, Option, Some, None, IfSome}
 use Rattle.quantity.specs.rule.Duration.{end_of_time}
 use Rattle.histories.specs.rule.Histories.{last_moment}
@@ -51,7 +51,7 @@ MayWait p =
     (place : ℕ) (tick : PodTick) → length p.handed ≤ place + p.waiting → slice_get p.handed place ≡ Some tick
     → IsNextTick p.pod (take place p.handed) tick
 
--- the values beside the history are those that follow from it
+-- the values that are kept with the history are the ones that follow from it
 pub record IsKept (p : Piece) (differs : List Differ) (state : PodState) (status : PodStatus)
     (earlier : List MadeTick) (events : List PodEvent) : Type 0 where
   pub within : p.waiting ≤ length p.handed

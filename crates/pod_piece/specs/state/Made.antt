@@ -44,7 +44,7 @@ abbrev pub AreRoundEvents : Piece → List MadeEvent → Type 0
 AreRoundEvents p made =
     AreMadeOver p.pod p.max_restart_delay (evicted_at p) (take p.begun (ticks p)) (round_of p) made
 
--- the events of its round, but for those of the last tick
+-- the events of its round, except the events of the last tick
 abbrev pub AreEarlierEvents : Piece → List MadeTick → Type 0
 AreEarlierEvents p made =
     AreMadeOver p.pod p.max_restart_delay (evicted_at p) (take p.begun (ticks p)) (before_last (round_of p))

@@ -1,4 +1,4 @@
--- What becomes of a piece as ticks are handed to it and come into its pod's status.
+-- What becomes of a piece as ticks are added to it and come into its pod's status.
 use Rattle.std.specs.Prelude.{ℕ, zero, suc, ◌-◌, List, [], ◌∷◌, ◌++◌, length, map, take, slice_get, nat_lt}
 use Rattle.std.specs.Prelude.{Option, Some, None, if◌then◌else◌}
 use Rattle.manifest.specs.declared.pod.PodSpec.{PodSpec}
@@ -41,16 +41,16 @@ abbrev pub evicted_before : Option ℕ → ℕ → Option ℕ
 evicted_before None t = None
 evicted_before (Some place) t = if nat_lt place t then Some place else None
 
--- a pod that nothing was handed to
+-- a pod without ticks
 abbrev pub new_piece : ℕ → PodSpec → ℕ → Piece
 new_piece number pod max_restart_delay = piece number pod max_restart_delay [] 0 0 None
 
--- where the round of a piece begins that is handed a tick: a new one, behind this many ticks, unless some wait
+-- where the round of a piece begins that gets a tick: a new one, after this many ticks, unless some wait
 abbrev pub begun_with : ℕ → ℕ → ℕ → ℕ
 begun_with zero handed begun = handed
 begun_with (suc waiting) handed begun = begun
 
--- the piece once one tick more was handed to it
+-- the piece with one more tick
 abbrev pub with_tick : Piece → PodTick → Piece
 with_tick p tick = record p {
   handed = p.handed ++ tick ∷ [];

@@ -10,11 +10,11 @@ use Rattle.pod_piece.specs.declared.status.NewestUsage.{NewestUsage}
 abbrev pub no_samples : Usage
 no_samples = record { memory = None; volumes = None; logs = None; writable = None; inodes = None; pids = None }
 
--- the newest samples of a pod of which no tick has one or says that it has none
+-- the newest samples of a pod of which no tick has a sample or reports that there is none
 abbrev pub nothing : NewestUsage
 nothing = record { samples = no_samples; is_unsampled = false }
 
--- the newest samples, with those of a tick more
+-- the newest samples, with one more tick
 abbrev pub newer : NewestUsage → Sampling → NewestUsage
 newer old Unsaid = old
 newer old Unsampled = record { samples = no_samples; is_unsampled = true }

@@ -31,7 +31,7 @@ pub record AreMade (pod : PodSpec) (max_restart_delay : ℕ) (before : List PodT
   pub each : (number : ℕ) (d : ContainerEvents) → number < length pod.containers
       → IsMadeOf pod max_restart_delay before tick number (slice_index_or made number d)
 
--- the phase that the tick leaves a pod in that had not ended, an eviction aside: Failed where it says that the node has
+-- the phase that the tick leaves a pod in that had not ended, an eviction aside: Failed if it reports that the node has
 -- ended it, else its raw phase
 abbrev pub IsPhaseLeft : PodSpec → List PodTick → PodTick → Phase → Type 0
 IsPhaseLeft pod before tick phase =
@@ -50,7 +50,7 @@ restart_in Running restart = restart
 restart_in Succeeded restart = None
 restart_in Failed restart = None
 
--- the pod is leaving with the tick: it is being deleted, or the tick says that the node has ended it
+-- the pod is leaving with the tick: it is being deleted, or the tick reports that the node has ended it
 abbrev pub is_leaving : List PodTick → PodTick → Bool
 is_leaving before tick = is_being_deleted (before ++ tick ∷ []) || says_failed tick
 

@@ -5,15 +5,15 @@ use Rattle.std.specs.Option.{option_flatten}
 use Rattle.manifest.specs.declared.pod.PodSpec.{PodSpec}
 use Rattle.pod_state.specs.rule.Pods.{PodTick, AreContainersReady}
 
--- what a tick says of the condition that the gate with the number names
+-- the status that a tick gives of the condition that the gate with the number names
 abbrev pub gate_said : PodTick → ℕ → Option Bool
 gate_said tick gate = option_flatten (slice_get tick.entry.words.gates gate)
 
--- the tick at this place says this status of it
+-- the tick at this place gives this status of it
 abbrev pub SaysStatus : List PodTick → ℕ → Bool → ℕ → Type 0
 SaysStatus h gate status t = IsSomeAnd (slice_get h t) (λ tick. gate_said tick gate ≡ Some status)
 
--- the condition that the gate names is True after these ticks: some tick says so, and none after it says that it isn't
+-- the condition that the gate names is True after these ticks: some tick gives True, and none after it gives False
 abbrev pub IsGateTrue : List PodTick → ℕ → Type 0
 IsGateTrue h gate =
     (t : ℕ) × SaysStatus h gate true t × ((later : ℕ) → t < later → SaysStatus h gate false later → ⊥)

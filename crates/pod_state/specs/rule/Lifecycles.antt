@@ -9,8 +9,7 @@ use Rattle.pod_state.specs.declared.lifecycle.Lifecycle.{Lifecycle}
 use Rattle.pod_state.specs.rule.Pods.{PodTick, IsPhase, IsInitialized, AreContainersReady}
 use Rattle.pod_state.specs.rule.Gates.{IsReady}
 
--- the condition is true exactly where C holds after these ticks, and its moment is that of C's last
--- transition
+-- the condition is true exactly if C holds after these ticks, and its moment is the moment of C's last transition
 pub record IsConditionAfter (C : List PodTick → Type 0) (h : List PodTick) (c : Condition) : Type 0 where
   pub value : IsTrue c.value ↔ C h
   pub since : IsTransition h (HoldsAt C h) c.since

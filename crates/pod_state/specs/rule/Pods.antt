@@ -1,7 +1,7 @@
 -- The phase of a pod after a list of ticks (Kubernetes, "Pod Lifecycle", "Pod phase"; that what is
 -- recorded after the end of a pod changes nothing is this profile's rule). A tick is named by its
 -- place in the list, a container by its number.
-use Rattle.std.specs.Prelude.{◌≡◌, ◌≢◌, ◌⊎◌, ℕ, suc, Bool, List, [], ◌∷◌, length, Option, Some, None, IsSomeAnd}
+use Rattle.std.specs.Prelude.{◌≡◌, ◌≢◌, ◌⊎◌, ℕ, suc, ℤ, Bool, List, [], ◌∷◌, length, Option, Some, None, IsSomeAnd}
 use Rattle.std.specs.Prelude.{IsTrue, is_some}
 use Rattle.std.specs.Prelude.{unwrap_or, slice_get}
 use Rattle.std.specs.List.{range_with_len, list_any}
@@ -18,13 +18,15 @@ use Rattle.manifest.specs.declared.pod.PodSpec.{PodSpec}
 use Rattle.phase.specs.declared.phase.Phase.{Phase}
 use Rattle.phase.specs.declared.phase.Phase.TheVariants.{Pending, Failed}
 use Rattle.phase.specs.rule.Facts.{Facts}
-use Rattle.phase.specs.rule.RawPhase.{Where, IsRawPhase, IsTerminal, AreInitialized}
+use Rattle.phase.specs.rule.RawPhase.{Where, IsTerminal, AreInitialized}
+use Rattle.phase.specs.rule.ByContainer.{IsRawPhaseBy}
+use Rattle.restarts.specs.rule.Own.{WantsRestartBy}
 use Rattle.containers.specs.rule.Ticks.{ContainerTick, listings}
 use Rattle.containers.specs.rule.Probed as probed
 use Rattle.containers.specs.rule.Shown as shown
 
--- what a tick shows of a pod: of each container what is listed of it and its probes' results, what it says of the
--- samples of the pod's use of its node, and its words
+-- what a tick shows of a pod: for each container the listing and its probes' results, the sampling of the pod's use of
+-- its node, and the tick's words
 pub record PodEntry : Type 0 where
   pub containers : List ContainerObs
   pub sampling : Sampling
@@ -42,12 +44,12 @@ pod_tick observed = recorded observed.at (record {
   words = observed.words;
 })
 
--- the pod is being deleted after these ticks: some of them says so (Kubernetes, "Pod Lifecycle", "Termination of
+-- the pod is being deleted after these ticks: some of them marks it so (Kubernetes, "Pod Lifecycle", "Termination of
 -- Pods"; the word is this project's)
 abbrev pub is_being_deleted : List PodTick → Bool
 is_being_deleted h = list_any (λ (tick : PodTick). tick.entry.words.deleting) h
 
--- the tick says that with it the node has ended the pod (Kubernetes, "Pod Lifecycle", "Pod phase"; the word is this
+-- the tick reports that the node has ended the pod with it (Kubernetes, "Pod Lifecycle", "Pod phase"; the word is this
 -- project's)
 abbrev pub says_failed : PodTick → Bool
 says_failed tick = is_some tick.entry.words.failed
@@ -85,15 +87,21 @@ facts pod h = record {
   was_started = λ container. OfSpec pod container (λ spec. probed.WasStarted spec (ticks_of h container));
 }
 
+-- the container with the number is restarted after an exit with this code: by the pod's policy and by what it has of
+-- its own
+abbrev pub WantsRestart : PodSpec → ℕ → ℤ → Type 0
+WantsRestart pod container code =
+    OfSpec pod container (λ spec. WantsRestartBy pod.policy spec.own_restarts spec.role code)
+
 -- the numbers of the pod's containers
 abbrev pub numbers : PodSpec → List ℕ
 numbers pod = range_with_len 0 (length pod.containers)
 
 -- the raw phase of the pod after these ticks
 abbrev pub IsRawPhaseAfter : PodSpec → List PodTick → Phase → Type 0
-IsRawPhaseAfter pod h phase = IsRawPhase (facts pod h) pod.policy (numbers pod) phase
+IsRawPhaseAfter pod h phase = IsRawPhaseBy (facts pod h) (WantsRestart pod) (numbers pod) phase
 
--- the node ends the pod with the tick at this place: that tick evicts it, or says that it has failed
+-- the node ends the pod with the tick at this place: that tick evicts it, or reports its end
 abbrev pub IsEndedByNode : Option ℕ → List PodTick → ℕ → Type 0
 IsEndedByNode evicted h t = (evicted ≡ Some t) ⊎ IsSomeAnd (slice_get h t) (λ tick. IsTrue (says_failed tick))
 

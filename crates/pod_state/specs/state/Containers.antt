@@ -1,11 +1,16 @@
 -- The containers of a pod, as its ticks leave what is kept of them.
-use Rattle.std.specs.Prelude.{◌≡◌, ℕ, ◌<◌, List, length, Option, slice_index_or}
+use Rattle.std.specs.Prelude.{◌≡◌, ℕ, ◌<◌, List, length, Option, option_and_then, slice_get, slice_index_or}
+use Rattle.manifest.specs.declared.own_restarts.OwnRestarts.{OwnRestarts}
 use Rattle.manifest.specs.declared.pod.PodSpec.{PodSpec}
 use Rattle.containers.specs.declared.container.Container.{Container}
 use Rattle.containers.specs.declared.status.ContainerStatus.{ContainerStatus}
 use Rattle.containers.specs.state.Container.{IsStateOf}
 use Rattle.pod_state.specs.rule.Pods.{PodTick, ticks_of, OfSpec, IsEnd, counted}
 use Rattle.pod_state.specs.rule.Containers.{IsShownOf}
+
+-- what the container with the number has of its own to decide on its restarts
+abbrev pub own_restarts_of : PodSpec → ℕ → Option OwnRestarts
+own_restarts_of pod number = option_and_then (λ spec. spec.own_restarts) (slice_get pod.containers number)
 
 -- what is shown of each container
 pub record AreShown (pod : PodSpec) (is_ended : Type 0) (h : List PodTick)

@@ -5,7 +5,7 @@ use Rattle.histories.specs.state.Histories.{IsRising}
 use Rattle.manifest.specs.declared.pod.PodSpec.{PodSpec}
 use Rattle.probes.specs.state.Container.{AreInRange}
 use Rattle.phase.specs.declared.phase.Phase.{Phase}
-use Rattle.phase.specs.declared.view.ContainerView.{ContainerView}
+use Rattle.phase.specs.declared.restart_view.RestartView.{RestartView}
 use Rattle.phase.specs.rule.RawPhase.{IsTerminal}
 use Rattle.pod_state.specs.declared.lifecycle.Lifecycle.{Lifecycle}
 use Rattle.containers.specs.declared.status.ContainerStatus.{ContainerStatus}
@@ -20,7 +20,7 @@ use Rattle.pod_state.specs.rule.Containers.{IsContainerStatus, AreStatusesOf}
 
 -- a pod has exactly one raw phase after ticks of which each container has a view
 pub record OneRawPhase : Type 0 where
-  pub some : (pod : PodSpec) (h : List PodTick) (views : List ContainerView) → AreViewsOf pod h views
+  pub some : (pod : PodSpec) (h : List PodTick) (views : List RestartView) → AreViewsOf pod h views
       → (p : Phase) × IsRawPhaseAfter pod h p
   pub no_other : (pod : PodSpec) (h : List PodTick) (p q : Phase) → IsRawPhaseAfter pod h p
       → IsRawPhaseAfter pod h q → p ≡ q
@@ -45,7 +45,7 @@ pub record ChangesAt (h : List PodTick) (C : List PodTick → Type 0) (m : ℕ) 
   pub change : (place ≡ 0) ⊎ ((u : ℕ) × (place ≡ suc u) × ((HoldsAt C h u ↔ HoldsAt C h place) → ⊥))
   pub not_later : (last : ℕ) → IsRising h → moment_at h (length h - 1) ≡ Some last → m ≤ last
 
--- a transition moment is that of a tick that changed the condition, or of the first
+-- a transition moment is the moment of a tick that changed the condition, or of the first tick
 pub record TransitionsAreChanges : Type 0 where
   pub pod_scheduled : (pod : PodSpec) (evicted : Option ℕ) (h : List PodTick) (status : Lifecycle) (m : ℕ)
       → IsLifecycleOf pod evicted h status

@@ -2,7 +2,6 @@
 use Rattle.std.specs.Prelude.{◌≡◌, ℕ, ◌<◌, List, [], ◌∷◌, ◌++◌, length, Option, Some, slice_get, slice_index_or}
 use Rattle.std.specs.Prelude.{unwrap_or}
 use Rattle.manifest.specs.declared.pod.PodSpec.{PodSpec}
-use Rattle.manifest.specs.declared.policy.Policy.{Policy}
 use Rattle.observations.specs.declared.container.ContainerObs.{ContainerObs}
 use Rattle.containers.specs.declared.container.Container.{Container}
 use Rattle.containers.specs.state.Container.{Accepts, IsBefore}
@@ -25,17 +24,17 @@ pub record IsStateOf (pod : PodSpec) (max_restart_delay : ℕ) (evicted : Option
   pub deleting : state.deleting ≡ is_being_deleted h
   pub gates : AreStatusesOf (length pod.gates) h state.gates
 
--- a tick with this policy, which does not evict the pod, leads from one state to another
-abbrev pub LeadsTo : Policy → PodTick → PodState → PodState → Type 0
-LeadsTo policy tick old new =
-    (pod : PodSpec) (max_restart_delay : ℕ) (evicted : Option ℕ) (h : List PodTick) → pod.policy ≡ policy
+-- a tick that does not evict the pod leads from one state of it to another
+abbrev pub LeadsTo : PodSpec → PodTick → PodState → PodState → Type 0
+LeadsTo pod tick old new =
+    (max_restart_delay : ℕ) (evicted : Option ℕ) (h : List PodTick)
     → (evicted ≡ Some (length h) → ⊥) → IsStateOf pod max_restart_delay evicted h old
     → IsStateOf pod max_restart_delay evicted (h ++ tick ∷ []) new
 
 -- such a tick makes these events
-abbrev pub MakesEvents : Policy → PodTick → PodState → List PodEvent → Type 0
-MakesEvents policy tick old events =
-    (pod : PodSpec) (max_restart_delay : ℕ) (evicted : Option ℕ) (h : List PodTick) → pod.policy ≡ policy
+abbrev pub MakesEvents : PodSpec → PodTick → PodState → List PodEvent → Type 0
+MakesEvents pod tick old events =
+    (max_restart_delay : ℕ) (evicted : Option ℕ) (h : List PodTick)
     → (evicted ≡ Some (length h) → ⊥) → IsStateOf pod max_restart_delay evicted h old
     → AreEventsOf pod max_restart_delay evicted h tick events
 

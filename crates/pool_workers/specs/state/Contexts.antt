@@ -1,4 +1,4 @@
--- What stays the same of a context while its worker runs, and what is said of all contexts by it.
+-- What stays the same of a context while its worker runs, and what holds of all contexts because of it.
 use Rattle.std.specs.Prelude.{◌≡◌, ℕ, ◌+◌, List, All, length, map, vec_len}
 use Rattle.std.specs.Global.{Global}
 use Rattle.crossbeam_deque.specs.Handles.{worker_view}

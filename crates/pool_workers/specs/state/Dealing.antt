@@ -1,4 +1,4 @@
--- The deal of a round: piece i stands in deque i mod workers, behind those that were dealt before it.
+-- The deal of a round: piece i is in deque i mod workers, after the pieces that were dealt before it.
 use Rattle.std.specs.Prelude.{◌≡◌, ℕ, ◌%◌, ◌==◌, ◌<◌, List, [], ◌∷◌, ◌++◌, length, map, filter, replicate}
 use Rattle.std.specs.Prelude.{slice_set, slice_index_or}
 use Rattle.crossbeam_deque.specs.Handles.{worker_view}

@@ -14,7 +14,7 @@ use Rattle.pool_workers.specs.declared.finished_worker.FinishedWorker.{FinishedW
 abbrev pub IsRow : {D A : Type 0} → List FilledDeque → Vec (StealHandle D) A → Type 0
 IsRow filled row = map permit_deque row.items ≡ filled
 
--- each permit is one of the deque that stands at its place in the list
+-- each permit belongs to the deque that is at its place in the list
 abbrev pub StandAt : {D : Type 0} → List (StealHandle D) → List FilledDeque → Type 0
 StandAt {D} row filled =
     (k : ℕ) (handle : StealHandle D) → get_elem? row k ≡ some handle → get_elem? filled k ≡ some (permit_deque handle)

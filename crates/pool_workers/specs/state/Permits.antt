@@ -49,7 +49,7 @@ pushed_sum weight filled = sum_by (λ (p : FilledDeque). sum_by weight p.pushed)
 abbrev pub IsInOrder : {T P : Type 0} → Stealer T Global Tally P → Type 0
 IsInOrder thief = stealer_flavor thief ≡ 0
 
--- the permit that stands at this place is of this deque, and nothing was taken by it
+-- the permit at this place belongs to this deque, and nothing was taken by it
 pub record IsUnused {D : Type 0} (deque : FilledDeque) (own : ℕ) (handles : List (StealHandle D)) : Type 0 where
   pub stands : get_elem? (map permit_deque handles) own ≡ some deque
   pub none : (handle : StealHandle D) → get_elem? handles own ≡ some handle → (view handle.permit).taken ≡ []

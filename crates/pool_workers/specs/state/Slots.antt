@@ -1,4 +1,4 @@
--- What a clause says of owners, and of what is made ready for their workers.
+-- What a clause promises of owners, and of what is made ready for their workers.
 use Rattle.std.specs.Prelude.{◌≡◌, ℕ, ◌+◌, ◌<◌, ◌≤◌, List, [], All, map, vec_capacity}
 use Rattle.std.specs.List.{sum_by}
 use Rattle.std.specs.Global.{Global}

@@ -46,8 +46,7 @@ liveness_results probe start ticks = filter_map (λ t. belonging probe (t.moment
 abbrev pub readiness_results : Probe → ℕ → List Tick → List Outcome
 readiness_results probe start ticks = filter_map (λ t. belonging probe (t.moment - start) t.entry.readiness) ticks
 
--- the startup probe has passed: one of its first results, as many as its failure threshold says, is
--- a success
+-- the startup probe has passed: one of its first results, as many as its failure threshold, is a success
 abbrev pub HasPassed : Probe → ℕ → List Tick → Type 0
 HasPassed probe start ticks = PassesWithin probe.failure_threshold (startup_results probe start ticks)
 
@@ -55,18 +54,18 @@ HasPassed probe start ticks = PassesWithin probe.failure_threshold (startup_resu
 abbrev pub IsStarted : Option Probe → ℕ → List Tick → Type 0
 IsStarted startup start ticks = MatchOption startup (Unit {0}) (λ probe. HasPassed probe start ticks)
 
--- startup has failed: its first results, as many as its failure threshold says, are all failures
+-- startup has failed: its first results, as many as its failure threshold, are all failures
 abbrev pub HasStartupFailed : Option Probe → ℕ → List Tick → Type 0
 HasStartupFailed startup start ticks =
     IsSomeAnd startup (λ probe. FailsWithin probe.failure_threshold (startup_results probe start ticks))
 
--- liveness has failed over these ticks: as many failures as its failure threshold says came in a row
+-- liveness has failed over these ticks: as many failures as its failure threshold came in a row
 abbrev pub HasLivenessFailed : Option Probe → ℕ → List Tick → Type 0
 HasLivenessFailed liveness start ticks =
     IsSomeAnd liveness (λ probe. FailsInARow probe.failure_threshold (liveness_results probe start ticks))
 
--- readiness holds over these ticks: as many successes as its success threshold says came in a row, and
--- later never as many failures as its failure threshold says; without a readiness probe it always holds
+-- readiness holds over these ticks: as many successes as its success threshold came in a row, and later never as many
+-- failures as its failure threshold; without a readiness probe it always holds
 abbrev pub HoldsReady : Option Probe → ℕ → List Tick → Type 0
 HoldsReady readiness start ticks =
     MatchOption readiness (Unit {0}) (λ probe. HoldsAfter probe.success_threshold probe.failure_threshold

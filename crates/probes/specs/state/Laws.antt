@@ -14,7 +14,7 @@ OneCause =
     (probes : Probes) (start : ℕ) (ticks : List Tick) → AreInRange probes
     → IsKillOrdered probes start Startup ticks → IsKillOrdered probes start Liveness ticks → ⊥
 
--- a kill order stands, whatever results come later
+-- a kill order remains, whatever results come later
 abbrev pub KillOrderStands : Type 0
 KillOrderStands =
     (probes : Probes) (start : ℕ) (cause : Cause) (ticks later : List Tick) → AreInRange probes
@@ -37,7 +37,7 @@ OneCounted =
     (startup : Option Probe) (start : ℕ) (ticks counted others : List Tick)
     → AreCounted startup start ticks counted → AreCounted startup start ticks others → counted ≡ others
 
--- without a readiness probe an instance is ready exactly where it is started
+-- without a readiness probe an instance is ready exactly if it is started
 abbrev pub ReadyWithoutProbe : Type 0
 ReadyWithoutProbe =
     (probes : Probes) (start : ℕ) (ticks : List Tick) → probes.readiness ≡ None

@@ -7,8 +7,7 @@ use Rattle.probes.specs.rule.Outcomes.{FailsInARow}
 use Rattle.probes.specs.state.Outcomes.{IsRunLength}
 use Rattle.probes.specs.rule.Ticks.{Tick, liveness_results}
 
--- how many failures there are in a row at the end, and whether there ever were as many as the failure
--- threshold says
+-- how many failures there are in a row at the end, and whether there ever were as many as the failure threshold
 abbrev pub CountsLiveness : Option Probe → ℕ → List Tick → ℕ → Bool → Type 0
 CountsLiveness None start ticks failures failed = failed ≡ false
 CountsLiveness (Some probe) start ticks failures failed =

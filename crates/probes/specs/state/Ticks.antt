@@ -1,4 +1,4 @@
--- A probe beside its result in one tick, and a state that one more tick leads on.
+-- A probe with its result in one tick, and a state that one more tick leads on.
 use Rattle.std.specs.Prelude.{◌≡◌, ℕ, ◌-◌, List, [], ◌∷◌, ◌++◌}
 use Rattle.std.specs.Prelude.{Option, Some, None}
 use Rattle.manifest.specs.declared.outcome.Outcome.{Outcome}

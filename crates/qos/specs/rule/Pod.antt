@@ -15,7 +15,13 @@ use Rattle.qos.specs.rule.Requests.{effective_request_of}
 
 -- one container that has these resources
 abbrev pub as_one : Resources → ContainerSpec
-as_one resources = record { name = []; role = App; resources = resources; probes = no_probes }
+as_one resources = record {
+  name = [];
+  role = App;
+  resources = resources;
+  probes = no_probes;
+  own_restarts = None;
+}
 
 -- an amount of cpu or memory is set for the pod as a whole, other than 0
 abbrev pub HasOwnAmount : PodSpec → Type 0

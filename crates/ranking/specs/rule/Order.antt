@@ -10,15 +10,15 @@ use Rattle.signals.specs.declared.signal.Signal.TheVariants.{NodefsInodesFree, I
 use Rattle.pod_piece.specs.declared.status.PodStatus.{PodStatus}
 use Rattle.ranking.specs.rule.Amounts.{used, has_requests, requested}
 
--- the first criterion decides, and the next one where it prefers neither
+-- the first criterion decides, and the next one if it prefers neither
 abbrev pub First : (PodStatus → PodStatus → Type 0) → (PodStatus → PodStatus → Type 0) → PodStatus → PodStatus → Type 0
 First criterion next p q = criterion p q ⊎ ((criterion p q → ⊥) × (criterion q p → ⊥) × next p q)
 
--- p has no sample, as a tick said, and q is not such a pod
+-- p has no sample, as a tick reported, and q is not such a pod
 abbrev pub UnsampledAlone : PodStatus → PodStatus → Type 0
 UnsampledAlone p q = IsTrue p.usage.is_unsampled × (IsTrue q.usage.is_unsampled → ⊥)
 
--- a pod without a sample comes before all others; of processes, before those of its own priority alone
+-- a pod without a sample comes before all others; of processes, only before the pods of its own priority
 abbrev pub ranks_unsampled_first : Signal → Bool
 ranks_unsampled_first MemoryAvailable = true
 ranks_unsampled_first NodefsAvailable = true

@@ -7,7 +7,7 @@ use Rattle.ranking.specs.rule.Order.{IsBefore, IsVictim}
 use Rattle.ranking.specs.state.Keys.{key_of, rank_cmp}
 use Rattle.ranking.specs.state.Index.{AreHeldAfter, AreHeldWithout}
 
--- the lesser key is that of the pod that is ranked before the other
+-- the lesser key belongs to the pod that is ranked before the other
 abbrev pub LesserKeyIsBefore : Type 0
 LesserKeyIsBefore = (signal : Signal) (has_dedicated_imagefs : Bool) (p q : PodStatus)
     → ((rank_cmp (key_of signal has_dedicated_imagefs p) (key_of signal has_dedicated_imagefs q) ≡ Less)

@@ -48,8 +48,8 @@ pub record AnswersFile (Seen : FileState → Type 0) (IsAnswer : List ℕ → Li
   pub read : IsRead Seen left rest 0
   pub writes : Writes IsAnswer left old new
 
--- a file was opened, and is refused: as unreadable where one of its reads failed and nowhere else, and for memory only
--- where no more than the limit was taken
+-- a file was opened, and fails: as unreadable if and only if one of its reads failed, and for memory only if no more
+-- than the limit was taken
 pub record RefusesFile (Seen : FileState → Type 0) (format : Format) (IsAnswer : List ℕ → List ℕ → Type 0)
     (old new : Bytes) (why : RunFault) : Type 0 where
   pub left : Bytes
@@ -58,7 +58,7 @@ pub record RefusesFile (Seen : FileState → Type 0) (format : Format) (IsAnswer
   pub refuses : IsRefusalIn format IsAnswer left old new why
   pub within : why ≡ OutOfMemory → TakesWithin left rest
 
--- no file was opened, and nothing is written; or one was, and it is refused
+-- no file was opened, and nothing is written; or one was, and it fails
 pub data FailsFile (Seen : FileState → Type 0) (format : Format) (IsAnswer : List ℕ → List ℕ → Type 0)
     (old new : Bytes) (fault : Fault) : Type 0 where
   file_unopened : (kind : ErrorKind) → Seen (not_opened kind) → fault ≡ of_kind kind → new ≡ old
@@ -111,13 +111,13 @@ pub data FailsText (Seen : FileState → Type 0) (fault : Fault) : Type 0 where
   text_unopened : (kind : ErrorKind) → Seen (not_opened kind) → fault ≡ of_kind kind → FailsText Seen fault
   text_unread : (why : ReadAllFault) → fault ≡ Run (read_fault_of why) → RefusesText Seen why → FailsText Seen fault
 
--- a steps file has no text; or it says no steps
+-- a steps file has no text; or it has no steps
 pub data FailsSteps (Seen : FileState → Type 0) (fault : Fault) : Type 0 where
   textless : FailsText Seen fault → FailsSteps Seen fault
   steps_refused : (text : List ℕ) (why : StepsFault) → HasShortText Seen text → fault ≡ Steps why
       → RefusesSteps text why → FailsSteps Seen fault
 
--- a steps file has steps, which are played, and a trace's file is answered
+-- a steps file has steps, which are simulated, and a trace's file is answered
 pub record AnswersPlay (SeenSteps SeenTrace : FileState → Type 0) (Played : List Step → Type 0) (format : Format)
     (old new : Bytes) : Type 0 where
   pub steps : List Step
@@ -132,8 +132,8 @@ pub data FailsPlay (SeenSteps SeenTrace : FileState → Type 0) (format : Format
   traceless : FailsFile SeenTrace format (IsReportIn format) old new fault
       → FailsPlay SeenSteps SeenTrace format old new fault
 
--- what is written for a job: the report of its trace in its format, or the line of the check; where there is a steps
--- file, its steps are played by the job's workers. How many workers a run has shows nowhere in what is written
+-- what is written for a job: the report of its trace in its format, or the line of the check; with a steps file, its
+-- steps are simulated for the job's workers. How many workers a run has is nowhere visible in what is written
 abbrev pub Answers : (List ℕ → FileState → Type 0) → (ℕ → List Step → Type 0) → Job → Bytes → Bytes → Type 0
 Answers Seen Played (jobs.Run trace workers format) = AnswersFile (Seen trace.now) (IsReportIn format)
 Answers Seen Played (jobs.Check trace format) = AnswersFile (Seen trace.now) (IsCheckIn format)
@@ -153,21 +153,21 @@ pub record AnswersAsked (Seen : List ℕ → FileState → Type 0) (Played : ℕ
   pub asked : IsAskedBy words job
   pub answers : Answers Seen Played job old new
 
--- the words are refused, and nothing is written; or they ask for a job that is not done
+-- the arguments are rejected, and nothing is written; or they ask for a job that is not done
 pub data FailsAsked (Seen : List ℕ → FileState → Type 0) (words : List Text) (old new : Bytes) (fault : Fault)
     : Type 0 where
   mistaken : (why : UsageFault) → RefusesWords words why → fault ≡ of_usage why → new ≡ old
       → FailsAsked Seen words old new fault
   undone : (job : Job) → IsAskedBy words job → Fails Seen job old new fault → FailsAsked Seen words old new fault
 
--- what the words are answered; where there is none behind the program's name, it is the report of the input's text
+-- the answer to the arguments; without any after the program's name, it is the report of the input's text
 abbrev pub AnswersWords : (List ℕ → FileState → Type 0) → (ℕ → List Step → Type 0) → Bytes → List Text → Bytes → Bytes
     → Type 0
 AnswersWords Seen Played input (name ∷ word ∷ words) = AnswersAsked Seen Played (name ∷ word ∷ words)
 AnswersWords Seen Played input (name ∷ []) = Writes IsReportOfText input
 AnswersWords Seen Played input [] = Writes IsReportOfText input
 
--- the input's text is refused
+-- the input's text is rejected
 pub record FailsInput (input old new : Bytes) (fault : Fault) : Type 0 where
   pub why : RunFault
   pub fault_is : fault ≡ Run why
@@ -198,7 +198,7 @@ pub data FailsAll (Asked : Asking → Type 0) (Seen : List ℕ → FileState →
   unanswered : (words : List Text) → Asked (Ok words) → FailsWords Seen input words old new fault
       → FailsAll Asked Seen input old new fault
 
--- how many of the input's calls failed: none where a word stands behind the program's name, and else as the answer says
+-- how many of the input's calls failed: none if an argument follows the program's name, and else as the answer shows
 abbrev pub unread_by : {V : Type 0} → Asking → Result V Fault → ℕ
 unread_by (Ok (name ∷ word ∷ words)) answer = 0
 unread_by (Ok (name ∷ [])) answer = unread answer

@@ -3,7 +3,7 @@ use Rattle.std.specs.Prelude.{ℕ, ◌+◌, Bool, false, List, [], ◌∷◌, �
 use Rattle.std.specs.Prelude.{Option, Some, None, option_map, is_none, if◌then◌else◌, bytes_eq}
 use Rattle.manifest.specs.declared.pod.PodSpec.{PodSpec}
 
--- the pods by number; for each how many ticks stand before its arrival and, where it has left, before its departure
+-- the pods by number; for each how many ticks come before its arrival and, if it has left, before its departure
 pub record Roll : Type 0 where
   pub pods : List PodSpec
   pub arrivals : List ℕ
@@ -48,7 +48,7 @@ stays (Some departure) = is_none departure
 abbrev pub is_present : List (Option ℕ) → ℕ → Bool
 is_present departures n = stays (slice_get departures n)
 
--- a pod arrives behind the others, after this many ticks
+-- a pod arrives after the others, after this many ticks
 abbrev pub with_pod : Roll → PodSpec → ℕ → Roll
 with_pod r pod ticks = roll (r.pods ++ pod ∷ []) (r.arrivals ++ ticks ∷ []) (r.departures ++ None ∷ [])
 

@@ -5,12 +5,12 @@ use Rattle.manifest.specs.declared.pod.PodSpec.{PodSpec}
 use Rattle.lists.specs.rule.Names.{place_of}
 use Rattle.roster.specs.rule.Roll.{present_keys, number_in}
 
--- the pod that stands at the place of the key, if there is one
+-- the pod at the place of the key, if there is one
 abbrev pub holder_of : List (List ℕ) → List (Option ℕ) → List ℕ → Option ℕ
 holder_of keys holders key =
     option_flatten (option_and_then (λ place. slice_get holders place) (place_of keys key))
 
--- the pod of this key is this one, or none, and those of all others are as they were
+-- the pod of this key is this one, or none, and all other keys have the pods that they had
 pub record HasHeld (keys : List (List ℕ)) (holders : List (Option ℕ)) (key : List ℕ) (pod : Option ℕ)
     (new_keys : List (List ℕ)) (new_holders : List (Option ℕ)) : Type 0 where
   pub as_many : length new_holders ≡ length new_keys

@@ -8,7 +8,7 @@ use Rattle.round_steps.specs.state.Steps.{AreSteps, IsFirstFault}
 abbrev pub OneSpelling : Type 0
 OneSpelling = (line : List ℕ) (a b : Step) → Spells line a → Spells line b → a ≡ b
 
--- lines say one list of steps, or have one first fault, and never both
+-- lines give one list of steps, or have one first fault, and never both
 pub record OneAnswer : Type 0 where
   pub steps : (lines : List (List ℕ)) (a b : List Step) → AreSteps lines a → AreSteps lines b → a ≡ b
   pub fault : (lines : List (List ℕ)) (m n : ℕ) → IsFirstFault lines m → IsFirstFault lines n → m ≡ n

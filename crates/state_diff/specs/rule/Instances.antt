@@ -1,7 +1,6 @@
--- What the records of one container say of its instances (Container Runtime Interface,
--- `ContainerState` and `ContainerMetadata.attempt`; Kubernetes, "Pod Lifecycle", "Container
--- states"). A record is a tick, named by its place in the list of all ticks so far, oldest first.
--- Each definition speaks of the whole list.
+-- What the records of one container show of its instances (Container Runtime Interface, `ContainerState` and
+-- `ContainerMetadata.attempt`; Kubernetes, "Pod Lifecycle", "Container states"). A record is a tick, named by its place
+-- in the list of all ticks so far, oldest first. Each definition is about the whole list.
 use Rattle.std.specs.Prelude.{◌≡◌, ◌≢◌, ◌⊎◌, ℕ, ℤ, pos, ◌-◌, ◌<◌, ◌≤◌, List, length, unwrap_or, Option, Some}
 use Rattle.std.specs.Prelude.{None, IsSomeAnd}
 use Rattle.state_diff.specs.declared.seen.CriState.{CriState}
@@ -56,7 +55,7 @@ pub record IsLastKnown (h : List Tick) (a : ℕ) (state : CriState) (t : ℕ) : 
   pub last : IsLast (ListedKnown h a) t
   pub here : ListedAs h a state t
 
--- the effective state: that of the last known listing, and created if there is none
+-- the effective state: the state of the last known listing, and created if there is none
 abbrev pub IsEffective : List Tick → ℕ → CriState → Type 0
 IsEffective h a state =
     ((t : ℕ) × IsLastKnown h a state t)

@@ -39,7 +39,7 @@ IsBefore d moment = IfSome d.last_at (λ last. last < moment)
 -- the differ's value after these ticks
 pub record IsStateOf (h : List Tick) (d : Differ) : Type 0 where
   pub newest : IsNewestOf h d.newest
-  -- what the last tick lists is the newest instance, where the flag says so
+  -- what the last tick lists is the newest instance, if the flag is true
   pub listed : (a : ℕ) → (Listed h a (length h - 1) ↔ IsListedBy d.newest d.listed a)
   pub effective : IfSome d.newest (λ i. IsTrue d.listed → IsEffective h i.attempt i.state)
   pub set_up : IsTrue d.set_up ↔ IsSetUp h

@@ -5,7 +5,7 @@ use Rattle.state_diff.specs.declared.instance.Instance.{Instance}
 use Rattle.state_diff.specs.rule.Instances.{Tick, ListedAs, IsState, IsExitCode, Ends}
 use Rattle.histories.specs.rule.Histories.{IsFirstMoment}
 
--- the state, exit code, start and exit of the instance are those of its attempt after these ticks
+-- the state, exit code, start and exit of the instance are the ones of its attempt after these ticks
 pub record IsInstanceOf (h : List Tick) (i : Instance) : Type 0 where
   pub state : IsState h i.attempt i.state
   pub code : (code : ℤ) → i.code ≡ Some code → IsExitCode h i.attempt code

@@ -47,6 +47,6 @@ abbrev pub AcceptableIsNewest : Type 0
 AcceptableIsNewest = (h : List Tick) (at : ℕ) (seen : Seen) → IsAcceptable h (Some seen)
     → IsNewest (h ++ tick at (Some seen) ∷ []) seen.attempt
 
--- the test that computes says what is acceptable
+-- the test that computes decides what is acceptable
 abbrev pub AcceptableComputes : Type 0
 AcceptableComputes = (h : List Tick) (seen : Option Seen) → (IsTrue (is_acceptable h seen) ↔ IsAcceptable h seen)

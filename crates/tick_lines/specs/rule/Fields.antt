@@ -29,7 +29,7 @@ only_object d = if is_some (as_object d) then Ok tt else Err Usage
 abbrev pub quantity_at : Option Data → Result (Option ℕ) TickLineFault
 quantity_at found = quantity_or Usage found
 
--- what a name stands for in a table
+-- the value of a name in a table
 abbrev pub value_named : {A : Type 0} → List (List ℕ × A) → List ℕ → Result A TickLineFault
 value_named [] name = Err Usage
 value_named (row ∷ rows) name = if bytes_eq name row.0 then Ok row.1 else value_named rows name

@@ -1,4 +1,4 @@
--- Members that are truth values, one of which says something (this project's extended format).
+-- Members that are truth values, one of which has a meaning (this project's extended format).
 use Rattle.std.specs.Prelude.{Bool, true, false, Option, Some, None}
 use Rattle.serde_json.specs.Data.{Data}
 use Rattle.serde_json.specs.Find.{as_bool}
@@ -10,7 +10,8 @@ truth_from None = OfOtherKind
 truth_from (Some true) = Yes
 truth_from (Some false) = No
 
--- what a member says that says something by true: one that is no truth value is told apart, and nothing here refuses it
+-- the content of a member that means something by true: a value that is no truth value is kept apart, and nothing here
+-- rejects it
 abbrev pub truth_of : Option Data → TruthMember
 truth_of None = No
 truth_of (Some d) = truth_from (as_bool d)
@@ -20,7 +21,7 @@ denial_from None = OfOtherKind
 denial_from (Some true) = No
 denial_from (Some false) = Yes
 
--- the same of a member that says something by false
+-- the same of a member that means something by false
 abbrev pub denial_of : Option Data → TruthMember
 denial_of None = No
 denial_of (Some d) = denial_from (as_bool d)

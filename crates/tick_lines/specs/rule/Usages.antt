@@ -1,5 +1,5 @@
--- What an entry tells of its pod's use of the node (Kubernetes, "Node-pressure Eviction", "Pod
--- selection for kubelet eviction").
+-- The usage of an entry: its pod's use of the node (Kubernetes, "Node-pressure Eviction", "Pod selection for kubelet
+-- eviction").
 use Rattle.std.specs.Prelude.{Option, Some, None, Result, Ok, codes}
 use Rattle.serde_json.specs.Data.{Data}
 use Rattle.json_fields.specs.rule.Fields.{field_at}

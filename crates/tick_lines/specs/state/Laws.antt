@@ -32,7 +32,7 @@ use Rattle.tick_lines.specs.rule.Entries.{entry_of}
 use Rattle.tick_lines.specs.state.Samples.{samples_in}
 use Rattle.tick_lines.specs.rule.Line.{tick_line_of}
 
--- each element of an array, which may be left out, says the one at its place
+-- each element of an array, which may be left out, gives the one at its place
 abbrev pub SaysInOrder : {A : Type 0} → (Data → Result A TickLineFault) → Option Data → List A → Type 0
 SaysInOrder read None all = all ≡ []
 SaysInOrder read (Some d) all =
@@ -63,7 +63,7 @@ HasQuantity found name n =
 abbrev pub IsSample : Option Data → List ℕ → Option ℕ → Type 0
 IsSample found name sample = (n : ℕ) → (sample ≡ Some n ↔ HasQuantity found name n)
 
--- what a line says of a signal is exactly the quantity under the signal's name
+-- a line has for a signal exactly the quantity under the signal's name
 pub record SamplesSaid : Type 0 where
   pub signals : (d : Data) (line : TickLine) (signal : Signal) → tick_line_of d ≡ Ok line
       → IsSample (field_at (codes "signals") d) (name_of signal) (of line.signals signal)
@@ -83,17 +83,17 @@ abbrev pub SaysUsage : Option Data → Option Usage → Type 0
 SaysUsage None said = said ≡ None
 SaysUsage (Some d) said = (usage : Usage) × (said ≡ Some usage) × IsUsage d usage
 
--- what an entry says of a use is exactly the quantity under the use's name
+-- an entry has for a use exactly the quantity under the use's name
 abbrev pub UsageSaid : Type 0
 UsageSaid = (d : Data) (entry : TickEntry) → entry_of d ≡ Ok entry → SaysUsage (field_at (codes "usage") d) entry.usage
 
--- such a member says its word by true alone, and nothing by false and by no value
+-- such a member means its word by true alone, and nothing by false and by no value
 pub record SaysTruth (found : Option Data) (said : TruthMember) : Type 0 where
   pub yes : said ≡ Yes ↔ found ≡ Some (boolean true)
   pub no : said ≡ No ↔ ((found ≡ None) ⊎ (found ≡ Some (boolean false)))
 
--- an entry says that its pod has no sample exactly where its member is true; each value but a truth value is left to be
--- refused
+-- an entry marks its pod as unsampled exactly if its member is true; each value except a truth value is left to be
+-- rejected
 abbrev pub UnsampledSaid : Type 0
 UnsampledSaid = (d : Data) (entry : TickEntry) → entry_of d ≡ Ok entry
     → SaysTruth (field_at (codes "unsampled") d) entry.unsampled
@@ -103,38 +103,38 @@ abbrev pub DeletingSaid : Type 0
 DeletingSaid = (d : Data) (entry : TickEntry) → entry_of d ≡ Ok entry
     → SaysTruth (field_at (codes "deleting") d) entry.deleting
 
--- such a member says its word by false alone, and nothing by true and by no value
+-- such a member means its word by false alone, and nothing by true and by no value
 pub record SaysDenial (found : Option Data) (said : TruthMember) : Type 0 where
   pub yes : said ≡ Yes ↔ found ≡ Some (boolean false)
   pub no : said ≡ No ↔ ((found ≡ None) ⊎ (found ≡ Some (boolean true)))
 
--- a line says that the node does not judge the tick exactly where its member is false; each value but a truth value is
--- left to be refused
+-- a line marks the tick as no sync tick exactly if its member is false; each value except a truth value is left to be
+-- rejected
 abbrev pub JudgedSaid : Type 0
 JudgedSaid = (d : Data) (line : TickLine) → tick_line_of d ≡ Ok line
     → SaysDenial (field_at (codes "judged") d) line.unjudged
 
--- the member says this reason exactly where it is its text and that is one, and nothing by null and by no value
+-- the member gives this reason exactly if it is its text and that is a reason, and nothing by null and by no value
 pub record SaysReason (found : Option Data) (said : ReasonMember) : Type 0 where
   pub reason : (reason : List ℕ) → (said ≡ members.Reason reason
       ↔ ((found ≡ Some (string reason)) × IsTrue (is_reason reason)))
   pub missing : said ≡ members.Missing ↔ found ≡ None
 
--- an entry says why the node has ended its pod exactly where its member is a reason; each value but a reason is left to
--- be refused
+-- an entry gives a reason for which the node has ended its pod exactly if its member is a reason; each value except a
+-- reason is left to be rejected
 abbrev pub FailedSaid : Type 0
 FailedSaid = (d : Data) (entry : TickEntry) → entry_of d ≡ Ok entry
     → SaysReason (field_at (codes "failed") d) entry.failed
 
 -- the member gives the statuses of an object of true, false and null, and nothing by null and by no value; each other
--- value is told apart
+-- value is kept apart
 pub record SaysStatuses (found : Option Data) (said : ConditionsMember) : Type 0 where
   pub given : (members : Members) → found ≡ Some (object members) → IsTrue (are_all_statuses members)
       → said ≡ statuses.Statuses (statuses_in members)
   pub missing : said ≡ statuses.Missing ↔ found ≡ None
   pub other : (d : Data) → found ≡ Some d → are_statuses d ≡ false → said ≡ statuses.OfOtherKind
 
--- an entry says the statuses of conditions that its member has; each other value is left to be refused
+-- an entry gives the statuses of conditions that its member has; each other value is left to be rejected
 abbrev pub ConditionsSaid : Type 0
 ConditionsSaid = (d : Data) (entry : TickEntry) → entry_of d ≡ Ok entry
     → SaysStatuses (field_at (codes "conditions") d) entry.conditions
@@ -147,7 +147,7 @@ NamesNoFileSystem name = (signal : Signal) → named name ≡ Some signal → is
 abbrev pub HasValue : List ℕ → Data → List ℕ → Type 0
 HasValue field d name = (value : Data) × (option_and_then (field_at name) (field_at field d) ≡ Some value)
 
--- a name of no signal refuses the line, and in `afterReclaim` one of no signal of the file systems
+-- a name of no signal makes the line faulty, and in `afterReclaim` one of no signal of the file systems
 pub record OnlySignals : Type 0 where
   pub signals : (d : Data) (name : List ℕ) → HasValue (codes "signals") d name → named name ≡ None
       → tick_line_of d ≡ Err faults.Usage
@@ -158,7 +158,7 @@ pub record OnlySignals : Type 0 where
 abbrev pub AreAlike : List (List ℕ) → Data → Data → Type 0
 AreAlike names d e = AllByRecursion (λ name. field_at name d ≡ field_at name e) names
 
--- values that have the same in these fields say the same
+-- values that have the same in these fields have the same meaning
 abbrev pub ReadsOnly : {A : Type 0} → List (List ℕ) → (Data → Result A TickLineFault) → Type 0
 ReadsOnly names read = (d e : Data) → AreAlike names d e → read d ≡ read e
 
@@ -183,7 +183,7 @@ pub record OnlyTheirFields : Type 0 where
   pub listing : ReadsOnly listing_fields listing_of
   pub probe_result : ReadsOnly result_fields result_of
 
--- the object with a null under a name that it lacks says what it says without
+-- the object with a null under a name that it lacks has the same meaning as without it
 abbrev pub IgnoresNull : {A : Type 0} → (Data → Result A TickLineFault) → Type 0
 IgnoresNull read = (members : Members) (name : List ℕ) → get_member name members ≡ None
     → read (object (put name null members)) ≡ read (object members)

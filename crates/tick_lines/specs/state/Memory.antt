@@ -1,4 +1,4 @@
--- Which fault of a tick line says that memory ran out.
+-- Which fault of a tick line means that an allocation failed.
 use Rattle.std.specs.Prelude.{Bool, true, false}
 use Rattle.tick_lines.specs.declared.fault.TickLineFault.{TickLineFault}
 use Rattle.tick_lines.specs.declared.fault.TickLineFault.TheVariants.{Usage, OutOfMemory}

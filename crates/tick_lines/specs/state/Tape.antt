@@ -58,8 +58,8 @@ found_in found = Ok found
 abbrev pub denial_in : Option Data → Result TruthMember TickLineFault
 denial_in found = Ok (denial_of found)
 
--- what is read of an entry before its listings and results; it says neither that its pod has no sample nor that
--- it is being deleted, nor that the node has ended it, and no status of a condition
+-- what is read of an entry before its listings and results; the entry doesn't mark its pod as unsampled or as being
+-- deleted, and has no reason for its end and no status of a condition
 pub record IsEntry (d : Data) (e : EntryText) : Type 0 where
   pub key : text_at (codes "pod") d ≡ Some e.key.now
   pub listings : items_of (field_at (codes "containers") d) ≡ Ok (left_in e.listings)

@@ -1,4 +1,4 @@
--- Updates of a node's pods that a gate has made: `left` says so of each piece as an update leaves it.
+-- Updates of a node's pods that a gate has made: `left` holds of each piece as an update leaves it.
 use Rattle.std.specs.Prelude.{◌≡◌, ℕ, suc, Bool, true, List, ◌++◌, take, slice_get, Some, IsTrue}
 use Rattle.manifest.specs.declared.pod.PodSpec.{PodSpec}
 use Rattle.observations.specs.rule.Pods.{PodObs}
@@ -15,7 +15,7 @@ pub record IsUpdateGated (left : Piece → Bool → Bool) (pod : PodSpec) (h : L
   pub ticks_are : ticks piece ≡ h
   pub gated : IsTrue (left piece true)
 
--- a gate has made the updates by these later ticks, behind those before: by each tick one of each pod that it shows
+-- a gate has made the updates by these later ticks, after the earlier ones: by each tick one of each pod that it shows
 abbrev pub AreUpdatesGated : (Piece → Bool → Bool) → List PodSpec → List TickObs → List TickObs → Type 0
 AreUpdatesGated left pods before later =
     (t n : ℕ) (tick : TickObs) (pod : PodSpec) (observed : PodObs) → slice_get later t ≡ Some tick

@@ -23,7 +23,7 @@ TakesTick tick old new result =
     (config : NodeConfig) (pods : List PodSpec) (ticks : List TickObs) → IsAfter config pods ticks old
     → OnOk result (IsAfter config pods (ticks ++ tick ∷ []) new)
 
--- where it is not halted, the tick may come next
+-- unless it is halted, the tick may come next
 abbrev pub MayTake : Option State → TickObs → Type 0
 MayTake node tick = IfSome node (λ s. Fits s tick)
 
@@ -44,7 +44,7 @@ GatesUpdates left ticks old result =
     (config : NodeConfig) (pods : List PodSpec) (before : List TickObs) → IsAfter config pods before old
     → OnOk result (AreUpdatesGated left pods before ticks)
 
--- where it is not halted, the ticks may come next, one after the other
+-- unless it is halted, the ticks may come next, one after the other
 abbrev pub MayTakeAll : Option State → List TickObs → Type 0
 MayTakeAll node ticks = IfSome node (λ s. FitAll s ticks)
 

@@ -1,7 +1,7 @@
 -- How many workers update the pods of a round.
 use Rattle.std.specs.Prelude.{ℕ, ◌/◌, Bool, min, max, if◌then◌else◌}
 
--- a worker is worth the start of its thread where it has this many updates
+-- a worker is worth the start of its thread if it has this many updates
 abbrev pub updates_a_worker : ℕ
 updates_a_worker = 1024
 

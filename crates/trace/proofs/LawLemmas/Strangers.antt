@@ -95,7 +95,8 @@ known_fault says entry number pod kind e =
           let at = each_at (placed_listing pod) entry.listings kind faulty in
           let why = listing_fault pod at.1 kind at.3 in
           (why.1, inl (at.0, at.1, at.2, why.0))
-      | inr listings ↦ elim (bind_err (each (placed_result pod) entry.results) (placed (says pod) number listings.0) kind
+      | inr listings ↦ elim (bind_err (each (placed_result pod) entry.results) (placed (says pod) number listings.0)
+          kind
           listings.2) [
             | inl faulty ↦
                 let at = each_at (placed_result pod) entry.results kind faulty in

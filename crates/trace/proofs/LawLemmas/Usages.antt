@@ -223,7 +223,8 @@ word_found word x es n (Some entry) some is e =
     let found = entry_found es n entry is in
     (found.0, entry, found.1, found.2, e)
 
-word_written : {X : Type 0} (word : PodWords → X) → SaysAlone word → (x : X) (heeds : Bool) (roll : Roll) (entries : List TickEntry)
+word_written : {X : Type 0} (word : PodWords → X) → SaysAlone word → (x : X) (heeds : Bool) (roll : Roll)
+    (entries : List TickEntry)
     (es : List PlacedEntry) (n : ℕ) → each (placed_entry heeds roll) entries ≡ Ok es → Words word es n x
     → Written word heeds roll entries n x
 word_written word alone x heeds roll entries es n all (k, entry, there, is, given) =
@@ -237,7 +238,8 @@ word_written word alone x heeds roll entries es n all (k, entry, there, is, give
           ∙ ap (λ (s : EntrySaid). word s.words) says.2 ∙ given,
     )
 
-word_placed : {X : Type 0} (word : PodWords → X) → SaysAlone word → (x : X) (heeds : Bool) (roll : Roll) (entries : List TickEntry)
+word_placed : {X : Type 0} (word : PodWords → X) → SaysAlone word → (x : X) (heeds : Bool) (roll : Roll)
+    (entries : List TickEntry)
     (es : List PlacedEntry) (n : ℕ) → each (placed_entry heeds roll) entries ≡ Ok es
     → Written word heeds roll entries n x → Words word es n x
 word_placed word alone x heeds roll entries es n all (k, entry, here, known, given) =
@@ -283,7 +285,8 @@ deleting_said false deleting failed conditions e = absurd (cc)
 pub deleting_shown : DeletingShown
 deleting_shown version at written es roll n pod places once here present =
     let heeds = heeds_words version in
-    let shown = word_shown (λ (w : PodWords). w.deleting) (λ h g o d f c. refl) true heeds at written es roll n pod (λ e. absurd (cc)) places
+    let shown = word_shown (λ (w : PodWords). w.deleting) (λ h g o d f c. refl) true heeds at written es roll n pod
+    (λ e. absurd (cc)) places
     once here present in (
       (λ e.
           let w = shown.0 e in
@@ -294,8 +297,10 @@ deleting_shown version at written es roll n pod places once here present =
         w.entry,
         w.here,
         w.known,
-        ap (λ (v : Option Version). (words_of (heeds_words v) [] w.entry.deleting w.entry.failed w.entry.conditions).deleting) three
-            ∙ ap (λ (member : TruthMember). (words_of true [] member w.entry.failed w.entry.conditions).deleting) w.says,
+        ap (λ (v : Option Version). (words_of (heeds_words v) [] w.entry.deleting w.entry.failed
+            w.entry.conditions).deleting) three
+            ∙ ap (λ (member : TruthMember). (words_of true [] member w.entry.failed w.entry.conditions).deleting)
+            w.says,
       )),
     )
 
@@ -312,7 +317,8 @@ failed_said false deleting failed conditions reason e = absurd (cc)
 pub failed_shown : FailedShown
 failed_shown version at written es roll n pod reason places once here present =
     let heeds = heeds_words version in
-    let shown = word_shown (λ (w : PodWords). w.failed) (λ h g o d f c. refl) (Some reason) heeds at written es roll n pod
+    let shown = word_shown (λ (w : PodWords). w.failed) (λ h g o d f c. refl) (Some reason) heeds at written es roll n
+    pod
     (λ e. absurd (cc)) places once here present in (
       (λ e.
           let w = shown.0 e in
@@ -323,8 +329,10 @@ failed_shown version at written es roll n pod reason places once here present =
         w.entry,
         w.here,
         w.known,
-        ap (λ (v : Option Version). (words_of (heeds_words v) [] w.entry.deleting w.entry.failed w.entry.conditions).failed) three
-            ∙ ap (λ (member : ReasonMember). (words_of true [] w.entry.deleting member w.entry.conditions).failed) w.says,
+        ap (λ (v : Option Version). (words_of (heeds_words v) [] w.entry.deleting w.entry.failed
+            w.entry.conditions).failed) three
+            ∙ ap (λ (member : ReasonMember). (words_of true [] w.entry.deleting member w.entry.conditions).failed)
+            w.says,
       )),
     )
 

@@ -37,26 +37,25 @@ seen_as Exited r = record {
 }
 seen_as Unknown r = record { attempt = r.attempt; state = Unknown; code = None; code_given = refl }
 
--- the instance that a listing says; while a missing exit code isn't refused yet, 0 stands in its
--- place
+-- the instance that a listing shows; a missing exit code counts as 0 until the check that rejects it
 abbrev pub seen_listed : ListedInstance → Seen
 seen_listed r = seen_as r.state r
 
--- what the listings say of the container with the number
+-- what the listings show of the container with the number
 abbrev pub seen_in : List PlacedListing → ℕ → Option Seen
 seen_in [] n = None
 seen_in (l ∷ ls) n = if l.container == n then Some (seen_listed l.instance) else seen_in ls n
 
--- what the results say of this probe of the container with the number
+-- the result, among these, of this probe of the container with the number
 abbrev pub outcome_in : List PlacedResult → ℕ → ProbeKind → Option Outcome
 outcome_in [] n probe = None
 outcome_in (r ∷ rs) n probe = if is_of_probe r n probe then Some r.outcome else outcome_in rs n probe
 
--- what they say of each of its probes
+-- the results of each of its probes
 abbrev pub results_in : List PlacedResult → ℕ → List (Option Outcome)
 results_in rs n = outcome_in rs n Startup ∷ outcome_in rs n Liveness ∷ outcome_in rs n Readiness ∷ []
 
--- what the listings and results say of each of the containers, numbered from n on
+-- what the listings and results show of each of the containers, numbered from n on
 abbrev pub containers_from : List PlacedListing → List PlacedResult → ℕ → List ContainerSpec → List ContainerObs
 containers_from ls rs n [] = []
 containers_from ls rs n (c ∷ cs) =
@@ -67,7 +66,7 @@ abbrev pub entry_for : List PlacedEntry → ℕ → Option PlacedEntry
 entry_for [] n = None
 entry_for (e ∷ es) n = if e.pod == n then Some e else entry_for es n
 
--- a pod without an entry has no listings and no results, and nothing is said of it
+-- a pod without an entry has no listings, no results and no words
 abbrev pub listings_of : Option PlacedEntry → List PlacedListing
 listings_of None = []
 listings_of (Some e) = e.listings
@@ -80,7 +79,7 @@ abbrev pub said_from : Option PlacedEntry → EntrySaid
 said_from None = record { sampling = Unsaid; words = no_words }
 said_from (Some e) = e.said
 
--- what its entry says of a pod
+-- what its entry shows of a pod
 abbrev pub pod_observed : ℕ → Option PlacedEntry → PodSpec → PodObs
 pod_observed at entry pod = record {
   at = at;
@@ -89,18 +88,18 @@ pod_observed at entry pod = record {
   words = (said_from entry).words;
 }
 
--- what the entries say of each of the pods, numbered from n on; of one that is not present nothing
+-- what the entries show of each of the pods, numbered from n on; nothing of a pod that is not present
 abbrev pub pods_from : ℕ → List PlacedEntry → List (Option ℕ) → ℕ → List PodSpec → List (Option PodObs)
 pods_from at es departures n [] = []
 pods_from at es departures n (p ∷ ps) =
     (if is_present departures n then Some (pod_observed at (entry_for es n) p) else None)
     ∷ pods_from at es departures (n + 1) ps
 
--- the node judges the tick, unless the line says that it doesn't and the version heeds that
+-- the tick is a sync tick, unless the line has the member that denies it and the version reads that member
 abbrev pub is_judged : Bool → TruthMember → Bool
 is_judged heeds unjudged = not (heeds && says_so unjudged)
 
--- the whole tick: its entries, placed, and the line's samples of the node's signals, which it judges or doesn't
+-- the whole tick: its entries, placed, and the line's samples of the node's signals, which count in a sync tick only
 abbrev pub observed : Bool → ℕ → TickLine → List PlacedEntry → Roll → TickObs
 observed heeds at written placed roll = record {
   at = at;

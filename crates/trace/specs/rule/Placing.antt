@@ -63,15 +63,15 @@ abbrev pub sampled_or : Sampling → Option Usage → Sampling
 sampled_or other None = other
 sampled_or other (Some usage) = Sampled usage
 
--- what an entry without a sample says of them: that there is none counts where the version heeds it
+-- the sampling of an entry without a sample: "unsampled" counts if the version reads it
 abbrev pub without_sample : Bool → TruthMember → Sampling
 without_sample heeds unsampled = if heeds && says_so unsampled then Unsampled else Unsaid
 
--- what an entry says of the samples of its pod
+-- the sampling of an entry's pod
 abbrev pub sampling_of : Bool → Option Usage → TruthMember → Sampling
 sampling_of heeds usage unsampled = sampled_or (without_sample heeds unsampled) usage
 
--- why an entry says that the node has ended its pod
+-- the reason for which an entry reports that the node has ended its pod
 abbrev pub reason_given : ReasonMember → Option (List ℕ)
 reason_given reasons.Missing = None
 reason_given (reasons.Reason reason) = Some reason
@@ -87,7 +87,7 @@ gates_given gates conditions.Missing = no_gates
 gates_given gates (conditions.Statuses statuses) = map (gate_given gates statuses) (range_with_len 0 most_gates)
 gates_given gates conditions.OfOtherKind = no_gates
 
--- its words, where the version heeds them
+-- its words, if the version reads them
 abbrev pub words_of : Bool → List (List ℕ) → TruthMember → ReasonMember → ConditionsMember → PodWords
 words_of heeds gates deleting failed conditions = record {
   deleting = heeds && says_so deleting;
@@ -95,7 +95,7 @@ words_of heeds gates deleting failed conditions = record {
   gates = if heeds then gates_given gates conditions else no_gates;
 }
 
--- what it says of the pod beside its listings and results
+-- what it has of the pod in addition to its listings and results
 abbrev pub said_in : Bool → PodSpec → TickEntry → EntrySaid
 said_in heeds pod entry = record {
   sampling = sampling_of heeds entry.usage entry.unsampled;

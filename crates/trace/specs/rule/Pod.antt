@@ -1,4 +1,4 @@
--- What a pod line says.
+-- What a pod line has.
 use Rattle.std.specs.Prelude.{ℕ, ⊤, nat_le, Bool, true, false, List, length, Option, option_and_then, is_some, Result}
 use Rattle.std.specs.Prelude.{Ok, Err, ◌&&◌, codes}
 use Rattle.observations.specs.rule.Limits.{most_pods}
@@ -52,13 +52,13 @@ manifest_read false d = pod_at d
 abbrev pub pod_from : Bool → Option Data → Result PodSpec FaultKind
 pod_from heeds found = manifest_of found >>= λ d. of_manifest (manifest_read heeds d)
 
--- the pod, once it is said whether the node spares it, where the version heeds that
+-- the pod, with whether the node exempts it from eviction, if the version reads that
 abbrev pub spared_by : Bool → TruthMember → PodSpec → Result PodSpec FaultKind
 spared_by heeds spared pod =
     refused_if (heeds && is_of_other_kind spared) (Manifest (WrongKind fields.Spared))
     >>= λ known. Ok (record pod { spared = heeds && says_so spared })
 
--- the pod that a pod line says: that of its manifest, which the node spares or doesn't
+-- the pod of a pod line: its manifest's, which the node exempts from eviction or doesn't
 abbrev pub pod_of_line : Bool → Data → Result PodSpec FaultKind
 pod_of_line heeds d =
     pod_from heeds (field_at (codes "pod") d) >>= spared_by heeds (truth_of (field_at (codes "spared") d))

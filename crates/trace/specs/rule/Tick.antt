@@ -1,5 +1,4 @@
--- What a tick line says after the lines before it: each check is made over the whole line before
--- the next.
+-- What a tick line adds to the lines before it: each check is made over the whole line before the next.
 use Rattle.std.specs.Prelude.{ℕ, ⊤, ◌-◌, ◌&&◌, Bool, true, List, length, nat_lt, nat_le}
 use Rattle.std.specs.Prelude.{slice_get, Option, Some, None, option_and_then, if◌then◌else◌, Result, Ok, Err, codes}
 use Rattle.quantity.specs.rule.Duration.{end_of_time}
@@ -48,7 +47,7 @@ observed_in past at written placed = do
   coded ← refused_if (some_code_missing placed) ExitCode
   Ok (observed (heeds past) at written placed past.roll)
 
--- the tick that a tick line says after those that say what is past
+-- the tick of a tick line that follows what is past
 unfoldable pub tick_in : TraceSoFar → Data → Result TickObs FaultKind
 tick_in past d = do
   room ← room_for_tick past.ticks

@@ -1,4 +1,4 @@
--- What a text says as a trace, or its first faulty line with that line's first fault.
+-- The trace of a text, or its first faulty line with that line's first fault.
 use Rattle.std.specs.Prelude.{ℕ, ◌+◌, ⊤, Bool, false, List, [], ◌∷◌, length, nat_lt, Option, Some, None}
 use Rattle.std.specs.Prelude.{if◌then◌else◌, Result, Ok, Err, bytes_eq, codes}
 use Rattle.serde_json.specs.Data.{Data}
@@ -44,7 +44,7 @@ kind_from version (Some s) =
     else (if bytes_eq s (codes "tick") then Some kinds.Tick
     else (if bytes_eq s (codes "gone") then gone_in version else None)))
 
--- the kind that a line says it is of, in a text of this version
+-- the kind that a line gives, in a text of this version
 abbrev pub kind_of_line : Option Version → Data → Result LineKind FaultKind
 kind_of_line version d = some_or UnknownKind (kind_from version (text_at (codes "kind") d))
 
@@ -53,17 +53,17 @@ with_node past d = do
   node ← node_in past.format d
   Ok (of_node past node)
 
--- a pod goes behind the earlier ones, if none that is present has its key
+-- a pod is appended to the earlier ones, if no present pod has its key
 abbrev pub with_new_pod : TraceSoFar → PodSpec → Result TraceSoFar FaultKind
 with_new_pod past pod = new_key past.roll pod >>= λ new. Ok (with_pod past pod)
 
--- in version 1 a pod line stands before all tick lines; in later ones it may follow one
+-- in version 1 a pod line comes before all tick lines; in later versions it may follow one
 abbrev pub is_late : Version → List TickObs → Bool
 is_late One ticks = nat_lt 0 (length ticks)
 is_late Two ticks = false
 is_late Three ticks = false
 
--- the pod that a pod line says after those that say what is past, whatever its key
+-- the pod of a pod line that follows what is past, whatever its key
 unfoldable pub pod_in : Version → TraceSoFar → Data → Result PodSpec FaultKind
 pod_in version past d = do
   in_time ← refused_if (is_late version past.ticks) Order
@@ -81,7 +81,7 @@ gone_line_at past d = do
   number ← some_or StrangerPod (named_in past.roll (text_at (codes "pod") d))
   Ok (without past number)
 
--- a node line stands first, and nowhere else
+-- a node line comes first, and nowhere else
 abbrev pub turn_of : Option Version → LineKind → Result Turn FaultKind
 turn_of None kinds.Node = Ok turns.Node
 turn_of None kinds.Pod = Err Order
@@ -112,7 +112,7 @@ kind_and_value version line = do
   line_kind ← kind_of_line version d
   Ok (line_kind, d)
 
--- a line after those that say what is past
+-- a line that follows what is past
 unfoldable pub line_at : TraceSoFar → List ℕ → Result TraceSoFar FaultKind
 line_at past line = do
   said ← kind_and_value (version_in past) line
@@ -137,7 +137,7 @@ finished n past None = Err (record { line = n; kind = Order })
 finished n past (Some node) = Ok
     (trace_in node past.roll past.ticks)
 
--- the lines from the nth on, after those that say what is past
+-- the lines from the nth on, which follow what is past
 abbrev pub read_on : ℕ → TraceSoFar → List (List ℕ) → Result Trace LineFault
 read_on n past [] = finished n past past.node
 read_on n past (line ∷ lines) =

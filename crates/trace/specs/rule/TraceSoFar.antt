@@ -1,4 +1,4 @@
--- What the lines so far say.
+-- What the lines so far have given.
 use Rattle.std.specs.Prelude.{ℕ, Bool, true, false, List, [], ◌∷◌, ◌++◌, length, Option, Some, None, option_map}
 use Rattle.manifest.specs.declared.pod.PodSpec.{PodSpec}
 use Rattle.node_config.specs.declared.node.NodeConfig.{NodeConfig}
@@ -17,7 +17,7 @@ pub record TraceSoFar : Type 0 where
   pub roll : Roll
   pub ticks : List TickObs
 
--- the version of the format, once the node is said
+-- the version of the format, once the node line has come
 abbrev pub version_in : TraceSoFar → Option Version
 version_in past = option_map (λ (node : NodeConfig). node.version) past.node
 
@@ -38,7 +38,7 @@ of_node past node = record past { node = Some node }
 abbrev pub with_roll : TraceSoFar → Roll → TraceSoFar
 with_roll past roll = record past { roll = roll }
 
--- a pod goes behind the earlier ones; it arrives after the ticks so far
+-- a pod is appended to the earlier ones; it arrives after the ticks so far
 abbrev pub with_pod : TraceSoFar → PodSpec → TraceSoFar
 with_pod past pod = with_roll past (rolls.with_pod past.roll pod (length past.ticks))
 

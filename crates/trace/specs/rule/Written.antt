@@ -1,4 +1,4 @@
--- What a node line and a tick line say by themselves, with the fault as the kind of a line's.
+-- What a node line and a tick line have by themselves, with the fault as the kind of a line's.
 use Rattle.std.specs.Prelude.{ℕ, ◌==◌, ◌&&◌, ◌||◌, option_and_then, Bool, true, false, List, Option, Some, None, Result}
 use Rattle.std.specs.Prelude.{Ok}
 use Rattle.std.specs.Prelude.{Err, codes}
@@ -37,12 +37,12 @@ abbrev pub is_three : Option ℕ → Bool
 is_three None = false
 is_three (Some n) = n == 3
 
--- the line says version 3, which the standard format does not have
+-- the line has version 3, which is not in the standard format
 abbrev pub is_foreign : Format → Data → Bool
 is_foreign Standard d = is_three (option_and_then whole_number (field_at (codes "version") d))
 is_foreign Extended d = false
 
--- the node that a node line says
+-- the node of a node line
 abbrev pub node_in : Format → Data → Result NodeConfig FaultKind
 node_in format d = refused_if (is_foreign format d) Config >>= λ known. of_node_line (node_of d)
 
@@ -75,14 +75,14 @@ has_other_kind entries = list_any is_of_no_kind entries
 abbrev pub line_has_other_kind : TickLine → Bool
 line_has_other_kind written = is_of_other_kind written.unjudged || has_other_kind written.entries
 
--- where the version heeds these members, one of another kind is refused, once the whole line is read
+-- if the version reads these members, one of another kind is a fault, once the whole line is read
 abbrev pub heeded : Bool → TickLine → Result TickLine FaultKind
 heeded heeds written = refused_if (heeds && line_has_other_kind written) Usage >>= λ known. Ok written
 
--- what a tick line says beside its moment, by what it says by itself
+-- what a tick line has except its moment, from what was read of the line by itself
 abbrev pub written_in : Bool → Result TickLine TickLineFault → Result TickLine FaultKind
 written_in heeds said = of_tick_line said >>= heeded heeds
 
--- what a tick line says beside its moment
+-- what a tick line has except its moment
 abbrev pub tick_line_in : Bool → Data → Result TickLine FaultKind
 tick_line_in heeds d = written_in heeds (tick_line_of d)

@@ -1,4 +1,4 @@
--- Lines that are read ahead of their turn, each beside the pods that there are.
+-- Lines that are read ahead of their turn, each with the pods that are known then.
 use Rattle.std.specs.Prelude.{◌≡◌, ⊤, ℕ, Bool, false, List, Some, Result, Ok}
 use Rattle.std.specs.Borrow.{Bor}
 use Rattle.std.specs.List.{AllZip}
@@ -21,7 +21,7 @@ use Rattle.trace.specs.rule.Written.{heeded}
 use Rattle.trace.specs.rule.Tick.{moment_from, room_for_tick}
 use Rattle.trace.specs.rule.Trace.{turn_of}
 
--- the line shows this of these pods, where words are heeded or not, and nothing in it is at fault by itself
+-- the line shows this of these pods, with the extension's members read or not, and has no fault by itself
 pub record IsShown (heeds : Bool) (roll : Roll) (said : LineData) (tick : TickObs) : Type 0 where
   pub written : TickLine
   pub placed : List PlacedEntry
@@ -32,7 +32,7 @@ pub record IsShown (heeds : Bool) (roll : Roll) (said : LineData) (tick : TickOb
   pub coded : some_code_missing placed ≡ false
   pub shows : tick ≡ observed heeds tick.at written placed roll
 
--- what was read of a line that says this
+-- what was read of a line that has this
 abbrev pub IsAhead : Bool → Roll → LineData → LineAhead → Type 0
 IsAhead heeds roll said (lines_ahead.Shown tick) = IsShown heeds roll said tick
 IsAhead heeds roll said (lines_ahead.Said line) = data_of line ≡ said
@@ -41,11 +41,11 @@ IsAhead heeds roll said (lines_ahead.Said line) = data_of line ≡ said
 abbrev pub AreAhead : Bool → Roll → List (Bor (List ℕ)) → List LineAhead → Type 0
 AreAhead heeds roll lines reads = AllZip (λ line read. IsAhead heeds roll (line_data line.now) read) lines reads
 
--- what was read beside these pods, with words heeded or not, is still so behind the lines so far
+-- what was read with these pods, with the extension's members read or not, is still so after the lines so far
 abbrev pub IsFresh : TraceSoFar → Bool → Roll → Type 0
 IsFresh past heeding roll = (heeds past ≡ heeding) × (past.roll ≡ roll)
 
--- behind a line that says this there are the same pods, in the same version, as before it
+-- after such a line there are the same pods, in the same version, as before it
 abbrev pub KeepsPods : LineData → Type 0
 KeepsPods Blank = ⊤
 KeepsPods TooLong = ⊤

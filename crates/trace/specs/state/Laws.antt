@@ -62,13 +62,12 @@ use Rattle.trace.specs.rule.TraceSoFar.{with_tick}
 use Rattle.trace.specs.rule.Tick.{moment_of}
 use Rattle.trace.specs.rule.Trace.{json_of, kind_from, line_at, nothing, trace_of}
 
--- after what is said before it, the line leaves this said: a blank line adds nothing, any other
--- line counts and has no fault
+-- after what is past, the line leads to this: a blank line adds nothing, any other line counts and has no fault
 abbrev pub Leaves : TraceSoFar → List ℕ → TraceSoFar → Type 0
 Leaves before line past = ((is_blank line ≡ true) × (past ≡ before))
     ⊎ ((is_blank line ≡ false) × (line_at before line ≡ Ok past))
 
--- the first n lines say this, and none of them that counts has a fault
+-- the first n lines lead to this, and none of them that counts has a fault
 abbrev pub AreSaid : Format → List (List ℕ) → ℕ → TraceSoFar → Type 0
 AreSaid format lines zero past = past ≡ nothing format
 AreSaid format lines (suc n) past = (before : TraceSoFar) × (line : List ℕ) × AreSaid format lines n before
@@ -94,7 +93,7 @@ IsFirstFault format lines fault =
     ((n : ℕ) × IsFaultAt format lines n fault.kind × (fault.line ≡ n + 1))
     ⊎ (NoneCounts lines × (fault.kind ≡ Order) × (fault.line ≡ length lines + 1))
 
--- no line has a fault, and all of them say the trace
+-- no line has a fault, and all of them together give the trace
 pub record IsWhole (format : Format) (lines : List (List ℕ)) (trace : Trace) : Type 0 where
   pub past : TraceSoFar
   pub said : AreSaid format lines (length lines) past
@@ -104,18 +103,17 @@ pub record IsWhole (format : Format) (lines : List (List ℕ)) (trace : Trace) :
   pub departures : past.roll.departures ≡ trace.departures
   pub ticks : past.ticks ≡ trace.ticks
 
--- a text is refused exactly with its first fault
+-- a text is rejected exactly with its first fault
 abbrev pub FirstFault : Type 0
 FirstFault = (format : Format) (text : List ℕ) (fault : LineFault)
     → (trace_of format text ≡ Err fault ↔ IsFirstFault format (lines_of text) fault)
 
--- a text has a trace exactly where no line has a fault and some line counts; it is what the lines
--- say
+-- a text has a trace exactly if no line has a fault and some line counts; the lines give the trace
 abbrev pub WholeTrace : Type 0
 WholeTrace = (format : Format) (text : List ℕ) (trace : Trace)
     → (trace_of format text ≡ Ok trace ↔ IsWhole format (lines_of text) trace)
 
--- the first lines say one thing at most, and at most one line has the first fault
+-- the first lines lead to one result at most, and at most one line has the first fault
 pub record OneFault : Type 0 where
   pub said : (format : Format) (lines : List (List ℕ)) (n : ℕ) (past past' : TraceSoFar) → AreSaid format lines n past
       → AreSaid format lines n past' → past ≡ past'
@@ -132,20 +130,20 @@ pub record IsOfKind (past : TraceSoFar) (line : List ℕ) (line_kind : LineKind)
   pub json : IsJson line d
   pub kind : kind_from (version_in past) (text_at (codes "kind") d) ≡ Some line_kind
 
--- in version 1 a pod line stands before all tick lines; in later ones it may follow one
+-- in version 1 a pod line comes before all tick lines; in later versions it may follow one
 abbrev pub TakesPods : List TickObs → Version → Type 0
 TakesPods ticks One = ticks ≡ []
 TakesPods ticks Two = Unit {0}
 TakesPods ticks Three = Unit {0}
 
--- a node line stands before all other lines that count, and a pod line where the version takes it
+-- a node line comes before all other lines that count, and a pod line where the version allows it
 abbrev pub MayStand : TraceSoFar → LineKind → Type 0
 MayStand past kinds.Node = past.node ≡ None
 MayStand past kinds.Pod = IsSomeAnd (version_in past) (TakesPods past.ticks)
 MayStand past kinds.Tick = is_some past.node ≡ true
 MayStand past kinds.Gone = is_some past.node ≡ true
 
--- the line is of this kind, and may stand where it does
+-- the line is of this kind, which is allowed at its place
 pub record Stands (past : TraceSoFar) (line : List ℕ) (line_kind : LineKind) (d : Data) : Type 0 where
   pub of_kind : IsOfKind past line line_kind d
   pub here : MayStand past line_kind
@@ -173,7 +171,7 @@ pub record HasMoment (past : TraceSoFar) (line : List ℕ) (d : Data) (at : ℕ)
   pub room : length past.ticks < most_ticks
   pub moment : moment_of past.ticks (field_at (codes "at") d) ≡ Ok at
 
--- and with this written beside it
+-- and with this as well
 pub record HasWritten (past : TraceSoFar) (line : List ℕ) (d : Data) (at : ℕ) (written : TickLine) : Type 0 where
   pub has_moment : HasMoment past line d at
   pub written_is : tick_line_in (heeds past) d ≡ Ok written
@@ -190,15 +188,14 @@ pub record IsApart (past : TraceSoFar) (line : List ℕ) (d : Data) (at : ℕ) (
   pub has_places : HasPlaces past line d at written placed
   pub apart : is_doubled placed ≡ false
 
--- and none of them goes back behind an earlier one
+-- and none of them goes back in comparison with an earlier one
 pub record IsForwards (past : TraceSoFar) (line : List ℕ) (d : Data) (at : ℕ) (written : TickLine)
     (placed : List PlacedEntry) : Type 0 where
   pub is_apart : IsApart past line d at written placed
   pub forwards : is_backwards past.ticks (observed (heeds past) at written placed past.roll) ≡ false
 
--- the first check that a line fails after what is said before it, with the fault that it answers:
--- the checks of every line, and then those of a node line, of a pod line, of a line by which a pod leaves, or of a
--- tick line
+-- the first check that a line fails after what is past, with the fault of the check: the checks of every line, and then
+-- those of a node line, of a pod line, of a line by which a pod leaves, or of a tick line
 pub data Fails (past : TraceSoFar) (line : List ℕ) : FaultKind → Type 0 where
   too_long : longest_line < length line → Fails past line TooLong
   not_json : (kind : FaultKind) → length line ≤ longest_line → json_of line ≡ Err kind → Fails past line kind
@@ -237,7 +234,7 @@ abbrev pub FirstCheck : Type 0
 FirstCheck = (past : TraceSoFar) (line : List ℕ) (kind : FaultKind)
     → (line_at past line ≡ Err kind ↔ Fails past line kind)
 
--- what is said after a line that passes all its checks
+-- what is known after a line that passes all its checks
 pub data Says (past : TraceSoFar) (line : List ℕ) : TraceSoFar → Type 0 where
   says_node : (d : Data) (node : NodeConfig) → Stands past line kinds.Node d → node_in past.format d ≡ Ok node
       → Says past line (of_node past node)
@@ -249,7 +246,7 @@ pub data Says (past : TraceSoFar) (line : List ℕ) : TraceSoFar → Type 0 wher
       → IsForwards past line d at written placed → some_code_missing placed ≡ false
       → Says past line (with_tick past (observed (heeds past) at written placed past.roll))
 
--- a line without a fault says its node, its pod, that a pod is gone, or its tick, behind what is said before it
+-- a line without a fault adds its node, its pod, that a pod is gone, or its tick, to what is past
 abbrev pub AllChecks : Type 0
 AllChecks = (past : TraceSoFar) (line : List ℕ) (next : TraceSoFar)
     → (line_at past line ≡ Ok next ↔ Says past line next)
@@ -311,14 +308,14 @@ abbrev pub IsGiven : List PlacedResult → ℕ → ProbeKind → Outcome → Typ
 IsGiven rs n probe outcome = (m : ℕ)
     × (slice_get rs m ≡ Some (record { container = n; probe = probe; outcome = outcome }))
 
--- where no probe has two results, what is shown of a probe is exactly the result that is given,
--- wherever it stands
+-- if no probe has two results, what is shown of a probe is exactly the result that is given, wherever it is in the
+-- entry
 abbrev pub ResultsShown : Type 0
 ResultsShown = (rs : List PlacedResult) (n : ℕ) (probe : ProbeKind) (outcome : Outcome)
     → has_twice are_of_one_probe rs ≡ false
     → (outcome_in rs n probe ≡ Some outcome ↔ IsGiven rs n probe outcome)
 
--- one of the listings is of the container with the number, and says this
+-- one of the listings is of the container with the number, and shows this
 abbrev pub IsListed : List PlacedListing → ℕ → Seen → Type 0
 IsListed ls n seen = (m : ℕ) × (instance : ListedInstance)
     × (slice_get ls m ≡ Some (record { container = n; instance = instance })) × (seen_listed instance ≡ seen)
@@ -328,15 +325,15 @@ abbrev pub Lists : List PlacedEntry → ℕ → ℕ → Seen → Type 0
 Lists es pod container seen = (k : ℕ) × (entry : PlacedEntry) × (slice_get es k ≡ Some entry) × (entry.pod ≡ pod)
     × IsListed entry.listings container seen
 
--- where no pod and no container is listed twice, what a tick shows of a container is exactly what
--- its line lists, wherever it stands
+-- if no pod and no container is listed twice, a tick shows of a container exactly what its line lists, wherever the
+-- listing is
 abbrev pub ListingsShown : Type 0
 ListingsShown = (heeds : Bool) (at : ℕ) (written : TickLine) (es : List PlacedEntry) (roll : Roll) (n c : ℕ)
     (pod : PodSpec) (seen : Seen) → is_doubled es ≡ false
     → slice_get roll.pods n ≡ Some pod → is_present roll.departures n ≡ true → c < length pod.containers
     → (seen_of (observed heeds at written es roll) n c ≡ Some seen ↔ Lists es n c seen)
 
--- one of the entries is of the pod with the number, and says this of its samples
+-- one of the entries is of the pod with the number, and has this sample
 abbrev pub Tells : List PlacedEntry → ℕ → Sampling → Type 0
 Tells es pod sampling = (k : ℕ) × (entry : PlacedEntry) × (slice_get es k ≡ Some entry) × (entry.pod ≡ pod)
     × (entry.said.sampling ≡ sampling)
@@ -345,15 +342,14 @@ Tells es pod sampling = (k : ℕ) × (entry : PlacedEntry) × (slice_get es k �
 abbrev pub sampling_shown_of : TickObs → ℕ → Option Sampling
 sampling_shown_of tick n = option_map (λ (p : PodObs). p.sampling) (shown_of tick n)
 
--- where no pod is listed twice, what a tick shows of a pod's use is exactly what the pod's entry
--- tells, wherever it stands
+-- if no pod is listed twice, a tick shows of a pod's use exactly the usage of the pod's entry, wherever the entry is
 abbrev pub UsageShown : Type 0
 UsageShown = (heeds : Bool) (at : ℕ) (written : TickLine) (es : List PlacedEntry) (roll : Roll) (n : ℕ)
     (pod : PodSpec) (usage : PodUsage) → has_twice are_of_one_pod es ≡ false
     → slice_get roll.pods n ≡ Some pod → is_present roll.departures n ≡ true
     → (sampling_shown_of (observed heeds at written es roll) n ≡ Some (Sampled usage) ↔ Tells es n (Sampled usage))
 
--- one of the entries is of the pod with this number and says that it has no sample, and none came with it
+-- one of the entries is of the pod with this number and marks it as unsampled, and has no sample
 pub record SaysUnsampled (roll : Roll) (es : List TickEntry) (n : ℕ) : Type 0 where
   pub k : ℕ
   pub entry : TickEntry
@@ -362,8 +358,8 @@ pub record SaysUnsampled (roll : Roll) (es : List TickEntry) (n : ℕ) : Type 0 
   pub says : entry.unsampled ≡ Yes
   pub alone : entry.usage ≡ None
 
--- where no pod is listed twice, a tick shows that a pod has no sample exactly where the text is of version 3 and the
--- pod's entry says so
+-- if no pod is listed twice, a tick shows that a pod has no sample exactly if the text is of version 3 and the pod's
+-- entry marks it so
 abbrev pub UnsampledShown : Type 0
 UnsampledShown = (version : Option Version) (at : ℕ) (written : TickLine) (es : List PlacedEntry) (roll : Roll) (n : ℕ)
     (pod : PodSpec) → placed_of (heeds_words version) roll written.entries ≡ Ok es
@@ -376,7 +372,7 @@ UnsampledShown = (version : Option Version) (at : ℕ) (written : TickLine) (es 
 abbrev pub deleting_shown_of : TickObs → ℕ → Option Bool
 deleting_shown_of tick n = option_map (λ (p : PodObs). p.words.deleting) (shown_of tick n)
 
--- one of the entries is of the pod with this number and says that it is being deleted
+-- one of the entries is of the pod with this number and marks it as being deleted
 pub record SaysDeleting (roll : Roll) (es : List TickEntry) (n : ℕ) : Type 0 where
   pub k : ℕ
   pub entry : TickEntry
@@ -384,8 +380,8 @@ pub record SaysDeleting (roll : Roll) (es : List TickEntry) (n : ℕ) : Type 0 w
   pub known : number_of roll entry.key ≡ Some n
   pub says : entry.deleting ≡ Yes
 
--- where no pod is listed twice, a tick shows that a pod is being deleted exactly where the text is of version 3 and the
--- pod's entry says so
+-- if no pod is listed twice, a tick shows that a pod is being deleted exactly if the text is of version 3 and the pod's
+-- entry marks it so
 abbrev pub DeletingShown : Type 0
 DeletingShown = (version : Option Version) (at : ℕ) (written : TickLine) (es : List PlacedEntry) (roll : Roll) (n : ℕ)
     (pod : PodSpec) → placed_of (heeds_words version) roll written.entries ≡ Ok es
@@ -398,7 +394,7 @@ DeletingShown = (version : Option Version) (at : ℕ) (written : TickLine) (es :
 abbrev pub failed_shown_of : TickObs → ℕ → Option (Option (List ℕ))
 failed_shown_of tick n = option_map (λ (p : PodObs). p.words.failed) (shown_of tick n)
 
--- one of the entries is of the pod with this number and says that the node has ended it, for this reason
+-- one of the entries is of the pod with this number and reports that the node has ended it, for this reason
 pub record SaysFailed (roll : Roll) (es : List TickEntry) (n : ℕ) (reason : List ℕ) : Type 0 where
   pub k : ℕ
   pub entry : TickEntry
@@ -406,8 +402,8 @@ pub record SaysFailed (roll : Roll) (es : List TickEntry) (n : ℕ) (reason : Li
   pub known : number_of roll entry.key ≡ Some n
   pub says : entry.failed ≡ reasons.Reason reason
 
--- where no pod is listed twice, a tick shows that the node has ended a pod for a reason exactly where the text is of
--- version 3 and the pod's entry says so
+-- if no pod is listed twice, a tick shows that the node has ended a pod for a reason exactly if the text is of version
+-- 3 and the pod's entry reports it
 abbrev pub FailedShown : Type 0
 FailedShown = (version : Option Version) (at : ℕ) (written : TickLine) (es : List PlacedEntry) (roll : Roll) (n : ℕ)
     (pod : PodSpec) (reason : List ℕ) → placed_of (heeds_words version) roll written.entries ≡ Ok es
@@ -416,13 +412,13 @@ FailedShown = (version : Option Version) (at : ℕ) (written : TickLine) (es : L
     → (failed_shown_of (observed (heeds_words version) at written es roll) n ≡ Some (Some reason)
     ↔ ((version ≡ Some Three) × SaysFailed roll written.entries n reason))
 
--- a tick shows that the node doesn't judge it exactly where the text is of version 3 and the line says so
+-- a tick is no sync tick exactly if the text is of version 3 and the line marks it so
 abbrev pub JudgedShown : Type 0
 JudgedShown = (version : Option Version) (at : ℕ) (written : TickLine) (es : List PlacedEntry) (roll : Roll)
     → ((observed (heeds_words version) at written es roll).judged ≡ false
     ↔ ((version ≡ Some Three) × (written.unjudged ≡ Yes)))
 
--- the node spares a pod exactly where the text is of version 3 and the pod's line says so
+-- the node exempts a pod from eviction exactly if the text is of version 3 and the pod's line marks it so
 abbrev pub SparedSaid : Type 0
 SparedSaid = (version : Option Version) (d : Data) (pod : PodSpec)
     → pod_of_line (heeds_words version) d ≡ Ok pod
@@ -439,8 +435,8 @@ pub record SignalsShown : Type 0 where
       → IsSample (field_at (codes "afterReclaim") d) (name_of signal)
       (of (observed heeds at written placed roll).after_reclaim signal)
 
--- of some container of some pod, both by number, the tick has a listing that may not come after all
--- those of the earlier ticks
+-- of some container of some pod, both by number, the tick has a listing that may not come after all those of the
+-- earlier ticks
 pub record GoesBack (ticks : List TickObs) (tick : TickObs) : Type 0 where
   pub pod : ℕ
   pub container : ℕ
@@ -448,7 +444,7 @@ pub record GoesBack (ticks : List TickObs) (tick : TickObs) : Type 0 where
   pub listed : seen_of tick pod container ≡ Some seen
   pub behind : IsAcceptable (history ticks pod container) (Some seen) → ⊥
 
--- a tick is refused as Backwards exactly where some container's listing goes back
+-- a tick is rejected as Backwards exactly if some container's listing goes back
 abbrev pub BackwardsListing : Type 0
 BackwardsListing = (ticks : List TickObs) (tick : TickObs) → (is_backwards ticks tick ≡ true ↔ GoesBack ticks tick)
 
@@ -461,7 +457,7 @@ StandardIsExtended =
 abbrev pub IsNotMemory : FaultKind → Type 0
 IsNotMemory kind = (kind ≢ OutOfMemory) × (kind ≢ Manifest manifest_faults.OutOfMemory)
 
--- no line and no text has a fault because memory was refused
+-- no line and no text has a fault because an allocation failed
 pub record NeverMemory : Type 0 where
   pub line : (past : TraceSoFar) (line : List ℕ) (kind : FaultKind) → line_at past line ≡ Err kind → IsNotMemory kind
   pub text : (format : Format) (text : List ℕ) (fault : LineFault) → trace_of format text ≡ Err fault

@@ -1,4 +1,4 @@
--- Which fault of a line says that memory ran out.
+-- Which fault of a line means that an allocation failed.
 use Rattle.std.specs.Prelude.{Bool, true, false, Result}
 use Rattle.json_fields.specs.state.Reading.{GivesUnless}
 use Rattle.line_faults.specs.declared.fault.FaultKind.{FaultKind}

@@ -28,7 +28,7 @@ is_listed ls n = list_any (λ l. l.container == n) ls
 abbrev pub has_result : List PlacedResult → PlacedResult → Bool
 has_result rs written = list_any (λ r. are_of_one_probe r written) rs
 
--- A listing beside earlier ones, where the containers show these: whether its container is listed already, and if it is
+-- A listing after earlier ones, where the containers show these: whether its container is listed already, and if it is
 -- not, the containers then show it too.
 pub record NotesListing (listing : PlacedListing) (old new : List ContainerObs) (has_one : Bool) : Type 0 where
   pub earlier : (ls : List PlacedListing) (rs : List PlacedResult) (cs : List ContainerSpec)
@@ -36,7 +36,7 @@ pub record NotesListing (listing : PlacedListing) (old new : List ContainerObs) 
   pub noted : (ls : List PlacedListing) (rs : List PlacedResult) (cs : List ContainerSpec)
       → old ≡ containers_from ls rs 0 cs → has_one ≡ false → new ≡ containers_from (ls ++ listing ∷ []) rs 0 cs
 
--- A probe's result beside earlier ones, where the containers show these: whether its probe has one already, and if it
+-- A probe's result after earlier ones, where the containers show these: whether its probe has one already, and if it
 -- has none, the containers then show it too.
 pub record NotesResult (written : PlacedResult) (old new : List ContainerObs) (has_one : Bool) : Type 0 where
   pub earlier : (ls : List PlacedListing) (rs : List PlacedResult) (cs : List ContainerSpec)
@@ -52,7 +52,7 @@ pub record ListingsNoted (pod : PodSpec) (ds : List Data) (shown : List Containe
   pub coded : list_any (λ l. lacks_code l.instance) listings ≡ false
   pub noted : shown ≡ containers_from listings [] 0 pod.containers
 
--- These items were read as results, each of another probe, and the containers show them beside the listings.
+-- These items were read as results, each of another probe, and the containers show them together with the listings.
 pub record ResultsNoted (pod : PodSpec) (ls : List PlacedListing) (ds : List Data) (shown : List ContainerObs)
     : Type 0 where
   pub results : List PlacedResult

@@ -7,12 +7,12 @@ use Rattle.trace.specs.declared.placing.PlacedEntry.{PlacedEntry}
 use Rattle.roster.specs.rule.Roll.{is_present}
 use Rattle.trace.specs.rule.Observed.{entry_for, pod_observed}
 
--- what its entry says of a pod, if it has one
+-- what its entry shows of a pod, if it has one
 abbrev pub slot_of : ℕ → Option PlacedEntry → PodSpec → Option PodObs
 slot_of at None pod = None
 slot_of at (Some e) pod = Some (pod_observed at (Some e) pod)
 
--- what the entries say of each of the pods, numbered from n on; of one without an entry nothing
+-- what the entries show of each of the pods, numbered from n on; nothing of a pod without an entry
 abbrev pub slots_from : ℕ → List PlacedEntry → ℕ → List PodSpec → List (Option PodObs)
 slots_from at es n [] = []
 slots_from at es n (p ∷ ps) = slot_of at (entry_for es n) p ∷ slots_from at es (n + 1) ps

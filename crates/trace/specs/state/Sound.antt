@@ -20,11 +20,11 @@ abbrev pub AreRising : List TickObs → Type 0
 AreRising ticks = (t u : ℕ) (earlier later : TickObs) → t < u → slice_get ticks t ≡ Some earlier
     → slice_get ticks u ≡ Some later → earlier.at < later.at
 
--- the pod with the number has arrived at tick t: its line stands before it
+-- the pod with the number has arrived at tick t: its line comes before the tick
 abbrev pub HasArrived : List ℕ → ℕ → ℕ → Type 0
 HasArrived arrivals t n = IsSomeAnd (slice_get arrivals n) (λ arrival. arrival ≤ t)
 
--- it has not left: no line by which it is gone stands before the tick
+-- it has not left: no line by which it is gone comes before the tick
 abbrev pub Stays : List (Option ℕ) → ℕ → ℕ → Type 0
 Stays departures t n = (departure : ℕ) → slice_get departures n ≡ Some (Some departure) → t < departure
 

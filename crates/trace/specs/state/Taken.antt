@@ -1,4 +1,4 @@
--- What lines say behind what is past, by what each says by itself.
+-- What lines add to what is past, from what was read of each by itself.
 use Rattle.std.specs.Prelude.{ℕ, ◌+◌, List, [], ◌∷◌, Option, Result, Ok, Err}
 use Rattle.serde_json.specs.Data.{Data}
 use Rattle.json_fields.specs.rule.Reading.{◌>>=◌}
@@ -17,7 +17,7 @@ use Rattle.trace.specs.rule.Tick.{moment_from, room_for_tick, observed_in}
 use Rattle.trace.specs.rule.Trace.{kind_of_line, turn_of, in_order, at_line}
 use Rattle.trace.specs.rule.Written.{written_in}
 
--- a JSON value after those that say what is past
+-- a JSON value that follows what is past
 unfoldable pub value_at : TraceSoFar → Data → Result TraceSoFar FaultKind
 value_at past d = kind_of_line (version_in past) d >>= λ line_kind. in_order (version_in past) past line_kind d
 
@@ -29,7 +29,7 @@ placed_at past moment said = do
   written ← written_in (heeds past) said
   placed_of (heeds past) past.roll written.entries
 
--- the tick of a line with this moment that says this beside it, after those that say what is past
+-- the tick of a line with this moment and this content, which follows what is past
 unfoldable pub tick_of : TraceSoFar → Option ℕ → Result TickLine TickLineFault → Result TickObs FaultKind
 tick_of past moment said = do
   room ← room_for_tick past.ticks
@@ -43,12 +43,12 @@ tick_after past moment said = do
   tick ← tick_of past moment said
   Ok (with_tick past tick)
 
--- a tick line may stand after a node line
+-- a tick line may follow a node line
 abbrev pub tick_line_at : TraceSoFar → Option ℕ → Result TickLine TickLineFault → Result TraceSoFar FaultKind
 tick_line_at past moment said =
     turn_of (version_in past) line_kinds.Tick >>= λ turn. tick_after past moment said
 
--- a line after those that say what is past; a blank one says nothing
+-- a line that follows what is past; a blank one adds nothing
 abbrev pub any_line_at : TraceSoFar → LineData → Result TraceSoFar FaultKind
 any_line_at past Blank = Ok past
 any_line_at past TooLong = Err kinds.TooLong
@@ -56,7 +56,7 @@ any_line_at past NotJson = Err kinds.NotJson
 any_line_at past (Tick moment said) = tick_line_at past moment said
 any_line_at past (Json d) = value_at past d
 
--- lines after those that say what is past, the first of which has this number
+-- lines that follow what is past, the first of which has this number
 abbrev pub lines_at : ℕ → TraceSoFar → List LineData → Result TraceSoFar LineFault
 lines_at n past [] = Ok past
 lines_at n past (line ∷ lines) = at_line n (any_line_at past line) >>= λ next. lines_at (n + 1) next lines

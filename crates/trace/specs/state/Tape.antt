@@ -46,7 +46,7 @@ item_has_other_kind d =
     || are_no_statuses (conditions_of (field_at (codes "conditions") d))
 
 -- these items were read as entries, each of another pod that is present and none at fault, and this is shown of the
--- pods, where words are heeded or not
+-- pods, with the extension's members read or not
 pub record EntriesNoted (heeds : Bool) (roll : Roll) (at : ℕ) (ds : List Data) (slots : List (Option PodObs))
     : Type 0 where
   pub entries : List PlacedEntry

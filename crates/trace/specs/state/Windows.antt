@@ -14,11 +14,11 @@ greatest_window = 4194304
 abbrev pub most_shown : ℕ
 most_shown = 262144
 
--- nor do those of a window have more pods than these, unless as many ticks stand before it as it has lines
+-- nor do the lines of a window have more pods than these, unless as many ticks come before it as it has lines
 abbrev pub first_shown : ℕ
 first_shown = 1024
 
--- a line takes as much memory as this many pods, beside those that it shows
+-- a line takes as much memory as this many pods, in addition to the pods that it shows
 abbrev pub weight_of_line : ℕ
 weight_of_line = 8
 
@@ -30,8 +30,8 @@ AreFew roll lines = 1 < lines → lines * (length roll.pods + weight_of_line) �
 abbrev pub AreEarly : Roll → ℕ → ℕ → Type 0
 AreEarly roll ticks lines = ticks < lines → 1 < lines → lines * (length roll.pods + weight_of_line) ≤ first_shown
 
--- how many bytes the window has behind one that had this many: twice as many, but as many as the first one where a line
--- was read in vain, beside pods that changed meanwhile
+-- how many bytes the window has after one that had this many: twice as many, but as many as the first window if a line
+-- was read in vain, with pods that changed meanwhile
 abbrev pub window_behind : ℕ → Bool → ℕ
 window_behind had some_in_vain =
     if some_in_vain then smallest_window else max smallest_window (min (had * 2) greatest_window)

@@ -1,4 +1,4 @@
--- Updates of pieces that a gate has made, or has tried to: `left` says so of each piece as an update leaves it.
+-- Updates of pieces that a gate has made, or has tried to: `left` holds of each piece as an update leaves it.
 use Rattle.std.specs.Prelude.{ℕ, ◌<◌, ◌≤◌, Bool, true, false, List, All, IsTrue}
 use Rattle.pod_piece.specs.rule.Piece.{Piece}
 use Rattle.pod_piece.specs.state.Piece.{all_updated}
@@ -17,11 +17,11 @@ pub record IsFinished (left : Piece → Bool → Bool) (all : List Piece) (piece
   pub is_done : IsDone all piece
   pub gated : WereGated left (waiting_at all piece.number) piece
 
--- an update of the piece by the gate was refused
+-- an update of the piece by the gate failed
 pub record IsRefused (left : Piece → Bool → Bool) (all : List Piece) (piece : Piece) : Type 0 where
   pub is_left : IsLeftOf all piece
   pub refused : IsTrue (left piece false)
 
--- an update by the gate was refused
+-- an update by the gate failed
 abbrev pub WasRefused : (Piece → Bool → Bool) → Type 0
 WasRefused left = (piece : Piece) × IsTrue (left piece false)

@@ -7,5 +7,5 @@ use Rattle.manifest_reader.proofs.checks.check_each.Given as goal
 
 abbrev pub invariant-loop-value : goal.invariant-loop-value
 invariant-loop-value l =
-    checked (each (container_of l.place) (map view (drop l.value-index l.values)))
-    ≡ checked (each (container_of l.place) (map view l.values))
+    checked (each (container_of l.own l.place) (map view (drop l.value-index l.values)))
+    ≡ checked (each (container_of l.own l.place) (map view l.values))

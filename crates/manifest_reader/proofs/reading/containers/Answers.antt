@@ -7,7 +7,7 @@ use Rattle.manifest_reader.proofs.reading.containers.Goals as goal
 
 pub loop-value-preserved : goal.loop-value-preserved
 loop-value-preserved c =
-    let read_on = one_more view (container_of c.args.place) c.args.values.now c.loop-value.value-index
+    let read_on = one_more view (container_of c.args.own c.args.place) c.args.values.now c.loop-value.value-index
     c.value-item.result c.loop-value.all.items c.in_ok-container.container c.loop-value-test.true c.value-item.is
     c.in_ok-container.ensures.gives in
     record {

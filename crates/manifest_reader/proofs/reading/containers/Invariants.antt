@@ -8,8 +8,8 @@ use Rattle.manifest_reader.proofs.reading.containers.Given as goal
 
 abbrev pub invariant-loop-value : goal.invariant-loop-value
 invariant-loop-value l = record {
-  read : with_front l.all.items (each (container_of l.place) (map view (drop l.value-index l.values))) ≡ each
-      (container_of l.place) (map view l.values);
+  read : with_front l.all.items (each (container_of l.own l.place) (map view (drop l.value-index l.values))) ≡ each
+      (container_of l.own l.place) (map view l.values);
   as_many : length l.all.items ≡ l.value-index;
   of : AllOf l.place l.all.items;
 }

@@ -1,4 +1,4 @@
-use Rattle.std.proofs.Common.{ℕ, ◌<◌, length, Option, refl, sym, subst, arith}
+use Rattle.std.proofs.Common.{◌<◌, length, Option, refl, sym, subst, arith}
 use Rattle.std.proofs.lemmas.Bool.{iff_false}
 use Rattle.state_diff.specs.declared.seen.Seen.{Seen}
 use Rattle.containers.specs.rule.Ticks.{listings}

@@ -1,4 +1,4 @@
-use Rattle.std.proofs.Common.{◌≡◌, ◌+◌, ℕ, ◌<◌, List, [], ◌∷◌, ◌++◌, slice_index_or, sym, subst}
+use Rattle.std.proofs.Common.{◌+◌, ℕ, ◌<◌, List, [], ◌∷◌, ◌++◌, slice_index_or, sym, subst}
 use Rattle.std.proofs.Common.{arith}
 use Rattle.std.specs.Prelude.{slice_get, unwrap_or}
 use Rattle.manifest.specs.declared.pod.PodSpec.{PodSpec}
@@ -36,12 +36,12 @@ loop-number-preserved c =
     c.step-events.ensures.state pod max_restart_delay h
     (within (λ x. IsContainerOf pod max_restart_delay h n x) e is) in
     let M : ℕ → ContainerEvents
-    → Type 0 = λ k x. (e : Container) (pod : PodSpec) (max_restart_delay : ℕ) (h : List PodTick)
-    → pod.policy ≡ c.args.policy → IsContainerOf pod max_restart_delay h k (slice_index_or c.args.containers.now k e)
-    → IsMadeOf pod max_restart_delay h (pod_tick observed) k x in
-    let made_here : M n events = λ e pod max_restart_delay h policy is.
-    c.step-events.ensures.made pod max_restart_delay h policy
-    (within (λ x. IsContainerOf pod max_restart_delay h n x) e is) in
+    → Type 0 = λ k x. (e : Container) (max_restart_delay : ℕ) (h : List PodTick)
+    → IsContainerOf c.args.pod.now max_restart_delay h k (slice_index_or c.args.containers.now k e)
+    → IsMadeOf c.args.pod.now max_restart_delay h (pod_tick observed) k x in
+    let made_here : M n events = λ e max_restart_delay h is.
+    c.step-events.ensures.made max_restart_delay h
+    (within (λ x. IsContainerOf c.args.pod.now max_restart_delay h n x) e is) in
     let Q : List Container → Type 0 = λ xs. (k : ℕ) (d : Container) → k < n + 1 → P k (slice_index_or xs k d) in
     let R : List ContainerEvents → Type 0 = λ xs. (k : ℕ) (d : ContainerEvents) → k < n + 1
     → M k (slice_index_or xs k d) in
@@ -69,10 +69,9 @@ returns-clause-containers c = λ pod max_restart_delay h are. record {
 }
 
 pub returns-clause-made : goal.returns-clause-made
-returns-clause-made c = λ pod max_restart_delay h policy are. record {
+returns-clause-made c = λ max_restart_delay h are. record {
   as_many = omega (arith, c.loop-number.invariant.as_many_made, are.as_many);
   each = λ n d lt.
       let e = some_item c.args.containers.now n (omega (arith, are.as_many)) in
-      c.loop-number.invariant.each_made n d e (omega (arith, are.as_many)) pod max_restart_delay h policy
-      (are.each n e lt);
+      c.loop-number.invariant.each_made n d e (omega (arith, are.as_many)) max_restart_delay h (are.each n e lt);
 }

@@ -15,7 +15,7 @@ invariant-loop-number l = record {
       → IsContainerOf pod max_restart_delay h n (slice_index_or l.containers n e)
       → IsContainerOf pod max_restart_delay (h ++ pod_tick l.observed ∷ []) n (slice_index_or l.all.items n d);
   each_made : (n : ℕ) (d : ContainerEvents) (e : Container) → n < l.number
-      → (pod : PodSpec) (max_restart_delay : ℕ) (h : List PodTick)
-      → pod.policy ≡ l.policy → IsContainerOf pod max_restart_delay h n (slice_index_or l.containers n e)
-      → IsMadeOf pod max_restart_delay h (pod_tick l.observed) n (slice_index_or l.made.items n d);
+      → (max_restart_delay : ℕ) (h : List PodTick)
+      → IsContainerOf l.pod max_restart_delay h n (slice_index_or l.containers n e)
+      → IsMadeOf l.pod max_restart_delay h (pod_tick l.observed) n (slice_index_or l.made.items n d);
 }

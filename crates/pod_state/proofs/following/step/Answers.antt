@@ -22,13 +22,14 @@ returns-clause-state c = λ pod max_restart_delay h is.
     (c.step.ensures.state spec max_restart_delay k st))) is
 
 pub returns-clause-made : goal.returns-clause-made
-returns-clause-made c = λ pod max_restart_delay h policy is.
+returns-clause-made c = λ max_restart_delay h is.
     let observed = c.args.observed.now in
+    let pod = c.args.pod.now in
     let made = c.step.result in
-    made_is pod max_restart_delay c.args.number h observed c.args.policy c.args.container.now made policy
-    (λ spec k st. subst (λ (o : ContainerObs). AreEvents c.args.policy max_restart_delay spec
+    made_is pod max_restart_delay c.args.number h observed _ c.args.container.now made c.own_restarts_of-own.ensures
+    (λ spec k own st. subst (λ (o : ContainerObs). AreEvents pod.policy max_restart_delay spec
     (k ++ recorded observed.at o ∷ []) (length k) made) c.shown_of-shown.ensures
-    (subst (λ (m : ℕ). AreEvents c.args.policy max_restart_delay spec (k ++ recorded m c.shown_of-shown.result ∷ [])
+    (subst (λ (m : ℕ). AreEvents pod.policy max_restart_delay spec (k ++ recorded m c.shown_of-shown.result ∷ [])
     (length k)
     made) c.at.ensures
-    (c.step.ensures.events spec max_restart_delay k st))) is
+    (c.step.ensures.events spec max_restart_delay k own st))) is

@@ -39,7 +39,7 @@ returns-clause-state c = λ spec max_restart_delay h st.
     (c.is_started.ensures spec (h ++ x ∷ []) now)
 
 pub returns-clause-events : goal.returns-clause-events
-returns-clause-events c = λ spec max_restart_delay h st.
+returns-clause-events c = λ spec max_restart_delay h own st.
     let x = recorded c.args.at c.args.observed in
     let is = following spec max_restart_delay h c.args.self.now st in
     let changes = c.follow-followed.ensures.changes spec h is in
@@ -61,9 +61,10 @@ returns-clause-events c = λ spec max_restart_delay h st.
           (c.is_ready.ensures spec max_restart_delay (h ++ x ∷ []) after)
           c.readiness.ensures;
       backoff = backoff_gives c.args.policy max_restart_delay spec h x _ c.count_exits-delay.result c.backs_off.result
-          c.backoff.result after.rising exits (c.backs_off.ensures spec (h ++ x ∷ []) now) c.backoff.ensures;
+          c.backoff.result after.rising exits (c.backs_off.ensures spec (h ++ x ∷ []) own now) c.backoff.ensures;
       restart = restart_gives c.args.policy max_restart_delay spec h x _ c.count_exits-delay.result c.to_restart.result
           c.last_at-last_at.result c.is_due-is_due.result c.restart.result st.rising exits
-          (c.last_at-last_at.ensures.moment _ st.differ ∙ last_listed h) (c.to_restart.ensures spec (h ++ x ∷ []) now)
+          (c.last_at-last_at.ensures.moment _ st.differ ∙ last_listed h)
+          (c.to_restart.ensures spec (h ++ x ∷ []) own now)
           (c.is_due-is_due.ensures max_restart_delay exits.exits exits.counted) c.restart.ensures;
     }

@@ -59,7 +59,7 @@ follow_on-requires-clause-count c =
     (ap (λ n. n - i.waiting) c.len.ensures) c.at-observed.ensures in
     let h = ticks (piece_of i) in
     let after =
-    c.in_ok-events.ensures.ok i.pod i.max_restart_delay (place_of i.eviction) h refl from.not_now from.now in
+    c.in_ok-events.ensures.ok i.max_restart_delay (place_of i.eviction) h from.not_now from.now in
     from.held.listed.as_many ∙ has_containers i.pod i.max_restart_delay (place_of i.eviction)
     (h ++ pod_tick observed ∷ []) c.take.new.self after
 
@@ -86,7 +86,7 @@ show-requires c =
     (ap (λ n. n - i.waiting) c.len.ensures) c.at-observed.ensures in
     let h = ticks (piece_of i) in
     let after =
-    c.in_ok-events.ensures.ok i.pod i.max_restart_delay (place_of i.eviction) h refl from.not_now from.now in
+    c.in_ok-events.ensures.ok i.max_restart_delay (place_of i.eviction) h from.not_now from.now in
     from.held.shown.containers.as_many ∙ has_containers i.pod i.max_restart_delay (place_of i.eviction)
     (h ++ pod_tick observed ∷ []) c.take.new.self after
 
@@ -117,12 +117,12 @@ invariant_of-self-2 c =
     (c.follow_on.ensures i.pod i.max_restart_delay e h
     (is_over i.pod e h c.lifecycle.result.phase c.has_ended-had_ended.result was.phase
     c.has_ended-had_ended.ensures.terminal) from.held.listed
-    (c.in_ok-events.ensures.ok i.pod i.max_restart_delay e h refl from.not_now from.now))
-    (λ e not is. c.in_ok-events.ensures.ok i.pod i.max_restart_delay e h refl not is)
+    (c.in_ok-events.ensures.ok i.max_restart_delay e h from.not_now from.now))
+    (λ e not is. c.in_ok-events.ensures.ok i.max_restart_delay e h not is)
     (λ e is. subst (λ (l : Lifecycle). IsProgressOf i.pod e h l) (sym c.in_ok-events.ensures.before) is.progress)
     (λ e not is. subst (λ (es : List PodEvent). AreEventsOf i.pod i.max_restart_delay e h (pod_tick observed) es)
     (sym (ap (λ v. v.items) c.replace-before.ensures.after))
-    (c.in_ok-events.ensures.events i.pod i.max_restart_delay e h refl not is))
+    (c.in_ok-events.ensures.events i.max_restart_delay e h not is))
     (λ shown before after.
     let st = after.now e (may_self e (length k)) in
     let phase = st.progress.so_far.phase in

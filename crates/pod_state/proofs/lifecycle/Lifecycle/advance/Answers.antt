@@ -5,9 +5,9 @@ use Rattle.pod_state.proofs.LifecycleLemmas as lemmas
 use Rattle.pod_state.proofs.lifecycle.Lifecycle.advance.Goals as goal
 
 pub returns : goal.returns
-returns c = λ pod end h entry policy are ready gates now is.
+returns c = λ pod end h entry are ready gates now is.
     let phase : IsPhase pod end (h ++ recorded c.args.at entry ∷ []) c.next_phase-phase.result =
-    c.next_phase-phase.ensures pod end h c.args.at entry policy are now is.so_far.phase in
+    c.next_phase-phase.ensures pod end h c.args.at entry are now is.so_far.phase in
     let containers =
     lemmas.ready_more pod end h (recorded c.args.at entry) c.args.ready c.args.self.now.phase c.next_phase-phase.result
     c.are_ready-containers_ready.result ready is.so_far.phase phase c.are_ready-containers_ready.ensures in

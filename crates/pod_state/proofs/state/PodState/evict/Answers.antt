@@ -5,7 +5,8 @@ use Rattle.pod_state.proofs.state.PodState.evict.Goals as goal
 
 pub returns-clause-state : goal.returns-clause-state
 returns-clause-state c = λ pod max_restart_delay h entry was before is.
-    when_evicted pod max_restart_delay h (recorded c.args.at entry) c.args.self.now _ c.requires refl refl refl was is before
+    when_evicted pod max_restart_delay h (recorded c.args.at entry) c.args.self.now _ c.requires refl refl refl was is
+    before
     (c.evicted-self.ensures pod h entry was is.progress.so_far before)
 
 pub returns-clause-ends : goal.returns-clause-ends

@@ -1,5 +1,5 @@
 use Rattle.std.proofs.Common.{ℕ, List, [], Option, refl, sym, subst}
-use Rattle.phase.specs.declared.view.ContainerView.{ContainerView}
+use Rattle.phase.specs.declared.restart_view.RestartView.{RestartView}
 use Rattle.containers.specs.declared.container.Container.{Container}
 use Rattle.pod_state.specs.state.Pods.{AreViewsOf}
 use Rattle.pod_state.specs.state.Containers.{AreContainersOf}
@@ -16,11 +16,11 @@ progress : (c : goal.After-drop-views) (evicted : Option ℕ)
 progress c evicted =
     let spec = c.args.spec.now in
     let max_restart_delay = c.args.max_restart_delay in
-    let views = c.in_ok-views.ensures spec max_restart_delay []
+    let views = c.in_ok-views.ensures max_restart_delay []
     (subst (λ (cs : List Container). AreContainersOf spec max_restart_delay [] cs) (sym c.deref.ensures.value)
     (are c)) in
     c.new-lifecycle.ensures spec evicted
-    (subst (λ (vs : List ContainerView). AreViewsOf spec [] vs) (sym c.deref-2.ensures.value) views)
+    (subst (λ (vs : List RestartView). AreViewsOf spec [] vs) (sym c.deref-2.ensures.value) views)
 
 pub returns-clause-state : goal.returns-clause-state
 returns-clause-state c = λ evicted. record {

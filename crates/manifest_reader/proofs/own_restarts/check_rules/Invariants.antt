@@ -1,0 +1,10 @@
+use Rattle.std.proofs.Common.{◌≡◌, map, drop}
+use Rattle.serde_json.specs.View.{view}
+use Rattle.json_fields.specs.rule.Reading.{each}
+use Rattle.json_fields.specs.state.Reading.{checked}
+use Rattle.manifest_reader.specs.rule.OwnRestarts.{rule_of}
+use Rattle.manifest_reader.proofs.own_restarts.check_rules.Given as goal
+
+abbrev pub invariant-loop-item : goal.invariant-loop-item
+invariant-loop-item l =
+    checked (each rule_of (map view (drop l.item-index l.items))) ≡ checked (each rule_of (map view l.items))
