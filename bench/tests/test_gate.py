@@ -210,7 +210,7 @@ class Page(Case):
         write("".join(row for row in rows if not row.startswith(("grading", "./test"))), self.top, "bench/gate.tsv")
         text = " ".join(self.text().split())
         self.assertIn("Not measured, and not in the sums: grading.", text)
-        self.assertIn("`./test` has not been measured behind them.", text)
+        self.assertIn("`./test` was not measured after them.", text)
         self.assertIn("| grading | 0 | 14 | 0 | 1 | - | - | - | - | - |", text)
         self.assertIn("The longest chain takes 8.1 processor minutes without edits: marks (1.8), text (0.6), "
                       "kubelet_replay (5.7).", text)
@@ -329,7 +329,7 @@ class Whole(Case):
                          (LOG, "rt: marks proved\n1 passed, 0 failed\n",
                           "rt: must-fail marks/0.edit: refused\n1 passed, 0 failed\n"))
         page = read(self.top, "docs/gate.md")
-        self.assertIn(f"Of 5 crates 4 were proved anew at the commit `{new['text'].commit}`.", " ".join(page.split()))
+        self.assertIn(f"Of 5 crates 4 were proved again at the commit `{new['text'].commit}`.", " ".join(page.split()))
         self.assertIn("\n      2000     0.04\n", page)
 
     def test_two_commands_at_once(self):
@@ -390,7 +390,7 @@ class Whole(Case):
         self.assertEqual((status, said, self.new()), (0, "", ["./test"]))
         self.assertEqual(self.lines(told.rpartition("docs")[0])["kubelet_replay"],
                          "not measured, since the kit had kept it, or parts of it")
-        self.assertIn("Of 5 crates 0 were proved anew", " ".join(read(self.top, "docs/gate.md").split()))
+        self.assertIn("Of 5 crates 0 were proved again", " ".join(read(self.top, "docs/gate.md").split()))
 
     def test_a_run_that_proves_others_too_is_no_figure_of_the_crate(self):
         _, told, _ = gate(self.top, "text", BOTH="text", KEPT="marks")
