@@ -5,7 +5,7 @@ import json
 import tempfile
 
 import cases
-from checks import TOOLS, expect, run
+from checks import REPLAY, TOOLS, expect, run
 from imported_lines import Journal, entries_of, imported, pod as journal_pod, states_of
 from test_explain import found_of
 from test_members import play_of, recorded
@@ -179,7 +179,7 @@ def test_imported_rules():
 # --- what the tools print ---
 
 
-REPORT = """node n1 pods=1 ticks=7
+REPORT = """node n1 pods=1 ticks=8
 event 0 shop/job app started 0
 event 0 shop/job app ready
 event 0 shop/job setup started 0
@@ -196,12 +196,14 @@ event 8 shop/job setup restart 0
 event 9 shop/job app died 1 75
 event 9 shop/job app unready
 event 9 shop/job app backoff 10
-event 20 shop/job app restart 1
 event 20 shop/job app started 2
+event 20 shop/job app ready
 event 20 shop/job setup started 1
+event 20 shop/job setup ready
 event 25 shop/job app died 2 3
 event 25 shop/job app unready
 event 26 shop/job setup died 1 0
+event 26 shop/job setup unready
 event 26 shop/job - phase Failed
 pod 0 shop/job phase=Failed reason=- qos=BestEffort
 condition 0 PodScheduled True 0
@@ -213,7 +215,7 @@ container 0 setup state=Terminated code=0 restarts=1 ready=false started=false
 nodecondition MemoryPressure False 0
 nodecondition DiskPressure False 0
 nodecondition PIDPressure False 0
-totals updates=7 events=23 orders=0
+totals updates=8 events=25 orders=2
 """
 
 
@@ -246,7 +248,7 @@ WANTED = {
     "26": "its own restartPolicy OnFailure does not restart it"}
 
 
-def told_by(tool, trace, *words, report=REPORT.replace("ticks=7", "ticks=8")):
+def told_by(tool, trace, *words, report=REPORT):
     with tempfile.NamedTemporaryFile("w", suffix=".trace") as file:
         file.write(trace)
         file.flush()
@@ -254,6 +256,11 @@ def told_by(tool, trace, *words, report=REPORT.replace("ticks=7", "ticks=8")):
         status, told, said = run([f"{TOOLS}/{tool}", *clock, *words, "--trace", file.name], report)
     expect(f"{tool} of own restarts", (status, said), (0, ""))
     return told
+
+
+def test_report_of_own_restarts():
+    """The report that these tests give the tools is the program's."""
+    expect("the report of own restarts", run([REPLAY, "run", "/dev/stdin", "--extended"], trace_of()), (0, REPORT, ""))
 
 
 def test_what_is_told_of_own_restarts():
@@ -279,12 +286,20 @@ def test_what_is_told_of_own_restarts():
         25: f"app exited with 3: {WANTED['25']}", 26: f"setup exited with 0: {WANTED['26']}"})
 
 
+def test_page_of_own_restarts():
+    """A page has the policy of each container, and what decided next to an exit."""
+    told = told_by("page", trace_of())
+    expect("page: own restarts", ('"policies":["Never of its own, after 2 rules","OnFailure of its own"]' in told,
+                                  WANTED["8"] in told), (True, True))
+    expect("page of version 2: none", '"policies"' in told_by("page", trace_of(version=2)), False)
+
+
 def test_no_own_restarts():
     """Nothing is printed of them in version 2, whose program ignores rules; and where no restart came, as of a pod that
     is being deleted."""
     told = told_by("story", trace_of(version=2), "job", "--without-why")
     expect("no own restarts in version 2", "restartPolicy" in told, False)
-    report = REPORT.replace("ticks=7", "ticks=8").replace("event 5 shop/job app restart 0\n", "")
+    report = REPORT.replace("event 5 shop/job app restart 0\n", "")
     told = told_by("json", trace_of(), report=report)
     expect("no restart came", [record["at"] for record in map(json.loads, told.splitlines())
                                if "restart_words" in record], [8, 9, 25, 26])
