@@ -2,3 +2,4 @@ pub mod Observations
 pub mod Pods
 pub mod Limits
 pub mod Reasons
+pub mod Resizes

@@ -1,12 +1,12 @@
 //! What a tick shows of a pod's containers and of its use of the node, as it is kept.
 
-ghost use Rattle.std.specs.Prelude.{◌≡◌, length, map, IfOk, IfSome, IsTrue, is_none, slice_get};
+ghost use Rattle.std.specs.Prelude.{◌≡◌, [], length, map, IfOk, IfSome, IsTrue, is_none, slice_get};
 ghost use Rattle.std.specs.Prelude.{option_map};
 ghost use Rattle.std.specs.List.{list_all};
 ghost use Rattle.std.specs.Option.{option_flatten};
 ghost use Rattle.observations.specs.state.PackedContainer.{shown_as};
 ghost use Rattle.observations.specs.rule.Pods.{no_gates, no_words};
-ghost use Rattle.observations.specs.state.Pods.{kept_in, sampling_in, words_in};
+ghost use Rattle.observations.specs.state.Pods.{kept_in, sampling_in, words_in, resized_in};
 ghost use Rattle.observations.specs.state.Whole.{memory_as, usage_as};
 ghost use Rattle.observations.specs.declared.usage.Sampling.TheVariants.{Unsaid, Sampled};
 
@@ -14,6 +14,7 @@ use crate::container::ContainerObs;
 use crate::containers::{Containers, kept};
 use crate::packed_container::PackedContainer;
 use crate::reason::EndReason;
+use crate::resize::Resize;
 use crate::usage::{Sampling, Usage};
 use crate::whole::{WholeUsage, usage_of_memory};
 use crate::words::PodWords;
@@ -34,17 +35,18 @@ pub(crate) struct Used {
     pub(crate) usage: Usage,
 }
 
-/// What a tick shows of a pod on which it has a word.
+/// What a tick shows of a pod on which it has a word, or that it resizes.
 #[derive(Drop)]
 pub(crate) struct Told {
     pub(crate) containers: Containers,
     pub(crate) sampling: Sampling,
     pub(crate) words: PodWords,
+    pub(crate) resized: Vec<Resize>,
 }
 
 /// What a tick shows of a pod, in 32 bytes. Three containers or more take a block of their own, and so do a sample of
-/// more than the memory and each word: all are rarer than one or two containers without a sample, or with one of their
-/// memory.
+/// more than the memory, each word and each resize: all are rarer than one or two containers without a sample, or with
+/// one of their memory.
 #[derive(Drop)]
 pub(crate) enum PackedContainers {
     One(PackedContainer),
@@ -63,6 +65,7 @@ fn unused(alloc: Global, containers: &[ContainerObs]) -> Result<PackedContainers
     ensures containers { IfOk result (λ s. map shown_as (kept_in s) ≡ containers.now) }
     ensures sampling { IfOk result (λ s. sampling_in s ≡ Unsaid) }
     ensures words { IfOk result (λ s. words_in s ≡ no_words) }
+    ensures resized { IfOk result (λ s. resized_in s ≡ []) }
 {
     match containers {
         [one] => Ok(PackedContainers::One(PackedContainer::of(*one))),
@@ -79,6 +82,7 @@ fn in_place(containers: &[ContainerObs], memory: u64) -> Option<PackedContainers
     ensures containers { IfSome result (λ s. map shown_as (kept_in s) ≡ containers.now) }
     ensures sampling { IfSome result (λ s. sampling_in s ≡ Sampled (memory_as memory)) }
     ensures words { IfSome result (λ s. words_in s ≡ no_words) }
+    ensures resized { IfSome result (λ s. resized_in s ≡ []) }
 {
     match containers {
         [one] => Some(PackedContainers::OneWithMemory(PackedContainer::of(*one), memory)),
@@ -103,6 +107,7 @@ fn in_units(
     ensures containers { IfOk result (λ s. map shown_as (kept_in s) ≡ containers.now) }
     ensures sampling { IfOk result (λ s. sampling_in s ≡ Sampled (usage_as usage)) }
     ensures words { IfOk result (λ s. words_in s ≡ no_words) }
+    ensures resized { IfOk result (λ s. resized_in s ≡ []) }
 {
     if let Some(memory) = usage.memory_alone()
         && let Some(shown) = in_place(containers, memory)
@@ -123,6 +128,7 @@ fn sampled(
     ensures containers { IfOk result (λ s. map shown_as (kept_in s) ≡ containers.now) }
     ensures sampling { IfOk result (λ s. sampling_in s ≡ Sampled usage) }
     ensures words { IfOk result (λ s. words_in s ≡ no_words) }
+    ensures resized { IfOk result (λ s. resized_in s ≡ []) }
 {
     if let Some(usage) = WholeUsage::of(usage) {
         return in_units(alloc, containers, usage);
@@ -146,6 +152,13 @@ fn says_no_gate(gates: &[Option<bool>; MOST_GATES]) -> bool
     are_none(gates)
 }
 
+/// Whether the words are no words.
+fn are_no_words(words: &PodWords) -> bool
+    ensures { IsTrue result → words.now ≡ no_words }
+{
+    !words.deleting && words.failed.is_none() && says_no_gate(&words.gates)
+}
+
 impl PackedContainers {
     pub(crate) fn new(
         alloc: Global,
@@ -155,6 +168,7 @@ impl PackedContainers {
         ensures containers { IfOk result (λ s. map shown_as (kept_in s) ≡ containers.now) }
         ensures sampling { IfOk result (λ s. sampling_in s ≡ sampling) }
         ensures words { IfOk result (λ s. words_in s ≡ no_words) }
+        ensures resized { IfOk result (λ s. resized_in s ≡ []) }
     {
         match sampling {
             Sampling::Unsaid => unused(alloc, containers),
@@ -166,18 +180,20 @@ impl PackedContainers {
         }
     }
 
-    /// What is kept of containers, of the sampling, and of the tick's words.
+    /// What is kept of containers, of the sampling, of the tick's words, and of its resizes.
     pub(crate) fn told(
         alloc: Global,
         containers: &[ContainerObs],
         sampling: Sampling,
         words: PodWords,
+        resized: Vec<Resize>,
     ) -> Result<PackedContainers, AllocError>
         ensures containers { IfOk result (λ s. map shown_as (kept_in s) ≡ containers.now) }
         ensures sampling { IfOk result (λ s. sampling_in s ≡ sampling) }
         ensures words { IfOk result (λ s. words_in s ≡ words) }
+        ensures resized { IfOk result (λ s. resized_in s ≡ resized.items) }
     {
-        if !words.deleting && words.failed.is_none() && says_no_gate(&words.gates) {
+        if resized.is_empty() && are_no_words(&words) {
             return PackedContainers::new(alloc, containers, sampling);
         }
         let containers = Containers::new(alloc, containers)?;
@@ -185,6 +201,7 @@ impl PackedContainers {
             containers,
             sampling,
             words,
+            resized,
         };
         Ok(PackedContainers::Told(Box::new(alloc, told)?))
     }
@@ -261,6 +278,16 @@ impl PackedContainers {
         match self {
             PackedContainers::Told(told) => told.words.deleting,
             _ => false,
+        }
+    }
+
+    /// The tick's resizes of the pod's containers.
+    pub(crate) fn resizes(&self) -> &[Resize]
+        ensures { result.now ≡ resized_in self.now }
+    {
+        match self {
+            PackedContainers::Told(told) => told.resized.as_slice(),
+            _ => &[],
         }
     }
 

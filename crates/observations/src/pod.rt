@@ -2,18 +2,19 @@
 
 ghost use Rattle.std.specs.Prelude.{◌≡◌, length, IfOk, slice_get, option_map};
 ghost use Rattle.std.specs.Option.{option_flatten};
-ghost use Rattle.observations.specs.state.Pods.{pod_obs, told_obs, sample_in};
+ghost use Rattle.observations.specs.state.Pods.{pod_obs, told_obs, resized_obs, sample_in};
 
 use crate::container::ContainerObs;
 use crate::packed_containers::PackedContainers;
 use crate::reason::EndReason;
+use crate::resize::Resize;
 use crate::usage::{Sampling, Usage};
 use crate::words::PodWords;
 use std::alloc::{AllocError, Global};
 use std::marker::Model;
 
 /// What a tick shows of one pod, in 40 bytes: a trace has millions of these. Contracts see the moment, an observation
-/// for each container by number, the sampling of its use of the node, and the tick's words.
+/// for each container by number, the sampling of its use of the node, the tick's words, and its resizes.
 #[derive(Drop)]
 pub struct PodObs {
     at: u64,
@@ -24,11 +25,12 @@ impl Model for PodObs {
     ghost use Rattle.std.specs.Prelude.{map};
     ghost use Rattle.observations.specs.state.PackedContainer.{shown_as};
     ghost use Rattle.observations.specs.rule.Pods.{PodObs};
-    ghost use Rattle.observations.specs.state.Pods.{told_obs, kept_in, sampling_in, words_in};
+    ghost use Rattle.observations.specs.state.Pods.{resized_obs, kept_in, sampling_in, words_in, resized_in};
 
     ghost Value = { PodObs };
 
-    ghost view = { λ o. told_obs o.at (map shown_as (kept_in o.shown)) (sampling_in o.shown) (words_in o.shown) };
+    ghost view = { λ o. resized_obs o.at (map shown_as (kept_in o.shown)) (sampling_in o.shown) (words_in o.shown)
+        (resized_in o.shown) };
 }
 
 impl PodObs {
@@ -56,7 +58,21 @@ impl PodObs {
     ) -> Result<PodObs, AllocError>
         ensures { IfOk result (λ o. o ≡ told_obs at containers.now sampling words) }
     {
-        let shown = PackedContainers::told(alloc, containers, sampling, words)?;
+        PodObs::resized(alloc, at, containers, sampling, words, Vec::new(alloc))
+    }
+
+    /// What such a tick shows of a pod whose containers it resizes.
+    pub fn resized(
+        alloc: Global,
+        at: u64,
+        containers: &[ContainerObs],
+        sampling: Sampling,
+        words: PodWords,
+        resized: Vec<Resize>,
+    ) -> Result<PodObs, AllocError>
+        ensures { IfOk result (λ o. o ≡ resized_obs at containers.now sampling words resized.items) }
+    {
+        let shown = PackedContainers::told(alloc, containers, sampling, words, resized)?;
         Ok(PodObs { at, shown })
     }
 
@@ -110,6 +126,13 @@ impl PodObs {
         ensures { result ≡ option_flatten (slice_get self.now.words.gates number) }
     {
         self.shown.gate(number)
+    }
+
+    /// The resizes of the pod's containers that the tick reports. (Kubernetes, "Pod Lifecycle", "Pod resize".)
+    pub fn resizes(&self) -> &[Resize]
+        ensures { result.now ≡ self.now.resized }
+    {
+        self.shown.resizes()
     }
 
     /// What the pod used, where the tick has a sample of it.

@@ -10,16 +10,22 @@ use Rattle.observations.specs.declared.usage.Sampling.{Sampling}
 use Rattle.observations.specs.declared.usage.Sampling.TheVariants.{Unsaid, Unsampled, Sampled}
 use Rattle.observations.specs.declared.usage.Usage.{Usage}
 use Rattle.observations.specs.declared.words.PodWords.{PodWords}
+use Rattle.observations.specs.declared.resize.Resize.{Resize}
 use Rattle.observations.specs.state.Whole.{memory_as, usage_as}
 use Rattle.observations.specs.rule.Pods.{PodObs, no_words}
 
-abbrev pub told_obs : ℕ → List ContainerObs → Sampling → PodWords → PodObs
-told_obs at containers sampling words = record {
+abbrev pub resized_obs : ℕ → List ContainerObs → Sampling → PodWords → List Resize → PodObs
+resized_obs at containers sampling words resized = record {
   at = at;
   containers = containers;
   sampling = sampling;
   words = words;
+  resized = resized;
 }
+
+-- without a resize
+abbrev pub told_obs : ℕ → List ContainerObs → Sampling → PodWords → PodObs
+told_obs at containers sampling words = resized_obs at containers sampling words []
 
 -- without a word
 abbrev pub pod_obs : ℕ → List ContainerObs → Sampling → PodObs
@@ -57,6 +63,11 @@ sampling_in s = Unsaid
 abbrev pub words_in : PackedContainers → PodWords
 words_in (shown.Told told) = told.value.words
 words_in s = no_words
+
+-- the tick's resizes of the pod's containers
+abbrev pub resized_in : PackedContainers → List Resize
+resized_in (shown.Told told) = told.value.resized.items
+resized_in s = []
 
 -- the sample that was taken, if one was
 abbrev pub sample_in : Sampling → Option Usage

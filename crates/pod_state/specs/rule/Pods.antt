@@ -10,6 +10,7 @@ use Rattle.observations.specs.declared.container.ContainerObs.{ContainerObs}
 use Rattle.observations.specs.rule.Pods.{PodObs}
 use Rattle.observations.specs.declared.usage.Sampling.{Sampling}
 use Rattle.observations.specs.declared.words.PodWords.{PodWords}
+use Rattle.observations.specs.declared.resize.Resize.{Resize}
 use Rattle.state_diff.specs.rule.Instances.{IsSetUp}
 use Rattle.manifest.specs.declared.pod.ContainerSpec.{ContainerSpec}
 use Rattle.manifest.specs.declared.pod.Role.{Role}
@@ -26,11 +27,12 @@ use Rattle.containers.specs.rule.Probed as probed
 use Rattle.containers.specs.rule.Shown as shown
 
 -- what a tick shows of a pod: for each container the listing and its probes' results, the sampling of the pod's use of
--- its node, and the tick's words
+-- its node, the tick's words, and the resizes of its containers
 pub record PodEntry : Type 0 where
   pub containers : List ContainerObs
   pub sampling : Sampling
   pub words : PodWords
+  pub resized : List Resize
 
 -- one tick of a pod: its moment, and what it shows
 abbrev pub PodTick : Type 0
@@ -42,6 +44,7 @@ pod_tick observed = recorded observed.at (record {
   containers = observed.containers;
   sampling = observed.sampling;
   words = observed.words;
+  resized = observed.resized;
 })
 
 -- the pod is being deleted after these ticks: some of them marks it so (Kubernetes, "Pod Lifecycle", "Termination of
