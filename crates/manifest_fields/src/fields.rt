@@ -9,13 +9,14 @@ ghost use Rattle.manifest_fields.specs.rule.Fields.{required_text, text_or, abse
 ghost use Rattle.manifest_fields.specs.state.Grammar.{passes};
 
 use crate::fault::{Field, ManifestFault};
+use json_fields::Json;
 use manifest::{Text, is_label, is_name};
 use serde_json::Value;
 use std::alloc::Global;
 
 /// An object. `Missing` if there is none, `WrongKind` if it is another value; both name the field.
-pub fn object(field: Field, found: Option<&Value>) -> Result<&Value, ManifestFault>
-    ensures { GivesExactly (λ v. view v.now) result (object_of field (option_map (λ v. view v.now) found.entry)) }
+pub fn object<'v, V: Json>(field: Field, found: Option<&'v V>) -> Result<&'v V, ManifestFault>
+    ensures { GivesExactly (λ v. V.data v.now) result (object_of field (option_map (λ v. V.data v.now) found.entry)) }
 {
     match found {
         None => Err(ManifestFault::Missing(field)),

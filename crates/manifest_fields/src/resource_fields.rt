@@ -10,13 +10,13 @@ ghost use Rattle.manifest_fields.specs.rule.ResourceFields.{pod_amounts_of, pod_
 
 use crate::fault::{Field, ManifestFault};
 use crate::fields::object;
-use json_fields::{field, quantity_in};
+use json_fields::{Json, field, quantity_in};
 use manifest::{Amounts, Resources};
 use quantity::Quantity;
 use serde_json::Value;
 
-fn quantity_at(found: Option<&Value>) -> Result<Option<Quantity>, ManifestFault>
-    ensures { GivesExactly (λ q. q) result (quantity_at (option_map (λ v. view v.now) found.entry)) }
+fn quantity_at<V: Json>(found: Option<&V>) -> Result<Option<Quantity>, ManifestFault>
+    ensures { GivesExactly (λ q. q) result (quantity_at (option_map (λ v. V.data v.now) found.entry)) }
 {
     let Some(value) = found else {
         return Ok(None);
@@ -25,8 +25,8 @@ fn quantity_at(found: Option<&Value>) -> Result<Option<Quantity>, ManifestFault>
 }
 
 #[tactic(auto, unfolding(crate::specs::rule::ResourceFields::amounts_in))]
-fn amounts_in(value: &Value) -> Result<Amounts, ManifestFault>
-    ensures { GivesExactly (λ a. a) result (amounts_in (view value.now)) }
+fn amounts_in<V: Json>(value: &V) -> Result<Amounts, ManifestFault>
+    ensures { GivesExactly (λ a. a) result (amounts_in (V.data value.now)) }
 {
     let amounts = object(Field::Resources, Some(value))?;
     Ok(Amounts {
@@ -36,8 +36,8 @@ fn amounts_in(value: &Value) -> Result<Amounts, ManifestFault>
     })
 }
 
-fn amounts_of(found: Option<&Value>) -> Result<Amounts, ManifestFault>
-    ensures { GivesExactly (λ a. a) result (amounts_of (option_map (λ v. view v.now) found.entry)) }
+fn amounts_of<V: Json>(found: Option<&V>) -> Result<Amounts, ManifestFault>
+    ensures { GivesExactly (λ a. a) result (amounts_of (option_map (λ v. V.data v.now) found.entry)) }
 {
     match found {
         None => Ok(Amounts::nothing()),
@@ -56,8 +56,8 @@ fn none_above(requests: &Amounts, limits: &Amounts) -> Result<(), ManifestFault>
 }
 
 #[tactic(auto, unfolding(crate::specs::rule::ResourceFields::resources_in))]
-fn resources_in(value: &Value) -> Result<Resources, ManifestFault>
-    ensures { GivesExactly (λ r. r) result (resources_in (view value.now)) }
+fn resources_in<V: Json>(value: &V) -> Result<Resources, ManifestFault>
+    ensures { GivesExactly (λ r. r) result (resources_in (V.data value.now)) }
 {
     let resources = object(Field::Resources, Some(value))?;
     let requests = amounts_of(field(resources, "requests"))?;
@@ -67,9 +67,10 @@ fn resources_in(value: &Value) -> Result<Resources, ManifestFault>
 }
 
 /// The resources of a container: its requests, then its limits, each quantity in its order, then that no request is
-/// above its limit, else `RequestAboveLimit`. (Kubernetes, "Resource Management for Pods and Containers".)
-pub fn resources_of(found: Option<&Value>) -> Result<Resources, ManifestFault>
-    ensures { GivesExactly (λ r. r) result (resources_of (option_map (λ v. view v.now) found.entry)) }
+/// above its limit, else `RequestAboveLimit`; of whatever reader the value is. (Kubernetes, "Resource Management for
+/// Pods and Containers".)
+pub fn resources_of<V: Json>(found: Option<&V>) -> Result<Resources, ManifestFault>
+    ensures { GivesExactly (λ r. r) result (resources_of (option_map (λ v. V.data v.now) found.entry)) }
 {
     match found {
         None => Ok(Resources::none()),

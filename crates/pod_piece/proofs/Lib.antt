@@ -1,5 +1,6 @@
 pub mod ListingLemmas
 pub mod UsageLemmas
+pub mod ResourceLemmas
 pub mod NextTicks
 pub mod Waiting
 pub mod Rounds

@@ -228,6 +228,7 @@ kept_numbered p n differs state status earlier events kept = record {
     lifecycle = kept.shown.lifecycle;
     containers = kept.shown.containers;
     class = kept.shown.class;
+    resources = kept.shown.resources;
     requests = kept.shown.requests;
     usage = kept.shown.usage;
     priority = kept.shown.priority;

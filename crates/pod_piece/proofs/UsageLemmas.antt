@@ -20,8 +20,8 @@ use Rattle.pod_piece.specs.rule.Usage.{AreNewestSamples, IsUsageOf}
 use Rattle.pod_piece.specs.state.Usage.{nothing, newer}
 
 -- what the last tick says of it that says something, with one more
-said_more : {A : Type 0} (said : Sampling → Option A) (h : List PodTick) (x : PodTick) (v s : Option A)
-    → said x.entry.sampling ≡ s → IsLastSaid said h v → IsLastSaid said (h ++ x ∷ []) (option_or s v)
+pub said_more : {A : Type 0} (said : PodEntry → Option A) (h : List PodTick) (x : PodTick) (v s : Option A)
+    → said x.entry ≡ s → IsLastSaid said h v → IsLastSaid said (h ++ x ∷ []) (option_or s v)
 said_more {A = A} said h x None None e none =
     none_more (length h) _ _ _ (grows_entry (Says said) h x) none
     (λ has. let w : false ≡ true = subst (λ (o : Option A). IsSome o) e has in absurd (cc))
@@ -29,20 +29,26 @@ said_more {A = A} said h x (Some last) None e is = (
   is.0,
   IsLast-old (length h) _ _ _ (grows_entry (Says said) h x)
       (λ has. let w : false ≡ true = subst (λ (o : Option A). IsSome o) e has in absurd (cc)) is.0 is.1,
-  kept (λ entry. said entry.sampling ≡ Some last) h x is.0 is.2,
+  kept (λ entry. said entry ≡ Some last) h x is.0 is.2,
 )
 said_more {A = A} said h x v (Some new) e is = (
   length h,
   IsLast-new (length h) _ _ _ (grows_entry (Says said) h x) (subst (λ (o : Option A). IsSome o) (sym e) refl),
-  added (λ entry. said entry.sampling ≡ Some new) h x e,
+  added (λ entry. said entry ≡ Some new) h x e,
 )
+
+abbrev sampled_in : (Usage → Option ℕ) → PodEntry → Option (Option ℕ)
+sampled_in resource entry = sample_said resource entry.sampling
+
+abbrev unsampled_in : PodEntry → Option Bool
+unsampled_in entry = unsampled_said entry.sampling
 
 -- the newest sample of a resource
 sample_kept : (resource : Usage → Option ℕ) (h : List PodTick) (x : PodTick) (old : Option ℕ)
     → x.entry.sampling ≡ Unsaid → IsNewestSample resource h old → IsNewestSample resource (h ++ x ∷ []) old
 sample_kept resource h x old e is = record {
   last = is.last;
-  is_last = said_more (sample_said resource) h x is.last None (ap (sample_said resource) e) is.is_last;
+  is_last = said_more (sampled_in resource) h x is.last None (ap (sample_said resource) e) is.is_last;
   amount_is = is.amount_is;
 }
 
@@ -50,7 +56,7 @@ sample_gone : (resource : Usage → Option ℕ) (h : List PodTick) (x : PodTick)
     → x.entry.sampling ≡ Unsampled → IsNewestSample resource h old → IsNewestSample resource (h ++ x ∷ []) None
 sample_gone resource h x old e is = record {
   last = Some None;
-  is_last = said_more (sample_said resource) h x is.last (Some None) (ap (sample_said resource) e) is.is_last;
+  is_last = said_more (sampled_in resource) h x is.last (Some None) (ap (sample_said resource) e) is.is_last;
   amount_is = refl;
 }
 
@@ -63,12 +69,12 @@ sample_new resource h x old new e is = by (resource new) (ap (sample_said resour
         → IsNewestSample resource (h ++ x ∷ []) (option_or o old)
     by None said = record {
       last = is.last;
-      is_last = said_more (sample_said resource) h x is.last None said is.is_last;
+      is_last = said_more (sampled_in resource) h x is.last None said is.is_last;
       amount_is = is.amount_is;
     }
     by (Some amount) said = record {
       last = Some (Some amount);
-      is_last = said_more (sample_said resource) h x is.last (Some (Some amount)) said is.is_last;
+      is_last = said_more (sampled_in resource) h x is.last (Some (Some amount)) said is.is_last;
       amount_is = refl;
     }
 
@@ -77,12 +83,12 @@ unsampled_more : (h : List PodTick) (x : PodTick) (old : Bool) (s : Option Bool)
     → unsampled_said x.entry.sampling ≡ s → IsUnsampled h old → IsUnsampled (h ++ x ∷ []) (unwrap_or s old)
 unsampled_more h x old None e is = record {
   last = is.last;
-  is_last = said_more unsampled_said h x is.last None e is.is_last;
+  is_last = said_more unsampled_in h x is.last None e is.is_last;
   is = is.is;
 }
 unsampled_more h x old (Some new) e is = record {
   last = Some new;
-  is_last = said_more unsampled_said h x is.last (Some new) e is.is_last;
+  is_last = said_more unsampled_in h x is.last (Some new) e is.is_last;
   is = refl;
 }
 
@@ -191,30 +197,30 @@ usage_evicted pod h x usage is none now = record {
 
 -- The newest samples are one
 
-same_said : {A : Type 0} (said : Sampling → Option A) (o : Option PodEntry) (a b : A)
-    → IsSomeAnd o (λ entry. said entry.sampling ≡ Some a)
-    → IsSomeAnd o (λ entry. said entry.sampling ≡ Some b) → Some a ≡ Some b
+same_said : {A : Type 0} (said : PodEntry → Option A) (o : Option PodEntry) (a b : A)
+    → IsSomeAnd o (λ entry. said entry ≡ Some a)
+    → IsSomeAnd o (λ entry. said entry ≡ Some b) → Some a ≡ Some b
 same_said said None a b e f = absurd e
 same_said said (Some entry) a b e f = sym e ∙ f
 
-one_said : {A : Type 0} (said : Sampling → Option A) (h : List PodTick) (o p : Option A)
+pub one_said : {A : Type 0} (said : PodEntry → Option A) (h : List PodTick) (o p : Option A)
     → IsLastSaid said h o → IsLastSaid said h p → o ≡ p
 one_said said h None None v w = refl
 one_said said h None (Some b) none (t, last, is) = absurd (none t last.holds)
 one_said said h (Some a) None (t, last, is) none = absurd (none t last.holds)
 one_said said h (Some a) (Some b) (t, last, is) (u, last', is') =
-    let At : ℕ → Type 0 = λ k. IsSomeAnd (entry_at h k) (λ entry. said entry.sampling ≡ Some a) in
+    let At : ℕ → Type 0 = λ k. IsSomeAnd (entry_at h k) (λ entry. said entry ≡ Some a) in
     same_said said (entry_at h u) a b (subst At (IsLast-unique _ t u last last') is) is'
 
 one_sample : (resource : Usage → Option ℕ) (h : List PodTick) (o p : Option ℕ)
     → IsNewestSample resource h o → IsNewestSample resource h p → o ≡ p
 one_sample resource h o p v w =
-    v.amount_is ∙ ap option_flatten (one_said (sample_said resource) h v.last w.last v.is_last w.is_last)
+    v.amount_is ∙ ap option_flatten (one_said (sampled_in resource) h v.last w.last v.is_last w.is_last)
     ∙ sym w.amount_is
 
 one_flag : (h : List PodTick) (b c : Bool) → IsUnsampled h b → IsUnsampled h c → b ≡ c
 one_flag h b c v w =
-    v.is ∙ ap (λ (o : Option Bool). unwrap_or o false) (one_said unsampled_said h v.last w.last v.is_last w.is_last)
+    v.is ∙ ap (λ (o : Option Bool). unwrap_or o false) (one_said unsampled_in h v.last w.last v.is_last w.is_last)
     ∙ sym w.is
 
 one_of_each : (h : List PodTick) (one other : NewestUsage) → AreNewestSamples h one → AreNewestSamples h other

@@ -1,3 +1,4 @@
 pub mod Usage
 pub mod Piece
 pub mod Status
+pub mod Resources

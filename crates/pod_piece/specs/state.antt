@@ -4,3 +4,4 @@ pub mod Piece
 pub mod Status
 pub mod Made
 pub mod Kept
+pub mod Resources

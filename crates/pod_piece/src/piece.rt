@@ -18,6 +18,7 @@ ghost use Rattle.pod_piece.specs.state.Status.{IsStatusOf, IsEvictableAt, AreLas
 use crate::listings::{first_differs, follow_on, may_come};
 use crate::made::{MadeTick, begin_round, make_room, move_on};
 use crate::order::EvictOrder;
+use crate::resources::{first_resources, resize_while};
 use crate::status::{EffectiveRequests, PodFailure, PodStatus};
 use crate::usage::{newer_while, nothing};
 use containers::ContainerStatus;
@@ -107,13 +108,16 @@ fn first_status(
     let mut containers = vec![in alloc; UNLISTED; count]?;
     state.show(false, &mut containers);
     let lifecycle = state.lifecycle();
+    let resources = first_resources(alloc, pod.containers.as_slice())?;
+    let requests = EffectiveRequests::of(pod, &resources);
     Ok(PodStatus {
         number,
         phase: lifecycle.phase,
         conditions: lifecycle.conditions,
         containers,
         class: pod_class(alloc, pod),
-        requests: EffectiveRequests::of(pod),
+        resources,
+        requests,
         usage: nothing(),
         priority: pod.priority,
         spared: pod.spared,
@@ -277,6 +281,13 @@ impl PodPiece {
         let events = parts.state.take(parts.alloc, &parts.pod, observed)?;
         follow_on(&mut parts.differs, &parts.state, had_ended, observed);
         parts.status.usage = newer_while(!had_ended, parts.status.usage, observed.sampling());
+        resize_while(
+            !had_ended,
+            &parts.pod,
+            &mut parts.status.resources,
+            &mut parts.status.requests,
+            observed.resizes(),
+        );
         note_failure(&mut parts.status.failure, !had_ended, observed);
         let is_ended = is_ended_by_node(parts.eviction, &parts.status.failure);
         parts.state.show(is_ended, &mut parts.status.containers);

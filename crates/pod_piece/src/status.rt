@@ -1,13 +1,14 @@
 //! The status of a pod.
 
-ghost use Rattle.std.specs.Prelude.{◌≡◌, ◌↔◌, Option, IsTrue, option_map};
+ghost use Rattle.std.specs.Prelude.{◌≡◌, ◌↔◌, length, Option, IsTrue, option_map};
 ghost use Rattle.manifest.specs.declared.pod.PodSpec.{PodSpec};
 ghost use Rattle.phase.specs.rule.RawPhase.{IsTerminal};
+ghost use Rattle.qos.specs.rule.Resized.{resized};
 ghost use Rattle.pod_piece.specs.rule.Status.{requests_of, reason_in, disrupts, disrupted_at, MayBeEvicted};
 
 use crate::order::EvictOrder;
 use containers::ContainerStatus;
-use manifest::{PodSpec, Resource};
+use manifest::{PodSpec, Resource, Resources};
 use observations::{EndReason, Usage};
 use phase::{Conditions, Phase};
 use qos::{Qos, pod_request};
@@ -43,14 +44,15 @@ pub struct EffectiveRequests {
 }
 
 impl EffectiveRequests {
-    /// The requests of a pod.
-    pub(crate) fn of(pod: &PodSpec) -> EffectiveRequests
-        ensures { result ≡ requests_of pod.now }
+    /// The requests of a pod whose containers have these requests and limits.
+    pub(crate) fn of(pod: &PodSpec, resources: &[Resources]) -> EffectiveRequests
+        requires { length resources.now ≡ length pod.now.containers }
+        ensures { result ≡ requests_of (resized pod.now resources.now) }
     {
         EffectiveRequests {
-            cpu: pod_request(pod, Resource::Cpu),
-            memory: pod_request(pod, Resource::Memory),
-            ephemeral_storage: pod_request(pod, Resource::EphemeralStorage),
+            cpu: pod_request(pod, resources, Resource::Cpu),
+            memory: pod_request(pod, resources, Resource::Memory),
+            ephemeral_storage: pod_request(pod, resources, Resource::EphemeralStorage),
         }
     }
 }
@@ -78,7 +80,10 @@ pub struct PodStatus {
     pub containers: Vec<ContainerStatus>,
     /// The QoS class.
     pub class: Qos,
-    /// Its effective requests.
+    /// The requests and limits of the containers by now, by number: those of the manifest, or of the last resize.
+    /// (Kubernetes, "Pod Lifecycle", "Pod resize".)
+    pub resources: Vec<Resources>,
+    /// Its effective requests, with these.
     pub requests: EffectiveRequests,
     /// What it uses, by the newest sample of each resource.
     pub usage: NewestUsage,

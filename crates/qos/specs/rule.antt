@@ -2,3 +2,4 @@ pub mod Container
 pub mod Class
 pub mod Requests
 pub mod Pod
+pub mod Resized

@@ -5,8 +5,9 @@ ghost use Rattle.manifest.specs.declared.resources.Resource.TheVariants.{Cpu, Me
 ghost use Rattle.quantity.specs.rule.Quantity.{greatest_quantity};
 ghost use Rattle.qos.specs.rule.Container.{set_amount, limit_of, request_of, requested, RequestEqualsLimit};
 ghost use Rattle.qos.specs.rule.Container.{IsGuaranteed, HasRequestOrLimit, HasSomeRequestOrLimit};
+ghost use Rattle.qos.specs.rule.Pod.{as_one};
 
-use manifest::{ContainerSpec, Resource};
+use manifest::{ContainerSpec, Resource, Resources};
 use quantity::Quantity;
 
 /// An amount in thousandths, where it is set: a zero counts as unset.
@@ -20,23 +21,45 @@ pub(crate) fn set_amount(amount: Option<Quantity>) -> Option<u128>
     }
 }
 
-/// The container's limit of the resource, in thousandths.
-fn limit_of(container: &ContainerSpec, resource: Resource) -> Option<u128>
-    ensures value { result ≡ limit_of container.now resource }
+/// The limit of the resource of a container with these resources, in thousandths.
+fn limit_in(resources: Resources, resource: Resource) -> Option<u128>
+    ensures value { result ≡ limit_of (as_one resources) resource }
     ensures bound { IfSome result (λ n. n ≤ greatest_quantity) }
 {
-    set_amount(container.resources.limits().of(resource))
+    set_amount(resources.limits().of(resource))
+}
+
+/// The request of the resource of a container with these resources, in thousandths: its limit where it has no request.
+fn request_in(resources: Resources, resource: Resource) -> Option<u128>
+    ensures value { result ≡ request_of (as_one resources) resource }
+    ensures bound { IfSome result (λ n. n ≤ greatest_quantity) }
+{
+    match set_amount(resources.requests().of(resource)) {
+        Some(request) => Some(request),
+        None => limit_in(resources, resource),
+    }
+}
+
+/// What a container with these resources requests of the resource, in thousandths; 0 where it requests none.
+pub(crate) fn requested_in(resources: Resources, resource: Resource) -> u128
+    ensures value { result ≡ requested resource (as_one resources) }
+    ensures bound { result ≤ greatest_quantity }
+{
+    request_in(resources, resource).unwrap_or(0)
+}
+
+/// The container's limit of the resource, in thousandths.
+fn limit_of(container: &ContainerSpec, resource: Resource) -> Option<u128>
+    ensures { result ≡ limit_of container.now resource }
+{
+    limit_in(container.resources, resource)
 }
 
 /// The container's request of the resource, in thousandths: its limit where it has no request.
 fn request_of(container: &ContainerSpec, resource: Resource) -> Option<u128>
-    ensures value { result ≡ request_of container.now resource }
-    ensures bound { IfSome result (λ n. n ≤ greatest_quantity) }
+    ensures { result ≡ request_of container.now resource }
 {
-    match set_amount(container.resources.requests().of(resource)) {
-        Some(request) => Some(request),
-        None => limit_of(container, resource),
-    }
+    request_in(container.resources, resource)
 }
 
 /// What the container requests of the resource, in thousandths; 0 where it requests none.
@@ -44,7 +67,7 @@ pub(crate) fn requested(container: &ContainerSpec, resource: Resource) -> u128
     ensures value { result ≡ requested resource container.now }
     ensures bound { result ≤ greatest_quantity }
 {
-    request_of(container, resource).unwrap_or(0)
+    requested_in(container.resources, resource)
 }
 
 /// Whether the container has a limit of the resource, and its request equals it.

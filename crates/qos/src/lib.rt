@@ -6,6 +6,7 @@ mod container;
 pub mod laws;
 mod pod;
 mod requests;
+mod resized;
 
 pub use class::{Qos, qos_class};
 pub use pod::{pod_class, pod_request};

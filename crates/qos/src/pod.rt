@@ -1,11 +1,12 @@
 //! The class and the requests of a pod that may have resources as a whole.
 
-ghost use Rattle.std.specs.Prelude.{◌≡◌};
+ghost use Rattle.std.specs.Prelude.{◌≡◌, length};
 ghost use Rattle.qos.specs.rule.Pod.{as_one, IsPodClass, own_request_of, own_limit_of, request_by, pod_request_of};
+ghost use Rattle.qos.specs.rule.Resized.{resized};
 
 use crate::class::{Qos, class_of, qos_class};
 use crate::container::{has_some_request_or_limit, set_amount};
-use crate::requests::effective_request;
+use crate::resized::effective_request_with;
 use manifest::{ContainerSpec, PodSpec, Probes, Resource, Resources, Role, Text};
 use std::alloc::Global;
 
@@ -62,15 +63,18 @@ fn request_by(request: Option<u128>, limit: Option<u128>, of_containers: u128) -
     }
 }
 
-/// The pod's request of a resource, in thousandths: for cpu and memory its own, if one is set; else the effective
-/// request of its containers, as [`effective_request`] has it, or the pod's own limit if that is set and the containers
-/// request nothing. (Kubernetes, "Resource Management for Pods and Containers", "Pod-level resource specification".)
-pub fn pod_request(pod: &PodSpec, resource: Resource) -> u128
-    ensures { result ≡ pod_request_of resource pod.now }
+/// The request of a resource, in thousandths, of a pod whose containers have these requests and limits by now, each by
+/// its number. For cpu and memory it is the pod's own, if one is set; else the effective request of its containers, or
+/// the pod's own limit if that is set and the containers request nothing. (Kubernetes, "Resource Management for Pods
+/// and Containers", "Pod-level resource specification"; "Pod Lifecycle", "Pod resize".)
+pub fn pod_request(pod: &PodSpec, resources: &[Resources], resource: Resource) -> u128
+    requires { length resources.now ≡ length pod.now.containers }
+    ensures { result ≡ pod_request_of resource (resized pod.now resources.now) }
 {
+    let containers = pod.containers.as_slice();
     request_by(
         own_request_of(pod, resource),
         own_limit_of(pod, resource),
-        effective_request(pod, resource),
+        effective_request_with(containers, resources, resource),
     )
 }

@@ -13,8 +13,9 @@ line_alike d e (pods, (signals, (after, (judged, none)))) = rw (pods, signals, a
 
 entry_alike : ReadsOnly entry_fields entry_of
 unfolding entry_of
-entry_alike d e (pod, (containers, (probes, (usage, (unsampled, (deleting, (failed, (conditions, none)))))))) =
-    rw (pod, containers, probes, usage, unsampled, deleting, failed, conditions) refl
+entry_alike d e
+    (pod, (containers, (probes, (usage, (unsampled, (deleting, (failed, (conditions, (resized, none))))))))) =
+    rw (pod, containers, probes, usage, unsampled, deleting, failed, conditions, resized) refl
 
 listing_alike : ReadsOnly listing_fields listing_of
 unfolding listing_of instance_of

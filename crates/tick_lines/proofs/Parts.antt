@@ -16,6 +16,7 @@ use Rattle.tick_lines.specs.rule.Fields.{only_object, quantity_at}
 use Rattle.tick_lines.specs.rule.Listings.{listings_of}
 use Rattle.tick_lines.specs.rule.Results.{results_of}
 use Rattle.tick_lines.specs.rule.Reasons.{reason_member_of}
+use Rattle.tick_lines.specs.rule.Resizes.{resized_of}
 use Rattle.tick_lines.specs.rule.Truths.{truth_of, denial_of}
 use Rattle.tick_lines.specs.rule.Usages.{usage_in, usage_of}
 use Rattle.tick_lines.specs.rule.Entries.{entry_of, entries_of}
@@ -51,6 +52,7 @@ pub record IsEntry (d : Data) (entry : TickEntry) : Type 0 where
   pub deleting : truth_of (field_at (codes "deleting") d) ≡ entry.deleting
   pub failed : reason_member_of (field_at (codes "failed") d) ≡ entry.failed
   pub conditions : conditions_of (field_at (codes "conditions") d) ≡ entry.conditions
+  pub resized : resized_of (field_at (codes "resized") d) ≡ entry.resized
 
 pub entry_parts : (d : Data) (entry : TickEntry) → entry_of d ≡ Ok entry → IsEntry d entry
 unfolding entry_of
@@ -69,6 +71,7 @@ entry_parts d entry e =
       deleting = ap (λ (x : TickEntry). x.deleting) same;
       failed = ap (λ (x : TickEntry). x.failed) same;
       conditions = ap (λ (x : TickEntry). x.conditions) same;
+      resized = ap (λ (x : TickEntry). x.resized) same;
     }
 
 pub record HasUsage (d : Data) (usage : Usage) : Type 0 where

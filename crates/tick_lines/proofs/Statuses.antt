@@ -1,5 +1,5 @@
 -- The statuses of a pod's conditions that an entry says.
-use Rattle.std.proofs.Common.{◌≡◌, ◌∙◌, ◌&&◌, ℕ, Bool, true, false, List, Option, Some, None, refl, ap, sym, subst}
+use Rattle.std.proofs.Common.{◌≡◌, ◌∙◌, ◌&&◌, ℕ, Bool, true, false, List, ◌∷◌, Option, Some, None, refl, ap, sym, subst}
 use Rattle.std.proofs.Common.{Ordering, Less, Equal, Greater, nat_cmp}
 use Rattle.std.specs.Prelude.{◌↔◌, IsTrue, codes, if◌then◌else◌}
 use Rattle.std.specs.Ordering.{match_ordering}
@@ -13,6 +13,7 @@ use Rattle.tick_lines.specs.declared.conditions.ConditionsMember.{ConditionsMemb
 use Rattle.tick_lines.specs.declared.conditions.ConditionsMember.TheVariants as said
 use Rattle.tick_lines.specs.rule.Statuses.{is_status, are_all_statuses, are_statuses}
 use Rattle.tick_lines.specs.rule.Conditions.{conditions_of}
+use Rattle.tick_lines.specs.rule.Resizes.{names_in, names_from}
 use Rattle.tick_lines.specs.rule.Statuses.{statuses_from}
 use Rattle.tick_lines.specs.state.Conditions.{status_data, members_statuses, if_statuses}
 use Rattle.tick_lines.specs.state.Laws.{SaysStatuses, ConditionsSaid}
@@ -100,6 +101,15 @@ pub borrowed_other : (ms : json.Members) (kept : Members) → kept ≡ members_s
 borrowed_other ms kept e not =
     let d = data_of (json.object ms) in
     sym (ap (λ b. if b then Some d else None) (sym (kept_or_not ms kept e) ∙ not))
+
+names_same : (ms : Members) → names_in (statuses ms) ≡ names_in ms
+names_same no_members = refl
+names_same (member k d ms) = ap (λ names. k ∷ names) (names_same ms)
+
+-- the names of the members that were kept are those of the line's
+pub borrowed_names : (ms : json.Members) (kept : Members) → kept ≡ members_statuses ms no_members
+    → names_in kept ≡ names_from (as_object (data_of (json.object ms)))
+borrowed_names ms kept e = ap names_in (e ∙ statuses_are ms no_members) ∙ names_same (members_data ms no_members)
 
 says_statuses : (found : Option Data) → SaysStatuses found (conditions_of found)
 says_statuses None = record {

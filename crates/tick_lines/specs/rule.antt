@@ -9,3 +9,4 @@ pub mod Truths
 pub mod Reasons
 pub mod Statuses
 pub mod Conditions
+pub mod Resizes

@@ -1,6 +1,6 @@
 //! The member that gives the statuses of a pod's conditions.
 
-ghost use Rattle.std.specs.Prelude.{◌≡◌, option_map, IfOk, OnOk, string_bytes};
+ghost use Rattle.std.specs.Prelude.{◌≡◌, map, option_map, IfOk, OnOk, string_bytes};
 ghost use Rattle.serde_json.specs.View.{view, members_view};
 ghost use Rattle.serde_json.specs.Data.{no_members, put};
 ghost use Rattle.json.specs.Json as borrowed;
@@ -9,9 +9,11 @@ ghost use Rattle.json_fields.specs.state.Borrowed.{data_of};
 ghost use Rattle.serde_json.specs.Find.{as_object};
 ghost use Rattle.tick_lines.specs.rule.Statuses.{is_status, are_all_statuses, are_statuses};
 ghost use Rattle.tick_lines.specs.rule.Conditions.{conditions_of};
+ghost use Rattle.tick_lines.specs.rule.Resizes.{names_from};
 ghost use Rattle.tick_lines.specs.rule.Statuses.{status_of, statuses_in, statuses_from};
 ghost use Rattle.tick_lines.specs.state.Conditions.{status_data, members_statuses, if_statuses};
 
+use crate::resizes::names_of;
 use crate::value::TickValue;
 use json::Value as BorrowedValue;
 use serde_json::{Map, Value};
@@ -222,6 +224,18 @@ fn statuses_of<A: Allocator>(
         note_status(&mut statuses, name, status_here(alloc, &member.1))?;
     }
     Ok(statuses)
+}
+
+/// The names of an object's members whose texts are in the line, each of them once.
+#[tactic(auto, using(crate::proofs::Statuses::borrowed_names))]
+pub(crate) fn borrowed_names_of<A: Allocator>(
+    alloc: Global,
+    members: &[(&str, BorrowedValue<'_, A>)],
+) -> Result<Vec<String>, AllocError>
+    ensures { IfOk result (λ names. map string_bytes names.items
+        ≡ names_from (as_object (data_of (borrowed.object (borrowed_members_view members.now))))) }
+{
+    names_of(alloc, &statuses_of(alloc, members)?)
 }
 
 /// A copy of an object whose texts are in the line, if it is one of true, false and null.

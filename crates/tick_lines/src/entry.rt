@@ -12,6 +12,7 @@ use crate::items::{ReadItem, check_items, read_items};
 use crate::listing::Listing;
 use crate::probing::ProbeResult;
 use crate::reason::{ReasonMember, reason_member_of};
+use crate::resizes::{ResizedMember, resized_of};
 use crate::truth::{TruthMember, truth_of};
 use crate::usage::usage_of;
 use crate::value::TickValue;
@@ -40,6 +41,8 @@ pub struct TickEntry {
     pub failed: ReasonMember,
     /// The statuses of the pod's conditions that it has. (This project's extended format.)
     pub conditions: ConditionsMember,
+    /// The requests and limits that it gives resized containers. (This project's extended format.)
+    pub resized: ResizedMember,
 }
 
 #[tactic(auto, unfolding(crate::specs::rule::Entries::entry_of))]
@@ -55,6 +58,7 @@ fn entry_of<V: TickValue>(alloc: Global, value: &V) -> Result<TickEntry, TickLin
         deleting: truth_of(field(value, "deleting")),
         failed: reason_member_of(field(value, "failed")),
         conditions: conditions_of(alloc, field(value, "conditions"))?,
+        resized: resized_of(alloc, field(value, "resized"))?,
     })
 }
 

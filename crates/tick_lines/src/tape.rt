@@ -12,9 +12,10 @@ ghost use Rattle.tick_lines.specs.rule.Fields.{items_of, quantity_at};
 ghost use Rattle.tick_lines.specs.rule.Listings.{attempt_of, state_of, listing_of};
 ghost use Rattle.tick_lines.specs.rule.Results.{result_of};
 ghost use Rattle.tick_lines.specs.state.Tape.{text_in, code_in, probe_in, outcome_in, left_in, listing_as, result_as};
-ghost use Rattle.tick_lines.specs.state.Tape.{truth_in, reason_in, conditions_in};
+ghost use Rattle.tick_lines.specs.state.Tape.{truth_in, reason_in, conditions_in, resized_in};
 ghost use Rattle.tick_lines.specs.declared.reason.ReasonMember.TheVariants.{Missing};
 ghost use Rattle.tick_lines.specs.declared.conditions.ConditionsMember.TheVariants.{Missing as NoConditions};
+ghost use Rattle.tick_lines.specs.declared.resizes.ResizedMember.TheVariants.{Missing as NoResizes};
 ghost use Rattle.tick_lines.specs.declared.truth.TruthMember.TheVariants.{No};
 ghost use Rattle.tick_lines.specs.state.Tape.{ListingRead, ResultRead, UsageRead, EntryRead, IsEntry};
 ghost use Rattle.tick_lines.specs.rule.Usages.{usage_in, usage_of};
@@ -354,7 +355,14 @@ fn has_no_conditions(value: &TapeValue<'_, '_>) -> bool
     value.is_null()
 }
 
-/// What was read of an entry, and of one more member; none if the entry has a word, which is rare.
+/// Whether a member that may have resizes of containers means nothing: it is null.
+fn has_no_resizes(value: &TapeValue<'_, '_>) -> bool
+    ensures { IsTrue result → resized_in (present (Some (data_at value.now))) ≡ Ok NoResizes }
+{
+    value.is_null()
+}
+
+/// What was read of an entry, and of one more member; none if the entry has a word or a resize, which are rare.
 fn entry_with<'t, 'a>(
     entry: EntryMembers<'t, 'a>,
     name: &str,
@@ -387,12 +395,17 @@ fn entry_with<'t, 'a>(
         } else {
             None
         },
+        "resized" => if has_no_resizes(value) {
+            Some(entry)
+        } else {
+            None
+        },
         _ => Some(entry),
     }
 }
 
 /// What an item of a tick line has of a pod except its listings and results; none if it marks the pod as unsampled or
-/// as being deleted, or has a reason for its end or the statuses of its conditions.
+/// as being deleted, or has a reason for its end, the statuses of its conditions, or resizes.
 pub fn entry_text<'t, 'a>(value: &TapeValue<'t, 'a>) -> Option<EntryText<'t, 'a>>
     ensures { IfSome result (IsEntry (data_at value.now)) }
 {

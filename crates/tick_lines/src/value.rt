@@ -1,16 +1,18 @@
 //! The JSON values that a tick line is read from.
 
-use crate::conditions::{borrowed_statuses_in, statuses_in};
+use crate::conditions::{borrowed_names_of, borrowed_statuses_in, statuses_in};
+use crate::resizes::names_of;
 use json::Value as BorrowedValue;
 use json_fields::Json;
 use serde_json::Value;
 use std::alloc::{AllocError, Allocator, Global};
 
-/// A JSON value that shows its truth value too.
+/// A JSON value that also shows its truth value, the statuses that it has, and the names of its members.
 pub trait TickValue: Json {
-    ghost use Rattle.std.specs.Prelude.{◌≡◌, option_map, IfOk};
-    ghost use Rattle.serde_json.specs.Find.{as_bool};
+    ghost use Rattle.std.specs.Prelude.{◌≡◌, map, option_map, IfOk, string_bytes};
+    ghost use Rattle.serde_json.specs.Find.{as_bool, as_object};
     ghost use Rattle.serde_json.specs.View.{view};
+    ghost use Rattle.tick_lines.specs.rule.Resizes.{names_from};
     ghost use Rattle.tick_lines.specs.state.Conditions.{if_statuses};
 
     /// Whether this is true or false, if it is one of these.
@@ -20,6 +22,10 @@ pub trait TickValue: Json {
     /// A copy of this, if it is an object of true, false and null.
     fn statuses(&self, alloc: Global) -> Result<Option<Value>, AllocError>
         ensures { IfOk result (λ found. option_map view found ≡ if_statuses (Self.data self.now)) };
+
+    /// The names of this object's members; none if it is no object.
+    fn names(&self, alloc: Global) -> Result<Vec<String>, AllocError>
+        ensures { IfOk result (λ names. map string_bytes names.items ≡ names_from (as_object (Self.data self.now))) };
 }
 
 impl TickValue for Value {
@@ -30,6 +36,13 @@ impl TickValue for Value {
     fn statuses(&self, _alloc: Global) -> Result<Option<Value>, AllocError> {
         statuses_in(self)
     }
+
+    fn names(&self, alloc: Global) -> Result<Vec<String>, AllocError> {
+        match self.as_object() {
+            Some(members) => names_of(alloc, members),
+            None => Ok(Vec::new(alloc)),
+        }
+    }
 }
 
 impl<'a, A: Allocator> TickValue for BorrowedValue<'a, A> {
@@ -39,5 +52,12 @@ impl<'a, A: Allocator> TickValue for BorrowedValue<'a, A> {
 
     fn statuses(&self, alloc: Global) -> Result<Option<Value>, AllocError> {
         borrowed_statuses_in(alloc, self)
+    }
+
+    fn names(&self, alloc: Global) -> Result<Vec<String>, AllocError> {
+        match self {
+            BorrowedValue::Object(members) => borrowed_names_of(alloc, members),
+            _ => Ok(Vec::new(alloc)),
+        }
     }
 }

@@ -32,6 +32,7 @@ use Rattle.tick_lines.specs.declared.tape.EntryText.{EntryText}
 use Rattle.tick_lines.specs.declared.tape_line.LineSamples.{LineSamples}
 use Rattle.tick_lines.specs.declared.tape_line.LineText.{LineText}
 use Rattle.tick_lines.specs.declared.conditions.ConditionsMember.TheVariants.{Missing as NoConditions}
+use Rattle.tick_lines.specs.declared.resizes.ResizedMember.TheVariants.{Missing as NoResizes}
 use Rattle.tick_lines.specs.declared.reason.ReasonMember.TheVariants.{Missing}
 use Rattle.tick_lines.specs.declared.truth.TruthMember.TheVariants.{No}
 use Rattle.tick_lines.specs.rule.Entries.{entry_of, entries_of}
@@ -48,7 +49,9 @@ use Rattle.trace.specs.declared.placing.PlacedResult.{PlacedResult}
 use Rattle.trace.specs.rule.Observed.{containers_from, pod_observed, pods_from, is_judged, lacks_code}
 use Rattle.trace.specs.rule.Placing.{number_in, pod_numbered, placed_listing, placed_result, entry_of_pod}
 use Rattle.trace.specs.rule.Placing.{placed_entry, placed_of, repeats, sampled_or, sampling_of, words_of, said_in}
-use Rattle.trace.specs.rule.Written.{is_of_other_kind, is_no_reason, are_no_statuses, has_other_kind, heeded}
+use Rattle.trace.specs.rule.Placing.{resizes_by}
+use Rattle.trace.specs.rule.Written.{is_of_other_kind, is_no_reason, are_no_statuses, are_no_resizes, has_other_kind}
+use Rattle.trace.specs.rule.Written.{heeded}
 use Rattle.trace.specs.state.Noted.{ListingsNoted, ResultsNoted}
 use Rattle.trace.specs.state.Slots.{slots_from, has_entry}
 use Rattle.trace.specs.state.Tape.{of_item, listing_read, result_read, entry_read, item_has_other_kind, EntriesNoted}
@@ -98,14 +101,21 @@ silent_said true gates usage = refl
 silent_said false gates usage = refl
 
 abbrev placed_with : ℕ → List PlacedListing → List PlacedResult → EntrySaid → Result PlacedEntry FaultKind
-placed_with n ls rs said = Ok (record { pod = n; listings = ls; results = rs; said = said })
+placed_with n ls rs said = Ok (record { pod = n; listings = ls; results = rs; resized = []; said = said })
 
 entry_by_parts : (heeds : Bool) (roll : Roll) (entry : TickEntry) (n : ℕ) (pod : PodSpec) (ls : List PlacedListing)
     (rs : List PlacedResult) → number_of roll entry.key ≡ Some n → slice_get roll.pods n ≡ Some pod
     → each (placed_listing pod) entry.listings ≡ Ok ls → each (placed_result pod) entry.results ≡ Ok rs
+    → resizes_by heeds entry.resized ≡ []
     → placed_entry heeds roll entry ≡ placed_with n ls rs (said_in heeds pod entry)
 unfolding placed_entry entry_of_pod
-entry_by_parts heeds roll entry n pod ls rs number there listings results = rw (number, there, listings, results) refl
+entry_by_parts heeds roll entry n pod ls rs number there listings results none =
+    rw (number, there, listings, results, none) refl
+
+-- of an entry without a resize
+no_resizes : (heeds : Bool) → resizes_by heeds NoResizes ≡ []
+no_resizes true = refl
+no_resizes false = refl
 
 -- an entry without a word
 abbrev silent_entry : List ℕ → List Listing → List ProbeResult → Option Usage → TickEntry
@@ -118,6 +128,7 @@ silent_entry key listings results usage = record {
   deleting = No;
   failed = Missing;
   conditions = NoConditions;
+  resized = NoResizes;
 }
 
 entry_spoken : (d : Data) (key : List ℕ) (ws : List Listing) (ps : List ProbeResult) (text : EntryText)
@@ -126,14 +137,14 @@ entry_spoken : (d : Data) (key : List ℕ) (ws : List Listing) (ps : List ProbeR
     → entry_of d ≡ Ok (silent_entry key ws ps text.usage)
 unfolding entry_of
 entry_spoken d key ws ps text named listings results is =
-    rw (named, listings, results, is.usage, is.unsampled, is.deleting, is.failed, is.conditions) refl
+    rw (named, listings, results, is.usage, is.unsampled, is.deleting, is.failed, is.conditions, is.resized) refl
 
 -- an entry that was read in parts and placed is what its item says, placed
 entry_placed : (heeds : Bool) (roll : Roll) (d : Data) (text : EntryText) (n : ℕ) (pod : PodSpec)
     (ls : List PlacedListing) (rs : List PlacedResult) → IsEntry d text → number_of roll text.key.now ≡ Some n
     → slice_get roll.pods n ≡ Some pod
     → each (listing_read pod) (left_in text.listings) ≡ Ok ls → each (result_read pod) (left_in text.results) ≡ Ok rs
-    → entry_read heeds roll d ≡ Ok (record { pod = n; listings = ls; results = rs; said = said_silent text.usage })
+    → entry_read heeds roll d ≡ placed_with n ls rs (said_silent text.usage)
 entry_placed heeds roll d text n pod ls rs is number there read_listings read_results =
     let listings = read_then_placed listing_of (placed_listing pod) (left_in text.listings) ls read_listings in
     let results = read_then_placed result_of (placed_result pod) (left_in text.results) rs read_results in
@@ -141,7 +152,7 @@ entry_placed heeds roll d text n pod ls rs is number there read_listings read_re
     let listed : listings_of (field_at (codes "containers") d) ≡ Ok listings.0 = rw is.listings listings.1 in
     let probed : results_of (field_at (codes "probes") d) ≡ Ok results.0 = rw is.results results.1 in
     rw (entry_spoken d text.key.now listings.0 results.0 text is.key listed probed is)
-    (entry_by_parts heeds roll written n pod ls rs number there listings.2 results.2
+    (entry_by_parts heeds roll written n pod ls rs number there listings.2 results.2 (no_resizes heeds)
     ∙ ap (placed_with n ls rs) (silent_said heeds pod.gates text.usage))
 
 -- ---- all entries
@@ -219,7 +230,13 @@ none_noted heeds roll at slots noted = record {
 
 -- the entry of the pod with the number
 abbrev pub entry_with : ℕ → List PlacedListing → List PlacedResult → EntryText → PlacedEntry
-entry_with n ls rs text = record { pod = n; listings = ls; results = rs; said = said_silent text.usage }
+entry_with n ls rs text = record {
+  pod = n;
+  listings = ls;
+  results = rs;
+  resized = [];
+  said = said_silent text.usage;
+}
 
 -- the entries with one more
 pub one_more_noted : (heeds : Bool) (roll : Roll) (at : ℕ) (ds : List Data) (d : Data)
@@ -244,8 +261,9 @@ one_more_noted heeds roll at ds d old new text n pod listed all ls rs before is 
       coded = none_more (λ (e : PlacedEntry). list_any (λ l. lacks_code l.instance) e.listings) before.entries entry
           before.coded ls.coded;
       known = none_more item_has_other_kind ds d before.known
-          (or_from _ _ (or_from _ _ (or_from _ _ (ap is_of_other_kind is.unsampled) (ap is_of_other_kind is.deleting))
-          (ap is_no_reason is.failed)) (ap are_no_statuses is.conditions));
+          (or_from _ _ (or_from _ _ (or_from _ _ (or_from _ _ (ap is_of_other_kind is.unsampled)
+          (ap is_of_other_kind is.deleting)) (ap is_no_reason is.failed)) (ap are_no_statuses is.conditions))
+          (ap are_no_resizes is.resized));
       present = All-push (λ (e : PlacedEntry). is_present roll.departures e.pod ≡ true) before.entries entry
           before.present (found_present roll text.key.now n number).0;
       noted = noted;

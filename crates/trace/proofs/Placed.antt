@@ -10,6 +10,7 @@ use Rattle.json_fields.proofs.Only.{same_value}
 use Rattle.manifest.specs.declared.pod.PodSpec.{PodSpec}
 use Rattle.tick_lines.specs.declared.entry.TickEntry.{TickEntry}
 use Rattle.line_faults.specs.declared.fault.FaultKind.{FaultKind}
+use Rattle.observations.specs.declared.resize.Resize.{Resize}
 use Rattle.trace.specs.declared.placing.PlacedListing.{PlacedListing}
 use Rattle.trace.specs.declared.placing.PlacedResult.{PlacedResult}
 use Rattle.trace.specs.declared.placing.EntrySaid.{EntrySaid}
@@ -17,25 +18,37 @@ use Rattle.trace.specs.declared.placing.PlacedEntry.{PlacedEntry}
 use Rattle.json_fields.specs.state.Reading.{GivesUnless}
 use Rattle.trace.specs.state.Memory.{is_memory}
 use Rattle.roster.specs.rule.Roll.{Roll}
-use Rattle.trace.specs.rule.Placing.{number_in, pod_numbered, placed_listing, placed_result}
+use Rattle.trace.specs.rule.Placing.{number_in, pod_numbered, placed_listing, placed_result, placed_resize, resizes_by}
 use Rattle.trace.specs.rule.Placing.{said_in, entry_of_pod, placed_entry, placed_of}
 use Rattle.trace.specs.state.Placing.{entries_of_pods}
 
 -- the steps of an entry
-abbrev pub placed : EntrySaid → ℕ → List PlacedListing → List PlacedResult → Result PlacedEntry FaultKind
-placed said number listings results =
-    Ok (record { pod = number; listings = listings; results = results; said = said })
+abbrev pub placed : EntrySaid → ℕ → List PlacedListing → List PlacedResult → List Resize
+    → Result PlacedEntry FaultKind
+placed said number listings results resized = Ok (record {
+  pod = number;
+  listings = listings;
+  results = results;
+  resized = resized;
+  said = said;
+})
 
-abbrev pub with_listings : EntrySaid → TickEntry → ℕ → PodSpec → List PlacedListing → Result PlacedEntry FaultKind
-with_listings said entry number pod listings =
-    each (placed_result pod) entry.results >>= placed said number listings
+abbrev pub with_results : Bool → EntrySaid → TickEntry → ℕ → PodSpec → List PlacedListing → List PlacedResult
+    → Result PlacedEntry FaultKind
+with_results heeds said entry number pod listings results =
+    each (placed_resize pod) (resizes_by heeds entry.resized) >>= placed said number listings results
 
-abbrev pub with_pod : (PodSpec → EntrySaid) → TickEntry → ℕ → PodSpec → Result PlacedEntry FaultKind
-with_pod said entry number pod =
-    each (placed_listing pod) entry.listings >>= with_listings (said pod) entry number pod
+abbrev pub with_listings : Bool → EntrySaid → TickEntry → ℕ → PodSpec → List PlacedListing
+    → Result PlacedEntry FaultKind
+with_listings heeds said entry number pod listings =
+    each (placed_result pod) entry.results >>= with_results heeds said entry number pod listings
 
-abbrev pub with_number : (PodSpec → EntrySaid) → List PodSpec → TickEntry → ℕ → Result PlacedEntry FaultKind
-with_number said pods entry number = pod_numbered pods number >>= with_pod said entry number
+abbrev pub with_pod : Bool → (PodSpec → EntrySaid) → TickEntry → ℕ → PodSpec → Result PlacedEntry FaultKind
+with_pod heeds said entry number pod =
+    each (placed_listing pod) entry.listings >>= with_listings heeds (said pod) entry number pod
+
+abbrev pub with_number : Bool → (PodSpec → EntrySaid) → List PodSpec → TickEntry → ℕ → Result PlacedEntry FaultKind
+with_number heeds said pods entry number = pod_numbered pods number >>= with_pod heeds said entry number
 
 -- what stands before the rest of a list, once its first step is known to go well
 then_all : {A B E : Type 0} (r : Result A E) (f : A → Result B E) (x : A) (rest : Result (List B) E) → r ≡ Ok x
@@ -82,16 +95,21 @@ pub entry_says : (heeds : Bool) (pods : List PodSpec) (n : ℕ) (entry : TickEnt
     → (n < length pods) × (n ≡ e.pod) × (pod : PodSpec) × (said_in heeds pod entry ≡ e.said)
 unfolding entry_of_pod
 entry_says heeds pods n entry e is =
-    let pod = bind_ok (pod_numbered pods n) (with_pod (λ pod. said_in heeds pod entry) entry n) e is in
+    let pod = bind_ok (pod_numbered pods n) (with_pod heeds (λ pod. said_in heeds pod entry) entry n) e is in
     let says = said_in heeds pod.0 entry in
-    let listings = bind_ok (each (placed_listing pod.0) entry.listings) (with_listings says entry n pod.0) e pod.2 in
-    let results = bind_ok (each (placed_result pod.0) entry.results) (placed says n listings.0) e listings.2 in
+    let listings = bind_ok (each (placed_listing pod.0) entry.listings) (with_listings heeds says entry n pod.0) e
+    pod.2 in
+    let results = bind_ok (each (placed_result pod.0) entry.results) (with_results heeds says entry n pod.0 listings.0)
+    e listings.2 in
+    let resized = bind_ok (each (placed_resize pod.0) (resizes_by heeds entry.resized))
+    (placed says n listings.0 results.0) e results.2 in
     let same = same_value {E = FaultKind} (record {
       pod = n;
       listings = listings.0;
       results = results.0;
+      resized = resized.0;
       said = says;
-    }) e results.2 in (
+    }) e resized.2 in (
       slice_get_within pods n pod.0 (there_is _ (slice_get pods n) pod.0 pod.1),
       ap (λ (p : PlacedEntry). p.pod) same,
       pod.0,

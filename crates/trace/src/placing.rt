@@ -9,6 +9,7 @@ ghost use Rattle.json_fields.specs.rule.Reading.{each};
 ghost use Rattle.json_fields.specs.state.Reading.{GivesExactly, GivesUnless, checked};
 ghost use Rattle.trace.specs.state.Memory.{is_memory};
 ghost use Rattle.trace.specs.rule.Placing.{number_in, container_number, placed_listing, placed_result, pod_numbered};
+ghost use Rattle.trace.specs.rule.Placing.{placed_resize, resizes_by};
 ghost use Rattle.trace.specs.rule.Placing.{entry_of_pod, has_twice, are_of_one_container, is_of_probe};
 ghost use Rattle.trace.specs.state.Placing.{entries_of_pods};
 ghost use Rattle.trace.specs.rule.Placing.{are_of_one_probe, repeats, sampled_or, without_sample};
@@ -19,12 +20,12 @@ use crate::words::says_so;
 use line_faults::FaultKind;
 use lists::Sequence;
 use manifest::{MOST_GATES, Outcome, PodSpec, ProbeKind, ReadinessGates};
-use observations::{EndReason, NO_GATES, PodWords, Sampling, Usage};
+use observations::{EndReason, NO_GATES, PodWords, Resize, Sampling, Usage};
 use roster::Roster;
 use std::alloc::Global;
 use tick_lines::{
-    ConditionStatuses, ConditionsMember, ListedInstance, Listing, ProbeResult, ReasonMember,
-    TickEntry, TruthMember,
+    ConditionStatuses, ConditionsMember, ContainerResize, ListedInstance, Listing, ProbeResult,
+    ReasonMember, ResizedMember, TickEntry, TruthMember,
 };
 
 /// A listing of the container with the number.
@@ -42,7 +43,7 @@ pub(crate) struct PlacedResult {
     pub(crate) outcome: Outcome,
 }
 
-/// What an entry has of its pod in addition to its listings and results.
+/// What an entry has of its pod in addition to its listings, results and resizes.
 #[derive(Drop)]
 pub(crate) struct EntrySaid {
     pub(crate) sampling: Sampling,
@@ -55,6 +56,7 @@ pub(crate) struct PlacedEntry {
     pub(crate) pod: usize,
     pub(crate) listings: Sequence<PlacedListing>,
     pub(crate) results: Sequence<PlacedResult>,
+    pub(crate) resized: Sequence<Resize>,
     pub(crate) said: EntrySaid,
 }
 
@@ -133,6 +135,29 @@ impl Place<ProbeResult> for PodSpec {
             probe: written.probe,
             outcome: written.outcome,
         })
+    }
+}
+
+impl Place<ContainerResize> for PodSpec {
+    type Placed = Resize;
+
+    ghost placed_by = { placed_resize };
+
+    fn place(&self, written: &ContainerResize) -> Result<Resize, FaultKind> {
+        Ok(Resize {
+            container: container_number(self, written.container.as_str())?,
+            resources: written.resources,
+        })
+    }
+}
+
+/// The resizes that an entry's member gives, if the version reads the member.
+fn resizes_by(heeds: bool, member: &ResizedMember) -> &[ContainerResize]
+    ensures { result.now ≡ resizes_by heeds member.now }
+{
+    match member {
+        ResizedMember::Resizes(resizes) if heeds => resizes.as_slice(),
+        _ => &[],
     }
 }
 
@@ -251,6 +276,7 @@ fn entry_of_pod(
         pod: number,
         listings: place_each(alloc, pod, entry.listings.as_slice())?,
         results: place_each(alloc, pod, entry.results.as_slice())?,
+        resized: place_each(alloc, pod, resizes_by(heeds, &entry.resized))?,
         said: said_in(heeds, pod, entry),
     })
 }
@@ -291,6 +317,7 @@ fn check_entry(heeds: bool, roster: &Roster, entry: &TickEntry) -> Result<(), Fa
     let pod = pod_numbered(roster.pods(), number)?;
     check_each(pod, entry.listings.as_slice())?;
     check_each(pod, entry.results.as_slice())?;
+    check_each(pod, resizes_by(heeds, &entry.resized))?;
     Ok(())
 }
 

@@ -12,6 +12,7 @@ ghost use Rattle.trace.specs.rule.Placing.{placed_of, is_doubled, repeats};
 ghost use Rattle.line_faults.specs.declared.fault.FaultKind.TheVariants.{Backwards, Doubled, ExitCode};
 ghost use Rattle.trace.specs.rule.Observed.{seen_in, outcome_in, results_in, listings_of, results_of, said_from};
 ghost use Rattle.trace.specs.rule.Observed.{seen_listed, containers_from, pod_observed, pods_from, observed};
+ghost use Rattle.trace.specs.rule.Observed.{resizes_of};
 ghost use Rattle.trace.specs.rule.Observed.{lacks_code, some_code_missing};
 ghost use Rattle.following.specs.rule.Backwards.{is_backwards};
 ghost use Rattle.following.specs.state.Followed.{EndBefore, ComesNext};
@@ -31,7 +32,9 @@ use json_lines::TickRecord;
 use line_faults::{FaultKind, refused_if};
 use lists::Sequence;
 use manifest::{ContainerSpec, Outcome, PodSpec, ProbeKind};
-use observations::{ContainerObs, MOST_TICKS, NO_WORDS, PodObs, PodWords, Sampling, TickObs};
+use observations::{
+    ContainerObs, MOST_TICKS, NO_WORDS, PodObs, PodWords, Resize, Sampling, TickObs,
+};
 use quantity::END_OF_TIME;
 use roster::Roster;
 use state_diff::{CriState, Seen};
@@ -149,6 +152,15 @@ fn words_again(words: &PodWords) -> PodWords
     }
 }
 
+fn resizes_of(entry: Option<&PlacedEntry>) -> &[Resize]
+    ensures { result.now ≡ resizes_of (option_map (λ e. e.now) entry.entry) }
+{
+    match entry {
+        None => &[],
+        Some(entry) => entry.resized.as_slice(),
+    }
+}
+
 fn said_from(entry: Option<&PlacedEntry>) -> EntrySaid
     ensures { result ≡ said_from (option_map (λ e. e.now) entry.entry) }
 {
@@ -176,7 +188,8 @@ fn pod_observed(
     let results = results_of(entry);
     let containers = containers_observed(alloc, listings, results, pod.containers.as_slice())?;
     let said = said_from(entry);
-    PodObs::told(alloc, at, &containers, said.sampling, said.words)
+    let resized = resizes_of(entry).to_vec(alloc)?;
+    PodObs::resized(alloc, at, &containers, said.sampling, said.words, resized)
 }
 
 /// What a tick shows of a pod, if it is present.

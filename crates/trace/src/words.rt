@@ -6,10 +6,12 @@ ghost use Rattle.json_fields.specs.state.Reading.{GivesExactly};
 ghost use Rattle.trace.specs.rule.Observed.{is_judged};
 ghost use Rattle.trace.specs.rule.Placing.{says_so};
 ghost use Rattle.trace.specs.rule.Written.{is_of_other_kind, is_no_reason, has_other_kind, line_has_other_kind};
-ghost use Rattle.trace.specs.rule.Written.{are_no_statuses, is_of_no_kind, heeded, written_in};
+ghost use Rattle.trace.specs.rule.Written.{are_no_statuses, are_no_resizes, is_of_no_kind, heeded, written_in};
 
 use line_faults::{FaultKind, refused_if};
-use tick_lines::{ConditionsMember, ReasonMember, TickEntry, TickLine, TickLineFault, TruthMember};
+use tick_lines::{
+    ConditionsMember, ReasonMember, ResizedMember, TickEntry, TickLine, TickLineFault, TruthMember,
+};
 
 pub(crate) fn says_so(member: TruthMember) -> bool
     ensures { result ≡ says_so member }
@@ -42,8 +44,15 @@ fn are_no_statuses(member: &ConditionsMember) -> bool
     matches!(member, ConditionsMember::OfOtherKind)
 }
 
+fn are_no_resizes(member: &ResizedMember) -> bool
+    ensures { result ≡ are_no_resizes member.now }
+{
+    matches!(member, ResizedMember::OfOtherKind)
+}
+
 /// Whether a member `unsampled` or `deleting` of the entry is of another kind than a truth value, its member `failed`
-/// is neither null nor a reason, or its member `conditions` is neither null nor an object of true, false and null.
+/// is neither null nor a reason, its member `conditions` is neither null nor an object of true, false and null, or its
+/// member `resized` is neither null nor an object of requests and limits.
 fn is_of_no_kind(entry: &TickEntry) -> bool
     ensures { result ≡ is_of_no_kind entry.now }
 {
@@ -51,6 +60,7 @@ fn is_of_no_kind(entry: &TickEntry) -> bool
         || is_of_other_kind(entry.deleting)
         || is_no_reason(&entry.failed)
         || are_no_statuses(&entry.conditions)
+        || are_no_resizes(&entry.resized)
 }
 
 /// Whether one of the entries has such a member.

@@ -6,6 +6,7 @@ use Rattle.std.specs.Str.{bytes_eq}
 use Rattle.manifest.specs.declared.pod.PodSpec.{PodSpec}
 use Rattle.manifest.specs.declared.resources.Resource.TheVariants.{Cpu, Memory, EphemeralStorage}
 use Rattle.qos.specs.rule.Pod.{IsPodClass, pod_request_of}
+use Rattle.qos.specs.rule.Resized.{resized}
 use Rattle.phase.specs.rule.RawPhase.{IsTerminal}
 use Rattle.pod_state.specs.rule.Pods.{PodTick, IsEnd}
 use Rattle.pod_state.specs.rule.Containers.{AreStatusesOf}
@@ -16,6 +17,7 @@ use Rattle.pod_piece.specs.declared.order.EvictOrder.{EvictOrder}
 use Rattle.pod_piece.specs.declared.status.PodFailure.{PodFailure}
 use Rattle.pod_piece.specs.declared.status.PodStatus.{PodStatus}
 use Rattle.pod_piece.specs.rule.Piece.{place_of}
+use Rattle.pod_piece.specs.rule.Resources.{AreResourcesOf}
 use Rattle.pod_piece.specs.rule.Usage.{IsUsageOf}
 
 -- a pod's requests, by which it is ranked
@@ -71,7 +73,8 @@ pub record IsStatusAfter (number : ℕ) (pod : PodSpec) (eviction : Option Evict
       (record { phase = status.phase; conditions = status.conditions })
   pub containers : AreStatusesOf pod (place_of eviction) h status.containers.items
   pub class : IsPodClass pod status.class
-  pub requests : status.requests ≡ requests_of pod
+  pub resources : AreResourcesOf pod (place_of eviction) h status.resources.items
+  pub requests : status.requests ≡ requests_of (resized pod status.resources.items)
   pub usage : IsUsageOf pod (place_of eviction) h status.usage
   pub priority : status.priority ≡ pod.priority
   pub spared : status.spared ≡ pod.spared

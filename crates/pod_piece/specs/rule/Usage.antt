@@ -25,26 +25,26 @@ unsampled_said Unsampled = Some true
 unsampled_said (Sampled usage) = Some false
 
 -- the tick has something of it
-abbrev pub Says : {A : Type 0} → (Sampling → Option A) → PodEntry → Type 0
-Says said entry = IsSome (said entry.sampling)
+abbrev pub Says : {A : Type 0} → (PodEntry → Option A) → PodEntry → Type 0
+Says said entry = IsSome (said entry)
 
 -- what the last tick reports that has something of it, if any has
-abbrev pub IsLastSaid : {A : Type 0} → (Sampling → Option A) → List PodTick → Option A → Type 0
+abbrev pub IsLastSaid : {A : Type 0} → (PodEntry → Option A) → List PodTick → Option A → Type 0
 IsLastSaid said h None = (t : ℕ) → IsSomeAnd (entry_at h t) (Says said) → ⊥
 IsLastSaid said h (Some last) =
     (t : ℕ) × IsLast (λ u. IsSomeAnd (entry_at h u) (Says said)) t
-    × IsSomeAnd (entry_at h t) (λ entry. said entry.sampling ≡ Some last)
+    × IsSomeAnd (entry_at h t) (λ entry. said entry ≡ Some last)
 
 -- the newest sample of a resource, if there is one
 pub record IsNewestSample (resource : Usage → Option ℕ) (h : List PodTick) (amount : Option ℕ) : Type 0 where
   pub last : Option (Option ℕ)
-  pub is_last : IsLastSaid (sample_said resource) h last
+  pub is_last : IsLastSaid (λ entry. sample_said resource entry.sampling) h last
   pub amount_is : amount ≡ option_flatten last
 
 -- the pod has no sample, by the last tick that has a sample or reports that there is none
 pub record IsUnsampled (h : List PodTick) (is_unsampled : Bool) : Type 0 where
   pub last : Option Bool
-  pub is_last : IsLastSaid unsampled_said h last
+  pub is_last : IsLastSaid (λ entry. unsampled_said entry.sampling) h last
   pub is : is_unsampled ≡ unwrap_or last false
 
 -- the newest sample of each resource

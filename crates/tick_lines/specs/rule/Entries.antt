@@ -11,6 +11,7 @@ use Rattle.tick_lines.specs.rule.Fields.{each_item}
 use Rattle.tick_lines.specs.rule.Listings.{listings_of}
 use Rattle.tick_lines.specs.rule.Results.{results_of}
 use Rattle.tick_lines.specs.rule.Reasons.{reason_member_of}
+use Rattle.tick_lines.specs.rule.Resizes.{resized_of}
 use Rattle.tick_lines.specs.rule.Truths.{truth_of}
 use Rattle.tick_lines.specs.rule.Usages.{usage_of}
 
@@ -29,6 +30,7 @@ entry_of d = do
     deleting = truth_of (field_at (codes "deleting") d);
     failed = reason_member_of (field_at (codes "failed") d);
     conditions = conditions_of (field_at (codes "conditions") d);
+    resized = resized_of (field_at (codes "resized") d);
   })
 
 -- the entries of a tick line, in order

@@ -169,7 +169,7 @@ line_fields = codes "pods" ∷ codes "signals" ∷ codes "afterReclaim" ∷ code
 abbrev pub entry_fields : List (List ℕ)
 entry_fields =
     codes "pod" ∷ codes "containers" ∷ codes "probes" ∷ codes "usage" ∷ codes "unsampled" ∷ codes "deleting"
-    ∷ codes "failed" ∷ codes "conditions" ∷ []
+    ∷ codes "failed" ∷ codes "conditions" ∷ codes "resized" ∷ []
 
 abbrev pub listing_fields : List (List ℕ)
 listing_fields = codes "name" ∷ codes "attempt" ∷ codes "state" ∷ codes "exitCode" ∷ []

@@ -36,6 +36,9 @@ use Rattle.tick_lines.specs.rule.Samples.{samples_of}
 use Rattle.tick_lines.specs.declared.reason.ReasonMember.{ReasonMember}
 use Rattle.tick_lines.specs.declared.reason.ReasonMember.TheVariants.{Missing}
 use Rattle.tick_lines.specs.rule.Reasons.{reason_member_of}
+use Rattle.tick_lines.specs.declared.resizes.ResizedMember.{ResizedMember}
+use Rattle.tick_lines.specs.declared.resizes.ResizedMember.TheVariants.{Missing as NoResizes}
+use Rattle.tick_lines.specs.rule.Resizes.{resized_of}
 use Rattle.tick_lines.specs.rule.Truths.{truth_of, denial_of}
 use Rattle.tick_lines.specs.rule.Usages.{usage_of}
 
@@ -59,7 +62,7 @@ abbrev pub denial_in : Option Data → Result TruthMember TickLineFault
 denial_in found = Ok (denial_of found)
 
 -- what is read of an entry before its listings and results; the entry doesn't mark its pod as unsampled or as being
--- deleted, and has no reason for its end and no status of a condition
+-- deleted, and has no reason for its end, no status of a condition and no resize
 pub record IsEntry (d : Data) (e : EntryText) : Type 0 where
   pub key : text_at (codes "pod") d ≡ Some e.key.now
   pub listings : items_of (field_at (codes "containers") d) ≡ Ok (left_in e.listings)
@@ -69,6 +72,7 @@ pub record IsEntry (d : Data) (e : EntryText) : Type 0 where
   pub deleting : truth_of (field_at (codes "deleting") d) ≡ No
   pub failed : reason_member_of (field_at (codes "failed") d) ≡ Missing
   pub conditions : conditions_of (field_at (codes "conditions") d) ≡ NoConditions
+  pub resized : resized_of (field_at (codes "resized") d) ≡ NoResizes
 
 -- what is read of a line before its entries and its samples
 pub record IsLine (d : Data) (l : LineText) : Type 0 where
@@ -101,6 +105,10 @@ reason_in found = Ok (reason_member_of found)
 -- the statuses of conditions; no value is a fault here
 abbrev pub conditions_in : Option Data → Result ConditionsMember TickLineFault
 conditions_in found = Ok (conditions_of found)
+
+-- the resizes of containers; no value is a fault here
+abbrev pub resized_in : Option Data → Result ResizedMember TickLineFault
+resized_in found = Ok (resized_of found)
 
 abbrev pub probe_in : Option Data → Result ProbeKind TickLineFault
 probe_in found = probe_named (option_and_then as_str found)
@@ -145,6 +153,7 @@ pub record EntryRead (d : Data) (left : List Token) (e : EntryMembers) : Type 0 
   pub deleting : IsRead truth_in (codes "deleting") d left No
   pub failed : IsRead reason_in (codes "failed") d left Missing
   pub conditions : IsRead conditions_in (codes "conditions") d left NoConditions
+  pub resized : IsRead resized_in (codes "resized") d left NoResizes
 
 -- what was read of a line before the members that are left
 pub record LineRead (d : Data) (left : List Token) (l : LineMembers) : Type 0 where

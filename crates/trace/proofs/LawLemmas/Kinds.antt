@@ -15,6 +15,7 @@ use Rattle.line_faults.specs.declared.fault.LineFault.{LineFault}
 use Rattle.observations.specs.declared.tick.TickObs.{TickObs}
 use Rattle.tick_lines.specs.declared.entry.TickEntry.{TickEntry}
 use Rattle.tick_lines.specs.declared.probing.ProbeResult.{ProbeResult}
+use Rattle.tick_lines.specs.declared.resizes.ContainerResize.{ContainerResize}
 use Rattle.json_lines.specs.rule.Lines.{lines_of, json_in}
 use Rattle.manifest_fields.specs.declared.fault.ManifestFault.{ManifestFault}
 use Rattle.manifest_fields.specs.declared.fault.ManifestFault.TheVariants.{Missing, WrongKind}
@@ -28,7 +29,7 @@ use Rattle.trace.specs.rule.Pod.{of_manifest, manifest_read, pod_from, spared_by
 use Rattle.tick_lines.specs.declared.truth.TruthMember.{TruthMember}
 use Rattle.tick_lines.specs.rule.Truths.{truth_of}
 use Rattle.trace.specs.rule.Placing.{says_so, number_in, container_number, placed_listing, placed_result, entry_of_pod}
-use Rattle.trace.specs.rule.Placing.{placed_entry, placed_of}
+use Rattle.trace.specs.rule.Placing.{placed_resize, resizes_by, placed_entry, placed_of}
 use Rattle.trace.specs.rule.TraceSoFar.{TraceSoFar, heeds}
 use Rattle.trace.specs.rule.Tick.{is_later, moment_from}
 use Rattle.trace.specs.rule.Trace.{json_of}
@@ -141,6 +142,10 @@ placed_result_only : (pod : PodSpec) (r : ProbeResult) → Only IsStranger (plac
 placed_result_only pod r = only_bind IsStranger _ _ (container_number_only pod r.container)
     (λ number. only_ok IsStranger _)
 
+placed_resize_only : (pod : PodSpec) (resize : ContainerResize) → Only IsStranger (placed_resize pod resize)
+placed_resize_only pod resize = only_bind IsStranger _ _ (container_number_only pod resize.container)
+    (λ number. only_ok IsStranger _)
+
 placed_entry_only : (heeds : Bool) (roll : Roll) (entry : TickEntry) → Only IsStranger (placed_entry heeds roll entry)
 unfolding placed_entry entry_of_pod
 placed_entry_only heeds roll entry =
@@ -148,7 +153,9 @@ placed_entry_only heeds roll entry =
     only_bind P _ _ (number_only roll entry) (λ number.
     only_bind P _ _ (only_some P StrangerPod (slice_get roll.pods number) (inl refl)) (λ pod.
     only_bind P _ _ (only_each P (placed_listing pod) (placed_listing_only pod) entry.listings) (λ listings.
-    only_bind P _ _ (only_each P (placed_result pod) (placed_result_only pod) entry.results) (λ results. only_ok P _))))
+    only_bind P _ _ (only_each P (placed_result pod) (placed_result_only pod) entry.results) (λ results.
+    only_bind P _ _ (only_each P (placed_resize pod) (placed_resize_only pod) (resizes_by heeds entry.resized))
+    (λ resized. only_ok P _)))))
 
 placed_only : (heeds : Bool) (roll : Roll) (es : List TickEntry) → Only IsStranger (placed_of heeds roll es)
 unfolding placed_of

@@ -13,15 +13,17 @@ use Rattle.line_faults.specs.declared.fault.FaultKind.TheVariants.{StrangerPod, 
 use Rattle.tick_lines.specs.declared.listing.Listing.{Listing}
 use Rattle.tick_lines.specs.declared.entry.TickEntry.{TickEntry}
 use Rattle.tick_lines.specs.declared.probing.ProbeResult.{ProbeResult}
+use Rattle.tick_lines.specs.declared.resizes.ContainerResize.{ContainerResize}
+use Rattle.observations.specs.declared.resize.Resize.{Resize}
 use Rattle.trace.specs.declared.placing.PlacedListing.{PlacedListing}
 use Rattle.trace.specs.declared.placing.PlacedResult.{PlacedResult}
 use Rattle.trace.specs.declared.placing.PlacedEntry.{PlacedEntry}
 use Rattle.roster.specs.rule.Roll.{Roll, number_of}
 use Rattle.trace.proofs.Keys.{named, unnamed}
 use Rattle.trace.specs.rule.Placing.{number_in, pod_numbered, container_number, placed_listing, placed_result}
-use Rattle.trace.specs.rule.Placing.{said_in, entry_of_pod, placed_entry, placed_of}
+use Rattle.trace.specs.rule.Placing.{placed_resize, resizes_by, said_in, entry_of_pod, placed_entry, placed_of}
 use Rattle.trace.specs.state.Laws.{HasNo, NamesOther, NamesStranger, NamesStrangerContainer, Strangers}
-use Rattle.trace.proofs.Placed.{placed, with_listings, with_pod, with_number}
+use Rattle.trace.proofs.Placed.{placed, with_results, with_listings, with_pod, with_number}
 use Rattle.trace.proofs.LawLemmas.Checks.{then_err}
 
 -- the first item that gives a fault
@@ -86,67 +88,108 @@ result_fault pod r kind e =
           later.2)
     ]
 
+resize_fault : (pod : PodSpec) (resize : ContainerResize) (kind : FaultKind) → placed_resize pod resize ≡ Err kind
+    → HasNo pod resize.container × (kind ≡ StrangerContainer)
+resize_fault pod resize kind e =
+    let last : ℕ → Result Resize FaultKind =
+    λ number. Ok (record { container = number; resources = resize.resources }) in
+    elim (bind_err (container_number pod resize.container) last kind e) [
+      | inl here ↦ container_fault pod resize.container kind here
+      | inr later ↦ absurd (no_fault (record { container = later.0; resources = resize.resources }) kind later.2)
+    ]
+
 -- a fault of an entry of a known pod: it names a container that isn't the pod's
-known_fault : (says : PodSpec → EntrySaid) (entry : TickEntry) (number : ℕ) (pod : PodSpec) (kind : FaultKind)
-    → with_pod says entry number pod ≡ Err kind → (kind ≡ StrangerContainer) × NamesOther pod entry
-known_fault says entry number pod kind e =
-    elim (bind_err (each (placed_listing pod) entry.listings) (with_listings (says pod) entry number pod) kind e) [
+known_fault : (heeds : Bool) (says : PodSpec → EntrySaid) (entry : TickEntry) (number : ℕ) (pod : PodSpec)
+    (kind : FaultKind)
+    → with_pod heeds says entry number pod ≡ Err kind → (kind ≡ StrangerContainer) × NamesOther heeds pod entry
+known_fault heeds says entry number pod kind e =
+    elim (bind_err (each (placed_listing pod) entry.listings) (with_listings heeds (says pod) entry number pod) kind
+    e) [
       | inl faulty ↦
           let at = each_at (placed_listing pod) entry.listings kind faulty in
           let why = listing_fault pod at.1 kind at.3 in
           (why.1, inl (at.0, at.1, at.2, why.0))
-      | inr listings ↦ elim (bind_err (each (placed_result pod) entry.results) (placed (says pod) number listings.0)
-          kind
-          listings.2) [
+      | inr listings ↦ elim (bind_err (each (placed_result pod) entry.results)
+          (with_results heeds (says pod) entry number pod listings.0) kind listings.2) [
             | inl faulty ↦
                 let at = each_at (placed_result pod) entry.results kind faulty in
                 let why = result_fault pod at.1 kind at.3 in
-                (why.1, inr (at.0, at.1, at.2, why.0))
-            | inr done ↦ absurd (no_fault (record {
-              pod = number;
-              listings = listings.0;
-              results = done.0;
-              said = says pod;
-            }) kind done.2)
+                (why.1, inr (inl (at.0, at.1, at.2, why.0)))
+            | inr results ↦ elim (bind_err (each (placed_resize pod) (resizes_by heeds entry.resized))
+                (placed (says pod) number listings.0 results.0) kind results.2) [
+                  | inl faulty ↦
+                      let at = each_at (placed_resize pod) (resizes_by heeds entry.resized) kind faulty in
+                      let why = resize_fault pod at.1 kind at.3 in
+                      (why.1, inr (inr (at.0, at.1, at.2, why.0)))
+                  | inr done ↦ absurd (no_fault (record {
+                    pod = number;
+                    listings = listings.0;
+                    results = results.0;
+                    resized = done.0;
+                    said = says pod;
+                  }) kind done.2)
+                ]
           ]
     ]
 
 -- and where it names one, that is its fault
-known_is : (says : PodSpec → EntrySaid) (entry : TickEntry) (number : ℕ) (pod : PodSpec) → NamesOther pod entry
+known_is : (heeds : Bool) (says : PodSpec → EntrySaid) (entry : TickEntry) (number : ℕ) (pod : PodSpec)
+    → NamesOther heeds pod entry
     → (r : Result (List PlacedListing) FaultKind) → each (placed_listing pod) entry.listings ≡ r
-    → with_pod says entry number pod ≡ Err StrangerContainer
-known_is says entry number pod (inl (m, listing, here, unknown)) r e =
+    → (s : Result (List PlacedResult) FaultKind) → each (placed_result pod) entry.results ≡ s
+    → with_pod heeds says entry number pod ≡ Err StrangerContainer
+known_is heeds says entry number pod (inl (m, listing, here, unknown)) r e s f =
     let last : ℕ → Result PlacedListing FaultKind =
     λ number. Ok (record { container = number; instance = listing.instance }) in
     let one : placed_listing pod listing ≡ Err StrangerContainer =
     then_err (container_number pod listing.name) last StrangerContainer
     (ap (λ (found : Option ℕ). some_or StrangerContainer found) unknown) in
-    then_err (each (placed_listing pod) entry.listings) (with_listings (says pod) entry number pod) StrangerContainer
+    then_err (each (placed_listing pod) entry.listings) (with_listings heeds (says pod) entry number pod)
+    StrangerContainer
     (each_meets (placed_listing pod) StrangerContainer entry.listings m listing here one
     (λ m z other at e. (listing_fault pod z other e).1))
-known_is says entry number pod (inr (m, result, here, unknown)) (Ok listings) e =
+known_is heeds says entry number pod (inr (inl (m, result, here, unknown))) (Ok listings) e s f =
     let last : ℕ → Result PlacedResult FaultKind =
     λ number. Ok (record { container = number; probe = result.probe; outcome = result.outcome }) in
     let one : placed_result pod result ≡ Err StrangerContainer =
     then_err (container_number pod result.container) last StrangerContainer
     (ap (λ (found : Option ℕ). some_or StrangerContainer found) unknown) in
-    then_ok (each (placed_listing pod) entry.listings) (with_listings (says pod) entry number pod) listings e
-    ∙ then_err (each (placed_result pod) entry.results) (placed (says pod) number listings) StrangerContainer
+    then_ok (each (placed_listing pod) entry.listings) (with_listings heeds (says pod) entry number pod) listings e
+    ∙ then_err (each (placed_result pod) entry.results) (with_results heeds (says pod) entry number pod listings)
+    StrangerContainer
     (each_meets (placed_result pod) StrangerContainer entry.results m result here one
     (λ m z other at e. (result_fault pod z other e).1))
-known_is says entry number pod (inr other) (Err kind) e =
+known_is heeds says entry number pod (inr (inr (m, resize, here, unknown))) (Ok listings) e (Ok results) f =
+    let last : ℕ → Result Resize FaultKind =
+    λ number. Ok (record { container = number; resources = resize.resources }) in
+    let one : placed_resize pod resize ≡ Err StrangerContainer =
+    then_err (container_number pod resize.container) last StrangerContainer
+    (ap (λ (found : Option ℕ). some_or StrangerContainer found) unknown) in
+    then_ok (each (placed_listing pod) entry.listings) (with_listings heeds (says pod) entry number pod) listings e
+    ∙ then_ok (each (placed_result pod) entry.results) (with_results heeds (says pod) entry number pod listings) results
+    f
+    ∙ then_err (each (placed_resize pod) (resizes_by heeds entry.resized)) (placed (says pod) number listings results)
+    StrangerContainer
+    (each_meets (placed_resize pod) StrangerContainer (resizes_by heeds entry.resized) m resize here one
+    (λ m z other at e. (resize_fault pod z other e).1))
+known_is heeds says entry number pod (inr (inr other)) (Ok listings) e (Err kind) f =
+    let at = each_at (placed_result pod) entry.results kind f in
+    then_ok (each (placed_listing pod) entry.listings) (with_listings heeds (says pod) entry number pod) listings e
+    ∙ then_err (each (placed_result pod) entry.results) (with_results heeds (says pod) entry number pod listings)
+    StrangerContainer (f ∙ ap Err (result_fault pod at.1 kind at.3).1)
+known_is heeds says entry number pod (inr other) (Err kind) e s f =
     let at = each_at (placed_listing pod) entry.listings kind e in
-    then_err (each (placed_listing pod) entry.listings) (with_listings (says pod) entry number pod) StrangerContainer
-    (e ∙ ap Err (listing_fault pod at.1 kind at.3).1)
+    then_err (each (placed_listing pod) entry.listings) (with_listings heeds (says pod) entry number pod)
+    StrangerContainer (e ∙ ap Err (listing_fault pod at.1 kind at.3).1)
 
 -- a fault of one entry: its pod isn't known, or a container isn't its pod's
 entry_fault : (heeds : Bool) (roll : Roll) (es : List TickEntry) (n : ℕ) (entry : TickEntry) (kind : FaultKind)
     → slice_get es n ≡ Some entry → placed_entry heeds roll entry ≡ Err kind
-    → NamesStranger roll es ⊎ ((kind ≡ StrangerContainer) × NamesStrangerContainer roll es)
+    → NamesStranger roll es ⊎ ((kind ≡ StrangerContainer) × NamesStrangerContainer heeds roll es)
 unfolding placed_entry entry_of_pod
 entry_fault heeds roll es n entry kind here e =
     let says : PodSpec → EntrySaid = λ pod. said_in heeds pod entry in
-    elim (bind_err (number_in roll entry) (with_number says roll.pods entry) kind e) [
+    elim (bind_err (number_in roll entry) (with_number heeds says roll.pods entry) kind e) [
       | inl unknown ↦ inl (record {
         n = n;
         entry = entry;
@@ -157,14 +200,14 @@ entry_fault heeds roll es n entry kind here e =
       | inr number ↦
           let known = there_is StrangerPod (number_of roll entry.key) number.0 number.1 in
           let pod = named roll entry.key number.0 known in
-          elim (bind_err (pod_numbered roll.pods number.0) (with_pod says entry number.0) kind number.2) [
+          elim (bind_err (pod_numbered roll.pods number.0) (with_pod heeds says entry number.0) kind number.2) [
             | inl gone ↦
                 let none = (missing_is StrangerPod kind (slice_get roll.pods number.0) gone).0 in
                 let some = pod.at in
                 absurd (cc)
             | inr found ↦
                 let is = there_is StrangerPod (slice_get roll.pods number.0) found.0 found.1 in
-                let why = known_fault says entry number.0 found.0 kind found.2 in
+                let why = known_fault heeds says entry number.0 found.0 kind found.2 in
                 inr (
                   why.0,
                   record {
@@ -196,7 +239,7 @@ all_known roll es numbers e is = no_fault numbers StrangerPod (sym e ∙ unknown
 
 entries_fault : (heeds : Bool) (roll : Roll) (es : List TickEntry) (kind : FaultKind)
     → placed_of heeds roll es ≡ Err kind
-    → ((kind ≡ StrangerPod) × NamesStranger roll es) ⊎ ((kind ≡ StrangerContainer) × NamesStrangerContainer roll es)
+    → ((kind ≡ StrangerPod) × NamesStranger roll es) ⊎ ((kind ≡ StrangerContainer) × NamesStrangerContainer heeds roll es)
 unfolding placed_of
 entries_fault heeds roll es kind e =
     elim (bind_err (each (number_in roll) es) (λ numbers. each (placed_entry heeds roll) es) kind
@@ -219,16 +262,17 @@ unfolding placed_of
 pod_is heeds roll es is = then_err (each (number_in roll) es)
     (λ numbers. each (placed_entry heeds roll) es) StrangerPod (unknown_pod roll es is)
 
-one_entry : (heeds : Bool) (roll : Roll) (es : List TickEntry) → (is : NamesStrangerContainer roll es)
+one_entry : (heeds : Bool) (roll : Roll) (es : List TickEntry) → (is : NamesStrangerContainer heeds roll es)
     → placed_entry heeds roll is.entry ≡ Err StrangerContainer
 unfolding placed_entry entry_of_pod
 one_entry heeds roll es is =
     let says : PodSpec → EntrySaid = λ pod. said_in heeds pod is.entry in
-    then_ok (number_in roll is.entry) (with_number says roll.pods is.entry) is.number
+    then_ok (number_in roll is.entry) (with_number heeds says roll.pods is.entry) is.number
     (ap (λ (found : Option ℕ). some_or StrangerPod found) is.known)
-    ∙ then_ok (pod_numbered roll.pods is.number) (with_pod says is.entry is.number) is.pod
+    ∙ then_ok (pod_numbered roll.pods is.number) (with_pod heeds says is.entry is.number) is.pod
     (ap (λ (found : Option PodSpec). some_or StrangerPod found) is.pod_is)
-    ∙ known_is says is.entry is.number is.pod is.other (each (placed_listing is.pod) is.entry.listings) refl
+    ∙ known_is heeds says is.entry is.number is.pod is.other (each (placed_listing is.pod) is.entry.listings) refl
+    (each (placed_result is.pod) is.entry.results) refl
 
 only_container : (heeds : Bool) (roll : Roll) (es : List TickEntry) → (NamesStranger roll es → ⊥)
     → (m : ℕ) (z : TickEntry) (other : FaultKind) → slice_get es m ≡ Some z
@@ -239,7 +283,7 @@ only_container heeds roll es none m z other at faulty = elim (entry_fault heeds 
 ]
 
 container_is : (heeds : Bool) (roll : Roll) (es : List TickEntry) → (NamesStranger roll es → ⊥)
-    → NamesStrangerContainer roll es → (r : Result (List ℕ) FaultKind) → each (number_in roll) es ≡ r
+    → NamesStrangerContainer heeds roll es → (r : Result (List ℕ) FaultKind) → each (number_in roll) es ≡ r
     → placed_of heeds roll es ≡ Err StrangerContainer
 unfolding placed_of
 container_is heeds roll es none is (Ok numbers) e =
@@ -267,7 +311,7 @@ apart : ◌≡◌ {A = Result (List PlacedEntry) FaultKind} (Err StrangerPod) (E
 apart e = let same = same_fault {A = List PlacedEntry} StrangerPod StrangerContainer e in absurd (cc)
 
 container_of : (heeds : Bool) (roll : Roll) (es : List TickEntry) → placed_of heeds roll es ≡ Err StrangerContainer
-    → (NamesStranger roll es → ⊥) × NamesStrangerContainer roll es
+    → (NamesStranger roll es → ⊥) × NamesStrangerContainer heeds roll es
 container_of heeds roll es e = elim (entries_fault heeds roll es StrangerContainer e) [
   | inl pod ↦ let other : StrangerContainer ≡ StrangerPod = pod.0 in absurd (cc)
   | inr container ↦ (λ is. apart (sym (pod_is heeds roll es is) ∙ e), container.1)

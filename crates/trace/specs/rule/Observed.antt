@@ -18,6 +18,7 @@ use Rattle.trace.specs.declared.placing.EntrySaid.{EntrySaid}
 use Rattle.trace.specs.declared.placing.PlacedEntry.{PlacedEntry}
 use Rattle.observations.specs.declared.container.ContainerObs.{ContainerObs}
 use Rattle.observations.specs.rule.Pods.{PodObs, no_words}
+use Rattle.observations.specs.declared.resize.Resize.{Resize}
 use Rattle.observations.specs.declared.tick.TickObs.{TickObs}
 use Rattle.observations.specs.declared.usage.Sampling.TheVariants.{Unsaid}
 use Rattle.tick_lines.specs.declared.line.TickLine.{TickLine}
@@ -66,7 +67,7 @@ abbrev pub entry_for : List PlacedEntry → ℕ → Option PlacedEntry
 entry_for [] n = None
 entry_for (e ∷ es) n = if e.pod == n then Some e else entry_for es n
 
--- a pod without an entry has no listings, no results and no words
+-- a pod without an entry has no listings, no results, no resizes and no words
 abbrev pub listings_of : Option PlacedEntry → List PlacedListing
 listings_of None = []
 listings_of (Some e) = e.listings
@@ -74,6 +75,10 @@ listings_of (Some e) = e.listings
 abbrev pub results_of : Option PlacedEntry → List PlacedResult
 results_of None = []
 results_of (Some e) = e.results
+
+abbrev pub resizes_of : Option PlacedEntry → List Resize
+resizes_of None = []
+resizes_of (Some e) = e.resized
 
 abbrev pub said_from : Option PlacedEntry → EntrySaid
 said_from None = record { sampling = Unsaid; words = no_words }
@@ -86,6 +91,7 @@ pod_observed at entry pod = record {
   containers = containers_from (listings_of entry) (results_of entry) 0 pod.containers;
   sampling = (said_from entry).sampling;
   words = (said_from entry).words;
+  resized = resizes_of entry;
 }
 
 -- what the entries show of each of the pods, numbered from n on; nothing of a pod that is not present

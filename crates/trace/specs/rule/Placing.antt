@@ -10,6 +10,7 @@ use Rattle.observations.specs.declared.usage.Sampling.{Sampling}
 use Rattle.observations.specs.declared.usage.Sampling.TheVariants.{Unsaid, Unsampled, Sampled}
 use Rattle.observations.specs.declared.usage.Usage.{Usage}
 use Rattle.observations.specs.declared.words.PodWords.{PodWords}
+use Rattle.observations.specs.declared.resize.Resize.{Resize}
 use Rattle.line_faults.specs.declared.fault.FaultKind.{FaultKind}
 use Rattle.line_faults.specs.declared.fault.FaultKind.TheVariants.{StrangerPod, StrangerContainer}
 use Rattle.manifest.specs.rule.Gates.{most_gates}
@@ -20,6 +21,9 @@ use Rattle.tick_lines.specs.rule.Statuses.{status_of}
 use Rattle.tick_lines.specs.declared.listing.Listing.{Listing}
 use Rattle.tick_lines.specs.declared.entry.TickEntry.{TickEntry}
 use Rattle.tick_lines.specs.declared.probing.ProbeResult.{ProbeResult}
+use Rattle.tick_lines.specs.declared.resizes.ContainerResize.{ContainerResize}
+use Rattle.tick_lines.specs.declared.resizes.ResizedMember.{ResizedMember}
+use Rattle.tick_lines.specs.declared.resizes.ResizedMember.TheVariants as resized
 use Rattle.tick_lines.specs.declared.reason.ReasonMember.{ReasonMember}
 use Rattle.tick_lines.specs.declared.reason.ReasonMember.TheVariants as reasons
 use Rattle.tick_lines.specs.declared.truth.TruthMember.{TruthMember}
@@ -52,6 +56,21 @@ placed_listing pod listing = container_number pod listing.name
 abbrev pub placed_result : PodSpec → ProbeResult → Result PlacedResult FaultKind
 placed_result pod r = container_number pod r.container
     >>= λ number. Ok (record { container = number; probe = r.probe; outcome = r.outcome })
+
+-- the resize of the pod's container that it names
+abbrev pub placed_resize : PodSpec → ContainerResize → Result Resize FaultKind
+placed_resize pod resize = container_number pod resize.container
+    >>= λ number. Ok (record { container = number; resources = resize.resources })
+
+-- the resizes that an entry's member gives
+abbrev pub resizes_given : ResizedMember → List ContainerResize
+resizes_given resized.Missing = []
+resizes_given (resized.Resizes resizes) = resizes
+resizes_given resized.OfOtherKind = []
+
+-- if the version reads the member
+abbrev pub resizes_by : Bool → ResizedMember → List ContainerResize
+resizes_by heeds member = if heeds then resizes_given member else []
 
 abbrev pub says_so : TruthMember → Bool
 says_so No = false
@@ -108,10 +127,12 @@ entry_of_pod heeds pods number entry = do
   pod ← pod_numbered pods number
   listings ← each (placed_listing pod) entry.listings
   results ← each (placed_result pod) entry.results
+  resized ← each (placed_resize pod) (resizes_by heeds entry.resized)
   Ok (record {
     pod = number;
     listings = listings;
     results = results;
+    resized = resized;
     said = said_in heeds pod entry;
   })
 

@@ -13,6 +13,8 @@ use Rattle.node_lines.specs.declared.fault.NodeFault.{NodeFault}
 use Rattle.node_lines.specs.rule.Node.{whole_number, node_of}
 use Rattle.tick_lines.specs.declared.conditions.ConditionsMember.{ConditionsMember}
 use Rattle.tick_lines.specs.declared.conditions.ConditionsMember.TheVariants as conditions
+use Rattle.tick_lines.specs.declared.resizes.ResizedMember.{ResizedMember}
+use Rattle.tick_lines.specs.declared.resizes.ResizedMember.TheVariants as resized
 use Rattle.tick_lines.specs.declared.entry.TickEntry.{TickEntry}
 use Rattle.tick_lines.specs.declared.fault.TickLineFault.{TickLineFault}
 use Rattle.tick_lines.specs.declared.line.TickLine.{TickLine}
@@ -61,12 +63,18 @@ are_no_statuses conditions.Missing = false
 are_no_statuses (conditions.Statuses statuses) = false
 are_no_statuses conditions.OfOtherKind = true
 
+abbrev pub are_no_resizes : ResizedMember → Bool
+are_no_resizes resized.Missing = false
+are_no_resizes (resized.Resizes resizes) = false
+are_no_resizes resized.OfOtherKind = true
+
 -- an entry has a member `unsampled` or `deleting` of another kind than a truth value, a member `failed` that is neither
--- null nor a reason, or a member `conditions` that is neither null nor an object of true, false and null
+-- null nor a reason, a member `conditions` that is neither null nor an object of true, false and null, or a member
+-- `resized` that is neither null nor an object of requests and limits
 abbrev pub is_of_no_kind : TickEntry → Bool
 is_of_no_kind e =
-    ((is_of_other_kind e.unsampled || is_of_other_kind e.deleting) || is_no_reason e.failed)
-    || are_no_statuses e.conditions
+    (((is_of_other_kind e.unsampled || is_of_other_kind e.deleting) || is_no_reason e.failed)
+    || are_no_statuses e.conditions) || are_no_resizes e.resized
 
 abbrev pub has_other_kind : List TickEntry → Bool
 has_other_kind entries = list_any is_of_no_kind entries

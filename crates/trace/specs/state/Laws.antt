@@ -17,6 +17,7 @@ use Rattle.trace.specs.declared.trace_so_far.LineKind.TheVariants as kinds
 use Rattle.tick_lines.specs.declared.listing.Listing.{Listing}
 use Rattle.tick_lines.specs.declared.entry.TickEntry.{TickEntry}
 use Rattle.tick_lines.specs.declared.probing.ProbeResult.{ProbeResult}
+use Rattle.tick_lines.specs.declared.resizes.ContainerResize.{ContainerResize}
 use Rattle.tick_lines.specs.declared.reason.ReasonMember.TheVariants as reasons
 use Rattle.tick_lines.specs.declared.truth.TruthMember.TheVariants.{Yes}
 use Rattle.lists.specs.rule.Names.{place_of}
@@ -36,7 +37,7 @@ use Rattle.trace.specs.declared.placing.PlacedEntry.{PlacedEntry}
 use Rattle.json_lines.specs.rule.Lines.{lines_of, is_blank, longest_line}
 use Rattle.trace.specs.rule.Written.{node_in, tick_line_in}
 use Rattle.trace.specs.rule.Pod.{pod_of_line, named_in}
-use Rattle.trace.specs.rule.Placing.{placed_of, has_twice, are_of_one_pod, are_of_one_probe, is_doubled}
+use Rattle.trace.specs.rule.Placing.{placed_of, has_twice, are_of_one_pod, are_of_one_probe, is_doubled, resizes_by}
 use Rattle.trace.specs.rule.Observed.{seen_listed, outcome_in, observed, some_code_missing}
 use Rattle.following.specs.rule.Backwards.{is_backwards}
 use Rattle.manifest_fields.specs.declared.fault.ManifestFault.{ManifestFault}
@@ -275,14 +276,16 @@ pub record NamesStranger (roll : Roll) (es : List TickEntry) : Type 0 where
 abbrev pub HasNo : PodSpec → List ℕ → Type 0
 HasNo pod name = place_of (names_of pod.containers) name ≡ None
 
--- a listing or a result of the entry names a container that isn't the pod's
-abbrev pub NamesOther : PodSpec → TickEntry → Type 0
-NamesOther pod entry =
+-- a listing or a result of the entry, or a resize if the version reads resizes, names a container that isn't the pod's
+abbrev pub NamesOther : Bool → PodSpec → TickEntry → Type 0
+NamesOther heeds pod entry =
     ((m : ℕ) × (listing : Listing) × (slice_get entry.listings m ≡ Some listing) × HasNo pod listing.name)
-    ⊎ ((m : ℕ) × (r : ProbeResult) × (slice_get entry.results m ≡ Some r) × HasNo pod r.container)
+    ⊎ (((m : ℕ) × (r : ProbeResult) × (slice_get entry.results m ≡ Some r) × HasNo pod r.container)
+    ⊎ ((m : ℕ) × (resize : ContainerResize) × (slice_get (resizes_by heeds entry.resized) m ≡ Some resize)
+    × HasNo pod resize.container))
 
 -- an entry of a pod that is present names a container that isn't the pod's
-pub record NamesStrangerContainer (roll : Roll) (es : List TickEntry) : Type 0 where
+pub record NamesStrangerContainer (heeds : Bool) (roll : Roll) (es : List TickEntry) : Type 0 where
   pub n : ℕ
   pub entry : TickEntry
   pub number : ℕ
@@ -290,7 +293,7 @@ pub record NamesStrangerContainer (roll : Roll) (es : List TickEntry) : Type 0 w
   pub here : slice_get es n ≡ Some entry
   pub known : number_of roll entry.key ≡ Some number
   pub pod_is : slice_get roll.pods number ≡ Some pod
-  pub other : NamesOther pod entry
+  pub other : NamesOther heeds pod entry
 
 -- every pod of the line has to be present before any of its containers is looked for; a key is of the pod that is
 -- present and has it, and of none where there is no such pod
@@ -299,7 +302,7 @@ pub record Strangers : Type 0 where
       → (placed_of heeds roll es ≡ Err StrangerPod ↔ NamesStranger roll es)
   pub container : (heeds : Bool) (roll : Roll) (es : List TickEntry)
       → (placed_of heeds roll es ≡ Err StrangerContainer
-      ↔ ((NamesStranger roll es → ⊥) × NamesStrangerContainer roll es))
+      ↔ ((NamesStranger roll es → ⊥) × NamesStrangerContainer heeds roll es))
   pub named : (roll : Roll) (key : List ℕ) (n : ℕ) → number_of roll key ≡ Some n → IsNamed roll n key
   pub unnamed : (roll : Roll) (key : List ℕ) → (number_of roll key ≡ None ↔ (HasKey roll key → ⊥))
 

@@ -10,6 +10,7 @@ use Rattle.pod_piece.specs.state.Piece.{piece, before_last}
 use Rattle.pod_piece.proofs.PieceLemmas.{has_containers}
 use Rattle.pod_piece.proofs.EvictedPieces.{kept_evicted}
 use Rattle.pod_piece.proofs.EvictedPieces.{evicted_state, lived_before, may_evict}
+use Rattle.pod_piece.proofs.ResourceLemmas.{resources_evicted}
 use Rattle.pod_piece.proofs.UsageLemmas.{usage_evicted}
 use Rattle.pod_piece.proofs.piece.PodPiece.evict.Goals as goal
 
@@ -79,6 +80,7 @@ invariant_of-self c =
       containers = c.show.ensures i.pod i.max_restart_delay (Some (length h)) (Some (length h)) k end
           ((λ t. inl refl), (λ w. refl)) st;
       class = shown.class;
+      resources = resources_evicted i.pod h x i.status.resources.items shown.resources none end;
       requests = shown.requests;
       usage = usage_evicted i.pod h x i.status.usage shown.usage none end;
       priority = shown.priority;

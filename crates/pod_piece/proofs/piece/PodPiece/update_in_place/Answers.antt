@@ -1,6 +1,8 @@
 use Rattle.std.proofs.Common.{◌∙◌, ◌-◌, ◌<◌, ◌++◌, ◌∷◌, [], List, Option, length, refl, ap, sym, subst, arith}
 use Rattle.std.specs.Prelude.{not, if◌then◌else◌}
 use Rattle.std.proofs.lemmas.List.{length-map}
+use Rattle.manifest.specs.rule.Resources.{Resources}
+use Rattle.observations.specs.declared.resize.Resize.{Resize}
 use Rattle.observations.specs.declared.usage.Sampling.{Sampling}
 use Rattle.pod_state.specs.declared.events.PodEvent.{PodEvent}
 use Rattle.pod_state.specs.declared.lifecycle.Lifecycle.{Lifecycle}
@@ -12,7 +14,9 @@ use Rattle.pod_piece.specs.declared.made.MadeTick.{MadeTick}
 use Rattle.pod_piece.specs.declared.status.NewestUsage.{NewestUsage}
 use Rattle.pod_piece.specs.declared.status.PodFailure.{PodFailure}
 use Rattle.pod_piece.specs.rule.Status.{failure_in, IsFailure}
+use Rattle.pod_piece.specs.rule.Resources.{AreResourcesOf}
 use Rattle.pod_piece.specs.rule.Usage.{IsUsageOf}
+use Rattle.pod_piece.specs.state.Resources.{resized_by}
 use Rattle.pod_piece.specs.state.Usage.{newer}
 use Rattle.pod_piece.specs.state.Kept.{AreKept, piece_of}
 use Rattle.pod_piece.specs.state.Made.{made_of, made_at}
@@ -22,6 +26,7 @@ use Rattle.pod_piece.proofs.NextTicks.{may_take, all_follow, is_over}
 use Rattle.pod_piece.proofs.Failures.{failure_more, by_node}
 use Rattle.pod_piece.proofs.PieceLemmas.{may_self, has_containers, kept_updated, end_is, evicted_over, moved_on}
 use Rattle.pod_piece.proofs.PieceLemmas.{at_next}
+use Rattle.pod_piece.proofs.ResourceLemmas.{resources_more}
 use Rattle.pod_piece.proofs.UsageLemmas.{usage_more}
 use Rattle.pod_piece.proofs.piece.PodPiece.update_in_place.Goals as goal
 
@@ -76,6 +81,22 @@ follow_on-requires-clause-follow c = λ had.
     (sym c.lifecycle.ensures) from.now.progress.so_far in
     all_follow i.pod h i.differs.items observed
     (from.held.listed.ended ((c.has_ended-had_ended.ensures.ended i.pod e h was).0 had)) from.next
+
+pub resize_while-requires-clause-many : goal.resize_while-requires-clause-many
+resize_while-requires-clause-many c =
+    let i = c.deref_mut-parts.result.now in
+    let from = at_next i _ c.args.self.now (c.len.result - i.waiting) c.at-observed.result.now
+    c.deref_mut-parts.ensures.value c.self.view_is c.self.invariant c.requires
+    (ap (λ n. n - i.waiting) c.len.ensures) c.at-observed.ensures in
+    from.held.shown.resources.resized.as_many
+
+pub resize_while-requires-clause-asked : goal.resize_while-requires-clause-asked
+resize_while-requires-clause-asked c =
+    let i = c.deref_mut-parts.result.now in
+    let from = at_next i _ c.args.self.now (c.len.result - i.waiting) c.at-observed.result.now
+    c.deref_mut-parts.ensures.value c.self.view_is c.self.invariant c.requires
+    (ap (λ n. n - i.waiting) c.len.ensures) c.at-observed.ensures in
+    from.held.shown.requests
 
 pub show-requires : goal.show-requires
 show-requires c =
@@ -139,7 +160,13 @@ invariant_of-self-2 c =
           c.is_ended_by_node-is_ended.ensures (end_is i.pod k e phase.0 after.ended phase.1) phase.1
           failure) st;
       class = shown.class;
-      requests = shown.requests;
+      resources = subst (λ (rs : List Resources). AreResourcesOf i.pod e k rs) (sym c.resize_while.ensures.now)
+          (subst (λ (resizes : List Resize). AreResourcesOf i.pod e k
+          (if not c.has_ended-had_ended.result then resized_by resizes 0 i.status.resources.items
+          else i.status.resources.items)) (sym c.resizes.ensures)
+          (resources_more i.pod e phase.0 h (pod_tick observed) i.status.resources.items c.has_ended-had_ended.result
+          shown.resources (c.has_ended-had_ended.ensures.ended i.pod e h was) phase.1));
+      requests = c.resize_while.ensures.asked;
       usage = subst (λ (u : NewestUsage). IsUsageOf i.pod e k u) (sym c.newer_while-parts.ensures)
           (subst (λ (o : Sampling). IsUsageOf i.pod e k
           (if not c.has_ended-had_ended.result then newer i.status.usage o else i.status.usage))
