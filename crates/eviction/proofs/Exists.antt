@@ -8,6 +8,8 @@ use Rattle.histories.proofs.Decide.{OrNot, negated, both, true_or_not, less_or_n
 use Rattle.histories.proofs.Found.{first_place}
 use Rattle.histories.proofs.Lists.{within_and, given_at}
 use Rattle.manifest.specs.declared.pod.PodSpec.{PodSpec}
+use Rattle.manifest.specs.rule.Resources.{Resources}
+use Rattle.qos.specs.rule.Resized.{resized}
 use Rattle.observations.specs.declared.tick.TickObs.{TickObs}
 use Rattle.observations.specs.rule.Observations.{shown_of}
 use Rattle.node_config.specs.declared.node.NodeConfig.{NodeConfig}
@@ -20,8 +22,9 @@ use Rattle.pod_state.specs.rule.Pods.{PodTick}
 use Rattle.pod_piece.specs.declared.piece.EvictionRecord.{EvictionRecord}
 use Rattle.pod_piece.specs.declared.status.PodStatus.{PodStatus}
 use Rattle.pod_piece.specs.rule.Piece.{place_of}
-use Rattle.pod_piece.specs.rule.Status.{IsStatusAfter}
+use Rattle.pod_piece.specs.rule.Status.{IsStatusAfter, requests_of}
 use Rattle.pod_piece.proofs.Failures.{may_or_not, may_by}
+use Rattle.pod_piece.proofs.ResourceLemmas.{one_resources}
 use Rattle.pod_piece.proofs.UsageLemmas.{one_usage}
 use Rattle.ranking.specs.rule.Order.{IsVictim}
 use Rattle.ranking.proofs.LawLemmas.{RankAlike}
@@ -67,7 +70,10 @@ status_alike : (number : ℕ) (pod : PodSpec) (eviction : Option EvictionRecord)
     → IsStatusAfter number pod eviction h p → IsStatusAfter number pod eviction h q → RankAlike p q
 status_alike number pod eviction h p q v w = record {
   usage = one_usage pod (place_of eviction) h p.usage q.usage v.usage w.usage;
-  requests = v.requests ∙ sym w.requests;
+  requests = v.requests
+      ∙ ap (λ (rs : List Resources). requests_of (resized pod rs))
+      (one_resources pod (place_of eviction) h p.resources.items q.resources.items v.resources w.resources)
+      ∙ sym w.requests;
   priority = v.priority ∙ sym w.priority;
   number = v.number_is ∙ sym w.number_is;
 }

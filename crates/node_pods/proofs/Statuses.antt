@@ -1,20 +1,24 @@
 -- The statuses of a piece, and of one that was evicted.
 use Rattle.std.proofs.Common.{◌≡◌, ◌∙◌, inl, inr, ℕ, suc, ◌-◌, ◌<◌, List, [], length, Option}
-use Rattle.std.proofs.Common.{Some, None, refl, sym, subst, arith}
+use Rattle.std.proofs.Common.{Some, None, refl, ap, sym, subst, arith}
 use Rattle.std.proofs.lemmas.List.{take_all}
 use Rattle.histories.specs.rule.Histories.{last_moment, up_to, HoldsAt}
 use Rattle.histories.proofs.Places.{moment_at-below}
 use Rattle.manifest.specs.declared.pod.PodSpec.{PodSpec}
+use Rattle.manifest.specs.rule.Resources.{Resources}
 use Rattle.observations.specs.declared.usage.Usage.{Usage}
 use Rattle.phase.specs.rule.RawPhase.{IsTerminal}
+use Rattle.qos.specs.rule.Resized.{resized}
 use Rattle.pod_state.specs.rule.Pods.{PodTick, EndsPod, IsPhase}
 use Rattle.pod_state.proofs.EndLemmas.{IsPhase-unique, end_terminal, ended_is}
 use Rattle.pod_piece.specs.declared.order.EvictOrder.{EvictOrder}
 use Rattle.pod_piece.specs.declared.status.PodStatus.{PodStatus}
 use Rattle.pod_piece.specs.rule.Piece.{Piece, ticks}
+use Rattle.pod_piece.specs.rule.Status.{requests_of}
 use Rattle.pod_piece.specs.state.Piece.{evicted_at, new_piece, with_eviction}
 use Rattle.pod_piece.specs.state.Status.{IsStatusOf}
 use Rattle.pod_piece.proofs.Waiting.{ticks_free}
+use Rattle.pod_piece.proofs.ResourceLemmas.{one_resources}
 use Rattle.pod_piece.proofs.UsageLemmas.{one_usage}
 use Rattle.ranking.proofs.LawLemmas.{RankAlike}
 use Rattle.node_pods.specs.state.Laws.{AreAlike}
@@ -29,7 +33,11 @@ alike piece p q a b = record {
   number = a.number_is ∙ sym b.number_is;
   phase = IsPhase-unique piece.pod (evicted_at piece) (ticks piece) p.phase q.phase
       a.lifecycle.phase b.lifecycle.phase;
-  requests = a.requests ∙ sym b.requests;
+  requests = a.requests
+      ∙ ap (λ (rs : List Resources). requests_of (resized piece.pod rs))
+      (one_resources piece.pod (evicted_at piece) (ticks piece) p.resources.items q.resources.items
+      a.resources b.resources)
+      ∙ sym b.requests;
   usage = one_usage piece.pod (evicted_at piece) (ticks piece) p.usage q.usage a.usage b.usage;
   priority = a.priority ∙ sym b.priority;
 }

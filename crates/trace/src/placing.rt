@@ -144,8 +144,9 @@ impl Place<ContainerResize> for PodSpec {
     ghost placed_by = { placed_resize };
 
     fn place(&self, written: &ContainerResize) -> Result<Resize, FaultKind> {
+        let container = container_number(self, written.container.as_str())?;
         Ok(Resize {
-            container: container_number(self, written.container.as_str())?,
+            container,
             resources: written.resources,
         })
     }
