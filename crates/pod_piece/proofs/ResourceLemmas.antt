@@ -1,7 +1,8 @@
 -- The requests and limits of a pod's containers, after one more tick; they are one.
 use Rattle.std.proofs.Common.{◌≡◌, ◌∙◌, ℕ, zero, suc, ◌+◌, ◌<◌, Bool, true, false, List, [], ◌∷◌, ◌++◌, length, map}
 use Rattle.std.proofs.Common.{get_or, Option, Some, None, refl, ap, sym, subst, arith}
-use Rattle.std.specs.Prelude.{◌↔◌, IsTrue, not, option_map, unwrap_or, slice_get, if◌then◌else◌}
+use Rattle.std.specs.Prelude.{◌↔◌, ◌==◌, IsTrue, not, option_map, unwrap_or, slice_get, if◌then◌else◌}
+use Rattle.std.proofs.lemmas.Bool.{eqb-true}
 use Rattle.std.proofs.lemmas.List.{length-map}
 use Rattle.std.proofs.lemmas.Option.{slice_get_within}
 use Rattle.histories.proofs.Lists.{given_at}
@@ -25,9 +26,16 @@ length-resized resizes n [] = refl
 length-resized resizes n (r ∷ rs) = ap suc (length-resized resizes (suc n) rs)
 
 -- without a resize nothing changes
-pub none_resized : (n : ℕ) (rs : List Resources) → resized_by [] n rs ≡ rs
+none_resized : (n : ℕ) (rs : List Resources) → resized_by [] n rs ≡ rs
 none_resized n [] = refl
 none_resized n (r ∷ rs) = ap (λ (qs : List Resources). r ∷ qs) (none_resized (suc n) rs)
+
+pub unresized : (resizes : List Resize) (rs : List Resources) → (length resizes == 0) ≡ true
+    → resized_by resizes 0 rs ≡ rs
+unresized [] rs e = none_resized 0 rs
+unresized (resize ∷ resizes) rs e =
+    let none : length (resize ∷ resizes) ≡ 0 = eqb-true (length (resize ∷ resizes)) 0 e in
+    absurd (omega (arith, none))
 
 at_resized : (resizes : List Resize) (m : ℕ) (rs : List Resources) (n : ℕ)
     → slice_get (resized_by resizes m rs) n
@@ -41,7 +49,7 @@ at_resized resizes m (r ∷ rs) (suc n) =
     at_resized resizes (suc m) rs n
     ∙ ap (λ (k : ℕ). option_map (λ q. unwrap_or (resized_to resizes k) q) (slice_get rs n)) there
 
-pub or_resized : (resizes : List Resize) (m : ℕ) (rs : List Resources) (n : ℕ) (d e : Resources) → n < length rs
+or_resized : (resizes : List Resize) (m : ℕ) (rs : List Resources) (n : ℕ) (d e : Resources) → n < length rs
     → get_or (resized_by resizes m rs) n d ≡ unwrap_or (resized_to resizes (m + n)) (get_or rs n e)
 or_resized resizes m [] n d e lt = absurd (omega (arith, lt))
 or_resized resizes m (r ∷ rs) zero d e lt =
@@ -51,6 +59,21 @@ or_resized resizes m (r ∷ rs) (suc n) d e lt =
     let there : suc m + n ≡ m + suc n = omega arith in
     or_resized resizes (suc m) rs n d e (omega (arith, lt))
     ∙ ap (λ (k : ℕ). unwrap_or (resized_to resizes k) (get_or rs n e)) there
+
+-- numbered from 0 on
+at_number : (resizes : List Resize) (rs : List Resources) (n : ℕ)
+    → slice_get (resized_by resizes 0 rs) n
+    ≡ option_map (λ r. unwrap_or (resized_to resizes n) r) (slice_get rs n)
+at_number resizes rs n =
+    let here : 0 + n ≡ n = omega arith in
+    at_resized resizes 0 rs n
+    ∙ ap (λ (k : ℕ). option_map (λ r. unwrap_or (resized_to resizes k) r) (slice_get rs n)) here
+
+pub or_number : (resizes : List Resize) (rs : List Resources) (n : ℕ) (d e : Resources) → n < length rs
+    → get_or (resized_by resizes 0 rs) n d ≡ unwrap_or (resized_to resizes n) (get_or rs n e)
+or_number resizes rs n d e lt =
+    let here : 0 + n ≡ n = omega arith in
+    or_resized resizes 0 rs n d e lt ∙ ap (λ (k : ℕ). unwrap_or (resized_to resizes k) (get_or rs n e)) here
 
 -- lists with the same at each place
 pub same_or : (xs ys : List Resources) → length xs ≡ length ys
@@ -105,13 +128,13 @@ each_more h x containers rs are = record {
         → slice_get (resized_by x.entry.resized 0 rs) number ≡ Some now
         → IsResizedTo (h ++ x ∷ []) number container.resources now
     by number container now None e at here =
-        let none : None ≡ Some now = sym (at_resized x.entry.resized 0 rs number
-        ∙ ap (option_map (λ r. unwrap_or (resized_to x.entry.resized (0 + number)) r)) e) ∙ here in
+        let none : None ≡ Some now = sym (at_number x.entry.resized rs number
+        ∙ ap (option_map (λ r. unwrap_or (resized_to x.entry.resized number) r)) e) ∙ here in
         absurd (cc)
     by number container now (Some old) e at here =
-        let some : Some (unwrap_or (resized_to x.entry.resized (0 + number)) old) ≡ Some now =
-        sym (at_resized x.entry.resized 0 rs number
-        ∙ ap (option_map (λ r. unwrap_or (resized_to x.entry.resized (0 + number)) r)) e) ∙ here in
+        let some : Some (unwrap_or (resized_to x.entry.resized number) old) ≡ Some now =
+        sym (at_number x.entry.resized rs number
+        ∙ ap (option_map (λ r. unwrap_or (resized_to x.entry.resized number) r)) e) ∙ here in
         let same : unwrap_or (resized_to x.entry.resized number) old ≡ now = cc in
         subst (IsResizedTo (h ++ x ∷ []) number container.resources) same
         (resized_more h x number container.resources old (are.each number container old at e))

@@ -4,7 +4,9 @@ use Rattle.pod_state.specs.declared.lifecycle.Lifecycle.{Lifecycle}
 use Rattle.pod_state.specs.rule.Lifecycles.{IsLifecycleOf}
 use Rattle.pod_piece.specs.declared.status.NewestUsage.{NewestUsage}
 use Rattle.manifest.specs.rule.Resources.{Resources}
+use Rattle.qos.specs.rule.Resized.{resized}
 use Rattle.pod_piece.specs.rule.Resources.{AreResourcesOf}
+use Rattle.pod_piece.specs.rule.Status.{requests_of}
 use Rattle.pod_piece.specs.rule.Usage.{IsUsageOf}
 use Rattle.pod_piece.specs.state.Resources.{first_resources}
 use Rattle.pod_piece.proofs.Failures.{by_node, no_failure}
@@ -31,8 +33,9 @@ returns c =
           (by_node pod None [] phase.0 None false refl tt phase.1 (no_failure pod)) is;
       class = c.pod_class.ensures;
       resources = subst (λ (rs : List Resources). AreResourcesOf pod None [] rs)
-          (sym (c.in_ok-resources.ensures ∙ ap first_resources c.as_slice-3.ensures.same)) (no_resources pod None);
-      requests = c.of-requests.ensures;
+          (sym (c.in_ok-resources.ensures ∙ ap first_resources c.as_slice.ensures.same)) (no_resources pod None);
+      requests = c.of-requests.ensures
+          ∙ ap (λ (rs : List Resources). requests_of (resized pod rs)) c.deref.ensures.value;
       usage = subst (λ (u : NewestUsage). IsUsageOf pod None [] u) (sym c.nothing.ensures) (no_usage pod None);
       priority = let fits : SFits w32 c.args.pod.now.priority = search rules in omega (arith, ints);
       spared = refl;
