@@ -11,3 +11,4 @@ pub mod Nulls
 mod Members
 pub mod Reasons
 pub mod Statuses
+mod Resized

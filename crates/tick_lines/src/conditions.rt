@@ -228,7 +228,7 @@ fn statuses_of<A: Allocator>(
 
 /// The names of an object's members whose texts are in the line, each of them once.
 #[tactic(auto, using(crate::proofs::Statuses::borrowed_names))]
-pub(crate) fn borrowed_names_of<A: Allocator>(
+fn borrowed_names_of<A: Allocator>(
     alloc: Global,
     members: &[(&str, BorrowedValue<'_, A>)],
 ) -> Result<Vec<String>, AllocError>
@@ -236,6 +236,20 @@ pub(crate) fn borrowed_names_of<A: Allocator>(
         ≡ names_from (as_object (data_of (borrowed.object (borrowed_members_view members.now))))) }
 {
     names_of(alloc, &statuses_of(alloc, members)?)
+}
+
+/// The names of the members of a value whose texts are in the line; none if it is no object.
+pub(crate) fn borrowed_names_in<A: Allocator>(
+    alloc: Global,
+    value: &BorrowedValue<'_, A>,
+) -> Result<Vec<String>, AllocError>
+    ensures { IfOk result (λ names. map string_bytes names.items
+        ≡ names_from (as_object (data_of (value_view value.now)))) }
+{
+    match value {
+        BorrowedValue::Object(members) => borrowed_names_of(alloc, members),
+        _ => Ok(Vec::new(alloc)),
+    }
 }
 
 /// A copy of an object whose texts are in the line, if it is one of true, false and null.

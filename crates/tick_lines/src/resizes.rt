@@ -1,9 +1,10 @@
 //! The member that gives resized containers their requests and limits.
 
-ghost use Rattle.std.specs.Prelude.{◌≡◌, map, option_map, IfOk, string_bytes};
+ghost use Rattle.std.specs.Prelude.{◌≡◌, ◌++◌, [], map, option_map, IfOk, OnOk, string_bytes};
+ghost use Rattle.std.specs.List.{cons_option};
 ghost use Rattle.serde_json.specs.View.{members_view};
 ghost use Rattle.json_fields.specs.state.Reading.{GivesExactly, GivesUnless};
-ghost use Rattle.tick_lines.specs.rule.Resizes.{names_in, resources_given, resizes_named, resizes_in};
+ghost use Rattle.tick_lines.specs.rule.Resizes.{names_in, resources_given, resize_named, resizes_named, resizes_in};
 ghost use Rattle.tick_lines.specs.rule.Resizes.{resized_by, resized_of};
 ghost use Rattle.tick_lines.specs.state.Memory.{is_memory};
 
@@ -63,6 +64,37 @@ fn resources_given<V: Json>(found: Option<&V>) -> Result<Option<Resources>, Tick
     }
 }
 
+/// The resize of the container of this name, if the object's member gives it some resources.
+fn resize_named<V: Json>(
+    alloc: Global,
+    object: &V,
+    name: &str,
+) -> Result<Option<ContainerResize>, TickLineFault>
+    ensures { GivesUnless is_memory (λ r. r) result (resize_named (V.data object.now) name.now) }
+{
+    let Some(resources) = resources_given(field(object, name))? else {
+        return Ok(None);
+    };
+    let container = Text::new(String::from_str(alloc, name)?);
+    Ok(Some(ContainerResize {
+        container,
+        resources,
+    }))
+}
+
+/// Appends a resize, if there is one.
+fn add(
+    all: &mut Sequence<ContainerResize>,
+    resize: Option<ContainerResize>,
+) -> Result<(), AllocError>
+    ensures { OnOk result (all.new ≡ all.old ++ cons_option resize []) }
+{
+    match resize {
+        Some(resize) => all.push(resize),
+        None => Ok(()),
+    }
+}
+
 /// The resizes of the containers with these names, by the object's members.
 fn resizes_named<V: Json>(
     alloc: Global,
@@ -73,13 +105,8 @@ fn resizes_named<V: Json>(
 {
     let mut resizes = Sequence::new(alloc);
     for name in names {
-        if let Some(resources) = resources_given(field(object, name.as_str()))? {
-            let container = Text::new(String::from_str(alloc, name.as_str())?);
-            resizes.push(ContainerResize {
-                container,
-                resources,
-            })?;
-        }
+        let resize = resize_named(alloc, object, name.as_str())?;
+        add(&mut resizes, resize)?;
     }
     Ok(resizes)
 }

@@ -1,6 +1,6 @@
 //! The JSON values that a tick line is read from.
 
-use crate::conditions::{borrowed_names_of, borrowed_statuses_in, statuses_in};
+use crate::conditions::{borrowed_names_in, borrowed_statuses_in, statuses_in};
 use crate::resizes::names_of;
 use json::Value as BorrowedValue;
 use json_fields::Json;
@@ -55,9 +55,6 @@ impl<'a, A: Allocator> TickValue for BorrowedValue<'a, A> {
     }
 
     fn names(&self, alloc: Global) -> Result<Vec<String>, AllocError> {
-        match self {
-            BorrowedValue::Object(members) => borrowed_names_of(alloc, members),
-            _ => Ok(Vec::new(alloc)),
-        }
+        borrowed_names_in(alloc, self)
     }
 }

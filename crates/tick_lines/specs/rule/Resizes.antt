@@ -1,6 +1,8 @@
 -- The member of an entry that gives resized containers their requests and limits (this project's extended format;
 -- Kubernetes, "Pod Lifecycle", "Pod resize").
-use Rattle.std.specs.Prelude.{ℕ, List, [], ◌∷◌, Option, Some, None, is_some, if◌then◌else◌, Result, Ok, Err}
+use Rattle.std.specs.Prelude.{ℕ, List, [], ◌∷◌, Option, Some, None, is_some, option_map, if◌then◌else◌, Result, Ok}
+use Rattle.std.specs.Prelude.{Err}
+use Rattle.std.specs.List.{cons_option}
 use Rattle.serde_json.specs.Data.{Data, Members, no_members, member}
 use Rattle.serde_json.specs.Find.{as_object}
 use Rattle.json_fields.specs.rule.Fields.{field_at}
@@ -28,17 +30,16 @@ abbrev pub resources_given : Option Data → Result (Option Resources) TickLineF
 resources_given None = Ok None
 resources_given (Some d) = else_fault Usage (resources_in d) >>= λ resources. Ok (Some resources)
 
--- the resize of the container of this name, if it is given some, before those of others
-abbrev pub with_resize : List ℕ → Option Resources → List ContainerResize → List ContainerResize
-with_resize name None resizes = resizes
-with_resize name (Some resources) resizes = record { container = name; resources = resources } ∷ resizes
+-- the resize of the container of this name, if the object's member gives it some
+abbrev pub resize_named : Data → List ℕ → Result (Option ContainerResize) TickLineFault
+resize_named d name = resources_given (field_at name d)
+    >>= λ given. Ok (option_map (λ resources. record { container = name; resources = resources }) given)
 
--- the resizes of the containers with these names, by the object's members
+-- the resizes of the containers with these names, in the names' order
 abbrev pub resizes_named : Data → List (List ℕ) → Result (List ContainerResize) TickLineFault
 resizes_named d [] = Ok []
 resizes_named d (name ∷ names) =
-    resources_given (field_at name d) >>= λ given.
-    resizes_named d names >>= λ resizes. Ok (with_resize name given resizes)
+    resize_named d name >>= λ resize. resizes_named d names >>= λ resizes. Ok (cons_option resize resizes)
 
 -- the resizes of all containers that an object names
 abbrev pub resizes_in : Data → Result (List ContainerResize) TickLineFault
