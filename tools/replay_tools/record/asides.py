@@ -6,9 +6,7 @@ from typing import Any, TYPE_CHECKING
 
 from .formats import without_nones
 from .reasons import better
-from .pods import all_containers
 from .runtime import RUNNING
-from .statuses import changed
 from .used import UsedByContainers
 
 if TYPE_CHECKING:
@@ -65,15 +63,8 @@ class Asides:
         return self.beside[uid].gates or None if uid in self.beside else None
 
     def of_container(self, pod: Pod, name: str) -> dict[str, Any]:
-        """The members of a listing that are of the container: what it used, and the resources that it has by now, where
-        they are others than its manifest had as the pod came."""
-        used, said = self.used.of(pod.uid, name), None
-        if pod.uid in self.beside:
-            said = self.beside[pod.uid].resources.get(name)
-        if not said:
-            return used
-        declared = next(each for each in all_containers(pod.manifest) if each["name"] == name).get("resources") or {}
-        return {"resources": said, **used} if changed(said, declared) else used
+        """The members of a listing that are of the container: what it used."""
+        return self.used.of(pod.uid, name)
 
     def of_listing(self, uid: str, name: str, listing: Listing) -> dict[str, Any]:
         """The members of a listing: why the instance ended, and how the one before it did, whose exit its tick says."""

@@ -10,6 +10,7 @@ from typing import TYPE_CHECKING
 from .decisions import EVICTED, REFUSED
 from .formats import MOST_PODS
 from .gates import turned, types_in
+from .resizes import amounts_in, kept_of, resources_in
 from .restarts import with_own
 from .runtime import EXITED, RUNNING
 from .seen import Recorded
@@ -123,7 +124,9 @@ class Lifecycles:
             # its first container may have been made in the second in which the one before it went
             moment = max(self.arrival_moment(pod, seen), self.gone_at.get(pod.key, -1) + 1)
             second = self.timeline.place_arrival(pod, moment)
-            self.recorded[pod.uid] = recorded = Recorded(pod, second, second)
+            resources = resources_in(pod.manifest)
+            given = {name: amounts_in(found) for name, found in resources.items()}
+            self.recorded[pod.uid] = recorded = Recorded(pod, second, second, resources=resources, given=given)
             self.see_waits(recorded, pod.waits, seen)
             self.see_end(recorded, pod, seen)
             self.see_beside(recorded, pod, seen)
@@ -173,6 +176,7 @@ class Lifecycles:
         self.see_end(recorded, pod, seen)
         self.see_beside(recorded, pod, seen)
         self.see_gates(recorded, pod, seen)
+        self.see_resizes(recorded, pod, seen)
         self.see_ready(recorded, pod, seen)
 
     def see_waits(self, recorded: Recorded, waits: dict[str, Reason], seen: Seen) -> None:
@@ -215,6 +219,24 @@ class Lifecycles:
             moment = seen.moment if status.at is None else min(status.at, seen.end)
             recorded.gates[name] = status.is_true
             self.timeline.place_condition(recorded.pod, name, moment, status.is_true, recorded.arrived)
+
+    def see_resizes(self, recorded: Recorded, pod: Pod, seen: Seen) -> None:
+        """Which containers have other requests and limits by their pod's spec than the trace has given them. They no
+        longer matter once the node has ended the pod."""
+        if not self.says_gone or pod.ended is not None:
+            return
+        for name, found in resources_in(pod.manifest).items():
+            if name not in recorded.resources or found == recorded.resources[name]:
+                continue
+            recorded.resources[name] = found
+            kept, lost = kept_of(found)
+            self.texts_left_out += lost
+            if kept is None:
+                self.say(f"{pod.key} {name}: its requests and limits after a resize are left out: a request is above "
+                         "its limit")
+            elif amounts_in(kept) != recorded.given[name]:
+                recorded.given[name] = amounts_in(kept)
+                self.timeline.place_resize(recorded.pod, name, seen.moment, kept, recorded.arrived)
 
     def see_ready(self, recorded: Recorded, pod: Pod, seen: Seen) -> None:
         """How the condition Ready of its status has turned. The first list that shows it has how it is."""

@@ -59,7 +59,8 @@ class Recorded:
     `absences` how many these are, and `went_absent` that it was taken for deleted by them alone; `ready` is its
     condition Ready as it was placed last, and `seen_at` when a list had it last; `probed` has what its status reports
     of its probes, and `shown` of which instances that was taken for results; `gates` has the statuses of its readiness
-    gates' conditions as they were placed last."""
+    gates' conditions as they were placed last. By container `resources` has the requests and limits that its spec had
+    last, and `given` the amounts of those that the trace has."""
     pod: Pod
     arrived: int
     changes_from: int
@@ -90,6 +91,8 @@ class Recorded:
     probed: dict[str, tuple] = field(default_factory=dict)
     shown: dict[str, tuple] = field(default_factory=dict)
     gates: dict[str, bool] = field(default_factory=dict)
+    resources: dict[str, dict] = field(default_factory=dict)
+    given: dict[str, dict] = field(default_factory=dict)
 
 
 @dataclass

@@ -11,6 +11,7 @@ from replay_tools.restarting import restartings_in
 from .formats import without_nones
 from .gates import types_in
 from .lines import line_of, pod_fields
+from .resizes import amounts_in
 from .runtime import EXITED, LOST_CODE, RUNNING, UNKNOWN
 
 FIELDS = {"startup": "startupProbe", "liveness": "livenessProbe", "readiness": "readinessProbe"}
@@ -103,7 +104,6 @@ class Container:
     def show(self, listing: dict[str, Any] | None, second: int) -> None:
         """What a tick lists of it, or None. The first state of an exit counts, and what is not known changes none."""
         self.is_listed = listing is not None
-        self.take_resources(listing)
         known = self.listing
         if listing is None:
             if known is not None and known["state"] != EXITED:
@@ -117,12 +117,6 @@ class Container:
             known.update({name: listing[name] for name in ("reason", "message") if name in listing})
         elif listing["state"] not in (UNKNOWN, known["state"]):
             self.change(listing, second)
-
-    def take_resources(self, listing: dict[str, Any] | None) -> None:
-        """What an instance has by now may be said while it stays as it is listed."""
-        if listing is not None and self.listing is not None and listing["attempt"] == self.listing["attempt"]:
-            kept = {name: value for name, value in self.listing.items() if name != "resources"}
-            self.listing = kept | {name: listing[name] for name in ("resources",) if name in listing}
 
     def change(self, listing: dict[str, Any], second: int) -> None:
         """It is listed otherwise from a second on; of its exit before that tells, and no later one."""
@@ -245,6 +239,8 @@ class Pod:
         self.is_deleting = False
         # the statuses of its readiness gates' conditions
         self.conditions: dict[str, bool] = {}
+        # the requests and limits of containers after a resize
+        self.resized: dict[str, Any] = {}
         # members that the formats do not read: what is known of its deletion, its readiness gates as the standard
         # format has them, and since when its condition Ready has its value
         self.deletion: dict[str, Any] | None = None
@@ -277,6 +273,7 @@ class Pod:
         self.failed = self.failed or entry.get("failed")
         self.deletion = self.deletion or entry.get("deletion")
         self.conditions |= entry.get("conditions") or {}
+        self.resized |= without_nones(entry.get("resized") or {})
         self.gates = entry.get("readinessGates") or self.gates
         self.turn = (entry.get("readyTurns") or [self.turn])[-1]
         # a message is in the first tick alone
@@ -296,9 +293,15 @@ class Pod:
                 for name in ("initContainers", "containers") if spec.get(name)}
         return {**self.fields, "spec": {**spec, **made}}
 
+    def newest_resources(self) -> dict[str, Any]:
+        """The requests and limits of the containers that have others than the pod's line. The line stays as it is: by
+        it the pod has its class, which a resize never changes."""
+        return {name: resources for name, resources in self.resized.items() if name in self.containers
+                and amounts_in(resources) != amounts_in(self.containers[name].fields.get("resources") or {})}
+
     def entry(self, second: int, back: int) -> dict[str, Any] | None:
-        """Its entry of a tick that stands so many before the rotation: usage, and why it waits, are in that of the
-        rotation alone; that it is being deleted, or was ended, and its gates' conditions are in each."""
+        """Its entry of a tick that comes so many before the rotation: usage, and why it waits, are in the entry of the
+        rotation alone; that it is being deleted, or was ended, its gates' conditions and its resizes are in each."""
         listings = [each.listed(second, back) for _, each in sorted(self.containers.items())]
         containers = [listing for listing in listings if listing is not None]
         rows = [(name, each.carried()) for name, each in self.containers.items()]
@@ -306,7 +309,8 @@ class Pod:
                   if len(carried) > back for probe, result in carried[-1 - back].items()]
         said: dict[str, Any] = {"probes": probes or None, "deleting": self.is_deleting or None,
                                 "deletion": self.deletion, "failed": self.failed,
-                                "conditions": self.conditions or None, "readinessGates": self.gates}
+                                "conditions": self.conditions or None, "resized": self.newest_resources() or None,
+                                "readinessGates": self.gates}
         if back == 0:
             said |= {"usage": self.usage or None, "unsampled": self.is_unsampled or None,
                      "waiting": list(self.waiting.values()) or None,

@@ -213,9 +213,8 @@ def are_limited(pods: Iterable[Pod], instances: dict[str, list[Instance]]) -> bo
 
 
 def limited(pod: Pod) -> set[str]:
-    """The containers of a pod whose processors have a limit, by now or as it came."""
+    """The containers of a pod whose processors have a limit, by its newest spec."""
     if pod.fault is not None:
         return set()
-    declared = {each["name"]: each.get("resources") for each in all_containers(pod.manifest)}
-    return {name for name, resources in declared.items()
-            for has in (resources, pod.beside.resources.get(name)) if "cpu" in ((has or {}).get("limits") or {})}
+    return {each["name"] for each in all_containers(pod.manifest)
+            if "cpu" in ((each.get("resources") or {}).get("limits") or {})}

@@ -56,6 +56,7 @@ class Tick:
     started: Optional[int] = None
     turns: dict = field(default_factory=dict)
     conditions: dict = field(default_factory=dict)
+    resized: dict = field(default_factory=dict)
     decisions: list = field(default_factory=list)
     departures: list = field(default_factory=list)
 
@@ -63,7 +64,7 @@ class Tick:
         """The other members of a pod that has gone by then are no more."""
         of_pods: dict
         for of_pods in (self.usages, self.deleted, self.failed, self.waits, self.beside, self.said, self.turns,
-                        self.conditions):
+                        self.conditions, self.resized):
             of_pods.pop(uid, None)
         for of_pods in (self.used, self.throttled):
             for place in [place for place in of_pods if place[0] == uid]:
@@ -174,6 +175,10 @@ class Ticks:
         second = self.second_of(moment, arrived, self.last_placed.get((pod.uid, name, "condition"), 0))
         self.tick(second, True).conditions.setdefault(pod.uid, {})[name] = is_true
         self.last_placed[pod.uid, name, "condition"] = second
+
+    def place_resize(self, pod: Pod, container: str, moment: float, resources: dict[str, Any], arrived: int) -> None:
+        """A container has these requests and limits from a moment on. The tick that shows it has this moment."""
+        self.tick(self.second_of(moment, arrived), True).resized.setdefault(pod.uid, {})[container] = resources
 
     def place_said(self, pod: Pod, moment: float, said: Said) -> None:
         """What was reported of a pod, which is in the first tick from then on."""

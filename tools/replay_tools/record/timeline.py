@@ -37,6 +37,7 @@ class Timeline(Ticks):
         self.said: dict[str, list[Said]] = {}
         self.turns: dict[str, list[ReadyTurn]] = {}
         self.conditions: dict[str, dict[str, bool]] = {}
+        self.resized: dict[str, dict[str, Any]] = {}
         self.ready: Ready | None = None
         self.signals: dict[str, int] = {}
         # when the kubelet evicted a pod last, and the signals that were not sampled since
@@ -67,6 +68,7 @@ class Timeline(Ticks):
         copied.said = {uid: list(said) for uid, said in self.said.items()}
         copied.turns = {uid: list(turns) for uid, turns in self.turns.items()}
         copied.conditions = {uid: dict(conditions) for uid, conditions in self.conditions.items()}
+        copied.resized = {uid: dict(resized) for uid, resized in self.resized.items()}
         copied.asides = self.asides.copied()
         copied.place_look(moment)
         return list(copied.due(float("inf"), silent_from))
@@ -92,6 +94,8 @@ class Timeline(Ticks):
             self.turns.setdefault(uid, []).extend(turns)
         for uid, conditions in tick.conditions.items():
             self.conditions.setdefault(uid, {}).update(conditions)
+        for uid, resized in tick.resized.items():
+            self.resized.setdefault(uid, {}).update(resized)
         for uid, waits in tick.waits.items():
             self.asides.take_waits(uid, waits)
         self.asides.beside.update(tick.beside)
@@ -101,7 +105,7 @@ class Timeline(Ticks):
         if tick.is_wanted:
             lines.append(self.tick_of(second, tick, signals, set(tick.listings) if is_silent else None))
             self.results, self.usages, self.failed, self.deleted, self.unsampled = {}, {}, {}, {}, set()
-            self.said, self.turns, self.conditions = {}, {}, {}
+            self.said, self.turns, self.conditions, self.resized = {}, {}, {}, {}
         if self.format.says_gone:
             lines += [gone_line(pod) for pod in tick.departures]
             self.depart(tick.departures)
@@ -166,4 +170,4 @@ class Timeline(Ticks):
                   if uid == pod.uid} if self.results else {}
         return entry_of(pod, listings, of_pod, self.usages.get(pod.uid), pod.uid in self.unsampled,
                         self.deleted.get(pod.uid), self.asides, self.failed.get(pod.uid), self.said.get(pod.uid, ()),
-                        self.turns.get(pod.uid, ()), self.conditions.get(pod.uid))
+                        self.turns.get(pod.uid, ()), self.conditions.get(pod.uid), self.resized.get(pod.uid))
