@@ -171,6 +171,12 @@ def border_words(pod: reports.Pod, event: reports.Event, show: Callable[[int], s
     return ""
 
 
+def resize_rows(trace: traces.Trace | None, pod: reports.Pod, show: Callable[[int], str]) -> list[tuple[int, str, str]]:
+    """The resizes of a pod's containers: the moment, the container, and what changed."""
+    found = trace.resizes.of_pod.get(pod.number, ()) if trace is not None else ()
+    return [(resize.at, resize.container.name, resize.words() + resize.note(show)) for resize in found]
+
+
 def containers_title(pod: reports.Pod, ended: tuple[int, str] | None) -> str:
     """The title of a pod's containers; where some still ran as it ended or went, that they are as they were seen."""
     is_over = ended is not None or pod.left is not None

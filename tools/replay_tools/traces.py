@@ -14,6 +14,7 @@ from replay_tools.decided import Decision, Deletion, decisions_of, take_words
 from replay_tools.fields import dict_at, list_at, number_at, object_at, own_bounds_of, text_at, value_at
 from replay_tools.pods import Pod, has_bare_manifest, pod_of
 from replay_tools.reasons import Reasons, gates_in, guesses_code, is_guessed_in
+from replay_tools.resizes import Resizes
 from replay_tools.said import SaidOfPods
 from replay_tools.signals import Threshold, thresholds_of
 
@@ -141,6 +142,8 @@ class Trace:
     """why instances ended and containers wait"""
     said: SaidOfPods = field(default_factory=SaidOfPods)
     """what the kubelet and Events said"""
+    resizes: Resizes = field(default_factory=Resizes)
+    """which containers have other requests and limits than their manifests"""
     deletions: dict[int, Deletion] = field(default_factory=dict)
     """by the number of the pod"""
     failed: dict[int, Decision] = field(default_factory=dict)
@@ -361,6 +364,9 @@ def trace_with(trace: Trace | None, present: dict[str, Pod], lines: Lines, begin
         # most entries list containers and samples alone
         others = {key: entry for key, entry in entries.items() if not LISTED.issuperset(entry)}
         take_words(trace, others, present)
+        if trace.heeds_words():
+            follows = trace.follows()
+            trace.resizes.take(trace.ticks[-1].at, others, present, -1 if follows is None else follows["at"])
         trace.decisions += decisions_of(trace, found)
         trace.reasons.take(trace.ticks[-1].at, entries, others, present)
         trace.said.take(others, present)

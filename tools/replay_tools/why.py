@@ -129,7 +129,8 @@ class Throttled:
 
 @dataclass
 class UseOverTime:
-    """What a container used, and when its bounds were changed in place: to those of its manifest where None."""
+    """What a container used. Also when its bounds were changed in place, in recordings of older recorders: None means
+    the manifest's bounds again."""
 
     uses: list[Use] = field(default_factory=list)
     changes: list[tuple[int, Bounds | None]] = field(default_factory=list)
@@ -467,7 +468,8 @@ def candidates_of(trace: traces.Trace, report: reports.Report, place: int, signa
         if not pod.is_present(place) or is_spared or endings.had_ended(status, at):
             continue
         usage = usages.get(pod.number, {})
-        found.append(Candidate(pod, used(usage, signal, trace.dedicated()), requested(pod, signal), status.qos,
+        by_then = trace.resizes.pod_at(pod, at)
+        found.append(Candidate(pod, used(usage, signal, trace.dedicated()), requested(by_then, signal), status.qos,
                                pod.number == number, usage.get(UNSAMPLED)))
     return sorted(found, key=lambda candidate: order(candidate, signal))
 

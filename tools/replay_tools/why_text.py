@@ -9,7 +9,7 @@ from replay_tools import entry, events, kubelet as kubelets, provenance, readine
 from replay_tools.amounts import amount_text
 from replay_tools.signals import BYTE_SIGNALS
 from replay_tools.telling import (DECIDED, OF_NODE, SAID_LATER, beside_words, event_words, node_rows, rank_of,
-                                  rank_of_said, table)
+                                  rank_of_said, resize_rows, table)
 
 if TYPE_CHECKING:
     from replay_tools import report as reports
@@ -38,6 +38,7 @@ def whole_text(trace: traces.Trace, report: reports.Report, pod: reports.Pod, sh
     parts += [(said.at, rank_of_said(said),
                [" ".join(filter(None, [f"{show(said.at)} ", said.container, said.words()]))])
               for said in trace.said.of(pod.number)]
+    parts += [(at, DECIDED, [f"{show(at)}  {name} {what}"]) for at, name, what in resize_rows(trace, pod, show)]
     parts += [(at, SAID_LATER, [f"{show(at)}  {what}"]) for at, what in readiness.rows(trace, pod)]
     parts += [(at, OF_NODE, [f"{show(at)}  {what}", *lines])
               for at, what, lines in node_rows(trace, report, pod, show)]

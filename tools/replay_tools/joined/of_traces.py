@@ -35,7 +35,9 @@ def join_traces(found: list[traces.Trace], borders: list[reports.Border],
     for trace, border, of in zip(found, [None, *borders], numbers):
         place = len(made.ticks)
         dropped = take_ticks(made, trace, border)
+        known = len(made.pods)
         take_pods(made, trace, of, place, dropped)
+        take_resizes(made, trace, of, border, known)
         take_decisions(made, trace, of)
         take_words(made, trace, of)
         take_reasons(made, trace, of, border)
@@ -100,6 +102,21 @@ def take_words(made: traces.Trace, trace: traces.Trace, of: dict[int, int]) -> N
         made.marked_wrongly.setdefault(of[number], at)
     for number, decision in trace.failed.items():
         made.failed.setdefault(of[number], replace(decision, number=of[number]))
+
+
+def take_resizes(made: traces.Trace, trace: traces.Trace, of: dict[int, int], border: reports.Border | None,
+                 known: int) -> None:
+    """Takes the resizes of a trace. Of a pod that goes on, of which there are so many, what the trace begins with counts
+    if it differs from what was known: the pod was resized in the gap between the traces."""
+    for pod in trace.pods:
+        ours, until = made.pods[of[pod.number]], -1
+        if border is not None and ours.number < known:
+            until = border.at
+            for one in trace.resizes.pod_at(pod, until).containers if not (pod.is_guessed or ours.is_guessed) else ():
+                made.resizes.add(ours, until, one.name, one.resources, gap=border.since if border.is_gap else None)
+        for each in trace.resizes.of_pod.get(pod.number, ()):
+            if each.at > until:
+                made.resizes.add(ours, each.at, each.container.name, each.container.resources, each.was_so)
 
 
 def number_of(made: traces.Trace, decision: traces.Decision) -> int | None:

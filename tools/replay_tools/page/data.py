@@ -12,8 +12,8 @@ from replay_tools.page import used
 from replay_tools.signals import BYTE_SIGNALS, SIGNALS
 
 RESULTS = ("success", "failure", "unknown")
-# what was said, as an event of its own
-SAID = {"said": [["words"], "{words}"]}
+# what was reported, and a resize, as events of their own
+SAID = {word: [["words"], "{words}"] for word in ("said", "resized")}
 # what a page leaves out above these, and says so
 MOST_RUNS = 400000
 MOST_SAID = 20000
@@ -72,6 +72,7 @@ def data_of(report: reports.Report, trace: traces.Trace | None, ticks: why.Ticks
         "podList": [pod_of(report, trace, span, pod, lanes, ticks, budget, words) | notes_of(pod, clock, trace)
                     | summary_of(*ranks[pod.number], span) | deletion_of(trace, pod, span)
                     | used_of(trace, pod, span, ticks, samples) | said_of(trace, span, pod, lanes, words, sayings)
+                    | resized_of(trace, span, pod, clock, words)
                     for pod in report.pods for lanes in (made.lanes_of(pod, trace),)],
         "causes": words.causes, "waits": words.waits, "saids": words.said,
         "facts": provenance.head_lines(trace, clock.text), "kubeletStarts": [
@@ -352,6 +353,15 @@ def said_of(trace: traces.Trace | None, span: Span, pod: reports.Pod, lanes: mad
     more = {str(place): telling.more_words(event, trace) for place, event in enumerate(pod.events)}
     more = {place: text for place, text in more.items() if text}
     return ({"said": told} if told else {}) | ({"more": more} if more else {})
+
+
+def resized_of(trace: traces.Trace | None, span: Span, pod: reports.Pod, clock: Clock, words: Words) -> dict[str, Any]:
+    """The resizes of its containers: the moment, the container's place, and the place of the words; nothing without
+    any."""
+    names = [container.name for container in pod.containers]
+    rows = [[span.of(at), names.index(name), words.place(words.said, what)]
+            for at, name, what in telling.resize_rows(trace, pod, clock.text)]
+    return {"resized": rows} if rows else {}
 
 
 def container_of(span: Span, pod: reports.Pod, container: reports.Container, states: list[made.State],

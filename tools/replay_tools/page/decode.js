@@ -37,8 +37,10 @@ function eventsOf(pod) {
   const add = (at, word, rest) => events.push({at, place: -1, word, rest, number: events.length, pod});
   if (pod.fact) add(pod.fact.at, pod.fact.kind === 'ended' ? 'ended' : 'kubelet', [pod.fact.kind, pod.fact.why]);
   if (pod.deleted) add(pod.deleted[0], 'deleted', [pod.deleted[1]]);
-  for (const [since, place, words] of pod.said || []) {
-    events.push({at: since, place, word: 'said', rest: [data.saids[words]], number: events.length, pod});
+  for (const word of ['said', 'resized']) {
+    for (const [since, place, words] of pod[word] || []) {
+      events.push({at: since, place, word, rest: [data.saids[words]], number: events.length, pod});
+    }
   }
   return events.sort((a, b) => a.at - b.at);
 }

@@ -140,7 +140,7 @@ function spansOf(pod) {
   if (!pod.drawn) {
     const marks = pod.list.filter((event) => event.word in MARKED);
     pod.drawn = {ready: readySpans(pod), lanes: pod.containers.map((container) => stateSpans(pod, container)),
-      said: pod.list.filter((event) => event.word === 'said'),
+      said: pod.list.filter((event) => ['said', 'resized'].includes(event.word)),
       marks: pod.containers.map((_, place) => marks.filter((event) => event.place === place))};
   }
   return pod.drawn;

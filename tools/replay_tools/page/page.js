@@ -11,7 +11,7 @@ const ORDERS = {worst: isWorse, trace: byNumber, name: byKey};
 const LEGEND = [
   ['waiting', 'waiting'], ['running', 'running'], ['ended', 'ended with 0'], ['failed', 'ended otherwise'],
   ['ready', 'ready'], ['unready', 'not ready'], ['pressure', 'pressure'], ['shade', 'threshold active'],
-  ['said', 'reported of it'],
+  ['said', 'reported of it, or a resize'],
 ];
 // Signs of the legend are drawn as those of the lanes are.
 const ofMark = (word) => (pen) => drawMark(pen, {word, x: 8}, 8 - BAR / 2);

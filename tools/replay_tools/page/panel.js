@@ -115,7 +115,7 @@ function eventList(pod, events, open) {
 
 const DOTS = {started: 'running', died: 'failed', kill: 'kill', ready: 'ready', unready: 'unready', backoff: 'waiting',
   restart: 'accent', evicted: 'failed', kubelet: 'failed', ended: 'failed',
-  said: 'said'};
+  said: 'said', resized: 'accent'};
 
 function eventItem(pod, event, open) {
   const [holder, button] = [element('div', undefined, 'event'), element('button')];
@@ -159,7 +159,7 @@ function whyParts(pod, event) {
     case 'evicted': return [...kubeletWords(pod).map(said), ...evictedParts(pod)];
     case 'kubelet': return [said(rulesWords(pod.fact))];
     case 'ended': case 'names': return kubeletWords(pod).map(said);
-    case 'deleted': case 'said': return [];
+    case 'deleted': case 'said': case 'resized': return [];
     case 'phase': return phaseParts(pod, event);
     default: return resultParts(pod, event);
   }

@@ -2,6 +2,7 @@
 
 from __future__ import annotations
 
+from collections.abc import Sequence
 from typing import Any, TYPE_CHECKING
 
 if TYPE_CHECKING:
@@ -18,19 +19,23 @@ COLUMNS = 5
 
 def used_of(span: Span, pod: traces.Pod, ticks: why.PodTicks, budget: Budget) -> dict[str, Any]:
     """For each container what it used, or None; nothing of a pod of which no trace says it."""
-    found = [of_container(span, pod, container, ticks.used[container.name], budget) for container in pod.containers]
+    found = []
+    for container in pod.containers:
+        resizes, used = ticks.trace.resizes.of_container(pod.number, container.name), ticks.used[container.name]
+        changes = [(resize.at, resize.container.bounds) for resize in resizes] or used.changes
+        found.append(of_container(span, pod, container, used, changes, budget))
     return {"used": found} if any(found) else {}
 
 
 def of_container(span: Span, pod: traces.Pod, container: Container, used: why.UseOverTime,
-                 budget: Budget) -> dict[str, Any] | None:
+                 changes: Sequence[tuple[int, Bounds | None]], budget: Budget) -> dict[str, Any] | None:
+    """What a container used, and its bounds from moments on: None means the manifest's bounds."""
     if not used.uses or not budget.takes(len(used.uses)):
         return None
-    changes = [(None, None), *used.changes]
     columns = COLUMNS if any(use.throttled is not None for use in used.uses) else COLUMNS - 1
     return {"columns": columns, "uses": uses_of(span, used.uses, columns),
             "bounds": [[span.of(at), *bounds_of(pod, container.bounds if bounds is None else bounds)]
-                       for at, bounds in changes]}
+                       for at, bounds in [(None, None), *changes]]}
 
 
 def uses_of(span: Span, uses: list[why.Use], columns: int) -> list[int | None]:
