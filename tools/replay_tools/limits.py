@@ -32,8 +32,8 @@ def memory_in(resources: Any) -> int | None:
 
 
 def limit_of(event: reports.Event, trace: traces.Trace) -> Limit | None:
-    """The memory limit under which an instance died: the container's limit after a resize, else the manifest's, else the
-    limit of the whole pod. In recordings of older recorders the listing has what a resize has changed."""
+    """The memory limit under which an instance died: the container's limit after a resize, else the manifest's, else
+    the limit of the whole pod. In recordings of older recorders the listing has what a resize has changed."""
     if event.number is None or event.container is None:
         return None
     pod = trace.pods[event.number]

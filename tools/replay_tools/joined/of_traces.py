@@ -106,8 +106,8 @@ def take_words(made: traces.Trace, trace: traces.Trace, of: dict[int, int]) -> N
 
 def take_resizes(made: traces.Trace, trace: traces.Trace, of: dict[int, int], border: reports.Border | None,
                  known: int) -> None:
-    """Takes the resizes of a trace. Of a pod that goes on, of which there are so many, what the trace begins with counts
-    if it differs from what was known: the pod was resized in the gap between the traces."""
+    """Takes the resizes of a trace. So many pods were known before it. If one of these has other requests and limits at
+    the begin of the trace than it had, it was resized in the gap between the traces."""
     for pod in trace.pods:
         ours, until = made.pods[of[pod.number]], -1
         if border is not None and ours.number < known:

@@ -6,6 +6,8 @@ from __future__ import annotations
 from collections.abc import Callable
 from typing import Any, TYPE_CHECKING
 
+from replay_tools.cli.statuses import Status
+
 from .answered import Answered
 from .folder import Folder, Refused, made
 from .lasting import LastingRecorder, forget_strangers, set_back
@@ -49,8 +51,8 @@ class LastingRecording(Recording):
     def check_output(self) -> None:
         """Ends the recording if the folder was removed or replaced: what is there now may be another recorder's."""
         if not self.output.folder.is_there():
-            raise Ended(1, f"--into: '{self.output.folder.path}' was removed or replaced: the recorder stops, and "
-                           "writes nothing into what is there now")
+            raise Ended(Status.FAILED, f"--into: '{self.output.folder.path}' was removed or replaced: the recorder "
+                                       "stops, and writes nothing into what is there now")
 
     def go_on(self) -> None:
         moment = self.begun
@@ -108,7 +110,7 @@ class LastingRecording(Recording):
                 elif self.shipping is not None:
                     self.shipping.stop()
         if self.output.is_lost and self.output.last is None:
-            raise Ended(1)
+            raise Ended(Status.FAILED)
 
     def end(self) -> None:
         """Ends the trace that is written, and ships what has ended."""
@@ -126,6 +128,6 @@ def recorded_into(words: Words, into: Into, sources: Sources, clock: Any, say: C
         folder = Folder(into.folder, words.node, into.keep, into.most, say)
     except Refused as refused:
         say(str(refused))
-        return 1
+        return Status.FAILED
     output = Traces(folder, into.each, words.ticks, say)
     return watch(output, LastingRecording(words, sources, clock, output, say), say)

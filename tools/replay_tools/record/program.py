@@ -9,6 +9,7 @@ from dataclasses import replace
 from typing import Any, TYPE_CHECKING
 
 from replay_tools import outside
+from replay_tools.cli.statuses import Status
 
 from .check import check
 from .clock import Clock
@@ -20,7 +21,7 @@ from .observer import Observer
 from .output import Ended, Output, Stopped
 from .recorder import Recorder
 from .sources import INTERRUPTS, Failed
-from .words import BadWord, help_text, missing_commands, words_of
+from .words import BadWord, missing_commands, words_of
 
 if TYPE_CHECKING:
     from .into import LastingRecording, Traces
@@ -81,7 +82,7 @@ class Recording:
             first = self.recorder.begin(node_line)
             self.observer.near.know(node_line.fields)
         except (Failed, TooLong) as failed:
-            raise Ended(1, f"nothing recorded: {failed} (--check shows which sources work)") from None
+            raise Ended(Status.FAILED, f"nothing recorded: {failed} (--check shows which sources work)") from None
         with self.output.undisturbed():
             self.output.write([first])
             self.recorder.take(seen)
@@ -184,32 +185,29 @@ def status_of(recording: LastingRecording | Recording, say: Callable[..., None])
         recording.run()
     except TooLong as failed:
         say(str(failed))
-        return 1
+        return Status.FAILED
     except Ended as ended:
         if ended.reason is not None:
             say(ended.reason)
         return ended.status
-    return 0
+    return Status.DONE
 
 
 def checked(words: Words, sources: Sources) -> int:
     """Shows which sources work; the status."""
     works = check(sources, words.node, words.format, lambda line: print(outside.text_of(line), flush=True),
                   words.throttled)
-    return 0 if works else 1
+    return Status.DONE if works else Status.FAILED
 
 
 def main(arguments: list[str], clock: Any = None, make_sources: Callable[..., Any] | None = None) -> int:
     """The program, with a clock and sources that tests can replace; its status."""
     say = Says()
-    if "--help" in arguments or "-h" in arguments:
-        print(help_text(), end="")
-        return 0
     try:
         words = words_of(arguments)
     except BadWord as bad:
         say(f"{bad} (see --help)")
-        return 2
+        return Status.BAD_INPUT
     asked = words.node, words.kubelet, words.curl_file
     sources = kept_sources(*asked, say) if make_sources is None else make_sources(*asked)
     sources = replace(sources, crictl=words.crictl)
@@ -219,14 +217,14 @@ def main(arguments: list[str], clock: Any = None, make_sources: Callable[..., An
         missing = missing_commands(sources.commands())
         if missing and not words.is_check:
             say(f"not on the PATH: {', '.join(missing)} (--check asks the other sources)")
-            return 127
+            return Status.MISSING
         if words.is_check:
             return checked(words, sources)
         return recorded(words, sources, clock or Clock(), say)
     except Failed as failed:
         say(str(failed))
-        return 1
+        return Status.FAILED
     except Stopped:
-        return 0
+        return Status.DONE
     finally:
         sources.close()

@@ -1,5 +1,5 @@
-"""The requests and limits that the containers of a pod have by its spec, and after a resize, as version 3 of the formats
-reads them."""
+"""The requests and limits that the containers of a pod have by its spec, also after a resize, as version 3 of the
+formats reads them."""
 
 from __future__ import annotations
 

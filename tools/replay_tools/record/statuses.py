@@ -1,5 +1,5 @@
-"""What an object of a pod has next to what the formats read: its readiness gates, its condition Ready, and by whom it is
-deleted. Also the amounts of requests and limits."""
+"""What an object of a pod has next to what the formats read: its readiness gates, its condition Ready, and by whom it
+is deleted. Also the amounts of requests and limits."""
 
 from __future__ import annotations
 

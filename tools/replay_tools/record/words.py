@@ -1,4 +1,4 @@
-"""The words of tools/record: what they mean, what is wrong with them, and its help."""
+"""The arguments of `record`: what they mean, and what is wrong with them."""
 
 from __future__ import annotations
 
@@ -18,45 +18,7 @@ from .logs import MOST_LINES
 from .metrics import fault_of
 from .sources import KUBECTL
 
-HELP = """\
-Record a node as a trace.
-
-Usage:
-  kubelet-replay record [--for N] [options] > TRACE
-  kubelet-replay record --into FOLDER [options]
-  kubelet-replay record --check [options]
-
-Examples:
-  # What works, and which permission is missing
-  kubelet-replay record --check --node worker-3
-  # Always, a trace an hour, for two days
-  kubelet-replay record --node worker-3 --into /var/lib/kubelet-replay
-
-Options:
-  --node NAME           the node's name in the cluster (uname -n)
-  --kubelet URL         ask the kubelet there, not kubectl; none: ask neither
-  --curl FILE           the token, and how to check the kubelet's certificate
-  --crictl COMMAND      how to start crictl ('chroot /host crictl')
-  --node-line FILE      a node line, if the kubelet serves no /configz
-  --for N, --ticks N    end after N seconds, or after N ticks (20000)
-  --look N, --every N   seconds between two polls (1), between two ticks (10)
-  --logs N              keep safe parts of a failed container's last N lines
-  --events URL          ask the API server for Events; kubectl: ask by kubectl
-  --metrics FILE        also write OpenMetrics text
-  --throttled yes|no    ask how long processors were throttled
-  --standard, --extended  the trace's format (--{default})
-  --eviction-pause N    the longest pause after an eviction, in seconds (30)
-  --simulate            let the rules evict pods by themselves
-  --into FOLDER         one trace after the other, each for --each TIME (1h)
-  --keep TIME, --most SIZE  remove older traces (48h), keep at most SIZE (2Gi)
-  --ship COMMAND        run COMMAND for each whole trace ('rclone copy {} x:')
-  --check               test each source once, and end
-
-Exit status: 0 done, 1 nothing recorded or a check failed, 2 bad input.
-More: man kubelet-replay-record, docs/recorder.md
-"""
-
-# word: what its value is
+# the options with numbers, and the greatest number of each
 NUMBERS = {"--every": 86400, "--look": 3600, "--ticks": MOST_TICKS, "--for": 31622400, "--logs": MOST_LINES}
 LASTING = ("--each", "--keep", "--most", "--ship")
 TEXTS = ("--node", "--kubelet", "--curl", "--crictl", "--node-line", "--eviction-pause", "--metrics", "--events",
@@ -105,10 +67,6 @@ class Words:
     metrics: Optional[str]
     events: Optional[str]
     throttled: bool
-
-
-def help_text() -> Any:
-    return HELP.replace("{default}", "extended" if lines.DEFAULT.says_gone else "standard")
 
 
 def split(arguments: list[str]) -> dict[str, Any]:
