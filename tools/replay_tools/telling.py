@@ -156,7 +156,8 @@ def beside_words(pod: reports.Pod, event: reports.Event, show: Callable[[int], s
     """What is next to an event of a pod: the kill that led to a death, the container's own policy or rule that decided
     about a restart after it, and of several traces what is not known of it, since it happened in a gap or is counted
     again in a trace."""
-    return killed_words(pod, event, show, trace) + own_restarts.clause(pod, event, trace) + border_words(pod, event, show)
+    decided = own_restarts.clause(pod, event, trace)
+    return killed_words(pod, event, show, trace) + decided + border_words(pod, event, show)
 
 
 def border_words(pod: reports.Pod, event: reports.Event, show: Callable[[int], str]) -> str:
