@@ -65,7 +65,7 @@ class Pod:
     gone: int | None = None
     """the place of the first tick at which it is not present any more"""
     uid: str | None = None
-    """as a recording says it; None where it does not"""
+    """as a recording has it; None if it has none"""
     is_spared: bool = False
     """it is no candidate for eviction"""
     memory_limit: int | None = None

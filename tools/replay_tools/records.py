@@ -59,7 +59,7 @@ def of_trace(trace: traces.Trace | None) -> dict[str, Any]:
 
 
 def first_moment(report: reports.Report) -> int | None:
-    """The first moment that the report names, which is that of the first tick; None without a tick."""
+    """The first moment that the report names, which is the first tick's; None without a tick."""
     named = [event.at for event in report.events] + reports.node_moments(report)
     named += [reports.first_tick(pod) for pod in report.pods if reports.has_ticks(report, pod)]
     return min(named) if report.tick_count else None

@@ -64,8 +64,8 @@ class Resizes:
         """by the pod's number"""
 
     def take(self, at: int, others: dict[str, dict[str, Any]], present: dict[str, Pod], known_until: int) -> None:
-        """What a tick has of them, by those of its entries that have more than listings. What it shows up to a moment
-        was so before the trace. Raises Wrong."""
+        """What a tick has of them. `others` are its entries with more members than listings. What it shows up to a
+        moment was so before the trace. Raises Wrong."""
         for key, entry in others.items():
             found = entry.get(MEMBER)
             for name, resources in found.items() if isinstance(found, dict) else ():

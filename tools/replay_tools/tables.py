@@ -58,7 +58,7 @@ def create_tables(connection: sqlite3.Connection, kinds: tuple[str, ...] = tuple
 
 
 def add_records(connection: sqlite3.Connection, number: int, records: Iterable[dict[str, Any]]) -> None:
-    """Rows for the records of one report, in order; number is that of the report in the file."""
+    """Rows for the records of one report, in order; number is the report's in the file."""
     rows: dict[str, list[list[Any]]] = {}
     for record in records:
         kind = record["record"]

@@ -42,8 +42,8 @@ def table(title: str, heads: list[str], rows: list[list[str]]) -> list[str]:
 
 
 def dated_once(rows: list[list[str]]) -> list[list[str]]:
-    """Rows in which the date of a moment is left out where it is that of the row above, or of the moment that a text
-    is next to."""
+    """Rows in which the date of a moment is left out if the row above has the same, or the moment that a text is next
+    to."""
     above: dict[int, str] = {}
 
     def told(place: int, cell: str, own: str | None) -> str:

@@ -43,8 +43,8 @@ def check_readable(path: str, name: str) -> None:
 
 @contextmanager
 def readable(path: str) -> Iterator[str]:
-    """The path of a file as the program takes it: that of a copy, which goes again, where it can be read but once, is
-    packed, or has a name that the program does not take. Raises Damaged."""
+    """The path of a file as the program takes it. It is the path of a copy, which goes again, if the file can be read
+    only once, is packed, or has a name that the program does not take. Raises Damaged."""
     text = bytes_to_copy(path)
     if text is None:
         yield path

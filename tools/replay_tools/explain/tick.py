@@ -105,7 +105,7 @@ def failed_faults(entry: Any, path: tuple[Any, ...]) -> Iterator[Found]:
 
 
 def missing_or(around: Any, path: tuple[Any, ...], wanted: str) -> Found:
-    """What to say of a field that is required and is missing, or has another value."""
+    """The fault of a field that is required and is missing, or has another value."""
     value = around.get(path[-1])
     return at(path, f"is missing: {wanted}") if value is None else is_(path, value, f"it is {wanted}")
 
@@ -145,8 +145,8 @@ def usage_faults(usage: Any, path: tuple[Any, ...]) -> Iterator[Found]:
 # --- 39, 40, 41: pods and containers that are not there, or twice ---
 
 
-# The program looks at these once no field of the line has another value: where one has, the line is another than it has
-# read, which is Wrong.
+# The program checks these once no field of the line has another value. If one has, the line is another than the program
+# has read, which is Wrong.
 
 
 def entries_of(line: dict[str, Any]) -> Iterator[tuple[int, str, dict[str, Any]]]:

@@ -14,7 +14,7 @@ REFUSED = re.compile(r"line (\d+): (\d+) (\w+)(?: (\d+))?")
 
 @dataclass(frozen=True)
 class Refusal:
-    """The line that the program rejects, the number of its fault, and that of a manifest's."""
+    """The line that the program rejects, the number of its fault, and the number of a manifest's fault."""
     line: int
     number: int
     manifest: int | None
