@@ -16,8 +16,8 @@ class Overlap(entry.Fault):
 
 
 def without_overlaps(found: list[parts.Part], is_quiet: bool) -> list[parts.Part]:
-    """The parts without those of a folder that overlap another one, of which the one that has more time is kept. Raises
-    Fault where both were named."""
+    """The parts without the parts of a folder that overlap another one. Of two that overlap, the one that has more time
+    is kept. Raises Fault where both were named."""
     kept: list[parts.Part] = []
     for part in found:
         while kept:
@@ -81,8 +81,8 @@ def behind_slow_look(before: parts.Part, part: parts.Part) -> int | None:
 
 
 def is_of(name: str, before: parts.Part) -> bool:
-    """Whether the name of a trace is that of a part. Where its file is called otherwise here, the name still has the
-    second at which the trace begins, before which at most so many ticks show what was known."""
+    """Whether the name of a trace is the name of a part. Where its file is called otherwise here, the name still has
+    the second at which the trace begins, before which at most so many ticks show what was known."""
     _, begun, number = files.parts_of(name)
     if begun is None:
         return name == before.source.name

@@ -55,7 +55,7 @@ class Follower:
         return sorted(rows, key=lambda row: row[0])
 
     def begin(self) -> int | None:
-        """From when on traces are read: those of what was reported last, and at first the newest."""
+        """From when on traces are read: the traces of what was reported last, and at first the newest."""
         if self.until is not None:
             return self.until - SECONDS_BEFORE
         if self.since is not None:

@@ -30,7 +30,8 @@ def without_probes(entry: dict[str, Any]) -> dict[str, Any]:
 
 def join_traces(found: list[traces.Trace], borders: list[reports.Border],
                 numbers: list[dict[int, int]]) -> traces.Trace:
-    """The trace of those of all parts; numbers has for each part those that its pods have in the joined report."""
+    """One trace of the traces of all parts. `numbers` has for each part the numbers that its pods have in the joined
+    report."""
     made = traces.Trace(found[0].node, found[-1].settings, found[-1].thresholds)
     for trace, border, of in zip(found, [None, *borders], numbers):
         place = len(made.ticks)
@@ -49,7 +50,7 @@ def join_traces(found: list[traces.Trace], borders: list[reports.Border],
 
 
 def take_ticks(made: traces.Trace, trace: traces.Trace, border: reports.Border | None) -> int:
-    """Takes the ticks after a rotation, and that of the rotation where no tick is there; gives how many ticks of the
+    """Takes the ticks after a rotation, and the tick of the rotation if no tick is there. Returns how many ticks of the
     trace come before these."""
     if border is None:
         made.ticks += trace.ticks
@@ -83,7 +84,7 @@ def take_pods(made: traces.Trace, trace: traces.Trace, of: dict[int, int], begin
 
 
 def take_decisions(made: traces.Trace, trace: traces.Trace, of: dict[int, int]) -> None:
-    """A pod that the kubelet has evicted, and that is still there, is printed once more at a border. One that it
+    """A pod that the kubelet has evicted, and that is still there, is there once more at a rotation. One that it
     evicted in a gap has no line after it, and is the one of its uid before."""
     told = {(one.kind, one.pod, one.at) for one in made.decisions}
     for one in trace.decisions:

@@ -95,7 +95,7 @@ function reasonWords(pod) {
   return ` (${pod.reason}${pod.eviction ? ` by ${pod.eviction.signal} ${pod.eviction.kind}` : ''})`;
 }
 
-// What still ran as the pod ended or went stands as it was seen then.
+// What still ran as the pod ended or went is shown as it was seen then.
 function containersTitle(pod) {
   const isOver = pod.end || typeof pod.gone === 'number';
   const ran = isOver && pod.containers.some((one) => one.state === 'Running');

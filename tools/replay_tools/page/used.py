@@ -18,7 +18,7 @@ COLUMNS = 5
 
 
 def used_of(span: Span, pod: traces.Pod, ticks: why.PodTicks, budget: Budget) -> dict[str, Any]:
-    """For each container what it used, or None; nothing of a pod of which no trace says it."""
+    """For each container what it used, or None; nothing of a pod of which no trace has it."""
     found = []
     for container in pod.containers:
         resizes, used = ticks.trace.resizes.of_container(pod.number, container.name), ticks.used[container.name]
@@ -50,7 +50,7 @@ def uses_of(span: Span, uses: list[why.Use], columns: int) -> list[int | None]:
 
 def bounds_of(pod: traces.Pod, bounds: Bounds) -> list[float | bool | None]:
     """Request and limit of memory in bytes, of the processor in thousandths of a core, and whether the limit of memory
-    is that of the whole pod."""
+    is the whole pod's."""
     is_pods = bounds.memory_limit is None and pod.memory_limit is not None
     limit = pod.memory_limit if is_pods else bounds.memory_limit
     memory = [None if amount is None else amount // 1000 for amount in (bounds.memory_request, limit)]

@@ -1,4 +1,4 @@
-"""What the ticks of a trace say beside what the formats read: why instances ended, and why containers wait."""
+"""What the ticks of a trace have next to what the formats read: why instances ended, and why containers wait."""
 
 from __future__ import annotations
 
@@ -17,8 +17,8 @@ if TYPE_CHECKING:
 
 
 def stands(wait: Reason, listing: Listing | None) -> bool:
-    """Whether a container still waits so as its newest instance is listed: it does not run, and is the one behind which
-    the status says that it waits."""
+    """Whether a container still waits so, as its newest instance is listed: it does not run, and is the one after which
+    the status shows that it waits."""
     return listing is None or (listing.state != RUNNING and wait.behind in (None, listing.attempt))
 
 
@@ -28,7 +28,7 @@ def is_over(wait: Reason, listing: Listing | None) -> bool:
 
 
 class Asides:
-    """What stands at the last tick, and what was told of it: a reason stands in each tick, its message in the first."""
+    """What holds at the last tick, and what was written of it: each tick has a reason, the first one its message."""
 
     def __init__(self) -> None:
         self.ends: dict[Any, Any] = {}
@@ -67,7 +67,7 @@ class Asides:
         return self.used.of(pod.uid, name)
 
     def of_listing(self, uid: str, name: str, listing: Listing) -> dict[str, Any]:
-        """The members of a listing: why the instance ended, and how the one before it did, whose exit its tick says."""
+        """The members of a listing: why the instance ended, and how the one before it did, whose exit its tick has."""
         said: dict[str, Any] = {}
         if listing.exit_code is not None:
             attempt, newest = self.ends.get((uid, name), (None, None))

@@ -56,7 +56,7 @@ class Containers:
                 self.take_end(recorded, name, container)
 
     def take_end(self, recorded: Recorded, name: str, container: Container) -> None:
-        """Why a container's newest instance ended, which its pod's status may say later."""
+        """Why a container's newest instance ended, which its pod's status may show later."""
         if container.newest is not None and container.newest.state == EXITED:
             self.timeline.asides.take_end(recorded.pod.uid, name, container.attempt, container.newest.reason)
 

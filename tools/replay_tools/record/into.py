@@ -22,9 +22,9 @@ if TYPE_CHECKING:
     from .sources import Sources
     from .words import Into, Words
 
-# a clock that goes back by less stands still until its time comes again
+# a clock that goes back by less is taken as still until its time comes again
 BACK_SECONDS = 60
-# two polls are that far apart where the clock went forward, or the recorder stood still
+# two polls are that far apart if the clock went forward, or the recorder was suspended
 FORWARD_SECONDS = 120
 
 
@@ -75,7 +75,7 @@ class LastingRecording(Recording):
                     self.shipping.look()
 
     def see_clock(self, before: float, moment: float) -> None:
-        """What the clock says at a poll, after the look before."""
+        """What the clock shows at a poll, after the poll before."""
         if moment < before - BACK_SECONDS:
             say_again(self.say, f"{int(before)}: the clock went back by {round(before - moment)} s, and the next trace "
                                 f"begins at {int(moment)}")
@@ -89,7 +89,7 @@ class LastingRecording(Recording):
                                 "forward, or the recorder was suspended")
 
     def forget(self) -> None:
-        """Behind each rotation what is over is forgotten, so that the recorder stays as small as it is."""
+        """After each rotation the recorder forgets what is over, so that it stays as small as it is."""
         if self.output.has_turned:
             self.output.has_turned = False
             self.recorder.forget()
