@@ -26,7 +26,7 @@ class TooLong(Exception):
 @dataclass(frozen=True)
 class Format:
     """A version of the formats: whether it shows that a pod goes, has gone, was ended or has no sample, and for how
-    many seconds no pod is evicted after an eviction unless the evicted one has ended (None where it can't say so); and
+    many seconds no pod is evicted after an eviction unless the evicted one has ended (None if it can't show that); and
     whether the rules are to evict pods by themselves, or end those alone that the node has ended."""
     version: int
     says_gone: bool
@@ -45,7 +45,7 @@ def extended(eviction_pause: int = EVICTION_PAUSE, is_simulated: bool = False) -
     return Format(3, True, eviction_pause, is_simulated)
 
 
-# what is written without a word; extended() where the program reads that
+# the format without an option; extended() where the program reads that
 DEFAULT = STANDARD
 
 
@@ -128,7 +128,7 @@ def entry_of(pod: Pod, listings: dict[str, Listing], results: dict[tuple[str, st
 
 
 def told(decisions: Sequence[Told]) -> dict[str, list[dict[str, Any]]] | None:
-    """What the kubelet did in a tick, which the formats don't read: {"evicted", "refused" or "ended": [..]}; or
+    """The decisions of the kubelet in a tick, which the formats don't read: {"evicted", "refused" or "ended": [..]}; or
     None."""
     found: dict[str, list[dict[str, Any]]] = {}
     for each in decisions:

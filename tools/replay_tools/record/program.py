@@ -35,7 +35,7 @@ SOON_SECONDS = 1
 
 
 class Says:
-    """Says a line on standard error, once of each subject, or once of its text, as far back as it remembers."""
+    """Prints a line on standard error, once of each subject, or once of its text, as far back as it remembers."""
 
     def __init__(self) -> None:
         self.said: dict[Any, bool] = {}
@@ -66,7 +66,7 @@ class Recording:
         self.metrics = None if words.metrics is None else Metrics(words.metrics, say)
         # the moment of the first look, once that is taken
         self.begun: float = 0
-        # that of the last look that came as it was asked for
+        # the moment of the last regular poll
         self.regular: float = 0
         self.has_begun = False
 
@@ -102,7 +102,7 @@ class Recording:
             self.metrics.write()
 
     def has_all(self) -> bool:
-        """Whether all ticks that are asked for are written or wanted."""
+        """Whether all ticks that are asked for are written or planned."""
         return self.recorder.timeline.planned() >= self.output.ticks_left
 
     def is_over(self, moment: float) -> bool:
@@ -162,7 +162,7 @@ class Recording:
 def recorded(words: Words, sources: Sources, clock: Any, say: Callable[..., None]) -> int:
     """Records as the words ask for; the status."""
     if words.into is not None:
-        from .into import recorded_into  # which stands on what is here
+        from .into import recorded_into  # which imports this module
         return recorded_into(words, words.into, sources, clock, say)
     output = Output(words.ticks)
     return watch(output, Recording(words, sources, clock, output, say), say)

@@ -50,7 +50,7 @@ class Recorder:
         return line_of(node_line.fields)
 
     def probed(self) -> dict[str, Any]:
-        """What the statuses of the pods that are there say of their probes."""
+        """What the statuses of the pods that are there show of their probes."""
         return {pod.key: pod.probed for pod in self.pods.listed}
 
     # --- what is seen ---

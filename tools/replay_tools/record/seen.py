@@ -17,7 +17,7 @@ if TYPE_CHECKING:
     from .summary import Sample, Summary
     from .throttled import Throttled
 
-# how long what was seen waits for a source that is silent, since with it the moments can be told
+# how long what was seen waits for a source that is silent, since that source has the moments
 PATIENCE = 30
 
 

@@ -52,7 +52,7 @@ class Run:
         self.is_over = self.is_over or self.failures >= self.failures_wanted
 
     def results(self, probe: str) -> list[str]:
-        """The fewest results that show the same once more. A kill that was ordered stands until the next instance, so
+        """The fewest results that show the same once more. A kill that was ordered holds until the next instance, so
         that failures after it order none."""
         if self.is_over:
             return ["failure"] * self.failures_wanted
@@ -119,7 +119,7 @@ class Container:
             self.change(listing, second)
 
     def change(self, listing: dict[str, Any], second: int) -> None:
-        """It is listed otherwise from a second on; of its exit before that tells, and no later one."""
+        """It is listed otherwise from a second on. Of its exit the first listing counts, and no later one."""
         self.listing, self.since = {name: value for name, value in listing.items() if name not in OF_TICKS}, second
         if listing["state"] == RUNNING:
             self.started = second
@@ -146,7 +146,7 @@ class Container:
         return [] if self.previous is None else [self.previous, running(self.previous)]
 
     def take(self, probe: str, result: str, second: int) -> None:
-        """A result of a tick, behind what the tick lists."""
+        """A result of a tick, after what the tick lists."""
         run = self.runs.get(probe)
         if run is None or result == "unknown" or not self.is_listed or not self.is_running():
             return
@@ -202,8 +202,8 @@ class Container:
         return [{"startup": result} for result in early] + rows
 
     def listed(self, second: int, back: int) -> dict[str, Any] | None:
-        """What a tick that stands so many before the rotation lists of it: what was before where that counts. None
-        where it was never listed."""
+        """What a tick that comes so many before the rotation lists of it: what was before where that counts. None where
+        it was never listed."""
         if self.listing is None:
             return None
         before, place = self.history(), back - max(len(self.carried_of_newest()), 1)
@@ -321,7 +321,7 @@ class Pod:
 
 
 class Standing:
-    """What the lines so far say of the node, and of the pods that are there."""
+    """What the lines so far show of the node, and of the pods that are there."""
 
     def __init__(self) -> None:
         # the node line
@@ -377,8 +377,8 @@ class Standing:
 
     def beginning(self, second: int, follows: dict[str, Any] | None) -> Iterator[str]:
         """The lines that a trace begins with at a rotation, or at the first tick of all: its node and pods, and the
-        ticks that show what is known, the last of which is that of the border. It has one, but where what probes have
-        shown needs more."""
+        ticks that show what is known, the last of which is the tick of the rotation. It has one, but where what probes
+        have shown needs more."""
         containers = [each for pod in self.pods.values() for each in pod.containers.values()]
         for container in containers:
             container.go_over()
@@ -394,7 +394,8 @@ class Standing:
             yield self.tick(second - back, back, did, judged)
 
     def tick(self, second: int, back: int, did: list[Any], judged: bool | None) -> str:
-        """One of the ticks that show what is known; signals, and what the kubelet did, are in that of the border."""
+        """One of the ticks that show what is known; signals, and what the kubelet did, are in the tick of the rotation.
+        """
         entries = [pod.entry(second, back) for pod in self.pods.values()]
         told: dict[str, Any] = {}
         for kind, decision in did if back == 0 else ():

@@ -74,7 +74,7 @@ def beside_in(item: Any, resources: tuple[str, ...]) -> Beside:
 
 
 def deletion_in(item: Any) -> dict[str, Any]:
-    """By whom a pod is deleted, where a condition says it, and its grace in seconds."""
+    """By whom a pod is deleted, if a condition has it, and its grace in seconds."""
     grace = (item.get("metadata") or {}).get("deletionGracePeriodSeconds")
     conditions = (item.get("status") or {}).get("conditions") or []
     reasons = [each.get("reason") for each in conditions

@@ -67,7 +67,7 @@ class Series:
         self.rest = b"\n"
         self.is_there = False
         self.found: dict[str, Throttled] = {}
-        # the instances of which it says two values
+        # the instances of which it has two values
         self.doubled: set[str] = set()
 
     def take(self, part: bytes) -> None:
@@ -94,7 +94,7 @@ class Series:
             raise Failed(f"has more than {MOST_SERIES} series of {METRIC}, the most that are read")
 
     def whole(self) -> dict[str, Throttled]:
-        """What a whole answer says, by the ids of the instances."""
+        """What a whole answer has, by the ids of the instances."""
         return {identity: series for identity, series in self.found.items() if identity not in self.doubled}
 
 

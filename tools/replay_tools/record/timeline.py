@@ -1,4 +1,4 @@
-"""Writes the ticks of a trace: the lines of each second, with what stands at it."""
+"""Writes the ticks of a trace: the lines of each second, with what holds then."""
 
 from __future__ import annotations
 
@@ -22,7 +22,7 @@ if TYPE_CHECKING:
 
 
 class Timeline(Ticks):
-    """The ticks that are not written yet, and what stands at the last one that was."""
+    """The ticks that are not written yet, and what holds at the last one that was."""
 
     def __init__(self, trace_format: Format) -> None:
         super().__init__(trace_format)
@@ -74,7 +74,7 @@ class Timeline(Ticks):
         return list(copied.due(float("inf"), silent_from))
 
     def lines_of(self, second: int, tick: Tick, is_silent: bool) -> list[str]:
-        """The lines of a second: the pods that come, the tick if one is wanted, the pods that go."""
+        """The lines of a second: the pods that come, the tick if one is needed, the pods that go."""
         lines = [self.pod_line(pod) for pod in tick.arrivals]
         self.present += tick.arrivals
         if not self.format.says_gone:
@@ -116,7 +116,7 @@ class Timeline(Ticks):
         return pod_line(pod, self.format.says_gone)
 
     def tick_of(self, second: int, tick: Tick, signals: dict[str, int], changed: set[tuple[str, str]] | None) -> str:
-        """The line of a tick with all that stands at it."""
+        """The line of a tick with all that holds then."""
         entries = [entry for entry in (self.entry(pod, changed) for pod in self.present) if entry is not None]
         return self.line_with(entries, second, tick, signals)
 
@@ -129,8 +129,8 @@ class Timeline(Ticks):
 
     def shown_signals(self, second: int, tick: Tick) -> dict[str, int]:
         """The signals of a tick, as last sampled. What was left before the kubelet evicted a pod is not what is left
-        behind it, and the kubelet takes a new sample before it evicts the next: until then a signal has no value, or
-        that of the new sample where a threshold goes on over the gap."""
+        after it, and the kubelet takes a new sample before it evicts the next: until then a signal has no value, or the
+        new sample's if a threshold goes on over the gap."""
         if self.format.says_gone and any(each.is_eviction(second) for each in tick.decisions):
             self.evicted_at, outdated = second, set(self.signals) - set(tick.signals)
             self.outdated = set(self.signals)

@@ -39,7 +39,7 @@ class Traces(Writing):
     # --- what comes ---
 
     def write(self, lines: list[str]) -> None:
-        """The node line; that of a trace is written with its first tick."""
+        """The node line; a trace's own is written with its first tick."""
         for line in lines:
             self.standing.take(json.loads(line))
 

@@ -25,7 +25,7 @@ def is_seamless(item: Any, after: Result | Change) -> bool:
 
 
 def without_seamless_exits(items: list[Result | Change]) -> list[Result | Change]:
-    """Without the exits that the ticks of their successors' starts say, which keep them."""
+    """Without the exits that the ticks of their successors' starts have, which keep them."""
     kept: list[Any] = []
     item: Any
     for item in items:
@@ -54,7 +54,7 @@ def woven(changes: list[Change], results: list[Result]) -> list[Result | Change]
         return [*changes, *results]
     is_followed = any(map(is_start, changes[first_exit:]))
     early = [result for result in results if result.result == "failure" or not is_followed]
-    # the last of them has a second of its own before that of the exit
+    # the last of them has a second of its own before the exit's
     over = max((result.moment for result in early), default=0) - (changes[first_exit].moment - 1)
     early = [replace(result, moment=result.moment - max(over, 0)) for result in early]
     late = [result for result in results if result.result != "failure" and is_followed]

@@ -34,13 +34,13 @@ LONGEST = 400 * 86400
 
 
 class BadWord(Exception):
-    """Words that are mistaken; its text says what to do."""
+    """Arguments that are mistaken; its text shows what to do."""
 
 
 @dataclass(frozen=True)
 class Into:
-    """Where traces stand one behind the other, for how many seconds each, how many seconds and bytes are kept, and the
-    words of the command that takes them away, if there is one."""
+    """Where traces follow one another, for how many seconds each, how many seconds and bytes are kept, and the words of
+    the command that takes them away, if there is one."""
     folder: str
     each: int
     keep: int
@@ -152,7 +152,7 @@ def size(given: dict[str, Any], word: str, default: str) -> int:
 
 
 def into(given: dict[str, Any], node: str) -> Into | None:
-    """Where and how traces stand one behind the other, or None where they don't."""
+    """Where and how traces follow one another, or None if they don't."""
     alone = [word for word in LASTING if word in given]
     if "--into" not in given:
         if alone:
