@@ -45,7 +45,7 @@ class Given:
 
 
 def given(found: Namespace, gather: Callable[..., Any] | None = None) -> Given:
-    """What the words of a tool name: the traces of --traces, or the report of standard input with the trace of
+    """What the arguments of a tool name: the traces of --traces, or the report of standard input with the trace of
     --trace. `gather` makes of the report what takes the ticks of the trace (why.Ticks)."""
     wanted = asked.asked_of(found)
     several = None if wanted is None else joined(wanted)
@@ -68,7 +68,7 @@ def joined(wanted: asked.Asked) -> join.Joined:
 
 
 def clock_of(found: Namespace, given_to: Given) -> clock.Clock:
-    """How moments are written: as the words show, else by what they are."""
+    """How moments are written: as the arguments ask, else by what they are."""
     is_dated = given_to.several is not None and given_to.several.is_utc
     return clock.clock_of(found, summary.last_moment(given_to.report, given_to.trace), is_dated)
 

@@ -15,7 +15,7 @@ if TYPE_CHECKING:
 
 EVICTED = "Evicted"
 OF_WORDS = frozenset(("deleting", "failed"))
-# docs/extended.md: the word that a tick has of a pod that the node has ended
+# docs/extended.md: the reason in a tick of a pod that the node has ended
 REASON = re.compile(r"[A-Za-z][A-Za-z0-9_./-]{0,62}", re.ASCII)
 # who deletes a pod, by the reason of its condition DisruptionTarget (Kubernetes, "Disruptions")
 DELETERS = {"EvictionByEvictionAPI": "the eviction API", "DeletionByTaintManager": "the taint manager",

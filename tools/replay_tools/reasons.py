@@ -140,7 +140,7 @@ class Reasons:
             self.looked.add(("died" if "exitCode" in listed else "started", number, name, attempt))
 
     def within_words(self, event: reports.Event) -> str:
-        """That a start or a death is known by the kubelet's next look alone; nothing of others."""
+        """That a start or a death is known by the kubelet's next poll alone; nothing of others."""
         is_looked = event.word in ("started", "died") and (
             event.word, event.number, event.container, int(event.rest[0])) in self.looked
         return WITHIN if is_looked else ""

@@ -7,7 +7,7 @@ from replay_tools import entry, outside, report as reports
 from replay_tools.joined import files, parts
 
 
-# a recorder that is killed after a slow look may have written ticks of so many seconds after the next one began
+# a recorder that is killed after a slow poll may have written ticks of so many seconds after the next one began
 SLOW_LOOK = 60
 
 
@@ -70,7 +70,7 @@ def border_of(before: parts.Part, part: parts.Part) -> reports.Border:
 
 
 def behind_slow_look(before: parts.Part, part: parts.Part) -> int | None:
-    """Where a part begins before the end of the one before it, by no more than a slow look explains: its first moment
+    """Where a part begins before the end of the one before it, by no more than a slow poll explains: its first moment
     after that end. None of other parts."""
     if part.trace is None:
         return None

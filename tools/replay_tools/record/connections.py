@@ -216,7 +216,7 @@ class AddressedConnection(http.client.HTTPSConnection):
 class Kubelet:
     """A kubelet at its URL, with the settings of a file of curl, which is read again where it has changed, as a token
     does. A header, as the one with the token, goes to no server whose certificate was not checked, unless the settings
-    say so. Raises NotRead for settings that it does not know."""
+    allow it. Raises NotRead for settings that it does not know."""
 
     def __init__(self, url: str, curl_file: str | None) -> None:
         self.url, self.curl_file = urlsplit(url), curl_file
@@ -412,7 +412,7 @@ class Proxy:
         return self.get(f"/api/v1/nodes/{self.node}/proxy/{path}")
 
     def read(self, path: str, take: Callable[[bytes], None]) -> None:
-        # it runs, since it was asked for the pods before, and where it has ended the next look starts it
+        # it runs, since it was asked for the pods before, and where it has ended the next poll starts it
         there = self.socket
         Kept(lambda: SocketConnection(there)).read(f"/api/v1/nodes/{self.node}/proxy/{path}", {}, take)
 

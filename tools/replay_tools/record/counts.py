@@ -35,7 +35,7 @@ class ProbeCounts:
         self.now, self.planned = Counted(), Counted()
 
     def begin(self, counts: Counters, moment: float) -> None:
-        """The counts of the first look are of results before it."""
+        """The counts of the first poll are of results before it."""
         self.planned = Counted(counts, dict.fromkeys(counts, moment), moment)
 
     def take(self, counts: Counters, uids: set[str], moment: float) -> None:

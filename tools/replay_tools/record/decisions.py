@@ -200,7 +200,7 @@ class Decisions:
 
     def sample_of(self, decision: Decision, seen: Seen) -> float | None:
         """When the sample was taken by which the kubelet evicted a pod, which is none by which it evicted one before:
-        of several in one look it is the same."""
+        of several in one poll it is the same."""
         sampled = self.sampling.sampled_for(seen) if decision.kind == EVICTED else None
         last, was_at, self.looked_at = self.timeline.evicted_last, self.looked_at, seen.moment
         if sampled is None or last is None or int(sampled) > last or (int(sampled) == last and was_at == seen.moment):

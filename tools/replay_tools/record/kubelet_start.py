@@ -35,7 +35,7 @@ FEW_TRIES = 3
 # a source of pods is whole some seconds after its first pod; one that shows none is waited for so long
 SETTLE_SECONDS = 5
 EMPTY_SECONDS = 60
-# after a start the pods are asked for at each look, and between two looks each second
+# after a start the pods are asked for at each poll, and between two polls each second
 WATCH_SECONDS = 30
 STATIC, FROM_API = "static", "api"
 

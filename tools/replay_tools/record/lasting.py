@@ -61,7 +61,7 @@ class LastingRecorder(Recorder):
         super().take(seen)
 
     def foreseen(self, moment: float) -> list[tuple[list[str], bool]]:
-        """What would be written if nothing came any more, with a tick of the look at this moment."""
+        """What would be written if nothing came any more, with a tick of the poll at this moment."""
         return self.timeline.foreseen(moment, self.containers.silent_from(moment))
 
     def forget(self) -> None:

@@ -34,7 +34,7 @@ SUMMARY_SECONDS = 10
 PODS_SECONDS = 10
 NODE_SECONDS = 10
 # under pressure a pod without a running container may be evicted, which the runtime shows late: the kubelet is asked at
-# each look, and the API server less often
+# each poll, and the API server less often
 PRESSED_PODS_SECONDS = {True: 1, False: 5}
 # where nothing has happened for some seconds the runtime is asked again after more than one, as its moments are exact
 STILL_SECONDS = 30
@@ -119,7 +119,7 @@ class Observer:
         return Seen(moment, self.resolved(listed, moment), counters, pods, summary, ready=self.ready(moment)), summary
 
     def pass_over(self, listed: list[Instance]) -> None:
-        """Of the pods that are there at the first look no start is asked for, and of instances that were replaced no
+        """Of the pods that are there at the first poll no start is asked for, and of instances that were replaced no
         code: what a tick shows of them is the newest alone."""
         newest = {(each.uid, each.container): each for each in listed}
         for each in filter(lambda each: each.uid in self.known, listed):
@@ -223,7 +223,7 @@ class Observer:
         return self.attempt(NODE, moment, lambda: ready_in(self.sources.node_object()))
 
     def looks_soon(self, moment: float) -> bool:
-        """Whether the next look comes soon: where the kubelet may evict a pod, each of its samples counts, and what it
+        """Whether the next poll comes soon: where the kubelet may evict a pod, each of its samples counts, and what it
         did may be shown for a second; after its start pods are unready for seconds; why a container failed is shown
         until it waits for its next start; and how an instance ended that the runtime has removed until the next one has
         ended."""
@@ -279,7 +279,7 @@ class Observer:
         return asked is None or int(moment) < int(asked) or int(moment) - int(asked) >= seconds
 
     def wants_summary(self, pods: list[Pod] | None, moment: float) -> bool:
-        """Whether the summary is asked for: at each look while the kubelet may evict a pod, at once where it is seen
+        """Whether the summary is asked for: at each poll while the kubelet may evict a pod, at once where it is seen
         that it has, and else from time to time, as one that gives no answer."""
         decided = short_of(pods or ())
         has_decided = not decided <= self.decided

@@ -1,4 +1,4 @@
-"""Runs the recorder: looks until the end, and writes the lines as they are settled."""
+"""Runs the recorder: polls until the end, and writes the lines as they are settled."""
 
 from __future__ import annotations
 
@@ -30,7 +30,7 @@ if TYPE_CHECKING:
 
 # a recorder that goes on for ever does not grow by what it has reported
 MOST_REMEMBERED = 10000
-# the next look comes so soon where the kubelet may evict, was just started, or a container has just failed
+# the next poll comes so soon if the kubelet may evict, was just started, or a container has just failed
 SOON_SECONDS = 1
 
 
@@ -64,14 +64,14 @@ class Recording:
         self.recorder = Recorder(words.format, words.every, say)
         self.recorder.course.asks_events = sources.api is not None
         self.metrics = None if words.metrics is None else Metrics(words.metrics, say)
-        # the moment of the first look, once that is taken
+        # the moment of the first poll, once that is taken
         self.begun: float = 0
         # the moment of the last regular poll
         self.regular: float = 0
         self.has_begun = False
 
     def begin(self) -> None:
-        """The first look and the node line; they need every source."""
+        """The first poll and the node line; they need every source."""
         moment = self.clock.now()
         try:
             seen, summary = self.observer.first_look(moment)
@@ -106,17 +106,17 @@ class Recording:
         return self.recorder.timeline.planned() >= self.output.ticks_left
 
     def is_over(self, moment: float) -> bool:
-        """Whether the next look would come too late."""
+        """Whether the next poll would come too late."""
         duration = self.words.duration
         return duration is not None and self.next_at(moment) - self.begun > duration
 
     def wait_for_next(self, moment: float) -> None:
-        """Waits for the look after one at a moment."""
+        """Waits for the poll after one at a moment."""
         self.clock.wait(min(max(self.next_at(moment) - self.clock.now(), 0), self.words.look))
 
     def next_at(self, moment: float) -> float:
-        """When the look after one at a moment comes: so long after the last regular one as was asked for, and sooner if
-        something is likely to happen that is shown for a second. Looks in between move no regular one."""
+        """When the poll after one at a moment comes: so long after the last regular one as was asked for, and sooner if
+        something is likely to happen that is shown for a second. Polls in between move no regular one."""
         if not self.regular <= moment < self.regular + self.words.look:
             self.regular = moment
         regular = self.regular + self.words.look
@@ -131,7 +131,7 @@ class Recording:
             self.say(f"{texts} of manifests {verb} left out: Kubernetes' grammar doesn't allow them")
 
     def go_on(self) -> None:
-        """Looks until the end."""
+        """Polls until the end."""
         moment = self.begun
         while not self.has_all() and not self.output.is_stopped and not self.is_over(moment):
             self.wait_for_next(moment)
@@ -160,7 +160,7 @@ class Recording:
 
 
 def recorded(words: Words, sources: Sources, clock: Any, say: Callable[..., None]) -> int:
-    """Records as the words ask for; the status."""
+    """Records as the arguments ask for; the status."""
     if words.into is not None:
         from .into import recorded_into  # which imports this module
         return recorded_into(words, words.into, sources, clock, say)

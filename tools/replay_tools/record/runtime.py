@@ -1,4 +1,4 @@
-"""The container runtime's instances, of `crictl ps -a` and `crictl inspect`, and what became of them between looks."""
+"""The container runtime's instances, of `crictl ps -a` and `crictl inspect`, and what became of them between polls."""
 
 from __future__ import annotations
 
@@ -156,7 +156,7 @@ class Container:
         self.missed_since: float | None = None
 
     def first_changes(self, instances: list[Instance], moment: float) -> list[Change]:
-        """What the first look shows of it: its newest instance alone, as it is at that moment."""
+        """What the first poll shows of it: its newest instance alone, as it is at that moment."""
         newest = instances[-1]
         self.begin(newest)
         self.newest, self.has_started = newest, newest.state != CREATED
@@ -164,7 +164,7 @@ class Container:
         return [Change(moment, Listing(self.attempt, newest.state, newest.exit_code, newest.reason))]
 
     def changes(self, instances: list[Instance], moment: float) -> list[Change]:
-        """What became of it since the last look, by its instances in the order of their creation."""
+        """What became of it since the last poll, by its instances in the order of their creation."""
         newest, newer = self.newest, instances
         missed_since, self.missed_since = self.missed_since, None
         made: list[Change] = []

@@ -169,7 +169,7 @@ class Sampling:
         return sample.moment
 
     def take_rounds(self, summary: Summary, seen: Seen) -> None:
-        """The kubelet judges its thresholds in rounds, and the tick of each round's sample is judged."""
+        """The kubelet evaluates its thresholds in rounds, and the tick of each round's sample is a sync tick."""
         if self.course.is_first:
             self.timeline.tells_rounds = self.says_gone and rounds.are_told(summary.signals)
         if self.timeline.tells_rounds:

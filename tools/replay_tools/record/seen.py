@@ -23,11 +23,11 @@ PATIENCE = 30
 
 @dataclass
 class Seen:
-    """What one look saw that began at a moment in seconds since 1970, and `took` so many. None is what was not asked,
+    """What one poll saw that began at a moment in seconds since 1970, and `took` so many. None is what was not asked,
     or gave no answer: `instances` has the instances of each pod's uid, `counters` the counts of probes, `pods` those
-    that are there, `low` the signals near their thresholds, `said` the Events of the pods that were asked for,
-    `ready` whether the node is Ready, `throttled` for how long instances were throttled, by their ids, and
-    `kubelet_started` when the kubelet was started, where it was since the look before."""
+    that are there, `low` the signals near their thresholds, `said` the Events of the pods that were asked for, `ready`
+    whether the node is Ready, `throttled` for how long instances were throttled, by their ids, and `kubelet_started`
+    when the kubelet was started, if it was since the poll before."""
     moment: float
     instances: Optional[dict[str, list[Instance]]] = None
     counters: Optional[Counters] = None
@@ -98,7 +98,7 @@ class Recorded:
 @dataclass
 class Course:
     """How far a recording has come: the moment from which on what is seen is recorded, the one up to which what
-    happened has its place, and whether the first look is taken; and whether Events are asked for."""
+    happened has its place, and whether the first poll is taken; and whether Events are asked for."""
     begun: float = 0
     planned_at: float = 0
     is_first: bool = True

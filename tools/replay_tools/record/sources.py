@@ -32,7 +32,7 @@ MOST_SHOWN = 300
 
 # what the recorder is ended by, of which no other thread hears
 INTERRUPTS = (signal.SIGINT, signal.SIGTERM, signal.SIGHUP)
-# --events has this word where kubectl asks the API server
+# the value of --events if kubectl asks the API server
 KUBECTL = "kubectl"
 PACKAGE = os.path.dirname(os.path.dirname(os.path.realpath(__file__)))
 

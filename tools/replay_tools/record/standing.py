@@ -330,7 +330,7 @@ class Standing:
         self.signals: dict[str, Any] = {}
         # what the last tick shows that the kubelet did to pods that are left out
         self.left_out: list[Any] = []
-        # the second of the last tick, whether it is judged, and whether any is reported not to be
+        # the second of the last tick, whether it is a sync tick, and whether any is reported to be none
         self.at: int | None = None
         self.judged: bool | None = None
         self.node_ready: dict[str, Any] | None = None
@@ -389,7 +389,7 @@ class Standing:
         # of a pod without a line it is reported once
         did = [each for pod in self.pods.values() for each in pod.decisions] + ([] if follows else self.left_out)
         for back in reversed(range(count)):
-            # what is known was judged before
+            # the kubelet has evaluated what is known before
             judged = False if (follows or back) and self.tells_rounds else self.judged
             yield self.tick(second - back, back, did, judged)
 

@@ -1,4 +1,4 @@
-"""What the kubelet's /stats/summary reports in a trace's words. A value that is not there is None or left out."""
+"""What the kubelet's /stats/summary reports, by the names of a trace. A value that is not there is None or left out."""
 
 from __future__ import annotations
 

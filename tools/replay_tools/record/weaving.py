@@ -46,9 +46,9 @@ def is_start(change: Change) -> bool:
 
 
 def woven(changes: list[Change], results: list[Result]) -> list[Result | Change]:
-    """Changes and results of one container between two polls, in the order in which they are written. Where an
-    instance exited between the looks a failure is before that exit, and where another one started any other result
-    is after that start."""
+    """Changes and results of one container between two polls, in the order in which they are written. Where an instance
+    exited between the polls a failure is before that exit, and where another one started any other result is after that
+    start."""
     first_exit = next((place for place, change in enumerate(changes) if is_exit(change)), None)
     if first_exit is None:
         return [*changes, *results]

@@ -70,7 +70,7 @@ class Words:
 
 
 def split(arguments: list[str]) -> dict[str, Any]:
-    """The values of words, {word: text or True}."""
+    """The values of options, {option: text or True}."""
     given: dict[str, Any] = {}
     rest = list(arguments)
     while rest:
@@ -98,7 +98,7 @@ def number(given: dict[str, Any], word: str) -> int | None:
 
 
 def trace_format(given: dict[str, Any]) -> lines.Format:
-    """The format that the words ask for. Raises BadWord where they ask for two."""
+    """The format that the arguments ask for. Raises BadWord if they ask for two."""
     text, is_simulated = given.get("--eviction-pause"), "--simulate" in given
     if "--standard" in given and "--extended" in given:
         raise BadWord("--standard and --extended are two formats: give one")
