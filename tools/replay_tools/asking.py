@@ -18,7 +18,7 @@ if TYPE_CHECKING:
 
 @dataclass
 class Given:
-    """What a tool is given: a report, with its trace where one is named, or those of several."""
+    """What a tool is given: a report, with its trace if one is named, or several reports with their traces."""
 
     report: reports.Report
     trace: traces.Trace | None
@@ -45,7 +45,7 @@ class Given:
 
 
 def given(found: Namespace, gather: Callable[..., Any] | None = None) -> Given:
-    """What the words of a tool name: the traces of --traces, or the report of standard input with the trace of
+    """What the arguments of a tool name: the traces of --traces, or the report of standard input with the trace of
     --trace. `gather` makes of the report what takes the ticks of the trace (why.Ticks)."""
     wanted = asked.asked_of(found)
     several = None if wanted is None else joined(wanted)
@@ -68,21 +68,21 @@ def joined(wanted: asked.Asked) -> join.Joined:
 
 
 def clock_of(found: Namespace, given_to: Given) -> clock.Clock:
-    """How moments are written: as the words show, else by what they are."""
+    """How moments are written: as the arguments ask, else by what they are."""
     is_dated = given_to.several is not None and given_to.several.is_utc
     return clock.clock_of(found, summary.last_moment(given_to.report, given_to.trace), is_dated)
 
 
 def key_named(report: reports.Report, name: str, kubelet: kubelets.Kubelet | None = None) -> str:
-    """The key of a name that may be cut at its end, as that of a Deployment's pod is known before its hashes, and may
-    be without its namespace; then it has to fit one pod, of the report or of what the kubelet did to pods without a
-    line. A name that fits none stays as it is."""
+    """The key of a name. The name may be cut at its end, as a Deployment's pod is known without its hashes, and may be
+    without its namespace; then it has to fit one pod, of the report or of what the kubelet did to pods without a line.
+    A name that fits none stays as it is."""
     of_no_line = [] if kubelet is None else [each.pod for each, _ in kubelet.decisions() if each.number is None]
     return naming.only_key(name, list(dict.fromkeys([*keys_of(report), *of_no_line]))) or name
 
 
 def keys_named(report: reports.Report, name: str) -> list[str]:
-    """The keys that a name means: those of a namespace, which ends with a slash, or the one that it fits."""
+    """The keys that a name means: all of a namespace, which ends with a slash, or the one that it fits."""
     if not name.endswith("/"):
         return [key_named(report, name)]
     keys = [key for key in keys_of(report) if key.startswith(name)]
@@ -144,8 +144,8 @@ def without_line(kubelet: kubelets.Kubelet | None, key: str, show: Callable[[int
 
 def why(given_to: Given, trace: traces.Trace, pods: list[reports.Pod], show: Callable[[int], str],
         kubelet: kubelets.Kubelet | None, with_worst: bool = False) -> str:
-    """What the trace holds around the events of some pods, those of moments that are near, and what the kubelet did to
-    them, as text; with the worst of each, where no story is before it."""
+    """What the trace has around the events of some pods at moments that are near, and what the kubelet did to them, as
+    text; with the worst of each, where no story is before it."""
     report = given_to.report
 
     def head(pod: reports.Pod) -> str:

@@ -23,8 +23,8 @@ class Clock(Enum):
 
 
 def clock_of(found: Namespace, last: int | None, is_dated: bool = False) -> Clock:
-    """The clock that the words ask for, else that of moments of which the last is known; those of times that were given
-    are dated."""
+    """The clock that the arguments ask for, else the clock of the moments, of which the last is known. Times that were
+    given are dated."""
     asked = [clock for clock in Clock if getattr(found, clock.value)]
     if len(asked) > 1:
         named = " and ".join(f"--{clock.value}" for clock in asked)

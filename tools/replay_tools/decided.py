@@ -1,4 +1,4 @@
-"""What the ticks of a trace say of what was done to pods: whom the kubelet evicted, refused or ended, and which pods
+"""What the ticks of a trace show of what was done to pods: whom the kubelet evicted, rejected or ended, and which pods
 are being deleted."""
 
 from __future__ import annotations
@@ -15,7 +15,7 @@ if TYPE_CHECKING:
 
 EVICTED = "Evicted"
 OF_WORDS = frozenset(("deleting", "failed"))
-# docs/extended.md: the word that a tick has of a pod that the node has ended
+# docs/extended.md: the reason in a tick of a pod that the node has ended
 REASON = re.compile(r"[A-Za-z][A-Za-z0-9_./-]{0,62}", re.ASCII)
 # who deletes a pod, by the reason of its condition DisruptionTarget (Kubernetes, "Disruptions")
 DELETERS = {"EvictionByEvictionAPI": "the eviction API", "DeletionByTaintManager": "the taint manager",
@@ -25,27 +25,27 @@ DELETERS = {"EvictionByEvictionAPI": "the eviction API", "DeletionByTaintManager
 
 @dataclass
 class Decision:
-    """What the kubelet did to a pod, as a recording of it says; the formats do not read that."""
+    """What the kubelet did to a pod, as a recording shows it; the formats do not read that."""
 
     kind: str
     """evicted, refused or ended"""
     at: int
     pod: str
     number: int | None
-    """that of the pod; None where it has no line in the trace"""
+    """the pod's number; None if it has no line in the trace"""
     reason: str
     message: str
     uid: str | None = None
-    """that of a pod that has no line in the trace, where it is known"""
+    """the uid of a pod without a line in the trace, if it is known"""
     had_run: bool = False
-    """of a refused pod: it had run before, and was refused when the kubelet admitted its pods again"""
+    """of a rejected pod: it had run before, and the kubelet rejected it when it admitted its pods again"""
     is_guessed: bool = False
     """no source gave its reason"""
 
 
 @dataclass
 class Deletion:
-    """Since when a pod is being deleted, and by whom and with which grace, where a recording says it."""
+    """Since when a pod is being deleted, and by whom and with which grace, if a recording has that."""
 
     at: int
     by: str | None = None
@@ -59,8 +59,8 @@ class Deletion:
 
 
 def take_words(trace: Trace, entries: dict[str, dict[str, Any]], present: dict[str, Pod]) -> None:
-    """What the newest tick says of pods that are being deleted, and of those that the node has ended, by its entries of
-    which more is said than is listed: the first tick counts. What else is known of a deletion may come later."""
+    """Takes from the newest tick which pods are being deleted and which the node has ended. `entries` are its entries
+    with more members than listings. The first tick counts. What else is known of a deletion may come later."""
     tick = trace.ticks[-1]
     if not trace.heeds_words():
         return
@@ -89,8 +89,8 @@ def grace_of(entry: dict[str, Any], otherwise: int | None) -> int | None:
 
 
 def decisions_of(trace: Trace, found: dict[str, Any]) -> Iterator[Decision]:
-    """What a tick says that the kubelet did, by its own moment, to the last pod of a key unless it is left out. Since
-    the formats do not read it, what has another shape says nothing."""
+    """What a tick shows that the kubelet did, by its own moment, to the last pod of a key unless it is left out. The
+    formats do not read it, so values of another shape count as absent."""
     told = found.get("kubelet")
     for kind in ("evicted", "refused", "ended"):
         each_of = told.get(kind) if isinstance(told, dict) else None
@@ -105,8 +105,8 @@ def decisions_of(trace: Trace, found: dict[str, Any]) -> Iterator[Decision]:
 
 
 def decisions_with_endings(trace: Trace) -> list[Decision]:
-    """All that the kubelet did; of a pod that it ended what a recording says with its message, where it does."""
-    # a pod that was refused at its re-admission has `failed` too, which is that refusal
+    """All that the kubelet did; of a pod that it ended the recording's decision with its message, if there is one."""
+    # a pod that was rejected at its re-admission has `failed` too, for that reason
     told = {decision.number for decision in trace.decisions if decision.number is not None}
     return sorted([*trace.decisions, *(each for number, each in trace.failed.items() if number not in told)],
                   key=lambda decision: decision.at)

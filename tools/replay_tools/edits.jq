@@ -1,5 +1,5 @@
-# Words for the edits of kubelet-replay what-if. Each changes the lines that it names, and leaves the others as they are. What an
-# edit asks for is said on standard error, so that what-if knows of pods and containers that are not there.
+# Functions for the edits of kubelet-replay what-if. Each changes the lines that it names, and leaves the others as they are. What an
+# edit asks for is written to standard error, so that what-if knows of pods and containers that are not there.
 
 def asks($what): ({"what-if": $what} | debug | empty), .;
 

@@ -18,8 +18,8 @@ def by_rules(report: reports.Report) -> list[reports.Eviction]:
 
 
 def heeds_rounds(trace: traces.Trace, report: reports.Report) -> bool:
-    """Whether the report's program heeds which ticks are judged and which pods are exempt: then the rules name or evict
-    no pod in a tick that is not judged, and none that is exempt."""
+    """Whether the report's program reads which ticks are sync ticks and which pods are exempt: then the rules name or
+    evict no pod in a tick that is no sync tick, and none that is exempt."""
     if report.heeds_rounds is None:
         spared = {pod.number for pod in trace.pods if pod.is_spared}
         report.heeds_rounds = all(

@@ -14,7 +14,7 @@ from replay_tools.cli.statuses import Status
 if TYPE_CHECKING:
     from replay_tools import report as reports
 
-# that of the formats
+# the longest trace of the formats
 LONGEST_INPUT = 64 << 20
 # an interrupt that Python drops comes again after so long
 AGAIN_SECONDS = 0.01
@@ -77,7 +77,7 @@ class OutputFault(OSError):
 
 
 class Output(io.FileIO):
-    """Standard output, with faults that can be distinguished from those of other files."""
+    """Standard output, with faults that can be distinguished from the faults of other files."""
 
     def write(self, data: Any) -> int:
         try:
@@ -107,7 +107,7 @@ def again_if_interrupt(dropped: Any) -> None:
 
 
 def run(tool: str, main: Callable[[], int]) -> int:
-    """The status of a process that runs a tool: that of main, or of a failure where standard output is closed."""
+    """The status of a process that runs a tool: the status of main, or FAILED if standard output is closed."""
     sys.unraisablehook = again_if_interrupt
     if sys.stderr is None:
         sys.stderr = open(os.devnull, "w", encoding="utf-8")
@@ -138,8 +138,8 @@ def is_interrupt(fault: BaseException) -> bool:
 
 
 def answered(tool: str, main: Callable[[], int]) -> int:
-    """The status of a tool, whose answer or fault is written: that of main, of a fault, or of a failure where
-    standard output takes no more or the system rejects something that no tool expects."""
+    """The status of a tool, whose answer or fault is written: the status of main or of a fault, or FAILED if standard
+    output takes no more or the system rejects something that no tool expects."""
     sys.argv = [tool]
     try:
         status = main()

@@ -12,7 +12,7 @@ from dataclasses import dataclass
 from replay_tools import entry
 from replay_tools.cli.statuses import Status
 
-# a link to that of the documents
+# the same as docs/report.schema.json
 SCHEMA = os.path.join(os.path.dirname(__file__), "report.schema.json")
 PLACE = re.compile(r"\{(\w+)\}")
 # places of a line that are no fields of their own kind of event

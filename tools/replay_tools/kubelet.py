@@ -1,4 +1,4 @@
-"""What the kubelet did beside what the rules do: whom it evicted or refused stands in a trace of the recorder, and whom
+"""What the kubelet did next to what the rules do: whom it evicted or rejected is in a trace of the recorder, and whom
 the rules evict over the samples that were recorded in its report."""
 
 from __future__ import annotations
@@ -11,12 +11,12 @@ from replay_tools import amounts, decided, endings, events, report as reports, s
 
 # what is no further apart is one eviction, in seconds
 NEAR = 2
-# how far back the samples go that are shown beside what the kubelet did
+# how far back the samples go that are shown next to what the kubelet did
 SAMPLE_SECONDS = 30
 RESOURCE = re.compile(r"The node was low on resource: ([a-z-]+)")
-# what a pod may use by its own limits (Kubernetes, "Local ephemeral storage"); no threshold of the node is behind it
+# what a pod may use by its own limits (Kubernetes, "Local ephemeral storage"); no threshold of the node leads to it
 OWN_LIMIT = re.compile(r"exceeds the (?:total )?limit|exceeded its local ephemeral storage limit")
-# what the reason says with which a kubelet ends a pod (Kubernetes, "Node Shutdowns", "Jobs", and the kubelet's own)
+# what the reason means with which a kubelet ends a pod (Kubernetes, "Node Shutdowns", "Jobs", and the kubelet's own)
 MEANINGS = {"DeadlineExceeded": "it ran for longer than its activeDeadlineSeconds",
             "Preempting": "a critical pod had no room next to it", "Terminated": "the node was shut down",
             "Shutdown": "the node was shut down", "NodeShutdown": "the node was shut down"}
@@ -46,7 +46,7 @@ class Fact:
 
     @property
     def is_judged(self) -> bool:
-        """Whether the rules have anything to say of it: of an eviction under pressure of the node."""
+        """Whether the rules can judge it: they judge an eviction under pressure of the node."""
         return self.decision.kind == "evicted" and not self.is_imported and not is_own_limit(self.decision)
 
 
@@ -96,7 +96,7 @@ class Kubelet:
 
 
 def beside(trace: traces.Trace, report: reports.Report) -> Kubelet | None:
-    """What the kubelet did beside the report; None where the trace does not say what it did."""
+    """What the kubelet did, to compare with the report; None if the trace does not show what it did."""
     if not trace.tells():
         return None
     rules = endings.by_rules(report)
@@ -288,13 +288,13 @@ def why_words(decision: traces.Decision) -> str:
 
 
 def reason_words(reason: str, message: str = "") -> str:
-    """The reason with which the kubelet ended a pod, with what it says or what that means."""
+    """The reason with which the kubelet ended a pod, with its message or its meaning."""
     says = message or MEANINGS.get(reason)
     return f"{reason} ({says})" if says else reason
 
 
 def ended_words(reason: str) -> str:
-    """That the kubelet ended a pod, as a report alone says it."""
+    """That the kubelet ended a pod, as a report alone shows it."""
     kind = "evicted" if reason == decided.EVICTED else "ended"
     return event_words(traces.Decision(kind, 0, "", None, reason, ""))
 
@@ -307,7 +307,7 @@ def amount_of(text: str) -> str:
 
 
 def event_words(decision: traces.Decision) -> str:
-    """What the kubelet did, as an event is told."""
+    """What the kubelet did, in the words of an event."""
     sentence = events.decision_sentence(decision.kind)
     return events.filled(sentence, {"decision": decision.kind, "why": why_words(decision)})
 
@@ -319,13 +319,13 @@ def did_words(decision: traces.Decision, show: Callable[[int], str]) -> str:
 
 
 def causes_text(causes: list[list[int | str]], show: Callable[[int], str]) -> str:
-    """The causes behind a semicolon each."""
+    """The causes, each after a semicolon."""
     told = (" ".join(show(part) if isinstance(part, int) else part for part in cause) for cause in causes)
     return "".join(f"; {cause}" for cause in told)
 
 
 def rules_words(fact: Fact, show: Callable[[int], str], names: bool = False) -> str:
-    """What the rules do to the pod beside what the kubelet did."""
+    """What the rules do to the pod, compared with what the kubelet did."""
     if not fact.is_judged and fact.eviction is None:
         return f"the rules can't judge it{causes_text(fact.causes, show)}"
     if fact.eviction is None:
@@ -365,6 +365,6 @@ def lines_of(kubelet: Kubelet | None, number: int, show: Callable[[int], str]) -
 
 
 def no_line_text(key: str, decisions: list[traces.Decision], show: Callable[[int], str]) -> str:
-    """What is told of pods that have no line in the trace."""
+    """What is printed of pods that have no line in the trace."""
     return "".join(f"{key}: {did_words(each, show)}. It has no line in the trace: it is no candidate, and no eviction "
                    "of the rules.\n" for each in decisions)

@@ -47,8 +47,8 @@ class Lane:
 
 @dataclass(frozen=True)
 class Lanes:
-    """Those of a pod: whether it was Ready, its containers', and what was reported, by the places of these, -1 of the
-    pod itself."""
+    """The lanes of a pod: whether it was Ready, its containers' states, and what was reported by the places of the
+    containers, -1 of the pod itself."""
 
     ready: list[Span]
     containers: list[Lane]

@@ -32,17 +32,19 @@ def memory_in(resources: Any) -> int | None:
 
 
 def limit_of(event: reports.Event, trace: traces.Trace) -> Limit | None:
-    """The memory limit under which an instance died: as its container has it by then where that was changed in place,
-    else as the manifest has it, else that of the whole pod."""
+    """The memory limit under which an instance died: the container's limit after a resize, else the manifest's, else
+    the limit of the whole pod. In recordings of older recorders the listing has what a resize has changed."""
     if event.number is None or event.container is None:
         return None
     pod = trace.pods[event.number]
-    changed = memory_in(trace.listed_as(pod, event.container, trace.places[event.at]).get("resources"))
-    if changed is not None:
-        return Limit(amounts.amount_text(changed, True), "its", "resources.limits.memory, as it was changed in place")
-    own = next((one.memory_limit for one in pod.containers if one.name == event.container), None)
+    found = trace.resizes.container_at(pod, event.container, event.at)
+    own, is_changed = found and found.memory_limit, bool(trace.resizes.of_container(pod.number, event.name, event.at))
+    if not is_changed:
+        listed = memory_in(trace.listed_as(pod, event.container, trace.places[event.at]).get("resources"))
+        own, is_changed = listed or own, listed is not None
     if own:
-        return Limit(amounts.amount_text(own, True), "its", "resources.limits.memory")
+        changed = ", as it was changed in place" if is_changed else ""
+        return Limit(amounts.amount_text(own, True), "its", f"resources.limits.memory{changed}")
     if pod.memory_limit:
         return Limit(amounts.amount_text(pod.memory_limit, True), "its pod's", "spec.resources.limits.memory")
     return None

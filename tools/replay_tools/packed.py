@@ -19,7 +19,7 @@ class Damaged(Exception):
 
 
 def regular(path: str) -> BinaryIO:
-    """A file to be read, of a folder that may hold anything: a pipe would be waited for, and a device may never end.
+    """A file to be read, of a folder that may have anything: a pipe would be waited for, and a device may never end.
     Raises OSError."""
     descriptor = os.open(path, os.O_RDONLY | os.O_NONBLOCK | os.O_CLOEXEC)
     if stat.S_ISREG(os.fstat(descriptor).st_mode):

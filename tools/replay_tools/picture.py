@@ -15,7 +15,7 @@ if TYPE_CHECKING:
 WIDTH, RIGHT, TOP = 1200, 70, 34
 LANE, BAR, STRIP, HEAD, GAP = 20, 13, 7, 22, 14
 WIDEST_LABEL = 250
-# those of replay_tools/page/page.css in its light theme
+# the colours of replay_tools/page/page.css in its light theme
 COLOURS = {"Waiting": "#e9c46a", "Running": "#3f7fc4", "Ended with 0": "#a3adb8", "Ended otherwise": "#bf372e",
            "Ready": "#3b9a5f", "Not ready": "#e08a3c", "Pressure": "#a34d8c"}
 INK, QUIET, KILL, SAID = "#17212b", "#5a6775", "#8a2be2", "#12797d"
@@ -171,7 +171,7 @@ def pressure_lanes(picture: Picture, report: reports.Report, y: float) -> float:
 
 
 def eviction_lane(picture: Picture, report: reports.Report, is_beside: bool, y: float) -> None:
-    """A cross for each eviction by the rules, a quiet one where those of the kubelet are next to it."""
+    """A cross for each eviction by the rules, a quiet one if the kubelet's evictions are next to it."""
     label(picture, y + BAR - 2, "by the rules" if is_beside else "evictions")
     colour = QUIET if is_beside else COLOURS["Ended otherwise"]
     for eviction in report.evictions:

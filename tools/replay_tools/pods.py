@@ -2,7 +2,7 @@
 
 from __future__ import annotations
 
-from dataclasses import dataclass
+from dataclasses import dataclass, field, replace
 from typing import Any
 
 from replay_tools import amounts
@@ -11,6 +11,8 @@ from replay_tools.limits import memory_in
 from replay_tools.restarting import Restarting, restartings_in
 
 PROBES = ("startup", "liveness", "readiness")
+SIDES = ("requests", "limits")
+RESOURCES = ("memory", "cpu", "ephemeral-storage")
 
 
 @dataclass
@@ -29,13 +31,24 @@ class Container:
     """app, sidecar or init"""
     probes: dict[str, Probe]
     requests: dict[str, int]
-    """thousandths by resource; a limit without a request stands for it"""
+    """thousandths by resource; a limit is the request that is not set"""
     memory_limit: int | None = None
     """thousandths of a byte"""
     bounds: Bounds = Bounds()
     """as its manifest sets them"""
     restarting: Restarting = Restarting()
     """what decides about its restarts"""
+    resources: dict[str, dict[str, int | str]] = field(default_factory=dict)
+    """the requests and limits that its manifest sets, as they are written"""
+
+    def amounts(self) -> dict[tuple[str, str], int]:
+        """The thousandths that are set, by the resource and `requests` or `limits`."""
+        return {(resource, side): amounts.quantity(value) for side, of_side in self.resources.items()
+                for resource, value in of_side.items()}
+
+    def resized(self, resources: dict[str, Any]) -> Container:
+        """The container with other requests and limits. Raises Wrong."""
+        return replace(self, **resource_fields(resources))
 
 
 @dataclass
@@ -52,7 +65,7 @@ class Pod:
     gone: int | None = None
     """the place of the first tick at which it is not present any more"""
     uid: str | None = None
-    """as a recording says it; None where it does not"""
+    """as a recording has it; None if it has none"""
     is_spared: bool = False
     """it is no candidate for eviction"""
     memory_limit: int | None = None
@@ -104,13 +117,19 @@ def has_bare_manifest(pod: Pod) -> bool:
 def container_of(found: dict[str, Any], role: str) -> Container:
     probes = {kind: probe_of(dict_at(found, f"{kind}Probe")) for kind in PROBES
               if value_at(found, f"{kind}Probe") is not None}
-    resources = dict_at(found, "resources")
+    return Container(text_at(found, "name"), role, probes, **resource_fields(dict_at(found, "resources")))
+
+
+def resource_fields(resources: dict[str, Any]) -> dict[str, Any]:
+    """The fields of a container that its requests and limits decide. Raises Wrong."""
     requests = {resource: amounts.quantity(value) for named in ("limits", "requests")
                 for resource, value in dict_at(resources, named).items()
                 if resource in ("memory", "ephemeral-storage") and value is not None and amounts.quantity(value)}
     memory_limit = value_at(dict_at(resources, "limits"), "memory")
-    return Container(text_at(found, "name"), role, probes, requests,
-                     None if memory_limit is None else amounts.quantity(memory_limit), bounds_of(resources))
+    return {"requests": requests, "memory_limit": None if memory_limit is None else amounts.quantity(memory_limit),
+            "bounds": bounds_of(resources),
+            "resources": {side: {resource: value for resource, value in dict_at(resources, side).items()
+                                 if resource in RESOURCES and value is not None} for side in SIDES}}
 
 
 def probe_of(found: dict[str, Any]) -> Probe:

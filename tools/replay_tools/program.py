@@ -20,7 +20,7 @@ SMALLEST = b'{"kind":"node","name":"n1"}\n'
 
 
 def path() -> str:
-    """The absolute path of the program: KUBELET_REPLAY, or that of the release or the checkout."""
+    """The absolute path of the program: KUBELET_REPLAY, or the program of the release or the checkout."""
     released = os.path.join(TOP, RELEASED)
     own = released if os.path.exists(released) else os.path.join(TOP, "kubelet_replay")
     return os.path.abspath(os.environ.get("KUBELET_REPLAY") or own)

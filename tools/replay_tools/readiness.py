@@ -63,7 +63,7 @@ def closed_gates(trace: traces.Trace | None, pod: reports.Pod) -> list[tuple[str
 
 
 def by_rules(trace: traces.Trace | None, pod: reports.Pod) -> list[reports.Span]:
-    """The spans of Ready by the rules: those of ContainersReady, but False while a gate's condition is not True."""
+    """The spans of Ready by the rules: as ContainersReady, but False while a gate's condition is not True."""
     closed = closed_gates(trace, pod)
     if not closed:
         return reports.ready_spans(pod)

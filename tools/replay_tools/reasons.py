@@ -1,4 +1,4 @@
-"""Why instances ended and why containers wait, as a recording says it beside what the formats read. A report has codes
+"""Why instances ended and why containers wait, which a recording has next to what the formats read. A report has codes
 alone, and 137 also for an instance that a tick just leaves out."""
 
 from __future__ import annotations
@@ -14,16 +14,16 @@ if TYPE_CHECKING:
 
 LOST = 137
 OUT_OF_MEMORY = "OOMKilled"
-# what a runtime says where it knows no more than the code
+# the reason of a runtime that knows no more than the code
 PLAIN = "Error"
 HOOK_FAILED = "PostStartHookError"
 # a start that failed
 NEVER_RAN = ("StartError", "ContainerCannotRun", "CreateContainerError", "RunContainerError")
-# entries and listings without one of these members say no reason; most have none of them
+# entries and listings without one of these members have no reason; most have none of them
 OF_ENTRY = frozenset(("guessed", "readinessGates", "readyTurns", "waiting"))
 OF_LISTING = frozenset(("ended", "guessed", "reason"))
-# in the array of members that were guessed, as where a log says of an exit no code, and of a start or an exit no moment
-# but that of the kubelet's next look
+# in the array of members that were guessed, as of a log that has no code of an exit, and of a start or an exit only the
+# moment of the kubelet's next poll
 CODE, MOMENT, PHASE = "exitCode", "moment", "phase"
 WITHIN = " (within a second)"
 CLOSED = "readiness gate", None
@@ -31,13 +31,13 @@ CLOSED = "readiness gate", None
 
 @dataclass
 class End:
-    """How an instance ended: its code, and why, where that was said."""
+    """How an instance ended: its code, and why, if that was recorded."""
 
     code: int | None
     reason: str | None = None
     message: str | None = None
     is_guessed: bool = False
-    """the trace says that its code was guessed"""
+    """the trace marks its code as guessed"""
     used: limits.Used | None = None
     log: list[str] = field(default_factory=list)
     """the last lines that it wrote"""
@@ -47,8 +47,8 @@ class End:
 
 @dataclass
 class Wait:
-    """Why a container did not run, from the first tick that says so until the first that does not; None where all to
-    the last one do."""
+    """Why a container did not run, from the first tick that shows it until the first that does not; None if all ticks
+    to the last one do."""
 
     since: int
     until: int | None
@@ -60,7 +60,7 @@ class Wait:
 
 
 class Reasons:
-    """What the ticks of a trace say, which are taken one after the other."""
+    """What the ticks of a trace show, which are taken one after the other."""
 
     def __init__(self) -> None:
         self.ends: dict[tuple[int, str, int], End] = {}
@@ -78,13 +78,13 @@ class Reasons:
         self.turns: dict[int, dict[int, str]] = {}
         """how the condition Ready has turned in the kubelet's status: its status by the moment, by the pod's number"""
         self.unknown_phases: set[int] = set()
-        """the numbers of pods that have ended, and of which no code says whether they succeeded"""
+        """the numbers of pods that have ended, and of which no code shows whether they succeeded"""
         self.looked: set[tuple[str, int, str, int]] = set()
-        """the starts and deaths that are known by a look: the event's word, the pod's number, container and attempt"""
+        """the starts and deaths that are known by a poll: the event's word, the pod's number, container and attempt"""
 
     def take(self, at: int, entries: dict[str, dict[str, Any]], others: dict[str, dict[str, Any]],
              present: dict[str, traces.Pod]) -> None:
-        """What a tick says, by its entries, and those of them of which more is said than is listed."""
+        """Takes what a tick shows. `entries` has all its entries, `others` the ones with more members than listings."""
         waiting: dict[tuple[int, str], tuple[str, str | None]] = {}
         closed: dict[tuple[int, str], tuple[str, str | None]] = {}
         for key, found in entries.items():
@@ -105,7 +105,7 @@ class Reasons:
 
     def closed_by_conditions(self, entries: dict[str, dict[str, Any]],
                              present: dict[str, traces.Pod]) -> Iterator[tuple[int, str]]:
-        """The gates of manifests whose conditions are not True after a tick. None is True until a tick says so."""
+        """The gates of manifests whose conditions are not True after a tick. None is True until a tick shows it."""
         for key, pod in present.items():
             given = entries.get(key, {}).get("conditions") if pod.gates else None
             for gate in pod.gates:
@@ -140,13 +140,13 @@ class Reasons:
             self.looked.add(("died" if "exitCode" in listed else "started", number, name, attempt))
 
     def within_words(self, event: reports.Event) -> str:
-        """That a start or a death is known by the kubelet's next look alone; nothing of others."""
+        """That a start or a death is known by the kubelet's next poll alone; nothing of others."""
         is_looked = event.word in ("started", "died") and (
             event.word, event.number, event.container, int(event.rest[0])) in self.looked
         return WITHIN if is_looked else ""
 
     def take_end(self, number: int, name: str, said: dict[str, Any]) -> None:
-        """A later reason is the better one, and a message stands in the first tick alone."""
+        """A later reason is the better one, and only the first tick has a message."""
         reason, code = text_at(said, "reason"), outside.whole(said.get("exitCode"), -outside.MOST_OF_CODE - 1,
                                                              outside.MOST_OF_CODE)
         attempt = outside.whole(said.get("attempt", 0), 0, outside.MOST_OF_CODE)
@@ -162,7 +162,7 @@ class Reasons:
         end.log_left_out = outside.whole(said.get("logLeftOut"), 1, outside.MOST_OF_CODE) or end.log_left_out
 
     def end_of(self, event: reports.Event) -> End | None:
-        """How the instance of a death ended; None where the trace does not say it."""
+        """How the instance of a death ended; None if the trace does not show it."""
         return None if event.number is None else self.ends.get((event.number, event.name, int(event.rest[0])))
 
     def gates_of(self, pod: reports.Pod) -> list[tuple[str, Wait]]:
@@ -179,7 +179,7 @@ class Reasons:
 
 def take_waits(waits: dict[tuple[int, str], list[Wait]], still: dict[tuple[int, str], Wait], at: int,
                waiting: dict[tuple[int, str], tuple[str, str | None]]) -> None:
-    """What a tick says of all that waits: what it does not say any more is over, what is new begins."""
+    """Takes what a tick shows of all that waits: what it no longer shows is over, what is new begins."""
     for place, wait in list(still.items()):
         said = waiting.get(place)
         if said is None or said[0] != wait.reason or said[1] not in (None, wait.message):
@@ -206,7 +206,7 @@ def gates_in(found: dict[str, Any]) -> tuple[str, ...]:
 
 
 def closed_gates(found: dict[str, Any]) -> list[str]:
-    """The conditions of the readiness gates that an entry says are not true, as recordings in the standard format and
+    """The conditions of the readiness gates that an entry shows as not true, as recordings in the standard format and
     older ones have it."""
     gates = found.get("readinessGates")
     named = [outside.text_of(gate) for gate, is_true in gates.items() if is_true is False] if isinstance(gates, dict) \
@@ -215,7 +215,7 @@ def closed_gates(found: dict[str, Any]) -> list[str]:
 
 
 def guesses_code(said: dict[str, Any]) -> bool:
-    """Whether a listing says that its exit code was guessed."""
+    """Whether a listing marks its exit code as guessed."""
     return is_guessed_in(said, CODE)
 
 
@@ -259,12 +259,12 @@ def short_words(event: reports.Event, trace: traces.Trace | None) -> str:
 
 
 def code_words(code: int | str, end: End | None) -> str:
-    """A code that stands in a table, which is not told where it was guessed."""
+    """A code of a table; a guessed one is not printed."""
     return "unknown" if end is not None and end.is_guessed else str(code)
 
 
 def last_end(pod: reports.Pod, container: reports.Container, trace: traces.Trace | None) -> End | None:
-    """How the newest instance of a container ended, where it did and the trace says it."""
+    """How the newest instance of a container ended, if it did and the trace shows it."""
     if trace is None or container.state != "Terminated":
         return None
     return trace.reasons.ends.get((pod.number, container.name, int(container.restarts)))
@@ -284,8 +284,8 @@ def reason_words(event: reports.Event, end: End, reason: str, trace: traces.Trac
 
 
 def because_lines(event: reports.Event, trace: traces.Trace) -> list[str]:
-    """What the reason of a death means, as lines, and the last lines that the instance wrote; none where the code says
-    as much."""
+    """What the reason of a death means, as lines, and the last lines that the instance wrote; none if the code shows as
+    much."""
     end = trace.reasons.end_of(event)
     if end is None:
         return []
@@ -321,14 +321,13 @@ def meaning_lines(event: reports.Event, end: End, trace: traces.Trace) -> list[s
 
 
 def left_words(event: reports.Event, trace: traces.Trace) -> str:
-    """What memory the node had left by the last sample, which tells a limit from a node that ran out of it."""
+    """What memory the node had left by the last sample, which distinguishes a limit from a node that ran out of it."""
     left = trace.ticks[trace.places[event.at]].signals.get("memory.available")
     return "" if left is None else f"; the node had {amounts.amount_text(left, True)} of memory available"
 
 
 def is_known(event: reports.Event, trace: traces.Trace) -> bool:
-    """Whether the code of a death is that of the instance, and neither that of one that a tick just leaves out nor one
-    that was guessed."""
+    """Whether the code of a death is the instance's own: the instance was listed, and its code was not guessed."""
     end = trace.reasons.end_of(event)
     if end is not None:
         return not end.is_guessed
@@ -336,7 +335,7 @@ def is_known(event: reports.Event, trace: traces.Trace) -> bool:
 
 
 def is_guessed(event: reports.Event, trace: traces.Trace | None) -> bool:
-    """Whether the trace says that the code of a death was guessed."""
+    """Whether the trace marks the code of a death as guessed."""
     end = trace.reasons.end_of(event) if trace is not None and event.word == "died" else None
     return end is not None and end.is_guessed
 

@@ -16,7 +16,7 @@ if TYPE_CHECKING:
 
 def records_of(report: reports.Report, kubelet: kubelets.Kubelet | None = None, trace: traces.Trace | None = None,
                span: tuple[int, int] | None = None, known: int = NEVER) -> Iterator[dict[str, Any]]:
-    """Each record of a report: the node, its events, its pods with their containers and conditions, its own
+    """Each record of a report: the node, its events, its pods with their containers, conditions and resizes, its own
     conditions, and the evictions; then what the kubelet did, and why instances died and containers waited, where a
     trace shown it. The span are the moments of the trace's first and last tick, where they are known. What is by the
     moment `known` was so in the trace that this one follows, and is counted there."""
@@ -38,6 +38,7 @@ def records_of(report: reports.Report, kubelet: kubelets.Kubelet | None = None, 
             yield container_record(report, pod, container, known, trace)
         for condition in pod.conditions:
             yield condition_record(report, condition, pod)
+        yield from resize_records(report, pod, trace)
     for condition in report.conditions:
         yield condition_record(report, condition, None)
     for number, eviction in enumerate(report.evictions):
@@ -58,7 +59,7 @@ def of_trace(trace: traces.Trace | None) -> dict[str, Any]:
 
 
 def first_moment(report: reports.Report) -> int | None:
-    """The first moment that the report names, which is that of the first tick; None without a tick."""
+    """The first moment that the report names, which is the first tick's; None without a tick."""
     named = [event.at for event in report.events] + reports.node_moments(report)
     named += [reports.first_tick(pod) for pod in report.pods if reports.has_ticks(report, pod)]
     return min(named) if report.tick_count else None
@@ -192,6 +193,15 @@ def condition_record(report: reports.Report, condition: reports.Condition, pod: 
         "pod_number": pod.number if pod else None, "condition": condition.kind, "value": condition.value == "True",
         "since": condition.at, "reason": condition.reason,
     }
+
+
+def resize_records(report: reports.Report, pod: reports.Pod, trace: traces.Trace | None) -> Iterator[dict[str, Any]]:
+    """The resizes of a pod's containers, with the requests and limits before and after them, as the trace has them."""
+    for resize in trace.resizes.of_pod.get(pod.number, ()) if trace is not None else ():
+        yield {"record": "resize", "node": report.node, "pod": pod.key, "pod_number": pod.number,
+               "container": resize.container.name, "at": resize.at, "words": resize.sentence(),
+               "before": resize.before.resources, "after": resize.container.resources,
+               **({"so_before": True} if resize.was_so else {})}
 
 
 def cause_records(report: reports.Report, trace: traces.Trace, last: int,

@@ -36,7 +36,7 @@ class Event:
     word: str
     rest: list[str]
     number: int | None = None
-    """that of its pod, where it has one"""
+    """its pod's number, if it has one"""
     anew: int | None = None
     """the moment of a rotation after which what it counts began again"""
     was_so: bool = False
@@ -44,7 +44,7 @@ class Event:
 
     @property
     def name(self) -> str:
-        """That of its container, as each event of an instance has one; else an empty text."""
+        """The name of its container, which each event of an instance has; else an empty text."""
         return self.container or ""
 
 
@@ -91,7 +91,7 @@ class Pod:
     """the place of the event from which on it is printed again, since only the rules had ended it before"""
 
     def condition(self, kind: str) -> Condition:
-        """That of a kind of which it has one."""
+        """The condition of a kind of which it has one."""
         return next(found for found in self.conditions if found.kind == kind)
 
     def own_gaps(self) -> list[tuple[int, int]]:
@@ -107,7 +107,7 @@ class Eviction:
     kind: str
     grace: int
     number: int | None = None
-    """that of the pod"""
+    """the pod's number"""
     anew: int | None = None
     """the moment of a rotation after which its grace period or the pause began again"""
     is_named: bool = False
@@ -116,7 +116,7 @@ class Eviction:
 
 @dataclass
 class Border:
-    """Where the report of one trace ends and that of the next begins, of those of several traces."""
+    """Where the report of one trace ends and the next trace's report begins, if there are several traces."""
 
     since: int
     """up to when the one shows all that happened"""
@@ -232,8 +232,8 @@ def read_report(text: str) -> Report:
 
 
 def report_with(report: Report | None, line: str) -> Report:
-    """The report with one more line, the first of which is the node's and the last that of the totals. Raises NoLine
-    where it is none of this report."""
+    """The report with one more line. The first line is the node's, the last one has the totals. Raises NoLine where it
+    is none of this report."""
     kind, parts = parts_of(line)
     if report is None:
         if kind != "node":

@@ -1,5 +1,5 @@
 """A folder that files are written into, which others may be able to write too. What they put there first, as a link to
-a file of somebody's, must not be written through, nor taken for what was written here. All names are those of entries
+a file of somebody's, must not be written through, nor taken for what was written here. All names are names of entries
 of a folder that is open, so that no link on the way to it can be turned round."""
 
 from __future__ import annotations

@@ -9,7 +9,7 @@ from replay_tools import (asking, endings, kubelet as kubelets, own_restarts, pr
                           report as reports, why_text)
 from replay_tools.joined import told as told_of_several
 from replay_tools.telling import (DECIDED, OF_NODE, SAID_LATER, beside_words, containers_title, event_words,
-                                  last_lines, node_lines, node_rows, rank_of, rank_of_said, table)
+                                  last_lines, node_lines, node_rows, rank_of, rank_of_said, resize_rows, table)
 
 if TYPE_CHECKING:
     from replay_tools import traces
@@ -89,7 +89,7 @@ def evictions(report: reports.Report, pod: reports.Pod, show: Show) -> list[list
 def events(report: reports.Report, pod: reports.Pod, show: Show, kubelet: kubelets.Kubelet | None,
            trace: traces.Trace | None, is_near: Callable[[int], bool]) -> list[str]:
     """A table of the pod's events near the moment, of what was reported of it, of what the kubelet did to it, of its
-    deletion, and of what happened to the node."""
+    resizes and its deletion, and of what happened to the node."""
     rows = [(at, OF_NODE, ["-", "-", what]) for at, what, _ in
             (node_rows(trace, report, pod, show) if trace else ())]
     for event in pod.events:
@@ -97,6 +97,7 @@ def events(report: reports.Report, pod: reports.Pod, show: Show, kubelet: kubele
         cells, rank = [event.container or "-", attempt or "-"], rank_of(event)
         rows.append((event.at, rank, [*cells, what + beside_words(pod, event, show, trace)]))
         rows += [(event.at, rank, [*cells, wrote]) for wrote in last_lines(event, trace)]
+    rows += [(at, DECIDED, [name, "-", what]) for at, name, what in resize_rows(trace, pod, show)]
     rows += [(at, SAID_LATER, ["-", "-", what]) for at, what in readiness.rows(trace, pod)]
     rows += [(said.at, rank_of_said(said), [said.container or "-", "-", said.words()])
              for said in (trace.said.of(pod.number) if trace else ())]

@@ -229,8 +229,8 @@ def of_deletion(deletion: decided.Deletion | None, since: int) -> Found | None:
 
 
 def last_moment(report: reports.Report, trace: traces.Trace | None = None) -> int | None:
-    """That of the trace's last tick; without a trace the last moment that the report names, which is no later. None
-    without a tick."""
+    """The moment of the trace's last tick; without a trace the last moment that the report names, which is no later.
+    None without a tick."""
     if trace is not None and trace.ticks:
         return trace.ticks[-1].at
     return max(reports.moments(report)) if report.tick_count else None

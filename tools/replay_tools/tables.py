@@ -39,6 +39,8 @@ TABLES = {
                               "reason TEXT, message TEXT, rules_at INTEGER, agrees INTEGER, causes TEXT"),
     "border": ("borders", "node TEXT, number INTEGER, since INTEGER, at INTEGER, is_gap INTEGER, trace TEXT, "
                           "missing TEXT"),
+    "resize": ("resizes", "node TEXT, pod TEXT, pod_number INTEGER, container TEXT, at INTEGER, words TEXT, "
+                          "before TEXT, after TEXT, so_before INTEGER"),
     "cause": ("causes", "node TEXT, pod TEXT, pod_number INTEGER, container TEXT, cause TEXT, reason TEXT, "
                         "code INTEGER, times INTEGER, seconds INTEGER, first_at INTEGER, last_at INTEGER, "
                         "message TEXT"),
@@ -56,12 +58,12 @@ def create_tables(connection: sqlite3.Connection, kinds: tuple[str, ...] = tuple
 
 
 def add_records(connection: sqlite3.Connection, number: int, records: Iterable[dict[str, Any]]) -> None:
-    """Rows for the records of one report, in order; number is that of the report in the file."""
+    """Rows for the records of one report, in order; number is the report's in the file."""
     rows: dict[str, list[list[Any]]] = {}
     for record in records:
         kind = record["record"]
         values = (record.get(column) for column in columns(kind))
-        rows.setdefault(kind, []).append([number, *(json.dumps(value) if isinstance(value, list) else value
+        rows.setdefault(kind, []).append([number, *(json.dumps(value) if isinstance(value, (dict, list)) else value
                                                     for value in values)])
     for kind, found in rows.items():
         marks = ", ".join("?" * (len(columns(kind)) + 1))

@@ -42,8 +42,8 @@ def table(title: str, heads: list[str], rows: list[list[str]]) -> list[str]:
 
 
 def dated_once(rows: list[list[str]]) -> list[list[str]]:
-    """Rows in which the date of a moment is left out where it is that of the row above, or of the moment that a text
-    is next to."""
+    """Rows in which the date of a moment is left out if the row above has the same, or the moment that a text is next
+    to."""
     above: dict[int, str] = {}
 
     def told(place: int, cell: str, own: str | None) -> str:
@@ -156,7 +156,8 @@ def beside_words(pod: reports.Pod, event: reports.Event, show: Callable[[int], s
     """What is next to an event of a pod: the kill that led to a death, the container's own policy or rule that decided
     about a restart after it, and of several traces what is not known of it, since it happened in a gap or is counted
     again in a trace."""
-    return killed_words(pod, event, show, trace) + own_restarts.clause(pod, event, trace) + border_words(pod, event, show)
+    decided = own_restarts.clause(pod, event, trace)
+    return killed_words(pod, event, show, trace) + decided + border_words(pod, event, show)
 
 
 def border_words(pod: reports.Pod, event: reports.Event, show: Callable[[int], str]) -> str:
@@ -169,6 +170,13 @@ def border_words(pod: reports.Pod, event: reports.Event, show: Callable[[int], s
     if event.anew is not None and anew is not None:
         return f" ({anew} {show(event.anew)})"
     return ""
+
+
+def resize_rows(trace: traces.Trace | None, pod: reports.Pod,
+                show: Callable[[int], str]) -> list[tuple[int, str, str]]:
+    """The resizes of a pod's containers: the moment, the container, and what changed."""
+    found = trace.resizes.of_pod.get(pod.number, ()) if trace is not None else ()
+    return [(resize.at, resize.container.name, resize.words() + resize.note(show)) for resize in found]
 
 
 def containers_title(pod: reports.Pod, ended: tuple[int, str] | None) -> str:

@@ -1,5 +1,5 @@
 """Reads a trace's lines into records. It takes what the program takes, and does not look for every fault that the
-program refuses."""
+program rejects."""
 
 from __future__ import annotations
 
@@ -14,6 +14,7 @@ from replay_tools.decided import Decision, Deletion, decisions_of, take_words
 from replay_tools.fields import dict_at, list_at, number_at, object_at, own_bounds_of, text_at, value_at
 from replay_tools.pods import Pod, has_bare_manifest, pod_of
 from replay_tools.reasons import Reasons, gates_in, guesses_code, is_guessed_in
+from replay_tools.resizes import Resizes
 from replay_tools.said import SaidOfPods
 from replay_tools.signals import Threshold, thresholds_of
 
@@ -28,7 +29,7 @@ STATES = ("CONTAINER_CREATED", "CONTAINER_RUNNING", "CONTAINER_EXITED", "CONTAIN
 # what the program takes
 LONGEST_TRACE, LONGEST_LINE = 64 << 20, 1 << 20
 USAGES = ("memory", "volumes", "logs", "writable", "inodes", "pids")
-# members of an entry that say nothing of the pod itself
+# members of an entry that show nothing of the pod itself
 LISTED = frozenset(("pod", "containers", "probes", "usage"))
 DECODER = json.JSONDecoder()
 # the entries of so many pods are looked for one by one
@@ -36,7 +37,7 @@ FEW = 3
 
 
 class TraceFault(Exception):
-    """The text is no trace, or not the one that was asked for; the message says where."""
+    """The text is no trace, or not the one that was asked for; the message shows where."""
 
 
 @dataclass
@@ -54,7 +55,7 @@ class Lines:
         self.text = text
         self.newest: tuple[int | None, dict[str, dict[str, Any]]] = None, {}
         self.booted_at: int | None = None
-        """the second at which the node's system was started, where the node line says it"""
+        """the second at which the node's system was started, if the node line has it"""
 
     def __iter__(self) -> Iterator[tuple[int, int, int]]:
         """Where each line begins and ends, with its number."""
@@ -117,7 +118,7 @@ class Tick:
         return self.lines.entries(self.begin, self.end)
 
     def entry(self, key: str) -> dict[str, Any] | None:
-        """That of one pod."""
+        """The entry of one pod."""
         return self.lines.entry(key, self.begin, self.end)
 
     def may_have(self, name: bytes) -> bool:
@@ -140,7 +141,9 @@ class Trace:
     reasons: Reasons = field(default_factory=Reasons)
     """why instances ended and containers wait"""
     said: SaidOfPods = field(default_factory=SaidOfPods)
-    """what the kubelet and Events said"""
+    """what the kubelet and Events reported"""
+    resizes: Resizes = field(default_factory=Resizes)
+    """which containers have other requests and limits than their manifests"""
     deletions: dict[int, Deletion] = field(default_factory=dict)
     """by the number of the pod"""
     failed: dict[int, Decision] = field(default_factory=dict)
@@ -199,12 +202,12 @@ class Trace:
         return {number: deletion.at for number, deletion in self.deletions.items()}
 
     def heeds_words(self) -> bool:
-        """Whether the words of the extended format count: that a pod has no sample, is being deleted, was ended or is
-        spared, and that a tick is not judged."""
+        """Whether the members of the extended format count: that a pod has no sample, is being deleted, was ended or is
+        exempt, and that a tick is no sync tick."""
         return self.settings.get("version") == 3
 
     def records_evictions(self) -> bool:
-        """Whether it says that it has each pod that the kubelet evicted."""
+        """Whether it has each pod that the kubelet evicted, by its node line."""
         return self.heeds_words() and self.settings.get("evictionsRecorded") is True
 
     def is_imported(self) -> bool:
@@ -212,12 +215,12 @@ class Trace:
         return self.settings.get("imported") is True
 
     def tells(self) -> bool:
-        """Whether the trace says what the kubelet did: where it then says nothing, the kubelet did nothing."""
+        """Whether the trace shows what the kubelet did: if it then shows nothing, the kubelet did nothing."""
         return (self.settings.get("recordsKubelet") is True or bool(self.decisions or self.failed)
                 or self.records_evictions())
 
     def kubelet_starts(self) -> list[int]:
-        """The moments at which the kubelet was started anew, as its ticks say it."""
+        """The moments at which the kubelet was started again, as the ticks have them."""
         found = (tick.kubelet_started_at for tick in self.ticks)
         return sorted({at for at in found if at is not None})
 
@@ -229,8 +232,8 @@ class Trace:
 
 
 def follows_of(node_line: Any) -> dict[str, Any] | None:
-    """What a node line says of the trace before it: its name, `until`, up to when that says all, and `at`, up to when
-    this one shows what was so before; None where it says nothing of this form."""
+    """What a node line has of the trace before it: its name; `until`, the moment up to which that trace has all; and
+    `at`, the moment up to which this trace shows what was so before. None if it has nothing of this form."""
     said = node_line.get("follows") if isinstance(node_line, dict) else None
     if not isinstance(said, dict):
         return None
@@ -295,7 +298,7 @@ def text_of(path: str) -> bytes:
 
 def trace_of(text: bytes, path: str, watch: Callable[..., Any] | None = None) -> Trace:
     """The trace of a text, which a path names where it is none. `watch` is called with the trace and the pods that are
-    present behind each tick, whose entries need not be read once more then. Raises TraceFault."""
+    present after each tick, whose entries need not be read once more then. Raises TraceFault."""
     other = first_bytes.instead_of_trace(text, path)
     if other:
         raise TraceFault(other)
@@ -325,7 +328,7 @@ def drop_wrong_deletions(trace: Trace) -> None:
     try:
         wrong = provenance.wrongly_deleted(trace) if len(trace.deletions) > 1 else set()
     except Wrong:
-        # a tick that can't be read is told where it is looked at
+        # a tick that can't be read is reported when it is read
         return
     for number in wrong:
         trace.marked_wrongly[number] = trace.deletions.pop(number).at
@@ -361,6 +364,9 @@ def trace_with(trace: Trace | None, present: dict[str, Pod], lines: Lines, begin
         # most entries list containers and samples alone
         others = {key: entry for key, entry in entries.items() if not LISTED.issuperset(entry)}
         take_words(trace, others, present)
+        if trace.heeds_words():
+            follows = trace.follows()
+            trace.resizes.take(trace.ticks[-1].at, others, present, -1 if follows is None else follows["at"])
         trace.decisions += decisions_of(trace, found)
         trace.reasons.take(trace.ticks[-1].at, entries, others, present)
         trace.said.take(others, present)
@@ -370,7 +376,7 @@ def trace_with(trace: Trace | None, present: dict[str, Pod], lines: Lines, begin
 
 
 def pod_that_goes(found: dict[str, Any], present: dict[str, Pod]) -> Pod:
-    """The pod that a line says is gone, which is present no more."""
+    """The pod of a `gone` line, which is present no more."""
     key = text_at(found, "pod")
     if key not in present:
         raise Wrong("pod")

@@ -1,6 +1,6 @@
-"""Gathers what a trace holds around the events of a pod. It applies no rule: that something happened is the report's,
-and what stands beside it is the trace's. The order of an eviction's table alone is made here, by the order of the
-rules, and says where the evicted pod came in it."""
+"""Gathers what a trace holds around the events of a pod. It applies no rule: that something happened comes from the
+report, and what is around it from the trace. Only the order of an eviction's table is made here, by the order of the
+rules. It shows the place of the evicted pod."""
 
 from __future__ import annotations
 
@@ -14,17 +14,18 @@ from replay_tools import endings, outside, report as reports, traces
 from replay_tools.fields import Bounds, bounds_of, text_at
 from replay_tools.pods import Container, Probe
 
-# an exit behind a run this long, in seconds, begins the count of exits anew
+# an exit after a run this long, in seconds, begins the count of exits again
 LONG_RUN = 600
-# words of events that say whom the rules evict, or would evict
+# words of events that show whom the rules evict, or would evict
 OF_RULES = ("evicted", "names")
 # a pod that is named within so many seconds is named once more
 NAMED_AGAIN = 60
-# the member by which an entry says that its pod has no sample
+# the member by which an entry shows that its pod has no sample
 UNSAMPLED = "unsampled"
-# for how many seconds before an event it is told that a processor was throttled, and how old a sample may be for that
+# for how many seconds before an event it is printed that a processor was throttled, and how old a sample may be for
+# that
 THROTTLED_SECONDS = 60
-# a tick line without one of them says nothing of what containers use
+# a tick line without one of them has nothing of what containers use
 SIGNS_OF_USE = (b"used", b"resources")
 
 
@@ -71,7 +72,7 @@ class Candidate:
     qos: str
     victim: bool
     unsampled_at: int | None = None
-    """the tick that said that it has no sample from there on, where none came since"""
+    """the tick from which on it has no sample, if none came since"""
 
     @property
     def above(self) -> int:
@@ -129,16 +130,17 @@ class Throttled:
 
 @dataclass
 class UseOverTime:
-    """What a container used, and when its bounds were changed in place: to those of its manifest where None."""
+    """What a container used. Also when its bounds were changed in place, in recordings of older recorders: None means
+    the manifest's bounds again."""
 
     uses: list[Use] = field(default_factory=list)
     changes: list[tuple[int, Bounds | None]] = field(default_factory=list)
 
     def take(self, at: int, listed: dict[str, Any]) -> None:
-        """What a tick lists of it: the sample of the instance before, whose exit it says too, comes first."""
+        """What a tick lists of it. The sample of the instance before comes first, if the tick has its exit too."""
         for said in (listed.get("ended"), listed):
             use = use_in(at, said) if isinstance(said, dict) else None
-            # an exit tells the last sample once more
+            # an exit has the last sample once more
             if use is not None and (not self.uses or (self.uses[-1].at, self.uses[-1].attempt) < (use.at, use.attempt)):
                 self.uses.append(use)
         bounds = None if listed.get("resources") is None else bounds_of(listed["resources"])
@@ -150,7 +152,7 @@ class UseOverTime:
         return [use for use in self.uses if use.attempt == attempt and use.at <= at]
 
     def throttled(self, attempt: int, at: int) -> Throttled | None:
-        """For how long an instance was throttled up to a moment; None where it was not, or nothing says it."""
+        """For how long an instance was throttled up to a moment; None if it was not, or nothing shows it."""
         told = [(use.at, use.throttled) for use in self.of(attempt, at) if use.throttled is not None]
         until, whole = told[-1] if told else (0, 0)
         if not whole or until < at - THROTTLED_SECONDS:
@@ -160,8 +162,8 @@ class UseOverTime:
 
 
 def use_in(at: int, listed: dict[str, Any]) -> Use | None:
-    """What a listing says that its instance used. The formats do not read that, so what has another shape says
-    nothing."""
+    """What a listing has of what its instance used. The formats do not read that, so values of another shape count as
+    absent."""
     used, attempt = listed.get("used"), outside.whole(listed.get("attempt", 0), 0, outside.MOST_OF_CODE)
     if attempt is None or not isinstance(used, dict):
         return None
@@ -203,7 +205,7 @@ class PodTicks:
         self.used = {container.name: UseOverTime() for container in pod.containers}
 
     def take_used(self, at: int, entry: dict[str, Any]) -> None:
-        """What a tick says that its containers use."""
+        """What a tick has of what its containers use."""
         for found in traces.list_at(entry, "containers"):
             if found.get("name") in self.used:
                 self.used[found["name"]].take(at, found)
@@ -252,8 +254,8 @@ class PodTicks:
 
 
 class Ticks:
-    """The ticks of pods, of those of some numbers where these are given, one after the other. A tick that does not list
-    a pod matters where the tick before did. Of some moments it keeps what each pod used by then."""
+    """The ticks of pods, one after the other; of some numbers alone if these are given. A tick that does not list a pod
+    matters where the tick before did. Of some moments it keeps what each pod used by then."""
 
     def __init__(self, wanted: set[int] | None = None, moments: Iterable[int] = ()) -> None:
         self.found: dict[int, PodTicks] = {}
@@ -405,7 +407,7 @@ def spared_at(trace: traces.Trace, report: reports.Report, place: int) -> list[s
 
 
 def judged(trace: traces.Trace, report: reports.Report, ticks: list[traces.Tick]) -> list[traces.Tick]:
-    """Those of some ticks at which the node decides."""
+    """The ticks at which the node decides, of some ticks."""
     return [tick for tick in ticks if tick.is_judged or not endings.heeds_rounds(trace, report)]
 
 
@@ -440,12 +442,12 @@ def usages_at(trace: traces.Trace, places: set[int]) -> dict[int, dict[int, dict
 
 
 def may_sample(tick: traces.Tick) -> bool:
-    """Whether a tick may say something of a pod's samples."""
+    """Whether a tick may have something of a pod's samples."""
     return tick.may_have(b"usage") or tick.may_have(UNSAMPLED.encode())
 
 
 def take_usage(usage: dict[str, int], entry: dict[str, Any], at: int, heeds_unsampled: bool) -> None:
-    """Takes what a tick says of a pod's samples: some, or that it has none from there on."""
+    """Takes what a tick has of a pod's samples: some, or that it has none from there on."""
     if entry.get("usage") is not None:
         usage.pop(UNSAMPLED, None)
     elif heeds_unsampled and entry.get(UNSAMPLED) is True:
@@ -459,7 +461,7 @@ def take_usage(usage: dict[str, int], entry: dict[str, Any], at: int, heeds_unsa
 
 def candidates_of(trace: traces.Trace, report: reports.Report, place: int, signal: str, number: int | None,
                   usages: dict[int, dict[str, int]]) -> list[Candidate]:
-    """The pods that were present at a tick, had not ended before it and are not spared, in the order of the rules for a
+    """The pods that were present at a tick, had not ended before it and are not exempt, in the order of the rules for a
     signal; one of a number was evicted."""
     found, at = [], trace.ticks[place].at
     for pod, status in zip(trace.pods, report.pods):
@@ -467,7 +469,8 @@ def candidates_of(trace: traces.Trace, report: reports.Report, place: int, signa
         if not pod.is_present(place) or is_spared or endings.had_ended(status, at):
             continue
         usage = usages.get(pod.number, {})
-        found.append(Candidate(pod, used(usage, signal, trace.dedicated()), requested(pod, signal), status.qos,
+        by_then = trace.resizes.pod_at(pod, at)
+        found.append(Candidate(pod, used(usage, signal, trace.dedicated()), requested(by_then, signal), status.qos,
                                pod.number == number, usage.get(UNSAMPLED)))
     return sorted(found, key=lambda candidate: order(candidate, signal))
 

@@ -1,4 +1,4 @@
-"""Tells what a trace holds around the events of a pod, as lines of text."""
+"""Prints what a trace has around the events of a pod, as lines of text."""
 
 from __future__ import annotations
 
@@ -9,7 +9,7 @@ from replay_tools import entry, events, kubelet as kubelets, provenance, readine
 from replay_tools.amounts import amount_text
 from replay_tools.signals import BYTE_SIGNALS
 from replay_tools.telling import (DECIDED, OF_NODE, SAID_LATER, beside_words, event_words, node_rows, rank_of,
-                                  rank_of_said, table)
+                                  rank_of_said, resize_rows, table)
 
 if TYPE_CHECKING:
     from replay_tools import report as reports
@@ -38,6 +38,7 @@ def whole_text(trace: traces.Trace, report: reports.Report, pod: reports.Pod, sh
     parts += [(said.at, rank_of_said(said),
                [" ".join(filter(None, [f"{show(said.at)} ", said.container, said.words()]))])
               for said in trace.said.of(pod.number)]
+    parts += [(at, DECIDED, [f"{show(at)}  {name} {what}"]) for at, name, what in resize_rows(trace, pod, show)]
     parts += [(at, SAID_LATER, [f"{show(at)}  {what}"]) for at, what in readiness.rows(trace, pod)]
     parts += [(at, OF_NODE, [f"{show(at)}  {what}", *lines])
               for at, what, lines in node_rows(trace, report, pod, show)]
@@ -64,7 +65,7 @@ def beside(pod: reports.Pod, around: why.Around, show: Callable[[int], str],
 
 def kubelet_parts(trace: traces.Trace, report: reports.Report, pod: reports.Pod, show: Callable[[int], str],
                   kubelet: kubelets.Kubelet | None) -> list[tuple[int, list[str]]]:
-    """What the kubelet did to a pod, beside what the rules do, by moment."""
+    """What the kubelet did to a pod, next to what the rules do, by moment."""
     fact = None if kubelet is None else kubelet.fact(pod.number)
     if kubelet is None or fact is None:
         return []
@@ -136,7 +137,7 @@ def use_lines(trace: traces.Trace, around: why.Around, show: Callable[[int], str
 
 
 def throttled_lines(around: why.Around, show: Callable[[int], str]) -> list[str]:
-    """For how long the processor of the instance was throttled up to an event, where the trace says it."""
+    """For how long the processor of the instance was throttled up to an event, if the trace has it."""
     found = around.throttled
     if found is None or around.died:
         return []
@@ -201,7 +202,7 @@ def exit_lines(trace: traces.Trace, pod: reports.Pod, around: why.Around, show: 
              show(found.died), f"{found.run} s",
              reasons.code_words(found.code, trace.reasons.ends.get((pod.number, name, found.attempt))),
              reason_of(trace, pod, name, found)] for found in kept]
-    # a trace that says no reason has no such column
+    # a trace without reasons has no such column
     kept_columns = 7 if any(row[6] != "-" for row in rows) else 6
     lines = table(f"exits that count (policy {policy}, greatest delay {most} s):",
                   ["number", "attempt", "started", "died", "run", "code", "reason"][:kept_columns],

@@ -22,7 +22,8 @@ except ImportError:
 LINES = f"{HERE}/lines"
 SCHEMA = f"{TOP}/docs/report.schema.json"
 TABLES = {"nodes": "node", "pods": "pod", "containers": "container", "events": "event", "conditions": "condition",
-          "evictions": "eviction", "decisions": "decision", "borders": "border", "causes": "cause"}
+          "evictions": "eviction", "decisions": "decision", "borders": "border", "resizes": "resize",
+          "causes": "cause"}
 # what a hand counts in lines/came_again.report
 QUERIES = (
     ("SELECT node, pods, ticks, first_moment, last_moment, restarts, evictions FROM nodes",

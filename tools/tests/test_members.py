@@ -209,12 +209,12 @@ def test_most_gates():
 def test_texts_of_a_manifest():
     """What Kubernetes' grammar does not allow may be anything, as a secret: it is left out and counted."""
     gates = ["a b", "-begins", "ends-", "Upper/x", "mesh..example/x", "mesh.example/", "x" * 64, "x/y/z"]
-    status = {"containerStatuses": [{"name": "app", "resources": {"limits": {"memory": "PLANTED one", "cpu": "1"}}}]}
+    status = {"containerStatuses": [{"name": "app", "resources": {"limits": {"memory": "PLANTED one"}}}]}
     spec = {"readinessGates": [{"conditionType": gate} for gate in [*gates, "mesh.example/Ready_1"]],
             "resources": {"requests": {"memory": "PLANTED two"}, "limits": {"memory": "1Gi"}}}
     play = play_of(web={"spec": spec, "says": [{"from": 0, "status": status}]})
     lines, answer = recorded(play, "--extended", "--every", "5", "--for", "40")
-    expect("texts of a manifest", answer, (0, "record: 10 texts of manifests are left out: Kubernetes' grammar doesn't "
+    expect("texts of a manifest", answer, (0, "record: 9 texts of manifests are left out: Kubernetes' grammar doesn't "
                                               "allow them\n"))
     expect("texts of a manifest: gates", lines["pod"][0]["pod"]["spec"]["readinessGates"],
            [{"conditionType": "mesh.example/Ready_1"}])
@@ -236,25 +236,6 @@ def test_who_deletes():
         lines, answer = recorded(play, "--extended", "--every", "5", "--for", "40")
         entries = [entry for tick in lines["tick"] for entry in tick["pods"] if "deleting" in entry]
         expect(f"deleted by {name}", (answer, [entry.get("deletion") for entry in entries]), ((0, ""), [wanted]))
-
-
-def test_changed_resources():
-    """A container whose limits were changed in place has those by now, however they are spelled; else nothing is
-    said."""
-    declared = {"requests": {"memory": "32Mi"}, "limits": {"memory": "64Mi", "cpu": "500m"}}
-    same = {"requests": {"memory": "33554432"}, "limits": {"memory": "64Mi", "cpu": "0.5"}}
-    grown = {"requests": {"memory": "32Mi"}, "limits": {"memory": "128Mi", "cpu": "500m"}}
-    statuses = [(at, {"name": "app", "state": {"running": {}}, "resources": each})
-                for at, each in ((0, same), (12, grown))]
-    says = [{"from": at, "status": {"containerStatuses": [each]}} for at, each in statuses]
-    play = play_of(web={"spec": {"containers": [{"name": "app", "resources": declared}]}, "says": says})
-    lines, answer = recorded(play, "--extended", "--every", "5", "--for", "50")
-    expect("changed resources", (answer, said_of(lines, "resources")), ((0, ""), [(0, None), (20, grown)]))
-    standing = Standing()
-    for line in [*lines["node"], *lines["pod"], *lines["tick"]]:
-        standing.take(line)
-    begun = [json.loads(line) for line in standing.beginning(BEGIN + 60, None)]
-    expect("changed resources, over a border", begun[-1]["pods"][0]["containers"][0]["resources"], grown)
 
 
 def test_resources_of_a_pod():

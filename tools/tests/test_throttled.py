@@ -245,11 +245,10 @@ def test_not_asked():
     ):
         _, answer = recorded(played(limits, RISES, **fails), *words, "--for", "40")
         expect(f"a source that fails: {name}", answer, (0, wanted))
-    grown = {"from": 0, "status": {"containerStatuses": [{"name": "app", "resources": LIMITED}]}}
     play = played({}, RISES)
-    play["pods"]["shop/web"]["says"] = [grown]
+    play["pods"]["shop/web"]["resized"] = [{"from": 5, "resources": {"app": LIMITED}}]
     ticks, answer = ticks_of(play, "--extended", "--throttled", "yes", "--for", "40")
-    expect("a limit that came later", (answer, throttled_in(ticks)[1]), ((0, ""), (8, 0, 2000)))
+    expect("a limit that came later", (answer, throttled_in(ticks)[1:3]), ((0, ""), [(8, 0, None), (18, 0, 4500)]))
     status, _, said = run([f"{TOOLS}/record", "--throttled", "maybe"])
     expect("a word of it", (status, said.startswith("record: --throttled takes yes or no, not 'maybe'")), (2, True))
 

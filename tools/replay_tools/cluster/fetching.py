@@ -20,7 +20,7 @@ from replay_tools.joined import files
 
 AT_ONCE = 16
 TRIES = 2
-# of a part, what is ahead at its end is taken away at the next look
+# of a part, what is ahead at its end is taken away at the next poll
 MOST_OF_TRACE = traces.LONGEST_TRACE + (1 << 20)
 MOST_OF_NODE = 1 << 30
 # after so many that did not come no more of a node are asked for

@@ -29,7 +29,7 @@ class Silent(NoAnswer):
 
 def answer(words: list[str], most: int, seconds: float, take: Callable[[bytes], object], is_long: bool = False,
            silent: float | None = None) -> None:
-    """Hands on what kubectl answers, which has to be whole within so many seconds, or, of a long answer, each piece of
+    """Passes on what kubectl answers, which has to be whole within so many seconds, or, of a long answer, each piece of
     it; and has so many bytes at most. `silent` is for how many seconds no piece may come. Raises NoAnswer."""
     process = started(words)
     try:
@@ -61,7 +61,7 @@ def started(words: list[str]) -> subprocess.Popen:
 
 def handed_on(process: subprocess.Popen, most: int, seconds: float, silent: float,
               take: Callable[[bytes], object]) -> bytes:
-    """Hands on what a process writes for so many seconds; gives what it reported last on standard error. Raises
+    """Passes on what a process writes for so many seconds; returns what it reported last on standard error. Raises
     TimeoutError with the seconds within which it had to answer."""
     size, said = 0, b""
     begin = heard = time.monotonic()

@@ -87,8 +87,8 @@ class Cluster:
     seconds: float = SECONDS
 
     def ask(self, *words: str, most: int, take: Callable[[bytes], object], seconds: float | None = None) -> None:
-        """Hands on what kubectl answers, so many bytes at most; the cluster's seconds are those of silence, and without
-        others those for all of it. Raises NoAnswer."""
+        """Passes on what kubectl answers, so many bytes at most; the cluster's seconds are the longest silence, and
+        without others those for all of it. Raises NoAnswer."""
         seconds = seconds or self.seconds
         kubectl.answer([*self.options, *words], most, seconds, take, silent=min(self.seconds, seconds))
 
@@ -122,7 +122,7 @@ class Cluster:
 
     def run(self, recorder: Recorder, *words: str, most: int, take: Callable[[bytes], object],
             seconds: float | None = None) -> None:
-        """Hands on what a command answers in a recorder's pod."""
+        """Passes on what a command answers in a recorder's pod."""
         self.ask("exec", "-n", recorder.namespace or self.namespace, recorder.pod, "-c", recorder.container, "--",
                  *words, most=most, take=take, seconds=seconds)
 
@@ -146,7 +146,7 @@ class Cluster:
         return found
 
     def content(self, recorder: Recorder, file: File, most: int, take: Callable[[bytes], object]) -> None:
-        """Hands on the bytes of a trace that a recorder holds, so many at most. Raises NoAnswer."""
+        """Passes on the bytes of a trace that a recorder holds, so many at most. Raises NoAnswer."""
         self.run(recorder, "cat", f"{FOLDER}/{file.name}", most=most, take=take,
                  seconds=self.seconds + file.size / BYTES_A_SECOND)
 
@@ -165,7 +165,7 @@ class Cluster:
 
 def file_of(line: str, node: str) -> tuple[File | None, str | None]:
     """The trace of a line of a folder's listing, which has to be of this node, or why it is left out. What is no
-    trace's name is passed over, as that of one that is packed right now."""
+    trace's name is passed over, as of a trace that is packed right now."""
     name, size, changed_at, *_ = [*line.rsplit(" ", 2), "", ""]
     if not name.endswith(files.ENDINGS):
         return None, None

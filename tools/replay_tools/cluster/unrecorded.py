@@ -53,7 +53,7 @@ def pod_of(key: str, item: dict[str, Any]) -> Pod:
 
 
 def worst_first(pods: Iterable[Pod]) -> list[Pod]:
-    """Those of which something is wrong come first, those that were restarted most in front."""
+    """Pods with something wrong come first, and of these the pods that were restarted most."""
     return sorted(pods, key=lambda pod: (not pod.why, -pod.restarts, pod.key))
 
 

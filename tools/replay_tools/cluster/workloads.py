@@ -29,8 +29,8 @@ TOLD_BY_TRACE = ("Scheduled", "Pulling", "Pulled", "Created", "Started", "Succes
 
 @dataclass(frozen=True)
 class Target:
-    """What is asked for: a workload by its kind and name, the pods of a label, or without both those of a namespace, or
-    of all."""
+    """What is asked for: a workload by its kind and name, the pods of a label, or without both the pods of a namespace,
+    or of all."""
 
     namespace: str | None
     kind: str | None = None
@@ -179,7 +179,7 @@ def pods_of(found: Members, pods: list[dict[str, Any]], lists: dict[str, list[di
 
 
 def owned_by_name(items: Iterable[dict[str, Any]], target: Target) -> list[dict[str, Any]]:
-    """Those of a workload that is gone, or that may not be read."""
+    """The pods of a workload that is gone, or that may not be read."""
     return [item for item in items if any(str(owner.get("kind")).lower() == target.kind
                                           and owner.get("name") == target.name for owner in owners_of(item))]
 

@@ -10,6 +10,7 @@ from typing import TYPE_CHECKING
 
 from replay_tools import first_bytes, outside
 from replay_tools.amounts import Wrong
+from replay_tools.cli.statuses import Status
 from replay_tools.traces import LONGEST_TRACE
 
 from . import table
@@ -46,7 +47,7 @@ def answer_of(path: str, is_extended: bool) -> Answer:
 
 def of_verdict(path: str, verdict: Verdict, is_extended: bool) -> Answer:
     """What the program's answer to a file means."""
-    if verdict.status == 0:
+    if verdict.status == Status.DONE:
         return Answer(verdict.said, False, [])
     if verdict.said in ("read failed", "input too long"):
         return of_file(path, verdict.said)

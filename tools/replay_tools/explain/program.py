@@ -9,13 +9,10 @@ from collections.abc import Iterator
 from contextlib import contextmanager
 
 from replay_tools import entry, outside, packed, program as programs
+from replay_tools.cli.statuses import Status
 from replay_tools.traces import LONGEST_TRACE
 
 from . import answer, told, verdict
-
-
-# of a file that is not there
-NO_FILE = 2
 
 
 def explained(path: str, name: str, is_extended: bool, is_line: bool) -> int:
@@ -27,10 +24,10 @@ def explained(path: str, name: str, is_extended: bool, is_line: bool) -> int:
     try:
         with readable(path) as known:
             status = write(known, name, is_extended, is_line)
-        return status or (0 if os.path.exists(path) else NO_FILE)
+        return status or (Status.DONE if os.path.exists(path) else Status.BAD_INPUT)
     except packed.Damaged as fault:
         show(answer.of_damaged(str(fault)), name, is_line)
-    return 0
+    return Status.DONE
 
 
 def check_readable(path: str, name: str) -> None:
@@ -46,8 +43,8 @@ def check_readable(path: str, name: str) -> None:
 
 @contextmanager
 def readable(path: str) -> Iterator[str]:
-    """The path of a file as the program takes it: that of a copy, which goes again, where it can be read but once, is
-    packed, or has a name that the program does not take. Raises Damaged."""
+    """The path of a file as the program takes it. It is the path of a copy, which goes again, if the file can be read
+    only once, is packed, or has a name that the program does not take. Raises Damaged."""
     text = bytes_to_copy(path)
     if text is None:
         yield path
@@ -82,4 +79,4 @@ def write(path: str, name: str, is_extended: bool, is_line: bool) -> int:
     if not is_line and not is_extended and given[0].is_fault and verdict.says_extended(path):
         given.append(answer.answer_of(path, True))
         sys.stdout.write("\n" + told.whole_text(given[-1], f"{name} with --extended"))
-    return 1 if any(each.has_no_verdict for each in given) else 0
+    return Status.FAILED if any(each.has_no_verdict for each in given) else Status.DONE

@@ -41,8 +41,8 @@ MANIFEST_FAULTS = {
     16: ("a request is above its limit", "the API server takes no such pod: mend one of the two"),
     17: ("two containers have one name", "give each a name of its own"),
     18: ("a container has a restartPolicy, or rules of restarts, that it may not have", "leave it out"),
-    19: ("the pod has more than 16 containers or readiness gates, a container more than 20 rules of restarts, or a rule "
-         "more than 255 exit codes", "leave the pod, or what is too many, out"),
+    19: ("the pod has more than 16 containers or readiness gates, a container more than 20 rules of restarts, or a "
+         "rule more than 255 exit codes", "leave the pod, or what is too many, out"),
 }
 
 

@@ -10,7 +10,7 @@ from replay_tools.decided import REASON
 from replay_tools.record import formats
 from replay_tools.signals import SIGNALS
 
-from . import before as earlier, gates
+from . import before as earlier, gates, resizes
 from .found import Found, at, is_, nearest, shown
 from .node import quantity_advice
 
@@ -50,6 +50,7 @@ def field_faults(line: dict[str, Any], before: earlier.Before) -> Iterator[Found
                 yield from truth_faults(entry, ("pods", index, word))
             yield from failed_faults(entry, ("pods", index, "failed"))
             yield from gates.status_faults(entry, ("pods", index, "conditions"))
+            yield from resizes.faults_of(entry, ("pods", index))
     if before.version == 3:
         yield from truth_faults(line, ("judged",))
     yield from signal_faults(line, "signals", SIGNALS)
@@ -104,7 +105,7 @@ def failed_faults(entry: Any, path: tuple[Any, ...]) -> Iterator[Found]:
 
 
 def missing_or(around: Any, path: tuple[Any, ...], wanted: str) -> Found:
-    """What to say of a field that is required and is missing, or has another value."""
+    """The fault of a field that is required and is missing, or has another value."""
     value = around.get(path[-1])
     return at(path, f"is missing: {wanted}") if value is None else is_(path, value, f"it is {wanted}")
 
@@ -144,8 +145,8 @@ def usage_faults(usage: Any, path: tuple[Any, ...]) -> Iterator[Found]:
 # --- 39, 40, 41: pods and containers that are not there, or twice ---
 
 
-# The program looks at these once no field of the line has another value: where one has, the line is another than it has
-# read, which is Wrong.
+# The program checks these once no field of the line has another value. If one has, the line is another than the program
+# has read, which is Wrong.
 
 
 def entries_of(line: dict[str, Any]) -> Iterator[tuple[int, str, dict[str, Any]]]:
@@ -186,6 +187,8 @@ def stranger_containers(line: dict[str, Any], before: earlier.Before) -> Iterato
         if name not in known:
             yield is_(path, name, f"{key} has no such container: it has {', '.join(known)}",
                       nearest(name, known) or "leave it out; the formats have no ephemeral containers")
+    for index, key, entry in entries_of(line) if before.version == 3 else ():
+        yield from resizes.strangers(entry, ("pods", index), key, before.pod(key).containers)
 
 
 def doubled(line: dict[str, Any], _: Any) -> Iterator[Found]:

@@ -7,13 +7,14 @@ import subprocess
 from dataclasses import dataclass
 
 from replay_tools import entry, program as programs
+from replay_tools.cli.statuses import Status
 
 REFUSED = re.compile(r"line (\d+): (\d+) (\w+)(?: (\d+))?")
 
 
 @dataclass(frozen=True)
 class Refusal:
-    """The line that the program rejects, the number of its fault, and that of a manifest's."""
+    """The line that the program rejects, the number of its fault, and the number of a manifest's fault."""
     line: int
     number: int
     manifest: int | None
@@ -44,13 +45,13 @@ def verdict_of(path: str, is_extended: bool) -> Verdict:
     try:
         done = subprocess.run(words, stdin=subprocess.DEVNULL, capture_output=True, check=False)
     except OSError as fault:
-        raise entry.Fault(programs.missing(program, fault), 127) from None
-    said = (done.stdout if done.returncode == 0 else done.stderr).decode("utf-8", "replace").split("\n")[0]
+        raise entry.Fault(programs.missing(program, fault), Status.MISSING) from None
+    said = (done.stdout if done.returncode == Status.DONE else done.stderr).decode("utf-8", "replace").split("\n")[0]
     found = REFUSED.fullmatch(said)
-    if done.returncode != 2 or not found:
+    if done.returncode != Status.BAD_INPUT or not found:
         return Verdict(done.returncode, said)
     line, number, _, manifest = found.groups()
-    return Verdict(2, said, int(line), int(number), int(manifest) if manifest else None)
+    return Verdict(Status.BAD_INPUT, said, int(line), int(number), int(manifest) if manifest else None)
 
 
 def says_extended(path: str) -> bool:

@@ -1,4 +1,4 @@
-"""The database of a fleet: a table of traces next to those of tables.py, by the number of the trace."""
+"""The database of a fleet: a table of traces next to the tables of tables.py, by the number of the trace."""
 
 from __future__ import annotations
 
@@ -13,7 +13,7 @@ from replay_tools.fleet import met, work
 if TYPE_CHECKING:
     from replay_tools.fleet import kept
 
-# SQLite keeps it in the file; it says whose file it is
+# SQLite keeps it in the file; it shows whose file it is
 APPLICATION = int.from_bytes(b"fleT", "big")
 COLUMNS = ("path TEXT NOT NULL", "sha256 TEXT", "bytes INTEGER", "status TEXT NOT NULL", "copy_of INTEGER",
            "line INTEGER", "code INTEGER", "fault TEXT", "report_file TEXT")

@@ -16,7 +16,7 @@ from typing import Any
 from replay_tools import entry, safe_folder
 
 
-# of which form the rows are: those of another one are no answers
+# of which form the rows are: rows of another form are no answers
 FORM = "7"
 
 
@@ -59,7 +59,7 @@ class Kept:
         return os.path.join(self.folder, f"{self.name(path)}.{kind}.gz")
 
     def known(self, path: str, until: int | None) -> str | None:
-        """The SHA-256 of the trace whose answer is kept, as one that says all up to a moment; or None."""
+        """The SHA-256 of the trace whose answer is kept, if it has all up to a moment; or None."""
         try:
             trace: dict[str, Any] = next(self.rows(path), {})
         except (OSError, EOFError, ValueError):
@@ -67,7 +67,7 @@ class Kept:
         return trace.get("sha256") if trace.get("until") == until else None
 
     def rows(self, path: str) -> Iterator[dict[str, Any]]:
-        """The record of a trace, and those of its report."""
+        """The record of a trace, and the records of its report."""
         with gzip.open(self.file(path, "rows"), "rt", encoding="utf-8") as lines:
             yield from map(json.loads, lines)
 

@@ -15,12 +15,12 @@ if TYPE_CHECKING:
 
 # of these records a pod has some
 OF_PODS = {"pod": "number", "container": "pod_number", "cause": "pod_number"}
-# a row has these where it stands for another one, by whether an earlier trace has the pod
+# a row that represents another one has these, by whether an earlier trace has the pod
 UID, WAS_MET = "uid", "was_met"
 
 
 def about(report: reports.Report, trace: traces.Trace | None, first: int | None) -> dict[str, Any]:
-    """What the record of a trace has for those behind it."""
+    """What the record of a trace has for the traces after it."""
     uids = [] if trace is None or first is None else sorted({pod.uid for pod in trace.pods if pod.uid is not None})
     return {"node": report.node, "first": first, "uids": uids}
 

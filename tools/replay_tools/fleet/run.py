@@ -45,7 +45,7 @@ def run(order: Order) -> int:
         ends = traces.known_ends(order.paths)
         tasks = [(path, (None if order.anew else store.known(path, ends.get(path)), ends.get(path)))
                  for path in order.paths]
-        # what is kept comes first, so that the time which is left is that of the others
+        # what is kept comes first, so that the time which is left is the others' time
         tasks.sort(key=lambda task: task[1][0] is None)
         coming = (scheduler.answers(tasks, order.program, program_sum, client) if scheduler else
                   local.answers(tasks, order.program, program_sum, order.processes))

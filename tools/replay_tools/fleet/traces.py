@@ -1,4 +1,4 @@
-"""Which traces are meant by words: files, folders and patterns."""
+"""Which traces the arguments mean: files, folders and patterns."""
 
 from __future__ import annotations
 
@@ -13,7 +13,7 @@ ENDINGS = (".trace", ".trace.gz")
 
 
 def paths_of(words: list[str]) -> list[str]:
-    """The absolute paths of the traces that the words name, each once, in the order of their bytes."""
+    """The absolute paths of the traces that the arguments name, each once, in the order of their bytes."""
     found: set[str] = set()
     for word in words:
         named = paths_named(word)

@@ -25,20 +25,20 @@ LONGEST_INPUT = 64 << 20
 MOST_CARRIED = 100
 # events are in the report alone: they would be most of the rows
 KINDS = ("node", "pod", "container", "condition", "eviction", "decision", "cause")
-# of what a trace may say beside its report
+# what a trace may have next to its report
 SIGNS = (b'"kubelet"', b'"reason"', b'"waiting"', b'"ended"', b'"guessed"', b'"deleting"', b'"failed"', b'"gone"',
          b'"readinessGates"')
 REFUSED_LINE = re.compile(r"line (\d+): (\d+) (\S.*)")
 
 
 class WorkFault(entry.Fault):
-    """This process can't do the work of any trace; the message says why."""
+    """This process can't do the work of any trace; the message shows why."""
 
 
 def answer(program: str, program_sum: str, path: str, known: tuple[str | None, int | None]) -> dict[str, Any]:
     """What became of the trace of a path: a dict of its record, its rows and its report, both as gzip or None. What is
-    known are the SHA-256 of the trace that was answered before, or None, and up to when it says all that happened,
-    where one that follows it says so. Where the trace is still the same there are neither rows nor report, and the
+    known are the SHA-256 of the trace that was answered before, or None, and up to when it has all that happened, if a
+    trace that follows it shows that. Where the trace is still the same there are neither rows nor report, and the
     status is "known"."""
     check_program(program, program_sum)
     try:
@@ -72,7 +72,7 @@ def answer_of(program: str, path: str, known_sum: str | None, until: int | None)
 
 
 def rows_of(text: bytes, made: bytes, until: int | None) -> tuple[dict[str, Any], list[dict[str, Any]]]:
-    """What the record of a trace has for those behind it, and the records of the trace and its report. Raises
+    """What the record of a trace has for the traces after it, and the records of the trace and its report. Raises
     ReportFault."""
     report = reports.read_report(made.decode("utf-8", "replace"))
     trace, kubelet = beside(text, report)
@@ -90,7 +90,7 @@ def rows_of(text: bytes, made: bytes, until: int | None) -> tuple[dict[str, Any]
 
 
 def beside(text: bytes, report: reports.Report) -> tuple[traces.Trace | None, kubelets.Kubelet | None]:
-    """A trace and what it says that the kubelet did, beside its report; None for each where it says nothing that the
+    """A trace and what it shows that the kubelet did, next to its report; None for each if it shows nothing that the
     formats don't read, or can't be read as the tools read one."""
     node_line = text.lstrip().split(b"\n", 1)[0]
     says = any(word in node_line for word in (b'"recordsKubelet"', b'"evictionsRecorded"'))
@@ -106,8 +106,8 @@ def beside(text: bytes, report: reports.Report) -> tuple[traces.Trace | None, ku
 
 
 def begun_of(text: bytes) -> int | None:
-    """The moment behind which a trace of a recorder says what happened: one that follows another says it itself, and
-    the first ticks of any other show what the recorder found. None of other traces."""
+    """The moment after which a trace of a recorder shows what happened: one that follows another has it itself, and the
+    first ticks of any other show what the recorder found. None of other traces."""
     node_line = outside.json_of(text.lstrip().split(b"\n", 1)[0])
     said = traces.follows_of(node_line)
     if said is not None:
@@ -116,8 +116,8 @@ def begun_of(text: bytes) -> int | None:
 
 
 def is_recorded(text: bytes, node_line: dict[str, Any]) -> bool:
-    """Whether a recorder wrote a trace: it says so, or its pods have uids, as those of a runtime that was recorded
-    alone."""
+    """Whether a recorder wrote a trace: it shows that, or its pods have uids, as the pods of a runtime that was
+    recorded alone."""
     if node_line.get("imported") is True:
         return False
     first = next((line for line in lines_from(text) if b'"pod"' in line), b"")

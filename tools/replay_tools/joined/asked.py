@@ -21,7 +21,8 @@ SECONDS = {"d": 86400, "h": 3600, "m": 60, "s": 1}
 
 @dataclass
 class Asked:
-    """The traces that are named, and what of them is needed: those of a node, since a moment, around a moment."""
+    """The traces that are named, and which of them are needed: the traces of a node, since a moment, around a moment.
+    """
 
     named: list[str]
     node: str | None = None
@@ -51,7 +52,7 @@ def asked_of(found: Namespace) -> Asked | None:
 
 
 def asked_at(named: list[str], node: str | None, since: str | None, at: str | None, now: float) -> Asked:
-    """What is asked for, by the values of words, of which that of --since may count from now."""
+    """What is asked for, by the values of arguments. The value of --since may count from now."""
     if since is not None and at is not None:
         raise entry.Fault("--since and --at exclude each other (see --help)")
     is_utc = any(text is not None and not text.isdigit() for text in (since, at))

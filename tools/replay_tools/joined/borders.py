@@ -7,7 +7,7 @@ from replay_tools import entry, outside, report as reports
 from replay_tools.joined import files, parts
 
 
-# a recorder that is killed after a slow look may have written ticks of so many seconds after the next one began
+# a recorder that is killed after a slow poll may have written ticks of so many seconds after the next one began
 SLOW_LOOK = 60
 
 
@@ -16,8 +16,8 @@ class Overlap(entry.Fault):
 
 
 def without_overlaps(found: list[parts.Part], is_quiet: bool) -> list[parts.Part]:
-    """The parts without those of a folder that overlap another one, of which the one that has more time is kept. Raises
-    Fault where both were named."""
+    """The parts without the parts of a folder that overlap another one. Of two that overlap, the one that has more time
+    is kept. Raises Fault where both were named."""
     kept: list[parts.Part] = []
     for part in found:
         while kept:
@@ -70,7 +70,7 @@ def border_of(before: parts.Part, part: parts.Part) -> reports.Border:
 
 
 def behind_slow_look(before: parts.Part, part: parts.Part) -> int | None:
-    """Where a part begins before the end of the one before it, by no more than a slow look explains: its first moment
+    """Where a part begins before the end of the one before it, by no more than a slow poll explains: its first moment
     after that end. None of other parts."""
     if part.trace is None:
         return None
@@ -81,8 +81,8 @@ def behind_slow_look(before: parts.Part, part: parts.Part) -> int | None:
 
 
 def is_of(name: str, before: parts.Part) -> bool:
-    """Whether the name of a trace is that of a part. Where its file is called otherwise here, the name still has the
-    second at which the trace begins, before which at most so many ticks show what was known."""
+    """Whether the name of a trace is the name of a part. Where its file is called otherwise here, the name still has
+    the second at which the trace begins, before which at most so many ticks show what was known."""
     _, begun, number = files.parts_of(name)
     if begun is None:
         return name == before.source.name

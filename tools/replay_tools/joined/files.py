@@ -1,4 +1,4 @@
-"""Which files are meant: traces or reports by their names, those of a folder, and of these those of a time."""
+"""Which files are meant: traces or reports by their names, or the ones of a folder, and of these the ones of a time."""
 
 from __future__ import annotations
 
@@ -94,7 +94,7 @@ def below(folder: str, asked: asked.Asked) -> list[Source]:
 
 
 def of_node(found: list[Source], folder: str, node: str | None) -> list[Source]:
-    """Those of a node, by their names; of one that does not show it, what it holds shows it later."""
+    """The traces of a node, by their names. If a name does not show the node, the trace itself shows it later."""
     nodes = sorted({source.node for source in found if source.node is not None})
     if node is None and len(nodes) > 1:
         raise entry.Fault(f"{folder} has traces of {len(nodes)} nodes, {listed(nodes)}: choose one with --node")

@@ -55,7 +55,7 @@ class Follower:
         return sorted(rows, key=lambda row: row[0])
 
     def begin(self) -> int | None:
-        """From when on traces are read: those of what was reported last, and at first the newest."""
+        """From when on traces are read: the traces of what was reported last, and at first the newest."""
         if self.until is not None:
             return self.until - SECONDS_BEFORE
         if self.since is not None:
@@ -97,8 +97,11 @@ class Follower:
 
 
 def asides(trace: traces.Trace, pod: reports.Pod) -> Iterator[Row]:
-    """What the trace shows of a pod's deletion and waits."""
+    """What the trace shows of a pod's deletion, resizes and waits. A resize that was so before the trace is no news."""
     yield from readiness.rows(trace, pod)
+    for resize in trace.resizes.of_pod.get(pod.number, ()):
+        if not resize.was_so:
+            yield resize.at, f"{resize.container.name} {resize.words()}"
     deletion = trace.deletions.get(pod.number)
     if deletion is not None:
         yield deletion.at, f"is being deleted{deletion.words()}"

@@ -151,7 +151,8 @@ def tell_node_conditions(made: reports.Report, part: parts.Part, news: list[repo
 
 def take_evictions(made: reports.Report, part: parts.Part, border: reports.Border | None,
                    numbers: dict[int, int]) -> None:
-    """Takes the evictions of a part, but those of pods that the rules had evicted before and that only go."""
+    """Takes the evictions of a part, without the evictions of pods that the rules had evicted before and that only go.
+    """
     told = {(event.number, event.at) for event in made.events if event.word == "evicted"}
     for eviction in part.report.evictions:
         number = None if eviction.number is None else numbers.get(eviction.number)

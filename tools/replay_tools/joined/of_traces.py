@@ -30,12 +30,15 @@ def without_probes(entry: dict[str, Any]) -> dict[str, Any]:
 
 def join_traces(found: list[traces.Trace], borders: list[reports.Border],
                 numbers: list[dict[int, int]]) -> traces.Trace:
-    """The trace of those of all parts; numbers has for each part those that its pods have in the joined report."""
+    """One trace of the traces of all parts. `numbers` has for each part the numbers that its pods have in the joined
+    report."""
     made = traces.Trace(found[0].node, found[-1].settings, found[-1].thresholds)
     for trace, border, of in zip(found, [None, *borders], numbers):
         place = len(made.ticks)
         dropped = take_ticks(made, trace, border)
+        known = len(made.pods)
         take_pods(made, trace, of, place, dropped)
+        take_resizes(made, trace, of, border, known)
         take_decisions(made, trace, of)
         take_words(made, trace, of)
         take_reasons(made, trace, of, border)
@@ -47,7 +50,7 @@ def join_traces(found: list[traces.Trace], borders: list[reports.Border],
 
 
 def take_ticks(made: traces.Trace, trace: traces.Trace, border: reports.Border | None) -> int:
-    """Takes the ticks after a rotation, and that of the rotation where no tick is there; gives how many ticks of the
+    """Takes the ticks after a rotation, and the tick of the rotation if no tick is there. Returns how many ticks of the
     trace come before these."""
     if border is None:
         made.ticks += trace.ticks
@@ -81,7 +84,7 @@ def take_pods(made: traces.Trace, trace: traces.Trace, of: dict[int, int], begin
 
 
 def take_decisions(made: traces.Trace, trace: traces.Trace, of: dict[int, int]) -> None:
-    """A pod that the kubelet has evicted, and that is still there, is printed once more at a border. One that it
+    """A pod that the kubelet has evicted, and that is still there, is there once more at a rotation. One that it
     evicted in a gap has no line after it, and is the one of its uid before."""
     told = {(one.kind, one.pod, one.at) for one in made.decisions}
     for one in trace.decisions:
@@ -100,6 +103,21 @@ def take_words(made: traces.Trace, trace: traces.Trace, of: dict[int, int]) -> N
         made.marked_wrongly.setdefault(of[number], at)
     for number, decision in trace.failed.items():
         made.failed.setdefault(of[number], replace(decision, number=of[number]))
+
+
+def take_resizes(made: traces.Trace, trace: traces.Trace, of: dict[int, int], border: reports.Border | None,
+                 known: int) -> None:
+    """Takes the resizes of a trace. So many pods were known before it. If one of these has other requests and limits at
+    the begin of the trace than it had, it was resized in the gap between the traces."""
+    for pod in trace.pods:
+        ours, until = made.pods[of[pod.number]], -1
+        if border is not None and ours.number < known:
+            until = border.at
+            for one in trace.resizes.pod_at(pod, until).containers if not (pod.is_guessed or ours.is_guessed) else ():
+                made.resizes.add(ours, until, one.name, one.resources, gap=border.since if border.is_gap else None)
+        for each in trace.resizes.of_pod.get(pod.number, ()):
+            if each.at > until:
+                made.resizes.add(ours, each.at, each.container.name, each.container.resources, each.was_so)
 
 
 def number_of(made: traces.Trace, decision: traces.Decision) -> int | None:

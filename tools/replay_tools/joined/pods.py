@@ -79,7 +79,7 @@ def stays_ended(pod: reports.Pod, found: reports.Pod, until: int) -> bool:
 
 def news_of(pod: reports.Pod, found: reports.Pod, border: reports.Border, part: parts.Part) -> list[reports.Event]:
     """The events of a part's pod that show more than what the pod had come to, each of them with its number, and after
-    the border."""
+    the rotation."""
     until = part.known_until
     before = {container.name: container for container in pod.containers}
     seen = {name: Seen() for name in before}
@@ -104,7 +104,7 @@ def news_of(pod: reports.Pod, found: reports.Pod, border: reports.Border, part: 
 
 def is_known(event: reports.Event, before: reports.Container, seen: Seen, told: set[tuple[str | None, str, str]],
              backed: set[tuple[str, str | None]]) -> bool:
-    """Whether an event of a container shows what it had come to before the border."""
+    """Whether an event of a container shows what it had come to before the rotation."""
     if event.word in ("ready", "unready"):
         is_first, seen.has_readiness = not seen.has_readiness, True
         return is_first and event.word == "ready" and before.ready == "true" and not seen.is_other
@@ -212,7 +212,7 @@ def numbers_of(pod: reports.Pod) -> dict[tuple[str, str], int]:
 
 
 def tell_conditions(pod: reports.Pod, before: list[reports.Condition], border: reports.Border, until: int) -> None:
-    """Each condition has lasted since it changed last, also where that was before the border."""
+    """Each condition has lasted since it changed last, also if that was before the rotation."""
     known = {condition.kind: condition for condition in before}
     for condition in pod.conditions:
         was = known.get(condition.kind)
@@ -229,7 +229,7 @@ def ready_is_told(pod: reports.Pod) -> bool:
 
 
 def tell_ready(pod: reports.Pod) -> None:
-    """Since when it is Ready or not, by its events over the border."""
+    """Since when it is Ready or not, by its events over the rotation."""
     last = reports.changes_of_ready(pod)[-1]
     for kind in ("ContainersReady", "Ready"):
         condition = pod.condition(kind)

@@ -12,9 +12,9 @@ from replay_tools.page import used
 from replay_tools.signals import BYTE_SIGNALS, SIGNALS
 
 RESULTS = ("success", "failure", "unknown")
-# what was said, as an event of its own
-SAID = {"said": [["words"], "{words}"]}
-# what a page leaves out above these, and says so
+# what was reported, and a resize, as events of their own
+SAID = {word: [["words"], "{words}"] for word in ("said", "resized")}
+# what a page leaves out above these, and lists
 MOST_RUNS = 400000
 MOST_SAID = 20000
 MOST_ROWS = 40
@@ -52,7 +52,7 @@ def differences(moments: list[int]) -> list[int]:
 
 def data_of(report: reports.Report, trace: traces.Trace | None, ticks: why.Ticks, clock: Clock,
             since: int = summing.NEVER) -> dict[str, Any]:
-    """All that the page shows; what a trace alone would tell is left out without one."""
+    """All that the page shows; without a trace it lacks what only a trace has."""
     span, kubelet = Span(report, trace), kubelets.beside(trace, report) if trace else None
     ranked = summing.summaries(report, trace, kubelet, since=since)
     ranks = {summary.number: (rank, summary) for rank, summary in enumerate(ranked, 1)}
@@ -72,6 +72,7 @@ def data_of(report: reports.Report, trace: traces.Trace | None, ticks: why.Ticks
         "podList": [pod_of(report, trace, span, pod, lanes, ticks, budget, words) | notes_of(pod, clock, trace)
                     | summary_of(*ranks[pod.number], span) | deletion_of(trace, pod, span)
                     | used_of(trace, pod, span, ticks, samples) | said_of(trace, span, pod, lanes, words, sayings)
+                    | resized_of(trace, span, pod, clock, words)
                     for pod in report.pods for lanes in (made.lanes_of(pod, trace),)],
         "causes": words.causes, "waits": words.waits, "saids": words.said,
         "facts": provenance.head_lines(trace, clock.text), "kubeletStarts": [
@@ -102,7 +103,7 @@ def not_known(report: reports.Report, clock: Clock) -> list[str]:
 
 
 def table_of_words(trace: traces.Trace | None) -> dict[str, Any]:
-    """The words of events, and of each the fields that it has and the sentence in which it is told."""
+    """The words of events, and of each the fields that it has and its sentence."""
     is_beside = trace is not None and trace.tells()
     told = {kind.word: [[field.name for field in kind.fields], kind.sentence_beside if is_beside else kind.sentence]
             for kind in events.kinds().values() if kind.is_of_pod}
@@ -139,8 +140,8 @@ class Words:
         self.kinds = [kind.word for kind in events.kinds().values() if kind.is_of_pod]
 
     def cause(self, event: reports.Event) -> list[int]:
-        """A list of the place of what is known of why an instance died, with what it means; empty where its code says
-        as much."""
+        """A list of the place of what is known of why an instance died, with what it means; empty if its code shows as
+        much."""
         said = reasons.cause_words(event, int(event.rest[1]), self.trace, True)
         because = reasons.because_lines(event, self.trace) if self.trace else []
         return [self.place(self.causes, [said, *because])] if said or because else []
@@ -157,7 +158,7 @@ class Words:
 
 
 def repeated(values: list[Any]) -> list[Any]:
-    """Values with how often each stands in a row, one after the other in one list."""
+    """Values with how often each comes in a row, one after the other in one list."""
     found: list[Any] = []
     for value in values:
         if found and found[-2] == value:
@@ -229,7 +230,7 @@ def evictions_of(report: reports.Report, trace: traces.Trace | None, ticks: why.
 
 
 def kubelet_of(found: kubelets.Kubelet | None, span: Span) -> dict[str, Any] | None:
-    """What the kubelet did, beside what the rules do; None where no trace says so."""
+    """What the kubelet did, next to what the rules do; None if no trace shows it."""
     if found is None:
         return None
     return {
@@ -264,7 +265,7 @@ def deletion_of(trace: traces.Trace | None, pod: reports.Pod, span: Span) -> dic
 
 def used_of(trace: traces.Trace | None, pod: reports.Pod, span: Span, ticks: why.Ticks,
             budget: Budget) -> dict[str, Any]:
-    """What its containers used, where the trace says it."""
+    """What its containers used, if the trace has it."""
     if trace is None:
         return {}
     ours = trace.pods[pod.number]
@@ -299,7 +300,7 @@ def around_of(evicted: why.Evicted, span: Span) -> dict[str, Any]:
 
 def pod_of(report: reports.Report, trace: traces.Trace | None, span: Span, pod: reports.Pod, lanes: made.Lanes,
            ticks: why.Ticks, budget: Budget, words: Words) -> dict[str, Any]:
-    """What the page shows of a pod: that of the report, and with a trace its listings and results."""
+    """What the page shows of a pod: the report's part, and with a trace its listings and results."""
     ended, seen = reports.end_of(pod), summing.has_ticks(report, pod, trace)
     found: dict[str, Any] = {
         "key": pod.key, "phase": provenance.phase_words(trace, pod), "reason": records.none_of(pod.reason),
@@ -354,6 +355,15 @@ def said_of(trace: traces.Trace | None, span: Span, pod: reports.Pod, lanes: mad
     return ({"said": told} if told else {}) | ({"more": more} if more else {})
 
 
+def resized_of(trace: traces.Trace | None, span: Span, pod: reports.Pod, clock: Clock, words: Words) -> dict[str, Any]:
+    """The resizes of its containers: the moment, the container's place, and the place of the words; nothing without
+    any."""
+    names = [container.name for container in pod.containers]
+    rows = [[span.of(at), names.index(name), words.place(words.said, what)]
+            for at, name, what in telling.resize_rows(trace, pod, clock.text)]
+    return {"resized": rows} if rows else {}
+
+
 def container_of(span: Span, pod: reports.Pod, container: reports.Container, states: list[made.State],
                  trace: traces.Trace | None) -> dict[str, Any]:
     """A container's status, and its states as differences of moments, states, attempts and codes in one list. A code is
@@ -372,8 +382,8 @@ def container_of(span: Span, pod: reports.Pod, container: reports.Container, sta
 
 
 def events_of(span: Span, pod: reports.Pod, words: Words) -> list[list[Any]]:
-    """Events, each with the difference of its moment, the place of its container (-1 without), that of its word, and
-    its words. A death has the number of its exit and its run behind its own, and the place of why, where that is
+    """Events, each with the difference of its moment, the place of its container (-1 without), the place of its word,
+    and its words. After its own words a death has the number of its exit and its run, and the place of why, if that is
     known."""
     names = [container.name for container in pod.containers]
     starts: dict[str, tuple[str, int]] = {}

@@ -1,7 +1,7 @@
 // The data of the page, with moments from lists of differences. Moments are seconds since the first one.
 const data = JSON.parse(document.getElementById('data').textContent);
 
-// The values of a list of values with how often each stands in a row.
+// The values of a list of values with how often each comes in a row.
 function spread(list) {
   const found = [];
   for (let place = 0; place < list.length; place += 2) {
@@ -37,8 +37,10 @@ function eventsOf(pod) {
   const add = (at, word, rest) => events.push({at, place: -1, word, rest, number: events.length, pod});
   if (pod.fact) add(pod.fact.at, pod.fact.kind === 'ended' ? 'ended' : 'kubelet', [pod.fact.kind, pod.fact.why]);
   if (pod.deleted) add(pod.deleted[0], 'deleted', [pod.deleted[1]]);
-  for (const [since, place, words] of pod.said || []) {
-    events.push({at: since, place, word: 'said', rest: [data.saids[words]], number: events.length, pod});
+  for (const word of ['said', 'resized']) {
+    for (const [since, place, words] of pod[word] || []) {
+      events.push({at: since, place, word, rest: [data.saids[words]], number: events.length, pod});
+    }
   }
   return events.sort((a, b) => a.at - b.at);
 }
@@ -101,7 +103,7 @@ function placeBefore(length, of, at) {
   return low - 1;
 }
 
-// Whether the kubelet evicted a pod, where the trace says so, or else whether the rules do.
+// Whether the kubelet evicted a pod, if the trace shows that, or else whether the rules do.
 function isEvicted(pod) {
   return Boolean(data.kubelet ? pod.fact && pod.fact.kind === 'evicted' : pod.eviction);
 }
@@ -151,7 +153,7 @@ function seconds(count) {
   return `${Number((count / 86400).toFixed(1))} days`;
 }
 
-// Causes of a difference, behind a semicolon each; their numbers are moments.
+// Causes of a difference, each after a semicolon; their numbers are moments.
 function causesWords(causes) {
   return causes.map((cause) => `; ${cause.map((part) => typeof part === 'number' ? moment(part) : part).join(' ')}`)
     .join('');
@@ -170,7 +172,7 @@ function rulesWords(fact) {
   return `${does}${verb} it at ${moment(fact.rules)}${when}${causesWords(fact.causes)}`;
 }
 
-// What the kubelet did to a pod and what the rules do, as sentences; none where no trace says so.
+// What the kubelet did to a pod and what the rules do, as sentences; none if no trace shows it.
 function kubeletWords(pod) {
   if (pod.fact) {
     const did = `the kubelet ${pod.fact.kind} it at ${moment(pod.fact.at)}: ${pod.fact.why}`;
@@ -215,7 +217,7 @@ function told(event) {
   return toldOf(event) + ((event.pod.notes || {})[event.number] || '');
 }
 
-// Its kind's sentence, of the table that all tools read, with the values of its fields, and what the trace says beside
+// Its kind's sentence, of the table that all tools read, with the values of its fields, and what the trace has next to
 // it; and its attempt, if it has one.
 function toldOf(event) {
   const [fields, sentence] = data.told[event.word];

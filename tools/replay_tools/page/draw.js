@@ -135,7 +135,7 @@ function drawGaps(area) {
   }
 }
 
-// Where the kubelet was started anew: its probes were asked again from there on.
+// Where the kubelet was started again: its probes were asked again from there on.
 function drawKubeletStarts(area) {
   const {pen} = area;
   pen.save();
@@ -265,7 +265,7 @@ function rulesName(count) {
   return `${count ? `${count} evicted` : 'no eviction'} by the rules`;
 }
 
-// Where the kubelet's evictions are shown, those of the rules are no facts, and are drawn quietly.
+// Next to the kubelet's evictions the rules' evictions are no facts, and are drawn quietly.
 function ruleColour() {
   return data.kubelet ? colours.quiet : colours.failed;
 }

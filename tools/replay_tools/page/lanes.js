@@ -2,11 +2,11 @@
 const STRIP = 9, LANE = 19, BAR = 11, BELOW = 10;
 const WEIGHTS = {running: 0, waiting: 1, ended: 2, failed: 3, ready: 0, unready: 1};
 const MARKED = {kill: 3, restart: 1, backoff: 2};
-// what was said stands below its lane
+// what was reported is below its lane
 const SAID_HEIGHT = 4;
 const rows = {pods: [], tops: [], height: 0, made: new Map(), chosen: -1};
 
-// On a narrow page what a pod came to stands below its name.
+// On a narrow page what a pod came to is below its name.
 function headHeight() {
   return narrow.matches ? 43 : 27;
 }
@@ -90,7 +90,7 @@ function metaOf(pod) {
   return meta;
 }
 
-// Why its instances died, where that says more than their codes, and why its containers still wait at the end.
+// Why its instances died, if that shows more than their codes, and why its containers still wait at the end.
 function lastReasons(pod) {
   const counts = new Map();
   for (const one of pod.list.filter((event) => event.word === 'died')) {
@@ -140,7 +140,7 @@ function spansOf(pod) {
   if (!pod.drawn) {
     const marks = pod.list.filter((event) => event.word in MARKED);
     pod.drawn = {ready: readySpans(pod), lanes: pod.containers.map((container) => stateSpans(pod, container)),
-      said: pod.list.filter((event) => event.word === 'said'),
+      said: pod.list.filter((event) => ['said', 'resized'].includes(event.word)),
       marks: pod.containers.map((_, place) => marks.filter((event) => event.place === place))};
   }
   return pod.drawn;
@@ -177,7 +177,7 @@ function drawSaid(area, event) {
   area.pen.fillRect(x - 1.5, event.place < 0 ? STRIP - 1 : laneTop(event.place) + BAR + 1, 3, SAID_HEIGHT);
 }
 
-// Why it waits stands in the lane, where there is room for it.
+// Why it waits is in the lane, if there is room for it.
 function drawWaits(area, pod, place) {
   const {pen} = area;
   pen.save();
@@ -219,7 +219,7 @@ function drawEnd(area, pod) {
   if (pod.eviction) drawCross(area.pen, x, bottom / 2, 4.5, ruleColour());
 }
 
-// Marks that stand apart are drawn over the lane; where they are dense a strip below it has their colours, so that none
+// Marks that are apart are drawn over the lane; where they are dense a strip below it has their colours, so that none
 // hides it.
 const DENSE = 12, MOST_MARKS = 4;
 

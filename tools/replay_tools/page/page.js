@@ -11,9 +11,9 @@ const ORDERS = {worst: isWorse, trace: byNumber, name: byKey};
 const LEGEND = [
   ['waiting', 'waiting'], ['running', 'running'], ['ended', 'ended with 0'], ['failed', 'ended otherwise'],
   ['ready', 'ready'], ['unready', 'not ready'], ['pressure', 'pressure'], ['shade', 'threshold active'],
-  ['said', 'reported of it'],
+  ['said', 'reported of it, or a resize'],
 ];
-// Signs of the legend are drawn as those of the lanes are.
+// Signs of the legend are drawn as the signs of the lanes are.
 const ofMark = (word) => (pen) => drawMark(pen, {word, x: 8}, 8 - BAR / 2);
 const ofStrip = (pen) => drawStrip(pen, ['restart', 'backoff', 'kill'].map((word, at) => ({word, x: 3 + 5 * at})), -6);
 const SIGNS = [['kill ordered', ofMark('kill')], ['restart', ofMark('restart')],

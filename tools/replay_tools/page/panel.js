@@ -95,7 +95,7 @@ function reasonWords(pod) {
   return ` (${pod.reason}${pod.eviction ? ` by ${pod.eviction.signal} ${pod.eviction.kind}` : ''})`;
 }
 
-// What still ran as the pod ended or went stands as it was seen then.
+// What still ran as the pod ended or went is shown as it was seen then.
 function containersTitle(pod) {
   const isOver = pod.end || typeof pod.gone === 'number';
   const ran = isOver && pod.containers.some((one) => one.state === 'Running');
@@ -115,7 +115,7 @@ function eventList(pod, events, open) {
 
 const DOTS = {started: 'running', died: 'failed', kill: 'kill', ready: 'ready', unready: 'unready', backoff: 'waiting',
   restart: 'accent', evicted: 'failed', kubelet: 'failed', ended: 'failed',
-  said: 'said'};
+  said: 'said', resized: 'accent'};
 
 function eventItem(pod, event, open) {
   const [holder, button] = [element('div', undefined, 'event'), element('button')];
@@ -159,7 +159,7 @@ function whyParts(pod, event) {
     case 'evicted': return [...kubeletWords(pod).map(said), ...evictedParts(pod)];
     case 'kubelet': return [said(rulesWords(pod.fact))];
     case 'ended': case 'names': return kubeletWords(pod).map(said);
-    case 'deleted': case 'said': return [];
+    case 'deleted': case 'said': case 'resized': return [];
     case 'phase': return phaseParts(pod, event);
     default: return resultParts(pod, event);
   }

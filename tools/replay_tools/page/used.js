@@ -1,6 +1,6 @@
-// What the containers of the pod whose story is open used over time: memory and processor time as lines, beside request
-// and limit. A sample is [moment, attempt, memory, processor, throttled], and bounds are [since, request and limit of
-// memory, those of the processor, whether the limit of memory is the pod's].
+// What the containers of the pod whose story is open used over time: memory and processor time as lines, next to
+// request and limit. A sample is [moment, attempt, memory, processor, throttled], and bounds are [since, request and
+// limit of memory, of the processor, whether the limit of memory is the pod's].
 const ATTEMPT = 1, MEMORY = 2, PROCESSOR = 3, THROTTLED = 4, OF_POD = 5;
 const USED = [
   {name: 'memory', column: MEMORY, request: 1, limit: 2, height: 88, words: (value) => amount(value, true)},
@@ -179,7 +179,7 @@ function isJoined(before, use) {
 }
 
 // A line for each instance; of the samples of one pixel those alone that are greater or less than the ones before. One
-// that stands alone is a dot, as is the last of an instance.
+// that is alone is a dot, as is the last of an instance.
 function drawSamples(area, uses, from, to, column, yOf) {
   const {pen} = area;
   pen.strokeStyle = pen.fillStyle = colours.signal;

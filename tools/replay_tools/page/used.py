@@ -2,6 +2,7 @@
 
 from __future__ import annotations
 
+from collections.abc import Sequence
 from typing import Any, TYPE_CHECKING
 
 if TYPE_CHECKING:
@@ -17,20 +18,24 @@ COLUMNS = 5
 
 
 def used_of(span: Span, pod: traces.Pod, ticks: why.PodTicks, budget: Budget) -> dict[str, Any]:
-    """For each container what it used, or None; nothing of a pod of which no trace says it."""
-    found = [of_container(span, pod, container, ticks.used[container.name], budget) for container in pod.containers]
+    """For each container what it used, or None; nothing of a pod of which no trace has it."""
+    found = []
+    for container in pod.containers:
+        resizes, used = ticks.trace.resizes.of_container(pod.number, container.name), ticks.used[container.name]
+        changes = [(resize.at, resize.container.bounds) for resize in resizes] or used.changes
+        found.append(of_container(span, pod, container, used, changes, budget))
     return {"used": found} if any(found) else {}
 
 
 def of_container(span: Span, pod: traces.Pod, container: Container, used: why.UseOverTime,
-                 budget: Budget) -> dict[str, Any] | None:
+                 changes: Sequence[tuple[int, Bounds | None]], budget: Budget) -> dict[str, Any] | None:
+    """What a container used, and its bounds from moments on: None means the manifest's bounds."""
     if not used.uses or not budget.takes(len(used.uses)):
         return None
-    changes = [(None, None), *used.changes]
     columns = COLUMNS if any(use.throttled is not None for use in used.uses) else COLUMNS - 1
     return {"columns": columns, "uses": uses_of(span, used.uses, columns),
             "bounds": [[span.of(at), *bounds_of(pod, container.bounds if bounds is None else bounds)]
-                       for at, bounds in changes]}
+                       for at, bounds in [(None, None), *changes]]}
 
 
 def uses_of(span: Span, uses: list[why.Use], columns: int) -> list[int | None]:
@@ -45,7 +50,7 @@ def uses_of(span: Span, uses: list[why.Use], columns: int) -> list[int | None]:
 
 def bounds_of(pod: traces.Pod, bounds: Bounds) -> list[float | bool | None]:
     """Request and limit of memory in bytes, of the processor in thousandths of a core, and whether the limit of memory
-    is that of the whole pod."""
+    is the whole pod's."""
     is_pods = bounds.memory_limit is None and pod.memory_limit is not None
     limit = pod.memory_limit if is_pods else bounds.memory_limit
     memory = [None if amount is None else amount // 1000 for amount in (bounds.memory_request, limit)]

@@ -1,1 +1,1 @@
-"""The tools as a plugin of kubectl: its words, its files, its completion."""
+"""The tools as a plugin of kubectl: its arguments, its files, its completion."""

@@ -84,7 +84,7 @@ def run_asking(command: Command, found: Namespace, caller: Caller) -> int:
 
 
 def is_of_cluster(command: Command, found: Namespace, caller: Caller) -> bool:
-    """Whether a tool is asked for pods of a cluster, and not for those of files or of a report."""
+    """Whether a tool is asked for pods of a cluster, and not of files or of a report."""
     from replay_tools.plugin import target
     return target.is_meant(command.name, found, caller.is_of_kubectl)
 

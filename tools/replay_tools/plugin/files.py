@@ -34,8 +34,8 @@ def is_report(path: str) -> bool:
 
 
 def plain(path: str) -> str:
-    """The path of a trace as the program takes it: of one that is packed that of a copy which is not, and so of one
-    whose name is not UTF-8."""
+    """The path of a trace as the program takes it: of a packed trace the path of a copy that is not packed, and so of
+    one whose name is not UTF-8."""
     try:
         if not os.path.isfile(path) or not packed.is_packed_file(path) and outside.is_utf8(path):
             return path

@@ -59,7 +59,7 @@ def contexts(found: Namespace) -> list[str]:
 
 
 def targets(found: Namespace, last: str) -> list[str]:
-    """What the last word may become where no file and no node is named: kinds, and the names of one."""
+    """What the last argument may become where no file and no node is named: kinds, and the names of one."""
     kind, slash, _ = last.partition("/")
     if not slash:
         return [f"{names[0]}/" for names, _ in kinds.KINDS.values()]

@@ -14,7 +14,7 @@ STANDARD_INPUT = "/dev/stdin"
 
 
 def paths_of(found: Namespace) -> list[str]:
-    """The traces that -f and other arguments name, those of a folder in the order of their names; standard input
+    """The traces that -f and other arguments name, the traces of a folder in the order of their names; standard input
     without any."""
     paths = [path for named in [*found.files, *found.named] for path in in_folder(named)]
     if not paths and entry.standard_input().isatty():
@@ -23,7 +23,7 @@ def paths_of(found: Namespace) -> list[str]:
 
 
 def in_folder(path: str) -> list[str]:
-    """The traces of a folder; any other path itself, as that of a folder without one."""
+    """The traces of a folder; any other path itself, also of a folder without a trace."""
     if not os.path.isdir(path):
         return [path]
     try:

@@ -54,7 +54,7 @@ class Found:
 
 
 def run(found: Namespace, is_of_kubectl: bool) -> int:
-    """Prints the story of what the words name; the status."""
+    """Prints the story of what the arguments name; the status."""
     from replay_tools.cluster import layout, told
     with gathering(found, is_of_kubectl) as (story, _, __):
         if found.output == "json":
@@ -66,7 +66,7 @@ def run(found: Namespace, is_of_kubectl: bool) -> int:
 
 @contextlib.contextmanager
 def gathering(found: Namespace, is_of_kubectl: bool) -> Iterator[tuple[told.Story, str, Time]]:
-    """What is known of what the words name, with the folder of its traces, which goes again, and the time."""
+    """What is known of what the arguments name, with the folder of its traces, which goes again, and the time."""
     if not is_of_kubectl and found.namespace is None and not found.asks_all and not targets.plain_of(found) \
             and found.selector is None:
         raise entry.Fault("it needs -f FILE or FOLDER for traces that are here, or for a cluster --node NODE or -n "
@@ -231,5 +231,5 @@ def missing_words(story: told.Story) -> str | None:
 
 
 def clock_of(found: Namespace) -> Clock:
-    """That which the words ask for, else UTC."""
+    """The clock that the arguments ask for, else UTC."""
     return next((clock for clock in Clock if getattr(found, clock.value)), Clock.UTC)

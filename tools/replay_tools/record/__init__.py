@@ -1,1 +1,1 @@
-"""What tools/record is made of: sources that are asked, and a core that makes a trace of what they said."""
+"""What `record` is made of: sources that are asked, and a core that makes a trace of their answers."""

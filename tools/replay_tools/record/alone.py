@@ -13,7 +13,7 @@ from .sources import Failed, reads
 if TYPE_CHECKING:
     from .answers import Answer
 
-# --kubelet has this word where no kubelet is asked
+# the value of --kubelet if no kubelet is asked
 ALONE = "none"
 ANSWERS = {"metrics/probes": "", "stats/summary": '{"node": {}}', "configz": '{"kubeletconfig": {}}'}
 # containers of a pod come one after the other: it is listed once none has come for so long

@@ -1,5 +1,5 @@
-"""A file of the folder of traces whose age says since when the runtime or the kubelet gives no answer, for a probe that
-starts the recorder again. Who probes it makes it; where it is not there nothing is touched."""
+"""A file of the folder of traces whose age shows since when the runtime or the kubelet gives no answer, for a probe
+that starts the recorder again. Who probes it makes it; where it is not there nothing is touched."""
 
 from __future__ import annotations
 

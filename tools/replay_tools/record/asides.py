@@ -1,4 +1,4 @@
-"""What the ticks of a trace say beside what the formats read: why instances ended, and why containers wait."""
+"""What the ticks of a trace have next to what the formats read: why instances ended, and why containers wait."""
 
 from __future__ import annotations
 
@@ -6,9 +6,7 @@ from typing import Any, TYPE_CHECKING
 
 from .formats import without_nones
 from .reasons import better
-from .pods import all_containers
 from .runtime import RUNNING
-from .statuses import changed
 from .used import UsedByContainers
 
 if TYPE_CHECKING:
@@ -19,8 +17,8 @@ if TYPE_CHECKING:
 
 
 def stands(wait: Reason, listing: Listing | None) -> bool:
-    """Whether a container still waits so as its newest instance is listed: it does not run, and is the one behind which
-    the status says that it waits."""
+    """Whether a container still waits so, as its newest instance is listed: it does not run, and is the one after which
+    the status shows that it waits."""
     return listing is None or (listing.state != RUNNING and wait.behind in (None, listing.attempt))
 
 
@@ -30,7 +28,7 @@ def is_over(wait: Reason, listing: Listing | None) -> bool:
 
 
 class Asides:
-    """What stands at the last tick, and what was told of it: a reason stands in each tick, its message in the first."""
+    """What holds at the last tick, and what was written of it: each tick has a reason, the first one its message."""
 
     def __init__(self) -> None:
         self.ends: dict[Any, Any] = {}
@@ -65,18 +63,11 @@ class Asides:
         return self.beside[uid].gates or None if uid in self.beside else None
 
     def of_container(self, pod: Pod, name: str) -> dict[str, Any]:
-        """The members of a listing that are of the container: what it used, and the resources that it has by now, where
-        they are others than its manifest had as the pod came."""
-        used, said = self.used.of(pod.uid, name), None
-        if pod.uid in self.beside:
-            said = self.beside[pod.uid].resources.get(name)
-        if not said:
-            return used
-        declared = next(each for each in all_containers(pod.manifest) if each["name"] == name).get("resources") or {}
-        return {"resources": said, **used} if changed(said, declared) else used
+        """The members of a listing that are of the container: what it used."""
+        return self.used.of(pod.uid, name)
 
     def of_listing(self, uid: str, name: str, listing: Listing) -> dict[str, Any]:
-        """The members of a listing: why the instance ended, and how the one before it did, whose exit its tick says."""
+        """The members of a listing: why the instance ended, and how the one before it did, whose exit its tick has."""
         said: dict[str, Any] = {}
         if listing.exit_code is not None:
             attempt, newest = self.ends.get((uid, name), (None, None))

@@ -1,4 +1,4 @@
-"""What --check says: whether each source works, and what is to be done about one that does not."""
+"""What --check prints: whether each source works, and what to do about one that does not."""
 
 from __future__ import annotations
 
@@ -26,7 +26,7 @@ PORT = "it is at the kubelet's port 10250, and needs the permission to get nodes
 # rights of their own that a kubelet has for what nodes/proxy opens too
 FINER = ("pods", "configz")
 BEFORE = ", which a kubelet knows from Kubernetes 1.33 on; before it nodes/proxy (deploy/rights-before-1.33.yaml)"
-# it wants nodes/proxy in each version, and names no container, so that whoever may ask finds nothing
+# it needs nodes/proxy in each version, and names no container, so that whoever may ask finds nothing
 OF_PROXY = "containerLogs/"
 MAY = ("{who} may get nodes/proxy: whoever has it starts commands in each container of the nodes for which it may; "
        "from Kubernetes 1.33 on nodes/pods and nodes/configz do in its place (deploy/daemonset.yaml)")
@@ -47,7 +47,7 @@ def counted(count: int, what: str) -> str:
 
 
 def wish(sources: Sources, what: str) -> str:
-    """What a source at the kubelet wants."""
+    """What a source at the kubelet needs."""
     return PROXY if sources.kubelet is None else PORT.replace("{what}", what) + (BEFORE if what in FINER else "")
 
 
@@ -131,7 +131,7 @@ def api_checks(sources: Sources) -> list[tuple[str, Callable[..., Any], str]]:
 
 def checks_of(sources: Sources, node: str, trace_format: Format,
               asks_throttled: bool) -> list[tuple[str, Callable[..., Any], str]]:
-    """Each source with how it is asked and what it wants: (name, ask, wish)."""
+    """Each source with how it is asked and what it needs: (name, ask, wish)."""
     if sources.alone is not None:
         return runtime_checks(sources)
     pods = wish(sources, "pods") if sources.kubelet else "it needs the permission to list pods of all namespaces"

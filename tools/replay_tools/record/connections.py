@@ -1,5 +1,5 @@
-"""Connections that are kept: to a kubelet's port, as a file of curl says it, or to a proxy of kubectl's on a socket in
-a folder of its own. So no command is started for an answer but crictl."""
+"""Connections that are kept: to a kubelet's port, as a file of curl has it, or to a proxy of kubectl's on a socket in a
+folder of its own. So no command is started for an answer but crictl."""
 
 from __future__ import annotations
 
@@ -44,7 +44,7 @@ class NotRead(Exception):
 
 @dataclass
 class Settings:
-    """What a file of curl says of a connection."""
+    """What a file of curl has of a connection."""
     headers: dict = field(default_factory=dict)
     is_insecure: bool = False
     authority: Optional[str] = None
@@ -55,7 +55,7 @@ class Settings:
 
 
 def settings_of(text: str) -> Settings:
-    """The settings of a file of curl. Raises NotRead where it has others than those of a token and certificates."""
+    """The settings of a file of curl. Raises NotRead if it has others than a token's and certificates'."""
     found = Settings()
     for line in filter(None, map(str.strip, text.split("\n"))):
         parts = LINE.fullmatch(line)
@@ -152,7 +152,7 @@ class Kept:
         return Failed(f"gave no answer: {said}{NOT_CHECKED if unchecked else ''}")
 
     def asked(self, path: str, headers: dict[str, str], take: Callable[[bytes], None] | None = None) -> bytearray:
-        """The body of an answer, or nothing where `take` is given it; what a refusal shows is not."""
+        """The body of an answer, or nothing if `take` gets it. The body of a rejection goes to nobody."""
         until = time.monotonic() + ENDPOINT_SECONDS
         if self.connection is None:
             self.connection = self.connect()
@@ -190,7 +190,7 @@ def read_body(answer: http.client.HTTPResponse, until: float, take: Callable[[by
 
 
 def said_in(body: bytearray) -> str:
-    """Why an answer is a refusal, in one line: an API server writes an object with a message."""
+    """Why an answer is a rejection, in one line: an API server writes an object with a message."""
     text = decoded(body[:PART_BYTES])
     try:
         answer = json.loads(text)
@@ -215,8 +215,8 @@ class AddressedConnection(http.client.HTTPSConnection):
 
 class Kubelet:
     """A kubelet at its URL, with the settings of a file of curl, which is read again where it has changed, as a token
-    does. A header, as that with the token, goes to no server whose certificate was not checked, unless the settings say
-    so. Raises NotRead for settings that it does not know."""
+    does. A header, as the one with the token, goes to no server whose certificate was not checked, unless the settings
+    allow it. Raises NotRead for settings that it does not know."""
 
     def __init__(self, url: str, curl_file: str | None) -> None:
         self.url, self.curl_file = urlsplit(url), curl_file
@@ -314,7 +314,7 @@ class SocketConnection(http.client.HTTPConnection):
 
 
 def dies_with_its_parent() -> None:
-    """The proxy is not left behind by a recorder that is killed."""
+    """A recorder that is killed leaves no proxy."""
     try:
         ctypes.CDLL(None).prctl(DEATH_SIGNAL, signal.SIGTERM)
     except (OSError, AttributeError):
@@ -397,7 +397,7 @@ class Proxy:
         return self.does_start
 
     def has_certificate(self) -> bool:
-        """That of kubectl is its own."""
+        """kubectl has its own."""
         return False
 
     def get(self, path: str) -> bytearray:
@@ -412,7 +412,7 @@ class Proxy:
         return self.get(f"/api/v1/nodes/{self.node}/proxy/{path}")
 
     def read(self, path: str, take: Callable[[bytes], None]) -> None:
-        # it runs, since it was asked for the pods before, and where it has ended the next look starts it
+        # it runs, since it was asked for the pods before, and where it has ended the next poll starts it
         there = self.socket
         Kept(lambda: SocketConnection(there)).read(f"/api/v1/nodes/{self.node}/proxy/{path}", {}, take)
 

@@ -1,4 +1,4 @@
-"""What became of the containers of the pods that are followed, from one look to the next."""
+"""What became of the containers of the pods that are followed, from one poll to the next."""
 
 from __future__ import annotations
 
@@ -38,7 +38,7 @@ class Containers:
             self.follow(recorded, instances, moment)
 
     def follow(self, recorded: Recorded, instances: dict[str, list[Instance]], moment: float) -> None:
-        """What became of the containers of one pod since the last look."""
+        """What became of the containers of one pod since the last poll."""
         pod, names = recorded.pod, recorded.pod.containers()
         by_name: dict[str, list[Instance]] = {name: [] for name in names}
         for instance in instances.get(pod.uid, []):
@@ -56,7 +56,7 @@ class Containers:
                 self.take_end(recorded, name, container)
 
     def take_end(self, recorded: Recorded, name: str, container: Container) -> None:
-        """Why a container's newest instance ended, which its pod's status may say later."""
+        """Why a container's newest instance ended, which its pod's status may show later."""
         if container.newest is not None and container.newest.state == EXITED:
             self.timeline.asides.take_end(recorded.pod.uid, name, container.attempt, container.newest.reason)
 

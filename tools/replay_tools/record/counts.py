@@ -35,11 +35,11 @@ class ProbeCounts:
         self.now, self.planned = Counted(), Counted()
 
     def begin(self, counts: Counters, moment: float) -> None:
-        """The counts of the first look are of results before it."""
+        """The counts of the first poll are of results before it."""
         self.planned = Counted(counts, dict.fromkeys(counts, moment), moment)
 
     def take(self, counts: Counters, uids: set[str], moment: float) -> None:
-        """Takes those of an answer. The counts of a pod that is there stay where an answer leaves them out."""
+        """Takes the counts of an answer. The counts of a pod that is there stay where an answer leaves them out."""
         kept = {series: of_series for series, of_series in self.now.counts.items() if series[0] in uids}
         counted_at = {**{series: self.now.counted_at[series] for series in kept}, **dict.fromkeys(counts, moment)}
         self.now = Counted({**kept, **counts}, counted_at, moment)

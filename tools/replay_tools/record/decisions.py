@@ -1,5 +1,5 @@
-"""What the kubelet did to a pod, as the pod's status reports it: it evicted it, refused to run it under pressure, or
-ended it for another reason, as that its deadline was over."""
+"""What the kubelet did to a pod, as the pod's status reports it: it evicted it, rejected it under pressure, or ended it
+for another reason, as that its deadline was over."""
 
 from __future__ import annotations
 
@@ -41,7 +41,7 @@ OTHER = "Other"
 @dataclass(frozen=True)
 class Decision:
     """What was done, and why; its moment in seconds since 1970, where the status reports one, as from Kubernetes 1.26
-    on. A pod that was refused never ran, or not since the kubelet was started. `is_guessed` is that no reason is
+    on. A pod that was rejected never ran, or not since the kubelet was started. `is_guessed` is that no reason is
     known."""
     kind: str
     moment: Optional[float]
@@ -62,7 +62,7 @@ class Decision:
 
 @dataclass(frozen=True)
 class Told:
-    """What a tick tells of a decision: of which pod it was, in which second, and whether the pod is left out."""
+    """What a tick has of a decision: of which pod it was, in which second, and whether the pod is left out."""
     pod: Pod
     decision: Decision
     at: int
@@ -108,15 +108,15 @@ def is_refusal(reason: str, message: str) -> bool:
 
 
 def refused_at(status: dict[str, Any], seen_at: float | None) -> float | None:
-    """When a pod was not admitted: as the kubelet took it, which its annotation says, and so does its status where no
-    container of it has run."""
+    """When a pod was not admitted: as the kubelet took it, which its annotation has, and its status too if no container
+    of it has run."""
     if seen_at is not None or status.get("containerStatuses"):
         return seen_at
     return moment_of(status.get("startTime"))
 
 
 def moment_in(status: dict[str, Any]) -> float | None:
-    """When the pod was told to end by the kubelet, where a condition has it."""
+    """When the kubelet told the pod to end, if a condition has it."""
     for condition in status.get("conditions") or []:
         if condition.get("type") == "DisruptionTarget" and condition.get("reason") == "TerminationByKubelet":
             return moment_of(condition.get("lastTransitionTime"))
@@ -143,8 +143,8 @@ class Decisions:
         return pod.uid in self.uids
 
     def take(self, pod: Pod, recorded: Recorded | None, seen: Seen) -> None:
-        """The kubelet evicted or refused a pod, which is recorded or not. That is written, unless it was before the
-        recording and may be told by one before. What an evicted pod was running exits after it."""
+        """The kubelet evicted or rejected a pod, which is recorded or not. That is written, unless it was before the
+        recording and an earlier recording may have it. What an evicted pod was running exits after it."""
         decision = pod.decision
         if decision is None or self.has(pod):
             return
@@ -191,7 +191,8 @@ class Decisions:
                  if each.finished is not None and each.finished > self.course.planned_at]
         sampled = self.sample_of(decision, seen)
         if sampled is None:
-            # its sample is not shown yet, which is newer than that of the eviction before, and than an exit by itself
+            # its sample is not shown yet, which is newer than the sample of the eviction before, and than an exit by
+            # itself
             is_awaited = decision.kind == EVICTED and self.sampling.timeline.tells_rounds
             return seen.moment if is_awaited and self.timeline.evicted_last is not None else min([seen.moment, *exits])
         # an exit before the sample was no work of the kubelet's
@@ -199,7 +200,7 @@ class Decisions:
 
     def sample_of(self, decision: Decision, seen: Seen) -> float | None:
         """When the sample was taken by which the kubelet evicted a pod, which is none by which it evicted one before:
-        of several in one look it is the same."""
+        of several in one poll it is the same."""
         sampled = self.sampling.sampled_for(seen) if decision.kind == EVICTED else None
         last, was_at, self.looked_at = self.timeline.evicted_last, self.looked_at, seen.moment
         if sampled is None or last is None or int(sampled) > last or (int(sampled) == last and was_at == seen.moment):

@@ -1,6 +1,6 @@
-"""When the node has ended a pod: a kubelet 1.20 says so as it begins to stop the containers, later ones once they have
-stopped. So the end is with the first of the exits that it may have led to, and what is behind such an exit waits
-for a list of pods that shows whether it has."""
+"""When the node has ended a pod: a kubelet 1.20 shows it as it begins to stop the containers, later ones once they have
+stopped. So the end is with the first of the exits that it may have led to, and what is after such an exit waits for a
+list of pods that shows whether it has."""
 
 from __future__ import annotations
 
@@ -18,7 +18,8 @@ if TYPE_CHECKING:
 
 def open_exits(recorded: Recorded) -> dict[str, float]:
     """The moments of the exits after which a pod's policy needs a start, and neither one has come nor has the pod's
-    status said that the container waits for one: {container: moment}. The kubelet does not go on there, or not yet."""
+    status showed that the container waits for one: {container: moment}. The kubelet does not go on there, or not yet.
+    """
     newest = {name: container.newest for name, container in recorded.containers.items()}
     return {name: each.finished for name, each in newest.items()
             if each is not None and each.state == EXITED and each.finished is not None
@@ -32,8 +33,8 @@ def wants_start(recorded: Recorded, name: str) -> bool:
 
 
 def second_of_end(recorded: Recorded, timeline: Ticks) -> int:
-    """The second in which the node has ended a pod: that of its eviction; else of the first exit that the end led to,
-    if that is before it was seen. Where none of them needs a start it is the last one, if all have exited."""
+    """The second in which the node has ended a pod: the second of its eviction; else of the first exit that the end led
+    to, if that is before it was seen. Where none of them needs a start it is the last one, if all have exited."""
     if recorded.evicted_at is not None:
         return recorded.evicted_at
     seconds = [timeline.listed_in(recorded.pod, name) for name in open_exits(recorded)]
@@ -45,7 +46,7 @@ def second_of_end(recorded: Recorded, timeline: Ticks) -> int:
 
 
 def settled_before(followed: Iterable[Recorded], with_status: set[str], listed_at: float, moment: float) -> int:
-    """The second from which on a list of pods may yet show that a pod is being deleted, or was ended: that of the
+    """The second from which on a list of pods may yet show that a pod is being deleted, or was ended: the second of the
     newest list, of the first that lacks a pod, or of an exit after which nothing has shown so far that the kubelet goes
     on. None waits for longer than for a silent source."""
     followed = list(followed)

@@ -1,4 +1,4 @@
-"""What the API server says next to a kubelet, where it is asked: what Events show of a pod, of which something happened
+"""What the API server shows next to a kubelet, if it is asked: what Events show of a pod, of which something happened
 some seconds ago; and whether the node is Ready."""
 
 from __future__ import annotations
@@ -21,7 +21,7 @@ if TYPE_CHECKING:
     from .pods import Pod
     from .probes import Counters
 
-# an Event is there some moments behind what it tells, and a pod is asked for again after so long
+# an Event is there some moments after what it reports, and a pod is asked for again after so long
 BEHIND_SECONDS, AGAIN_SECONDS = 3, 10
 # so many pods are asked for at a poll
 MOST_AT_ONCE = 5
@@ -56,7 +56,7 @@ class Ready:
     since: Optional[float] = None
 
     def told(self) -> dict[str, Any] | None:
-        """What a tick says of it; None where the node is Ready."""
+        """What a tick has of it; None if the node is Ready."""
         if self.status == "True":
             return None
         return without_nones({"status": self.status, "reason": self.reason,
@@ -86,7 +86,7 @@ def said_in(text: Answer, what: str) -> list[Said]:
 
 
 def said_of(item: Any) -> Said | None:
-    """An Event, in either form of the API's; None where it says no moment."""
+    """An Event, in either form of the API's; None if it has no moment."""
     series, metadata = item.get("series") or {}, item.get("metadata") or {}
     moments = map(moment_of, (series.get("lastObservedTime"), item.get("lastTimestamp"), item.get("eventTime"),
                               metadata.get("creationTimestamp")))

@@ -1,4 +1,4 @@
-"""The folder of the traces that stand one after the other: their names, who may write there, and what goes."""
+"""The folder of the traces that follow one another: their names, who may write there, and what goes."""
 
 from __future__ import annotations
 
@@ -80,7 +80,7 @@ class Folder:
         self.refuse_others()
 
     def lock(self) -> None:
-        """Refuses a folder that can't be written, and the second recorder of one."""
+        """Rejects a folder that can't be written, and the second recorder of one."""
         try:
             self.descriptor = os.open(self.path, os.O_RDONLY | os.O_DIRECTORY | os.O_CLOEXEC)
         except OSError as error:
@@ -97,7 +97,7 @@ class Folder:
                           + os.strerror(errno.EROFS if is_read_only else errno.EACCES))
 
     def refuse_others(self) -> None:
-        """Refuses a folder in which another user may change what is written: one that is another's, or that others may
+        """Rejects a folder in which another user may change what is written: one that is another's, or that others may
         write, unless it is sticky and what has the names of the recorder's files there is its own."""
         status, own = os.fstat(self.descriptor), os.geteuid()
         if status.st_uid not in (own, ROOT):
@@ -144,7 +144,7 @@ class Folder:
         return part
 
     def traces(self, kind: str = PACKED) -> list[Trace]:
-        """The traces of the node that have ended, in the order in which they begin; or those of another kind."""
+        """The traces of the node that have ended, in the order in which they begin; or the traces of another kind."""
         found = []
         for entry in self.entries():
             place = self.place_of(entry, kind)

@@ -7,7 +7,7 @@ from dataclasses import dataclass
 from typing import Any, Optional
 
 from .runtime import moment_of
-from .statuses import SIDES, TRUE, TYPE, amount_of, resources_of, with_quantities
+from .statuses import SIDES, TRUE, TYPE, is_above_limit, resources_of, with_quantities
 
 MOST_GATES = 16
 # the resources of a pod as a whole that the formats read
@@ -66,9 +66,3 @@ def pod_resources(spec: dict[str, Any]) -> dict[str, Any] | None:
         return None
     found = with_quantities(resources_of(of_pod, OF_PODS) or {})
     return None if is_above_limit(found) else found
-
-
-def is_above_limit(found: dict[str, Any]) -> bool:
-    """Whether a request is above its limit, which version 3 rejects. A limit of 0 is none."""
-    requests, limits = ({name: amount_of(value) or 0 for name, value in found.get(side, {}).items()} for side in SIDES)
-    return any(0 < limits.get(name, 0) < amount for name, amount in requests.items())

@@ -6,6 +6,8 @@ from __future__ import annotations
 from collections.abc import Callable
 from typing import Any, TYPE_CHECKING
 
+from replay_tools.cli.statuses import Status
+
 from .answered import Answered
 from .folder import Folder, Refused, made
 from .lasting import LastingRecorder, forget_strangers, set_back
@@ -20,9 +22,9 @@ if TYPE_CHECKING:
     from .sources import Sources
     from .words import Into, Words
 
-# a clock that goes back by less stands still until its time comes again
+# a clock that goes back by less is taken as still until its time comes again
 BACK_SECONDS = 60
-# two polls are that far apart where the clock went forward, or the recorder stood still
+# two polls are that far apart if the clock went forward, or the recorder was suspended
 FORWARD_SECONDS = 120
 
 
@@ -49,8 +51,8 @@ class LastingRecording(Recording):
     def check_output(self) -> None:
         """Ends the recording if the folder was removed or replaced: what is there now may be another recorder's."""
         if not self.output.folder.is_there():
-            raise Ended(1, f"--into: '{self.output.folder.path}' was removed or replaced: the recorder stops, and "
-                           "writes nothing into what is there now")
+            raise Ended(Status.FAILED, f"--into: '{self.output.folder.path}' was removed or replaced: the recorder "
+                                       "stops, and writes nothing into what is there now")
 
     def go_on(self) -> None:
         moment = self.begun
@@ -73,7 +75,7 @@ class LastingRecording(Recording):
                     self.shipping.look()
 
     def see_clock(self, before: float, moment: float) -> None:
-        """What the clock says at a poll, after the look before."""
+        """What the clock shows at a poll, after the poll before."""
         if moment < before - BACK_SECONDS:
             say_again(self.say, f"{int(before)}: the clock went back by {round(before - moment)} s, and the next trace "
                                 f"begins at {int(moment)}")
@@ -87,7 +89,7 @@ class LastingRecording(Recording):
                                 "forward, or the recorder was suspended")
 
     def forget(self) -> None:
-        """Behind each rotation what is over is forgotten, so that the recorder stays as small as it is."""
+        """After each rotation the recorder forgets what is over, so that it stays as small as it is."""
         if self.output.has_turned:
             self.output.has_turned = False
             self.recorder.forget()
@@ -108,7 +110,7 @@ class LastingRecording(Recording):
                 elif self.shipping is not None:
                     self.shipping.stop()
         if self.output.is_lost and self.output.last is None:
-            raise Ended(1)
+            raise Ended(Status.FAILED)
 
     def end(self) -> None:
         """Ends the trace that is written, and ships what has ended."""
@@ -126,6 +128,6 @@ def recorded_into(words: Words, into: Into, sources: Sources, clock: Any, say: C
         folder = Folder(into.folder, words.node, into.keep, into.most, say)
     except Refused as refused:
         say(str(refused))
-        return 1
+        return Status.FAILED
     output = Traces(folder, into.each, words.ticks, say)
     return watch(output, LastingRecording(words, sources, clock, output, say), say)

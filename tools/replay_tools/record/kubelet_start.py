@@ -35,13 +35,13 @@ FEW_TRIES = 3
 # a source of pods is whole some seconds after its first pod; one that shows none is waited for so long
 SETTLE_SECONDS = 5
 EMPTY_SECONDS = 60
-# after a start the pods are asked for at each look, and between two looks each second
+# after a start the pods are asked for at each poll, and between two polls each second
 WATCH_SECONDS = 30
 STATIC, FROM_API = "static", "api"
 
 
 def started_in(text: Answer) -> float | None:
-    """When the kubelet's process was started, by an answer that has its metrics; None where it does not say."""
+    """When the kubelet's process was started, by an answer that has its metrics; None if it does not have it."""
     found = LINE.search(decoded(text))
     return None if found is None else outside.moment(int(float(found["value"])))
 
@@ -66,7 +66,7 @@ class StartLine:
 
 
 def asked(sources: Sources) -> float:
-    """Asks the kubelet; Failed where it does not say when it was started."""
+    """Asks the kubelet; Failed if it does not show when it was started."""
     line = StartLine()
     sources.stream(PATH, line.take)
     if line.started is None:
@@ -75,7 +75,7 @@ def asked(sources: Sources) -> float:
 
 
 def have_fallen(before: Counters | None, now: Counters | None) -> bool:
-    """Whether the counts of a probe are below those before, as those of a kubelet that was started since are."""
+    """Whether the counts of a probe are below the counts before, as of a kubelet that was started since."""
     if before is None or now is None:
         return False
     return any(count < before[series].get(result, 0) for series, counts in now.items() if series in before
@@ -90,27 +90,27 @@ class KubeletStart:
         self.sources = sources
         self.say = say
         self.started: float | None = None
-        # when it answered last, in a look before
+        # when it answered last, in an earlier poll
         self.answered_at: float | None = None
         # how often it may be asked yet, and when next
         self.tries = 0
         self.pause: float = 1
         self.next_at = float("-inf")
         self.has_fallen = False
-        # a start that is not told yet, and since when the new kubelet is watched
+        # a start that is not reported yet, and since when the new kubelet is watched
         self.news: float | None = None
         self.since: float | None = None
 
     def begin(self, probes: Answer, moment: float) -> None:
-        """The answer of the first look. A kubelet that does not say with it when it was started is asked."""
+        """The answer of the first poll. If it does not show when the kubelet was started, the kubelet is asked."""
         self.started, self.answered_at = started_in(probes), moment
         if self.started is None and self.sources.alone is None:
-            # one that won't say it is known by the counts of its probes alone, which is said at the first sign
+            # one that won't show it is known by the counts of its probes alone, which is printed at the first sign
             with contextlib.suppress(Failed):
                 self.started = asked(self.sources)
 
     def see_probes(self, text: Answer, moment: float) -> None:
-        """Newer kubelets say it with the counts of probes."""
+        """Newer kubelets have it with the counts of probes."""
         started = started_in(text)
         if started is not None:
             self.see(started, moment)
@@ -134,7 +134,7 @@ class KubeletStart:
             self.ask(moment)
 
     def ask(self, moment: float) -> bool:
-        """Asks the kubelet; whether it says when it was started."""
+        """Asks the kubelet; whether it shows when it was started."""
         if self.sources.alone is not None:
             return False
         try:
@@ -149,14 +149,14 @@ class KubeletStart:
         return True
 
     def is_same(self, moment: float) -> bool | None:
-        """Whether the kubelet says that it has not restarted since it was asked last; None where it won't say."""
+        """Whether the kubelet shows that it has not restarted since it was asked last; None if it won't show it."""
         has_said = self.ask(moment)
         if self.news is not None:
             return False
         return True if has_said else None
 
     def see(self, started: float, moment: float) -> None:
-        """The kubelet says when it was started, which is none where that is to come."""
+        """The kubelet shows when it was started. A moment that is yet to come is none."""
         if started > moment + FUZZ_SECONDS:
             return
         before, self.started = self.started, started
@@ -166,7 +166,7 @@ class KubeletStart:
             self.begin_anew(started, moment)
 
     def guess(self, moment: float) -> None:
-        """It does not say so: where counts fell it was started since it answered last."""
+        """It does not show it: if counts fell, it was started since it answered last."""
         if self.has_fallen:
             self.has_fallen, self.tries = False, 0
             self.begin_anew(moment, moment)
@@ -180,7 +180,7 @@ class KubeletStart:
             self.answered_at = moment
 
     def taken(self) -> float | None:
-        """The start that is not told yet."""
+        """The start that is not reported yet."""
         news, self.news = self.news, None
         return news
 
@@ -189,7 +189,7 @@ class KubeletStart:
         return self.since is not None and 0 <= moment - self.since < WATCH_SECONDS
 
     def is_known(self) -> bool:
-        """Whether the kubelet says when it was started."""
+        """Whether the kubelet shows when it was started."""
         return self.started is not None
 
 
@@ -214,16 +214,16 @@ class ListOfPods:
         self.shown_at = {source: self.shown_at.get(source, moment) for source in sorted(set(map(source_of, listed)))}
 
     def lost(self, listed: list[Pod]) -> list[Pod]:
-        """The pods that a list has no more, though they were not told to go, and no other pod has their name."""
+        """The pods that a list has no more, though nobody deleted them, and no other pod has their name."""
         uids, keys = {pod.uid for pod in listed}, {pod.key for pod in listed}
         return [pod for uid, pod in self.pods.items() if uid not in uids and pod.key not in keys and not pod.is_deleted]
 
     def early(self, lost: list[Pod], there: Iterable[str], moment: float) -> list[Pod]:
-        """Those of some lost pods that are lost too soon after a start, where the runtime has containers of some."""
+        """Of some lost pods the ones that are lost too soon after a start, if the runtime has containers of some."""
         return [] if self.since is None else [pod for pod in lost if self.is_early(pod, there, moment)]
 
     def is_early(self, pod: Pod, there: Iterable[str], moment: float) -> bool:
-        """Whether a list that lacks a pod says nothing of it, since its source has yet to show its pods. The kubelet
+        """Whether a list that lacks a pod proves nothing of it, since its source has yet to show its pods. The kubelet
         takes away the containers of pods that it knows to be gone, once all its sources have shown theirs."""
         shown_at = self.shown_at.get(source_of(pod))
         if shown_at is not None:
@@ -231,7 +231,7 @@ class ListOfPods:
         return pod.uid in there or moment - (self.since or 0) < EMPTY_SECONDS
 
     def doubtful(self, lost: list[Pod], moment: float) -> list[Pod]:
-        """Those of some lost pods that lists have not lacked for long, where the kubelet may have restarted."""
+        """Of some lost pods the ones that lists have not lacked for long, if the kubelet may have restarted."""
         return [pod for pod in lost if moment - self.lacked_at.get(pod.uid, moment) < EMPTY_SECONDS]
 
     def take(self, listed: list[Pod], kept: list[Pod], moment: float) -> list[Pod]:

@@ -21,7 +21,7 @@ if TYPE_CHECKING:
 
 
 class LastingTimeline(Timeline):
-    """One in which no change stands later than it was seen, as one from before a clock went back would."""
+    """One in which no change is later than it was seen, as one from before a clock went back would be."""
 
     def __init__(self, trace_format: Format) -> None:
         super().__init__(trace_format)
@@ -61,7 +61,7 @@ class LastingRecorder(Recorder):
         super().take(seen)
 
     def foreseen(self, moment: float) -> list[tuple[list[str], bool]]:
-        """What would be written if nothing came any more, with a tick of the look at this moment."""
+        """What would be written if nothing came any more, with a tick of the poll at this moment."""
         return self.timeline.foreseen(moment, self.containers.silent_from(moment))
 
     def forget(self) -> None:
@@ -71,7 +71,7 @@ class LastingRecorder(Recorder):
         self.timeline.forget({recorded.pod.uid for recorded in self.pods.followed()})
 
     def begin_at(self, moment: float) -> None:
-        """What was seen is written, and the clock says an earlier moment."""
+        """What was seen is written, and the clock shows an earlier moment."""
         self.timeline.begin_at(int(moment))
         self.course.begun = self.course.planned_at = self.containers.listed_at = moment
         self.sampling.begin_at(moment)
@@ -88,7 +88,7 @@ def forget_strangers(observer: Observer) -> None:
 
 
 def set_back(observer: Any, moment: float) -> None:
-    """The clock says an earlier moment than it did."""
+    """The clock shows an earlier moment than it did."""
     observer.missed_at = {}
     if observer.list.since is not None:
         observer.list.begin_anew(moment)

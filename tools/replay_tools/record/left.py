@@ -1,4 +1,4 @@
-"""What a recorder has left in its folder: the next one ends it, and says so."""
+"""What a recorder has left in its folder: the next one ends it, and prints that."""
 
 from __future__ import annotations
 
@@ -120,8 +120,8 @@ class Left:
     # --- one that was killed while it wrote ---
 
     def put_ahead(self) -> None:
-        """Where a recorder was killed while it wrote lines over others, they are written once more; those of a file
-        that is older than its part are not."""
+        """If a recorder was killed while it wrote lines over others, they are written once more, unless their file is
+        older than its part."""
         kept = self.folder.ahead.kept()
         if kept is not None and self.folder.form.fullmatch(f"{kept[0]}.{PART}"):
             name, size, data = kept
@@ -132,8 +132,8 @@ class Left:
         self.folder.ahead.drop()
 
     def part_from_next(self) -> None:
-        """A trace that ends keeps what stands ahead until the next one has all of it. Where the recorder was killed
-        between, the next one goes if it does not reach so far, and else what stands ahead."""
+        """A trace that ends keeps its lines ahead until the next one has all of them. If the recorder was killed in
+        between, the next one goes if it does not reach so far, and else the lines ahead."""
         parts = self.folder.traces(PART)
         whole = sorted([*parts, *self.folder.traces(PACKED)], key=lambda trace: (trace.begun, trace.number))
         for part in parts:
@@ -241,7 +241,7 @@ def end_of(file: BinaryIO | gzip.GzipFile) -> bytes:
 
 
 def damages(folder: Folder) -> Iterator[None]:
-    """Says which traces of a folder are damaged, the newest first, in pieces of little work."""
+    """Prints which traces of a folder are damaged, the newest first, in pieces of little work."""
     for trace in reversed(folder.traces()):
         try:
             with opened(os.path.join(folder.path, trace.name)) as file, gzip.GzipFile(fileobj=file) as packed:

@@ -10,6 +10,7 @@ from typing import TYPE_CHECKING
 from .decisions import EVICTED, REFUSED
 from .formats import MOST_PODS
 from .gates import turned, types_in
+from .resizes import amounts_in, kept_of, resources_in
 from .restarts import with_own
 from .runtime import EXITED, RUNNING
 from .seen import Recorded
@@ -59,7 +60,7 @@ class Lifecycles:
         # the pods that their source listed last, and when
         self.listed: list[Pod] = []
         self.listed_at: float = 0
-        # the pods whose objects said that they are being deleted
+        # the pods whose objects showed that they are being deleted
         self.deleted: set[str] = set()
         # when the kubelet was started last
         self.started_at: float = 0
@@ -70,7 +71,7 @@ class Lifecycles:
         return [recorded for recorded in self.recorded.values() if recorded.is_followed]
 
     def uids(self) -> set[str]:
-        """Those of the pods that are there, or whose containers may yet run."""
+        """The uids of the pods that are there, or whose containers may yet run."""
         return {pod.uid for pod in (*self.listed, *(recorded.pod for recorded in self.followed()))}
 
     def take(self, seen: Seen) -> None:
@@ -123,7 +124,9 @@ class Lifecycles:
             # its first container may have been made in the second in which the one before it went
             moment = max(self.arrival_moment(pod, seen), self.gone_at.get(pod.key, -1) + 1)
             second = self.timeline.place_arrival(pod, moment)
-            self.recorded[pod.uid] = recorded = Recorded(pod, second, second)
+            resources = resources_in(pod.manifest)
+            given = {name: amounts_in(found) for name, found in resources.items()}
+            self.recorded[pod.uid] = recorded = Recorded(pod, second, second, resources=resources, given=given)
             self.see_waits(recorded, pod.waits, seen)
             self.see_end(recorded, pod, seen)
             self.see_beside(recorded, pod, seen)
@@ -166,13 +169,14 @@ class Lifecycles:
     # --- what its status reports ---
 
     def see_status(self, recorded: Recorded, pod: Pod, seen: Seen) -> None:
-        """What a list of pods says of one that is followed."""
+        """What a list of pods shows of one that is followed."""
         if seen.pods is not None:
             self.see_waits(recorded, pod.waits, seen)
         self.decisions.take(pod, recorded, seen)
         self.see_end(recorded, pod, seen)
         self.see_beside(recorded, pod, seen)
         self.see_gates(recorded, pod, seen)
+        self.see_resizes(recorded, pod, seen)
         self.see_ready(recorded, pod, seen)
 
     def see_waits(self, recorded: Recorded, waits: dict[str, Reason], seen: Seen) -> None:
@@ -216,6 +220,24 @@ class Lifecycles:
             recorded.gates[name] = status.is_true
             self.timeline.place_condition(recorded.pod, name, moment, status.is_true, recorded.arrived)
 
+    def see_resizes(self, recorded: Recorded, pod: Pod, seen: Seen) -> None:
+        """Which containers have other requests and limits by their pod's spec than the trace has given them. They no
+        longer matter once the node has ended the pod."""
+        if not self.says_gone or pod.ended is not None:
+            return
+        for name, found in resources_in(pod.manifest).items():
+            if name not in recorded.resources or found == recorded.resources[name]:
+                continue
+            recorded.resources[name] = found
+            kept, lost = kept_of(found)
+            self.texts_left_out += lost
+            if kept is None:
+                self.say(f"{pod.key} {name}: its requests and limits after a resize are left out: a request is above "
+                         "its limit")
+            elif amounts_in(kept) != recorded.given[name]:
+                recorded.given[name] = amounts_in(kept)
+                self.timeline.place_resize(recorded.pod, name, seen.moment, kept, recorded.arrived)
+
     def see_ready(self, recorded: Recorded, pod: Pod, seen: Seen) -> None:
         """How the condition Ready of its status has turned. The first list that shows it has how it is."""
         recorded.probed = pod.probed
@@ -231,7 +253,7 @@ class Lifecycles:
     # --- a pod is listed no more ---
 
     def is_absent(self, recorded: Recorded, seen: Seen) -> bool:
-        """Whether a pod is deleted that is listed no more: its object said so before, or two lists lack it and its
+        """Whether a pod is deleted that is listed no more: its object showed that before, or two lists lack it and its
         containers stop, or another pod has its name."""
         if seen.pods is not None:
             recorded.absences += 1
@@ -270,8 +292,8 @@ class Lifecycles:
     # --- a pod goes ---
 
     def see_deletion(self, recorded: Recorded, pod: Pod | None, seen: Seen) -> None:
-        """A pod was told to go, or is no longer listed: nothing of it is restarted from then on, which is reported
-        once."""
+        """A pod was deleted, or is no longer listed: nothing of it is restarted from then on, which is reported once.
+        """
         if self.says_gone and not recorded.is_deleting:
             recorded.is_deleting, recorded.went_absent = True, pod is None and recorded.pod.uid not in self.deleted
             told_at = self.missed_from(recorded, seen) if pod is None else pod.deleted_at
@@ -282,7 +304,7 @@ class Lifecycles:
     @staticmethod
     def missed_from(recorded: Recorded, seen: Seen) -> float | None:
         """Since when a pod is no longer listed: it went before its containers were stopped, so before the first exit
-        behind the last list that had it, and behind each start."""
+        after the last list that had it, and after each start."""
         last = recorded.absent_since
         instances = (seen.instances or {}).get(recorded.pod.uid, [])
         first = max([recorded.seen_at, *(each.started for each in instances if each.started is not None)])
@@ -290,9 +312,9 @@ class Lifecycles:
         return min([at for at in exits if recorded.seen_at and last and first < at < last], default=last)
 
     def see_going(self, recorded: Recorded, pod: Pod | None, seen: Seen) -> None:
-        """A pod is no longer listed, was told to go, or the kubelet ended it. It is gone once each of its containers
-        has exited with a code that is known, or is no more, and one that was evicted once the kubelet goes on behind
-        it; where a new pod of its name waits for that, at the latest after some seconds."""
+        """A pod is no longer listed, was deleted, or the kubelet ended it. It is gone once each of its containers has
+        exited with a code that is known, or is no more, and one that was evicted once the kubelet goes on after it;
+        where a new pod of its name waits for that, at the latest after some seconds."""
         if not self.says_gone:
             if pod is None and not any(each.key == recorded.pod.key for each in self.listed):
                 self.say(f"{recorded.pod.key} is gone, and the replay goes on with it: cut the trace where pods go")
@@ -317,8 +339,8 @@ class Lifecycles:
         return any(each.key == pod.key for each in waiting)
 
     def depart(self, recorded: Recorded, seen: Seen, went_at: float | None = None) -> None:
-        """A pod goes from the trace, behind what the same look saw of its containers, or when it went, if that is
-        known."""
+        """A pod goes from the trace, after what the same poll saw of its containers, or when it went, if that is known.
+        """
         if seen.instances is not None:
             self.containers.follow_to_the_end(recorded, seen.instances, seen.moment)
         self.containers.plan(recorded, seen.moment)
@@ -341,7 +363,7 @@ class Lifecycles:
         self.gone_at = {key: gone_at for key, gone_at in self.gone_at.items() if gone_at >= second}
 
     def begin_at(self, moment: float) -> None:
-        """The clock says an earlier moment than it did: what is followed is there from then on."""
+        """The clock shows an earlier moment than it did: what is followed is there from then on."""
         self.listed_at, self.gone_at = moment, {}
         for recorded in self.followed():
             recorded.arrived = recorded.changes_from = int(moment)
@@ -351,8 +373,8 @@ class Lifecycles:
 
 
 def went_at(recorded: Recorded, pod: Pod | None) -> float | None:
-    """When a pod was told to go of which nothing ran then, so that the kubelet takes it for none that it may evict; a
-    list of pods may show that late. None of any other one."""
+    """When a pod was deleted of which nothing ran then, so that the kubelet takes it for none that it may evict; a list
+    of pods may show that late. None of any other one."""
     if pod is None or pod.deleted_at is None or recorded.evicted_at is not None:
         return None
     newest = [container.newest for container in recorded.containers.values()]

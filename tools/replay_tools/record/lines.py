@@ -26,7 +26,7 @@ class TooLong(Exception):
 @dataclass(frozen=True)
 class Format:
     """A version of the formats: whether it shows that a pod goes, has gone, was ended or has no sample, and for how
-    many seconds no pod is evicted after an eviction unless the evicted one has ended (None where it can't say so); and
+    many seconds no pod is evicted after an eviction unless the evicted one has ended (None if it can't show that); and
     whether the rules are to evict pods by themselves, or end those alone that the node has ended."""
     version: int
     says_gone: bool
@@ -45,7 +45,7 @@ def extended(eviction_pause: int = EVICTION_PAUSE, is_simulated: bool = False) -
     return Format(3, True, eviction_pause, is_simulated)
 
 
-# what is written without a word; extended() where the program reads that
+# the format without an option; extended() where the program reads that
 DEFAULT = STANDARD
 
 
@@ -106,11 +106,12 @@ def container_fields(name: str, listing: Listing) -> dict[str, int | str]:
 def entry_of(pod: Pod, listings: dict[str, Listing], results: dict[tuple[str, str], str], usage: dict[str, int] | None,
              is_unsampled: bool, deletion: dict[str, Any] | None, asides: Asides,
              failed: str | None = None, events: Sequence[Said] = (), turns: Sequence[ReadyTurn] = (),
-             conditions: dict[str, bool] | None = None) -> dict[str, Any] | None:
+             conditions: dict[str, bool] | None = None,
+             resized: dict[str, Any] | None = None) -> dict[str, Any] | None:
     """One pod's entry of a tick: {container: listing}, {(container, probe): result}, its usage or None, and whether it
     has no sample from here on. It also takes what is known of its deletion from here on, what else is known, for what
-    the node has ended it here, its Events, the turns of its condition Ready, and the statuses of its gates' conditions.
-    None if there is nothing to write."""
+    the node has ended it here, its Events, the turns of its condition Ready, the statuses of its gates' conditions, and
+    the requests and limits of containers after a resize. None if there is nothing to write."""
     containers = [container_fields(name, listing) | asides.of_container(pod, name)
                   | asides.of_listing(pod.uid, name, listing) for name, listing in sorted(listings.items())]
     probes = [{"container": name, "probe": probe, "result": results[name, probe]}
@@ -119,7 +120,7 @@ def entry_of(pod: Pod, listings: dict[str, Listing], results: dict[tuple[str, st
     waiting = asides.of_waits(pod, listings)
     said = without_nones({"probes": probes or None, "usage": usage or None, "unsampled": is_unsampled or None,
                           "deleting": None if deletion is None else True, "deletion": deletion or None,
-                          "failed": failed, "conditions": conditions or None,
+                          "failed": failed, "conditions": conditions or None, "resized": resized or None,
                           "readinessGates": asides.of_gates(pod.uid), "waiting": waiting,
                           "readyTurns": [each.told() for each in turns[-MOST_EVENTS:]] or None,
                           "said": [each.told() for each in events[:MOST_EVENTS]] or None})
@@ -127,7 +128,7 @@ def entry_of(pod: Pod, listings: dict[str, Listing], results: dict[tuple[str, st
 
 
 def told(decisions: Sequence[Told]) -> dict[str, list[dict[str, Any]]] | None:
-    """What the kubelet did in a tick, which the formats don't read: {"evicted", "refused" or "ended": [..]}; or
+    """The decisions of the kubelet in a tick, which the formats don't read: {"evicted", "refused" or "ended": [..]}; or
     None."""
     found: dict[str, list[dict[str, Any]]] = {}
     for each in decisions:

@@ -1,6 +1,6 @@
 """The last lines that a container wrote before it died, where the operator asks for them. They are a container's own
 words, so as of a message those parts alone are kept that are known to have no secret: what runtimes, languages and
-systems say of a fault. A line without any is counted."""
+systems print of a fault. A line without any is counted."""
 
 from __future__ import annotations
 

@@ -20,7 +20,7 @@ def compiled(*patterns: str) -> tuple[re.Pattern[str], ...]:
     return tuple(map(re.compile, patterns))
 
 
-# what is in quotes after one of these words is an image's name, which may say a user and a password
+# what is in quotes after one of these words is an image's name, which may have a user and a password
 OF_IMAGE = re.compile(r"""\b(?:image|reference|digest|ref) \\*["']([^"'\\\s]{1,255})\\*["']""")
 IMAGE = re.compile(r"[A-Za-z0-9][A-Za-z0-9._:/@-]{0,254}")
 # these have no words of others in them
@@ -49,7 +49,7 @@ ENDED = compiled(
     rf"Usage of EmptyDir volume \"{NAME}\" exceeds the limit \"{AMOUNT}\"\.",
     rf"Container {NAME} exceeded its local ephemeral storage limit \"{AMOUNT}\"\.",
     rf"Pod ephemeral local storage usage exceeds the total limit of containers {AMOUNT}\.")
-# of a pod that the node has ended, as a kubelet 1.20 and later ones say it
+# of a pod that the node has ended, as a kubelet 1.20 and later ones write it
 STOPPED = compiled(
     r"Pod was active on the node longer than the specified deadline", r"Preempted in order to admit critical pod",
     r"(?:Pod )?Node is (?:shutting, evicting pods|in progress of shutting down, not admitting any new pods)",

@@ -192,7 +192,7 @@ def lasting(pod: Pod) -> list[Container]:
 
 
 def is_ready(pod: Pod) -> bool:
-    """Whether all its containers run and have passed what their probes want, and its readiness gates are true."""
+    """Whether all its containers run and have passed their probes, and its readiness gates are true."""
     return all(map(is_container_ready, lasting(pod))) and pod.are_gates_true() and pod.failed is None
 
 

@@ -65,7 +65,7 @@ class Nearness:
         return any(self.is_due(limit, moment) for limit in self.thresholds)
 
     def decide(self, moment: float) -> None:
-        """The kubelet has evicted or refused a pod."""
+        """The kubelet has evicted or rejected a pod."""
         self.pressed_at = moment
 
     def is_pressed(self, moment: float) -> bool:

@@ -24,7 +24,7 @@ if TYPE_CHECKING:
 
 GRACES = "evictionSoftGracePeriod"
 RECLAIMS = "evictionMinimumReclaim"
-# what the formats don't read: the ticks say what the kubelet did, so where they say nothing it evicted none; but for a
+# what the formats don't read: the ticks show what the kubelet did, so if they show nothing it evicted none; but for a
 # node of which nothing is sampled, as by its runtime alone
 TELLS = {"recordsKubelet": True}
 PERCENT_NUMBER = re.compile(r"[0-9]+[.]?[0-9]*|[.][0-9]+")
@@ -63,7 +63,7 @@ def whole_duration(duration: str) -> str | None:
 
 
 class Reader:
-    """Takes over the fields of a configuration one by one, with what is to be said of them and what is at fault."""
+    """Takes over the fields of a configuration one by one, with what is to be printed of them and what is at fault."""
 
     def __init__(self, capacity: dict[str, int]) -> None:
         self.capacity = capacity
@@ -89,7 +89,7 @@ class Reader:
         return value
 
     def is_kept(self, field: str, signal: str, value: Any) -> bool:
-        """Whether a threshold stays in the node line; a note says of each other why the formats would refuse it."""
+        """Whether a threshold stays in the node line; a note has why the formats would reject each other one."""
         if signal not in SIGNALS:
             self.notes.append(f"{field} {signal} is left out: the formats have no such signal")
             return False
@@ -143,7 +143,7 @@ def sets_no_threshold(value: Any) -> bool:
 
 @reads("/configz")
 def node_line_of(text: Answer, name: str, summary: Summary, node_format: Format) -> NodeLine:
-    """The node line of an answer of /configz; Failed where the formats do not take what it says."""
+    """The node line of an answer of /configz; Failed if the formats do not take what it has."""
     answer = read_json(text, "/configz")
     read = answer.get("kubeletconfig") if isinstance(answer, dict) else None
     if not isinstance(read, dict):
@@ -162,8 +162,8 @@ def node_line_of(text: Answer, name: str, summary: Summary, node_format: Format)
 
 
 def pause_of(node_format: Format, summary: Summary) -> dict[str, bool | int | None]:
-    """How long no pod is evicted after an eviction: a kubelet waits for the evicted one. Where the ticks say in which
-    it decides, none is needed."""
+    """How long no pod is evicted after an eviction: a kubelet waits for the evicted one. If the ticks show in which it
+    decides, none is needed."""
     seconds = None if are_told(summary.signals) else node_format.eviction_pause
     return {"evictionPauseSeconds": seconds, "evictionPauseUntilGone": None if seconds is None else True}
 
@@ -174,7 +174,7 @@ def booted_at(summary: Summary) -> int | None:
 
 
 def recorded_in(node_format: Format) -> dict[str, bool]:
-    """That the ticks say whom the node has ended, so that the rules evict nobody and name whom they would."""
+    """That the ticks show whom the node has ended, so that the rules evict nobody and name whom they would."""
     return {} if node_format.is_simulated else {"evictionsRecorded": True}
 
 

@@ -1,4 +1,4 @@
-"""Looks at a node: asks each source as often as it changes, and goes on without one that fails."""
+"""Polls a node: asks each source as often as it changes, and goes on without one that fails."""
 
 from __future__ import annotations
 
@@ -34,7 +34,7 @@ SUMMARY_SECONDS = 10
 PODS_SECONDS = 10
 NODE_SECONDS = 10
 # under pressure a pod without a running container may be evicted, which the runtime shows late: the kubelet is asked at
-# each look, and the API server less often
+# each poll, and the API server less often
 PRESSED_PODS_SECONDS = {True: 1, False: 5}
 # where nothing has happened for some seconds the runtime is asked again after more than one, as its moments are exact
 STILL_SECONDS = 30
@@ -45,9 +45,9 @@ LIST_SECONDS = 1.5
 # status, which may come later
 STATUS_SECONDS = 10
 STATUS_ANSWERS = 2
-# a list is asked for anew so often where a container has gone between it and `crictl inspect`
+# a list is asked for again so often if a container has gone between it and `crictl inspect`
 MOST_LISTS = 3
-# what is silent for so long is said again, as often
+# what is silent for so long is printed again, as often
 SILENT_SECONDS = 300
 RUNTIME, PROBES, PODS, SUMMARY = "crictl ps", "/metrics/probes", "the list of pods", "/stats/summary"
 EVENTS, NODE = "the events of pods", "the node"
@@ -63,8 +63,8 @@ MEANWHILE = {
 
 
 class Observer:
-    """Asks the sources of a node, the summary every some seconds where it does not count more; `say` takes what is said
-    of those that fail, and `now` gives the moment, by which a look has lasted."""
+    """Asks the sources of a node, the summary every some seconds if it does not count more; `say` takes what is printed
+    of the ones that fail, and `now` gives the moment, by which a poll has lasted."""
 
     def __init__(self, sources: Sources, summary_seconds: int, say: Callable[..., None],
                  now: Callable[[], float] | None = None, log_lines: int = 0, asks_throttled: bool = False) -> None:
@@ -85,11 +85,11 @@ class Observer:
         self.asked_at: dict[str, float] = {}
         self.silent: dict[str, Any] = {}
         self.said_at: dict[str, float] = {}
-        # what is told at each look whether the runtime and the kubelet answer
+        # it learns at each poll whether the runtime and the kubelet answer
         self.answered: Callable[[bool], None] | None = None
         self.details: dict[str, Any] = {}
         self.states: dict[str, Any] = {}
-        # the instances whose code is not known yet, how pods' statuses say that instances have ended, and since when,
+        # the instances whose code is not known yet, how pods' statuses show that instances have ended, and since when,
         # and since which answer of the list of pods, the runtime has those no more
         self.unended: dict[str, Any] = {}
         self.ends: dict[str, End] = {}
@@ -105,7 +105,7 @@ class Observer:
         self.strangers: set[str] = set()
 
     def first_look(self, moment: float) -> tuple[Seen, Summary]:
-        """A look that needs all sources, and its summary; Failed where one of them gives no answer."""
+        """A poll that needs all sources, and its summary; Failed if one of them gives no answer."""
         probes = self.sources.probes()
         counters = counters_of(probes)
         self.start.begin(probes, moment)
@@ -119,7 +119,7 @@ class Observer:
         return Seen(moment, self.resolved(listed, moment), counters, pods, summary, ready=self.ready(moment)), summary
 
     def pass_over(self, listed: list[Instance]) -> None:
-        """Of the pods that are there at the first look no start is asked for, and of instances that were replaced no
+        """Of the pods that are there at the first poll no start is asked for, and of instances that were replaced no
         code: what a tick shows of them is the newest alone."""
         newest = {(each.uid, each.container): each for each in listed}
         for each in filter(lambda each: each.uid in self.known, listed):
@@ -161,10 +161,10 @@ class Observer:
             self.answered(RUNTIME not in self.silent and not self.silent.keys() >= KUBELETS)
         return seen
 
-    # --- the kubelet is started anew ---
+    # --- the kubelet is started again ---
 
     def take_probes(self, moment: float) -> Counters:
-        """The counts of probes, with which newer kubelets say when they were started."""
+        """The counts of probes, with which newer kubelets show when they were started."""
         text = self.sources.probes()
         self.start.see_probes(text, moment)
         return counters_of(text)
@@ -223,7 +223,7 @@ class Observer:
         return self.attempt(NODE, moment, lambda: ready_in(self.sources.node_object()))
 
     def looks_soon(self, moment: float) -> bool:
-        """Whether the next look comes soon: where the kubelet may evict a pod, each of its samples counts, and what it
+        """Whether the next poll comes soon: where the kubelet may evict a pod, each of its samples counts, and what it
         did may be shown for a second; after its start pods are unready for seconds; why a container failed is shown
         until it waits for its next start; and how an instance ended that the runtime has removed until the next one has
         ended."""
@@ -242,7 +242,7 @@ class Observer:
         return self.is_due(PODS, moment, often if self.near.is_pressed(moment) else None)
 
     def wants_list(self, counters: dict[tuple[str, str, str], dict[str, int]] | None, moment: float) -> bool:
-        """Whether the runtime is asked at a look: not at each where nothing happens and no probe finds anything."""
+        """Whether the runtime is asked at a poll: not at each if nothing happens and no probe finds anything."""
         is_still = counters is not None and counters == self.counters and moment - self.moved_at > STILL_SECONDS
         self.asking.want(failing(self.counters, counters), moment)
         self.counters = counters
@@ -250,8 +250,8 @@ class Observer:
         return not (is_still and is_sure and 0 <= moment - self.listed_at < LIST_SECONDS)
 
     def attempt(self, source: str, moment: float, ask: Callable[..., Any], is_whole: bool = True) -> Any:
-        """An answer, or None; that a source is silent is said, and again after minutes, and so is that its whole answer
-        is there again."""
+        """An answer, or None. That a source is silent is printed, and again after minutes, and so is that its whole
+        answer is there again."""
         try:
             answer = ask()
         except Failed as failed:
@@ -279,7 +279,7 @@ class Observer:
         return asked is None or int(moment) < int(asked) or int(moment) - int(asked) >= seconds
 
     def wants_summary(self, pods: list[Pod] | None, moment: float) -> bool:
-        """Whether the summary is asked for: at each look while the kubelet may evict a pod, at once where it is seen
+        """Whether the summary is asked for: at each poll while the kubelet may evict a pod, at once where it is seen
         that it has, and else from time to time, as one that gives no answer."""
         decided = short_of(pods or ())
         has_decided = not decided <= self.decided
@@ -331,8 +331,8 @@ class Observer:
     # --- instances ---
 
     def resolved(self, listed: list[Instance], moment: float) -> dict[str, list[Instance]]:
-        """The instances by their pods' uids, with the moments and codes that `crictl inspect` says. One that it does
-        not know is asked for by a fresh list, in which it is no more."""
+        """The instances by their pods' uids, with the moments and codes of `crictl inspect`. One that it does not know
+        is asked for by a fresh list, in which it is no more."""
         for _ in range(MOST_LISTS):
             asked = [(each, self.inspect(each)) for each in listed if self.wants_inspection(each)]
             failures = [failed for _, failed in asked if failed]
@@ -361,7 +361,7 @@ class Observer:
 
     def with_removed(self, listed: list[Instance], moment: float) -> list[Instance]:
         """A list of the runtime with the instances that it removed before their codes were known: as ended where the
-        status of their pod says so, and for some seconds with no code where it may say so yet."""
+        status of their pod shows it, and for some seconds with no code if it may still show it."""
         there = {each.id for each in listed}
         removed = [each for identity, each in self.unended.items() if identity not in there]
         self.missed_at = {each.id: self.missed_at.get(each.id, (moment, self.pods_answers)) for each in removed}
@@ -370,7 +370,7 @@ class Observer:
 
     def ended(self, instance: Instance, moment: float) -> Instance | None:
         """An instance that the runtime has no more, by its pod's status, else since when it is missed; None where that
-        won't say how it ended."""
+        won't show how it ended."""
         pod, end = self.listed_pods.get(instance.uid), self.ends.get(instance.id)
         since, answers = self.missed_at[instance.id]
         if end is not None:
@@ -384,11 +384,11 @@ class Observer:
 
     @staticmethod
     def is_given_up(seconds: float, answers: int) -> bool:
-        """Whether a status has had the time, and the answers, to say how an instance ended."""
+        """Whether a status has had the time, and the answers, to show how an instance ended."""
         return seconds > STATUS_SECONDS and (answers >= STATUS_ANSWERS or seconds > PATIENCE)
 
     def reason(self, instance: Instance) -> Reason | None:
-        """Why an instance ended: what the runtime says, or its pod's status where that says more."""
+        """Why an instance ended: the runtime's reason, or the reason of its pod's status if that has more."""
         pod = self.listed_pods.get(instance.uid)
         end = (pod.ends or {}).get(instance.id) if pod is not None else None
         return better(instance.reason, end and end.reason)
@@ -402,7 +402,7 @@ class Observer:
         return instance.state == RUNNING and detail is None
 
     def inspect(self, instance: Instance) -> Failed | None:
-        """Keeps what the runtime says of an instance; else why not."""
+        """Keeps what the runtime has of an instance; else why not."""
         try:
             detail = inspected_of(self.sources.inspected(instance.id), instance)
         except Failed as failed:
@@ -431,5 +431,5 @@ class Observer:
 
 
 def short_of(pods: Iterable[Pod]) -> set[str]:
-    """The pods that the kubelet evicted or refused since the node was short of something."""
+    """The pods that the kubelet evicted or rejected since the node was short of something."""
     return {pod.uid for pod in pods if pod.decision is not None and pod.decision.is_by_pressure}

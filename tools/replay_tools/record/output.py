@@ -6,6 +6,8 @@ import os
 from collections.abc import Iterable, Iterator
 from contextlib import contextmanager
 
+from replay_tools.cli.statuses import Status
+
 from .formats import MOST_BYTES
 
 
@@ -16,7 +18,7 @@ class Stopped(Exception):
 class Ended(Exception):
     """The recording ends, with a status, for a reason or none."""
 
-    def __init__(self, status: int, reason: str | None = None) -> None:
+    def __init__(self, status: Status, reason: str | None = None) -> None:
         super().__init__(reason)
         self.status = status
         self.reason = reason
@@ -51,12 +53,12 @@ class Output:
         data = "".join(f"{line}\n" for line in lines).encode()
         self.bytes_left -= len(data)
         if self.bytes_left < 0:
-            raise Ended(0, "the trace has reached 64 MiB, the most that one takes")
+            raise Ended(Status.DONE, "the trace has reached 64 MiB, the most that one takes")
         try:
             while data:
                 data = data[os.write(1, data):]
         except OSError:
-            raise Ended(1, "standard output takes no more") from None
+            raise Ended(Status.FAILED, "standard output takes no more") from None
 
     def write_due(self, due: Iterable[tuple[list[str], bool]]) -> None:
         """Writes what is settled, up to the last tick that is asked for."""

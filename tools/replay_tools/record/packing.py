@@ -1,4 +1,4 @@
-"""The traces of a folder that have ended, and are packed once the next one has all that stands ahead in them."""
+"""The traces of a folder that have ended, and are packed once the next one has all of their lines ahead."""
 
 from __future__ import annotations
 
@@ -24,14 +24,14 @@ class Packing:
         self.longest = longest
         self.room = room
         self.say = say
-        # those whose lines ahead stand until the next one has them
+        # the traces whose lines ahead stay until the next one has them
         self.ended: list[Part] = []
         # parts that have ended, with their bytes
         self.unpacked: dict[str, int] = {}
         self.giving_way = GivingWay(folder, "the packing of a trace")
 
     def finish(self, until: int | None) -> None:
-        """The next trace has all that stands ahead in those that have ended: it goes there, and they are packed. What
+        """The next trace has all lines ahead of the traces that have ended: they lose these lines, and are packed. What
         is older than is kept, by the second up to which traces are written, is taken away."""
         if not self.ended:
             return

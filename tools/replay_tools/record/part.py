@@ -1,4 +1,4 @@
-"""A trace that is being written: lines that are settled, and behind them those that may still change."""
+"""A trace that is being written: lines that are settled, and after them lines that may still change."""
 
 from __future__ import annotations
 
@@ -12,7 +12,7 @@ from typing import Any, BinaryIO
 PART = "part"
 AHEAD = "ahead"
 SHIPPED = "shipped"
-# at most so many bytes of what is to stand behind a part are read again
+# at most so many bytes of what is to follow in a part are read again
 LONGEST_AHEAD = 64 << 20
 
 
@@ -22,7 +22,7 @@ def created(path: str, flags: int = os.O_WRONLY) -> int:
 
 
 def opened(path: str, flags: int = os.O_RDONLY) -> BinaryIO:
-    """A file that is there. A link is not followed, and what is no file, as a pipe, is refused."""
+    """A file that is there. A link is not followed, and what is no file, as a pipe, is rejected."""
     descriptor = os.open(path, flags | os.O_NOFOLLOW | os.O_NONBLOCK | os.O_CLOEXEC)
     if not stat.S_ISREG(os.fstat(descriptor).st_mode):
         os.close(descriptor)
@@ -38,8 +38,8 @@ def put(descriptor: int, data: bytes, place: int) -> None:
 
 
 class Ahead:
-    """The file beside the traces of a node that has what is about to stand behind the settled lines of a part, so that
-    a recorder that is killed while it writes them there loses none: where this file is whole it counts, and else the
+    """The file next to the traces of a node that has what is about to follow the settled lines of a part, so that a
+    recorder that is killed while it writes them there loses none: where this file is whole it counts, and else the
     part, of which nothing is overwritten yet. Where it can't be written lines are overwritten without it."""
 
     def __init__(self, folder: str, node: str) -> None:
@@ -47,7 +47,7 @@ class Ahead:
         self.descriptor: int | None = None
 
     def keep(self, name: str, size: int, data: bytes) -> None:
-        """Keeps the lines that are about to stand behind so many bytes of the part of this name."""
+        """Keeps the lines that are about to follow so many bytes of the part of this name."""
         head = {"part": name, "size": size, "bytes": len(data), "sum": zlib.crc32(data)}
         with contextlib.suppress(OSError):
             if self.descriptor is None:
@@ -63,8 +63,7 @@ class Ahead:
             os.unlink(self.path)
 
     def kept(self) -> tuple[str, int, bytes] | None:
-        """The name of the part, its bytes that are settled, and the lines behind them; None where they are not whole.
-        """
+        """The name of the part, its bytes that are settled, and the lines after them; None where they are not whole."""
         try:
             with opened(self.path) as file:
                 head = json.loads(file.readline(4096))
@@ -83,7 +82,7 @@ class Part:
         # the second at which it begins
         self.begun = begun
         self.ahead = ahead
-        # the bytes of the settled lines, and what stands behind them
+        # the bytes of the settled lines, and what follows them
         self.size = self.ticks = self.pods = 0
         self.tail = b""
         # the bytes that it begins with, once they are written
@@ -91,12 +90,11 @@ class Part:
         self.descriptor = created(os.path.join(folder, f"{name}.{PART}"))
 
     def has(self, data: bytes) -> bool:
-        """Whether these lines stand behind the settled ones already."""
+        """Whether these lines follow the settled ones already."""
         return self.tail.startswith(data)
 
     def foresee(self, data: bytes) -> None:
-        """Puts lines behind the settled ones, all at once, in place of what stands there, which stays where this fails.
-        """
+        """Puts lines after the settled ones, all at once, in place of what is there, which stays if this fails."""
         kept = self.size + len(self.tail)
         if data == self.tail:
             return
@@ -118,13 +116,13 @@ class Part:
         self.tail = data
 
     def settle(self, data: bytes) -> None:
-        """Lines that nothing changes any more; those that stand ahead already are not written again."""
+        """Lines that nothing changes any more; lines that are ahead already are not written again."""
         if not self.has(data):
             self.foresee(data)
         self.size, self.tail = self.size + len(data), self.tail[len(data):]
 
     def close(self) -> None:
-        """Ends it behind its settled lines."""
+        """Ends it after its settled lines."""
         with contextlib.suppress(OSError):
             if self.tail:
                 os.ftruncate(self.descriptor, self.size)

@@ -1,5 +1,5 @@
 """Pods, of `kubectl get pods -o json` or the kubelet's /pods. A manifest is written with the fields that the formats
-read and no others, so neither its status nor what a container is told in its environment."""
+read and no others, so neither its status nor a container's environment."""
 
 from __future__ import annotations
 
@@ -30,7 +30,7 @@ PROBE_FIELDS = ("initialDelaySeconds", "periodSeconds", "timeoutSeconds", "succe
 RESOURCES = ("cpu", "memory", "ephemeral-storage")
 MOST_CONTAINERS = 16
 MOST_SECONDS = 2 ** 31 - 1
-# a pod of the API server, among those of a kubelet, and the least priority of the system's
+# a pod of the API server, among the pods of a kubelet, and the least priority of the system's
 FROM_API = "api"
 LEAST_CRITICAL = 2_000_000_000
 UID = re.compile(r"[0-9A-Za-z-]{1,64}")
@@ -38,11 +38,11 @@ UID = re.compile(r"[0-9A-Za-z-]{1,64}")
 
 @dataclass(frozen=True)
 class Pod:
-    """A pod as a source lists it; `fault` says why the formats do not take its manifest, or is None. `decision` is what
-    the kubelet did to it, `is_deleted` that it was told to go, and `deleted_at` when, if that is known; `ends` has the
-    instances that its status says have ended, by their ids, and is None where its status has no container; `waits` why
-    its containers wait, by their names; `probed` has of each container that runs its restarts, whether it has started,
-    and whether it is ready. `ended` is the decision by which the node has ended it, of whatever kind, and `is_spared`
+    """A pod as a source lists it; `fault` is why the formats do not take its manifest, or None. `decision` is what the
+    kubelet did to it, `is_deleted` that it was deleted, and `deleted_at` when, if that is known; `ends` has the
+    instances that have ended by its status, by their ids, and is None if its status has no container; `waits` why its
+    containers wait, by their names; `probed` has of each container that runs its restarts, whether it has started, and
+    whether it is ready. `ended` is the decision by which the node has ended it, of whatever kind, and `is_spared`
     whether a kubelet evicts it for no lack of the node's. `ruled` names its containers of whose policies and rules of
     restarts the extended format takes less, and `deletion` has by whom it is deleted, and its grace. `is_static` is
     whether the kubelet has it of a file, `is_guessed` that its manifest is made up, `ready` its condition Ready with
@@ -70,7 +70,7 @@ class Pod:
     conditions: dict = field(default_factory=dict, compare=False)
 
     def known_uid(self) -> str | None:
-        """Its uid as a trace has it; None where its source says none, or one that no cluster gives."""
+        """Its uid as a trace has it; None if its source has none, or one that no cluster gives."""
         return self.uid if UID.fullmatch(self.uid) and self.uid != str(None) else None
 
     def containers(self) -> list[str]:
@@ -129,7 +129,7 @@ def pods_of(text: Answer, what: str) -> list[Pod]:
 
 
 def pod_of(item: Any) -> Pod:
-    """A pod as its source lists it, with why the formats refuse its manifest, if they do."""
+    """A pod as its source lists it, with why the formats reject its manifest, if they do."""
     metadata = item.get("metadata") or {}
     status = item.get("status") or {}
     try:
@@ -162,7 +162,7 @@ def is_restarted(item: Any) -> bool:
 
 
 def seen_at(metadata: dict[str, Any]) -> float | None:
-    """When the kubelet took a pod, which it does anew once it is started."""
+    """When the kubelet took a pod, which it does again once it is started."""
     return moment_of((metadata.get("annotations") or {}).get("kubernetes.io/config.seen"))
 
 
@@ -172,8 +172,8 @@ def is_static(metadata: dict[str, Any]) -> bool:
 
 
 def deleted_at(metadata: dict[str, Any]) -> float | None:
-    """When a pod was told to go: its object has the moment at which its grace is over, and the grace; None where it has
-    no such moment."""
+    """When a pod was deleted: its object has the moment at which its grace is over, and the grace; None where it has no
+    such moment."""
     end, grace = moment_of(metadata.get("deletionTimestamp")), metadata.get("deletionGracePeriodSeconds")
     if end is None or not is_whole(grace) or whole_fault(grace, 0, MOST_SECONDS):
         return end
@@ -193,7 +193,7 @@ def ends_in(status: dict[str, Any]) -> dict[str, End] | None:
 
 
 def probed_in(status: dict[str, Any]) -> dict[str, tuple[int | None, bool, bool]]:
-    """What a status says that the probes of its containers have come to: {name: (restarts, started, ready)}."""
+    """What the probes of its containers have come to by a status: {name: (restarts, started, ready)}."""
     listed = [*(status.get("initContainerStatuses") or []), *(status.get("containerStatuses") or [])]
     return {each.get("name"): (each.get("restartCount"), each.get("started") is True, each.get("ready") is True)
             for each in listed if (each.get("state") or {}).get("running") is not None}
@@ -241,7 +241,7 @@ def whole_field_fault(fields: dict[str, Any], name: str, least: int, most: int) 
 
 
 def probe_fault(container: dict[str, Any], probe: str) -> str | None:
-    """What the formats refuse of a container's probe, if it has one."""
+    """What the formats reject of a container's probe, if it has one."""
     fields = container.get(PROBES[probe])
     if fields is None:
         return None

@@ -1,5 +1,5 @@
 """Results of probes, of `prober_probe_total` in the kubelet's /metrics/probes: what each counter grew by between two
-looks, put in an order."""
+polls, put in an order."""
 
 from __future__ import annotations
 
@@ -68,8 +68,8 @@ def grown(before: dict[str, int], now: dict[str, int]) -> dict[str, int]:
 def results_of(probe: str, growth: dict[str, int], period: int, since: float, until: float,
                last: Optional[str] = None) -> list[Result]:
     """The results of one probe between two polls, in an order: those that equal the last one before them first, as a
-    probe goes on with what it found, then failures before a success; the last at the later look and each other one a
-    period before the next, but none before the earlier look."""
+    probe goes on with what it found, then failures before a success; the last at the later poll and each other one a
+    period before the next, but none before the earlier poll."""
     last = FIRST[probe] if last is None else last
     order = sorted(RESULTS, key=lambda result: result != last)
     outcomes = [result for result in order for _ in range(growth.get(result, 0))]

@@ -1,4 +1,4 @@
-"""Runs the recorder: looks until the end, and writes the lines as they are settled."""
+"""Runs the recorder: polls until the end, and writes the lines as they are settled."""
 
 from __future__ import annotations
 
@@ -9,6 +9,7 @@ from dataclasses import replace
 from typing import Any, TYPE_CHECKING
 
 from replay_tools import outside
+from replay_tools.cli.statuses import Status
 
 from .check import check
 from .clock import Clock
@@ -20,7 +21,7 @@ from .observer import Observer
 from .output import Ended, Output, Stopped
 from .recorder import Recorder
 from .sources import INTERRUPTS, Failed
-from .words import BadWord, help_text, missing_commands, words_of
+from .words import BadWord, missing_commands, words_of
 
 if TYPE_CHECKING:
     from .into import LastingRecording, Traces
@@ -29,12 +30,12 @@ if TYPE_CHECKING:
 
 # a recorder that goes on for ever does not grow by what it has reported
 MOST_REMEMBERED = 10000
-# the next look comes so soon where the kubelet may evict, was just started, or a container has just failed
+# the next poll comes so soon if the kubelet may evict, was just started, or a container has just failed
 SOON_SECONDS = 1
 
 
 class Says:
-    """Says a line on standard error, once of each subject, or once of its text, as far back as it remembers."""
+    """Prints a line on standard error, once of each subject, or once of its text, as far back as it remembers."""
 
     def __init__(self) -> None:
         self.said: dict[Any, bool] = {}
@@ -63,14 +64,14 @@ class Recording:
         self.recorder = Recorder(words.format, words.every, say)
         self.recorder.course.asks_events = sources.api is not None
         self.metrics = None if words.metrics is None else Metrics(words.metrics, say)
-        # the moment of the first look, once that is taken
+        # the moment of the first poll, once that is taken
         self.begun: float = 0
-        # that of the last look that came as it was asked for
+        # the moment of the last regular poll
         self.regular: float = 0
         self.has_begun = False
 
     def begin(self) -> None:
-        """The first look and the node line; they need every source."""
+        """The first poll and the node line; they need every source."""
         moment = self.clock.now()
         try:
             seen, summary = self.observer.first_look(moment)
@@ -81,7 +82,7 @@ class Recording:
             first = self.recorder.begin(node_line)
             self.observer.near.know(node_line.fields)
         except (Failed, TooLong) as failed:
-            raise Ended(1, f"nothing recorded: {failed} (--check shows which sources work)") from None
+            raise Ended(Status.FAILED, f"nothing recorded: {failed} (--check shows which sources work)") from None
         with self.output.undisturbed():
             self.output.write([first])
             self.recorder.take(seen)
@@ -101,21 +102,21 @@ class Recording:
             self.metrics.write()
 
     def has_all(self) -> bool:
-        """Whether all ticks that are asked for are written or wanted."""
+        """Whether all ticks that are asked for are written or planned."""
         return self.recorder.timeline.planned() >= self.output.ticks_left
 
     def is_over(self, moment: float) -> bool:
-        """Whether the next look would come too late."""
+        """Whether the next poll would come too late."""
         duration = self.words.duration
         return duration is not None and self.next_at(moment) - self.begun > duration
 
     def wait_for_next(self, moment: float) -> None:
-        """Waits for the look after one at a moment."""
+        """Waits for the poll after one at a moment."""
         self.clock.wait(min(max(self.next_at(moment) - self.clock.now(), 0), self.words.look))
 
     def next_at(self, moment: float) -> float:
-        """When the look after one at a moment comes: so long after the last regular one as was asked for, and sooner if
-        something is likely to happen that is shown for a second. Looks in between move no regular one."""
+        """When the poll after one at a moment comes: so long after the last regular one as was asked for, and sooner if
+        something is likely to happen that is shown for a second. Polls in between move no regular one."""
         if not self.regular <= moment < self.regular + self.words.look:
             self.regular = moment
         regular = self.regular + self.words.look
@@ -130,7 +131,7 @@ class Recording:
             self.say(f"{texts} of manifests {verb} left out: Kubernetes' grammar doesn't allow them")
 
     def go_on(self) -> None:
-        """Looks until the end."""
+        """Polls until the end."""
         moment = self.begun
         while not self.has_all() and not self.output.is_stopped and not self.is_over(moment):
             self.wait_for_next(moment)
@@ -159,9 +160,9 @@ class Recording:
 
 
 def recorded(words: Words, sources: Sources, clock: Any, say: Callable[..., None]) -> int:
-    """Records as the words ask for; the status."""
+    """Records as the arguments ask for; the status."""
     if words.into is not None:
-        from .into import recorded_into  # which stands on what is here
+        from .into import recorded_into  # which imports this module
         return recorded_into(words, words.into, sources, clock, say)
     output = Output(words.ticks)
     return watch(output, Recording(words, sources, clock, output, say), say)
@@ -184,32 +185,29 @@ def status_of(recording: LastingRecording | Recording, say: Callable[..., None])
         recording.run()
     except TooLong as failed:
         say(str(failed))
-        return 1
+        return Status.FAILED
     except Ended as ended:
         if ended.reason is not None:
             say(ended.reason)
         return ended.status
-    return 0
+    return Status.DONE
 
 
 def checked(words: Words, sources: Sources) -> int:
     """Shows which sources work; the status."""
     works = check(sources, words.node, words.format, lambda line: print(outside.text_of(line), flush=True),
                   words.throttled)
-    return 0 if works else 1
+    return Status.DONE if works else Status.FAILED
 
 
 def main(arguments: list[str], clock: Any = None, make_sources: Callable[..., Any] | None = None) -> int:
     """The program, with a clock and sources that tests can replace; its status."""
     say = Says()
-    if "--help" in arguments or "-h" in arguments:
-        print(help_text(), end="")
-        return 0
     try:
         words = words_of(arguments)
     except BadWord as bad:
         say(f"{bad} (see --help)")
-        return 2
+        return Status.BAD_INPUT
     asked = words.node, words.kubelet, words.curl_file
     sources = kept_sources(*asked, say) if make_sources is None else make_sources(*asked)
     sources = replace(sources, crictl=words.crictl)
@@ -219,14 +217,14 @@ def main(arguments: list[str], clock: Any = None, make_sources: Callable[..., An
         missing = missing_commands(sources.commands())
         if missing and not words.is_check:
             say(f"not on the PATH: {', '.join(missing)} (--check asks the other sources)")
-            return 127
+            return Status.MISSING
         if words.is_check:
             return checked(words, sources)
         return recorded(words, sources, clock or Clock(), say)
     except Failed as failed:
         say(str(failed))
-        return 1
+        return Status.FAILED
     except Stopped:
-        return 0
+        return Status.DONE
     finally:
         sources.close()

@@ -15,7 +15,7 @@ PLAIN = ("Error", "")
 LONGEST_REASON = 64
 MOST_ATTEMPTS = 2 ** 31 - 1
 WORD = re.compile(rf"[A-Za-z][A-Za-z0-9]{{0,{LONGEST_REASON - 1}}}")
-# a reason with its message after it, as a kubelet writes that of a hook
+# a reason with its message after it, as a kubelet writes the message of a hook
 WITH_MESSAGE = re.compile(rf"(?P<word>[A-Za-z][A-Za-z0-9]{{0,{LONGEST_REASON - 1}}}Error): (?P<message>.*)", re.DOTALL)
 # in place of a reason that is no word of the runtime's or the kubelet's
 OTHER = "Other"
@@ -23,9 +23,9 @@ OTHER = "Other"
 
 @dataclass(frozen=True)
 class Reason:
-    """One word of why, and what is kept of the message that stood next to it; whether a message was left out, since
-    nothing of it is known to have no secret; of a wait the attempt after which it is, if that is known; and of an exit
-    what is kept of the last lines that its container wrote, and of how many nothing is."""
+    """One word of why, and what is kept of the message next to it; whether a message was left out, since nothing of it
+    is known to have no secret; of a wait the attempt after which it is, if that is known; and of an exit what is kept
+    of the last lines that its container wrote, and of how many nothing is."""
     word: str
     message: Optional[str] = None
     is_left_out: bool = False
@@ -35,7 +35,7 @@ class Reason:
 
 
 def reason_of(said: Any) -> Reason | None:
-    """The reason that an answer says; None where it has none."""
+    """The reason of an answer; None if it has none."""
     word, message = said.get("reason"), said.get("message")
     if not isinstance(word, str) or not word.strip():
         return None

@@ -50,7 +50,7 @@ class Recorder:
         return line_of(node_line.fields)
 
     def probed(self) -> dict[str, Any]:
-        """What the statuses of the pods that are there say of their probes."""
+        """What the statuses of the pods that are there show of their probes."""
         return {pod.key: pod.probed for pod in self.pods.listed}
 
     # --- what is seen ---
@@ -78,7 +78,7 @@ class Recorder:
         self.course.is_first = False
 
     def take_first(self, seen: Seen) -> None:
-        """The recording begins with the first look, which needs a tick."""
+        """The recording begins with the first poll, which needs a tick."""
         self.course.begun = self.course.planned_at = seen.moment
         self.containers.listed_at = self.sampling.sampled_at = seen.moment
         self.counts.begin(seen.counters or {}, seen.moment)

@@ -1,4 +1,4 @@
-"""The container runtime's instances, of `crictl ps -a` and `crictl inspect`, and what became of them between looks."""
+"""The container runtime's instances, of `crictl ps -a` and `crictl inspect`, and what became of them between polls."""
 
 from __future__ import annotations
 
@@ -26,7 +26,7 @@ LOST_CODE = 137
 
 @dataclass(frozen=True)
 class Instance:
-    """One instance of a container. Moments are seconds since 1970, and None where the runtime did not say them."""
+    """One instance of a container. Moments are seconds since 1970, and None if the runtime did not have them."""
     id: str
     uid: str
     container: str
@@ -41,7 +41,7 @@ class Instance:
 
 @dataclass(frozen=True)
 class End:
-    """How an instance ended, as its pod's status reports it; moments as those of an instance."""
+    """How an instance ended, as its pod's status reports it; moments as of an instance."""
     started: Optional[float]
     finished: Optional[float]
     exit_code: int
@@ -56,8 +56,8 @@ class End:
 
 @dataclass(frozen=True)
 class Listing:
-    """What a tick lists of a container; None stands for no listing. `ended` is the instance before, where the tick of
-    this one's start says its exit too."""
+    """What a tick lists of a container; None represents no listing. `ended` is the instance before, if the tick of this
+    one's start has its exit too."""
     attempt: int
     state: str
     exit_code: Optional[int] = None
@@ -67,7 +67,8 @@ class Listing:
 
 @dataclass(frozen=True)
 class Change:
-    """From a moment on a container is listed so. A quiet change is written with the next tick, and wants none."""
+    """From a moment on a container is listed so. A quiet change is written with the next tick, and needs none of its
+    own."""
     moment: float
     listing: Optional[Listing]
     is_quiet: bool = False
@@ -123,7 +124,7 @@ def instances_of(text: Answer) -> list[Instance]:
 
 @reads("crictl inspect")
 def inspected_of(text: Answer, instance: Instance) -> Instance:
-    """An instance with what `crictl inspect` says of it. A code of 0 may be left out of an answer."""
+    """An instance with what `crictl inspect` has of it. A code of 0 may be left out of an answer."""
     answer: Any = read_json(text, f"crictl inspect {instance.id}")
     answer = answer[0] if isinstance(answer, list) and answer else answer
     status = answer.get("status") if isinstance(answer, dict) else None
@@ -155,7 +156,7 @@ class Container:
         self.missed_since: float | None = None
 
     def first_changes(self, instances: list[Instance], moment: float) -> list[Change]:
-        """What the first look shows of it: its newest instance alone, as it is at that moment."""
+        """What the first poll shows of it: its newest instance alone, as it is at that moment."""
         newest = instances[-1]
         self.begin(newest)
         self.newest, self.has_started = newest, newest.state != CREATED
@@ -163,7 +164,7 @@ class Container:
         return [Change(moment, Listing(self.attempt, newest.state, newest.exit_code, newest.reason))]
 
     def changes(self, instances: list[Instance], moment: float) -> list[Change]:
-        """What became of it since the last look, by its instances in the order of their creation."""
+        """What became of it since the last poll, by its instances in the order of their creation."""
         newest, newer = self.newest, instances
         missed_since, self.missed_since = self.missed_since, None
         made: list[Change] = []
@@ -179,7 +180,7 @@ class Container:
 
     def vanished(self, newest: Instance, newer: list[Instance], missed_since: float, moment: float) -> list[Change]:
         """The newest instance so far is no longer listed. Where it had not exited its code is lost; the successor's
-        listing says so, or that none is there."""
+        listing shows it, or that none is there."""
         if not self.is_listed or any(each.id == newest.id for each in newer):
             return []
         self.is_listed = False
@@ -190,7 +191,7 @@ class Container:
         return [] if newer else [Change(moment if has_exited else missed_since, None, has_exited)]
 
     def begin(self, instance: Instance) -> Instance:
-        """Another instance is the newest, which is answered as it was made. The formats want a greater attempt for
+        """Another instance is the newest, which is answered as it was made. The formats need a greater attempt for
         each."""
         number = instance.attempt + self.shift
         if self.newest is not None and number <= self.attempt:
@@ -216,7 +217,7 @@ class Container:
         if before.state == EXITED:
             return []
         if instance.state == CREATED:
-            # shown where nothing else was: until it runs, the one before it stands as it exited
+            # shown if nothing else was: until it runs, the one before it is listed as it exited
             made = instance.created / 1e9 or moment
             return [] if was_replaced else [Change(made, Listing(self.attempt, CREATED), True)]
         if instance.state == UNKNOWN:

@@ -15,7 +15,7 @@ if TYPE_CHECKING:
     from .timeline import Timeline
 
 MEMORY = "memory"
-# how long signals stand as last sampled where the summary is silent
+# how long signals stay as last sampled if the summary is silent
 SIGNAL_AGE = 60
 # the kubelet takes a sample about as often where nothing is near a threshold
 SAMPLE_SECONDS = 10
@@ -33,7 +33,7 @@ class Sampling:
         self.says_gone = timeline.format.says_gone
         # when the summary answered last
         self.sampled_at: float = 0
-        # when signals wanted a tick last, and the moment of the newest sample of the node
+        # when signals needed a tick last, and the moment of the newest sample of the node
         self.wanted_at = float("-inf")
         self.newest: float = float("-inf")
         self.samples: dict[str, Sample] = {}
@@ -42,7 +42,7 @@ class Sampling:
         self.rounds = rounds.Rounds()
 
     def take(self, seen: Seen, followed: Iterable[Recorded]) -> None:
-        """Samples of the kubelet's that are new are at their own moments. Those of signals want a tick, but for one
+        """Samples of the kubelet's that are new are at their own moments. Samples of signals need a tick, but for one
         that is counted when it is asked, where it is not near its threshold; usage is in the next one."""
         self.take_throttled(seen, followed)
         summary = seen.summary
@@ -139,7 +139,7 @@ class Sampling:
 
     def take_signals(self, samples: dict[str, Sample], seen: Seen, is_wanted: bool) -> None:
         """Places the samples that are others than before; a signal that is no longer there has no value. In the
-        standard format each tick below a threshold evicts a pod, so there samples want no more ticks than those that
+        standard format each tick below a threshold evicts a pod, so there samples need no more ticks than the ones that
         the kubelet takes of itself."""
         is_wanted = is_wanted and (self.says_gone or seen.moment - self.wanted_at >= SAMPLE_SECONDS)
         self.wanted_at = seen.moment if is_wanted else self.wanted_at
@@ -169,7 +169,7 @@ class Sampling:
         return sample.moment
 
     def take_rounds(self, summary: Summary, seen: Seen) -> None:
-        """The kubelet judges its thresholds in rounds, and the tick of each round's sample is judged."""
+        """The kubelet evaluates its thresholds in rounds, and the tick of each round's sample is a sync tick."""
         if self.course.is_first:
             self.timeline.tells_rounds = self.says_gone and rounds.are_told(summary.signals)
         if self.timeline.tells_rounds:
@@ -181,12 +181,12 @@ class Sampling:
                 self.timeline.place_round(max(self.course.begun, min(moment, seen.end)))
 
     def sampled_moment(self, sample: Sample, seen: Seen) -> float:
-        """When a sample was taken, within what is recorded; the first tick has those of the first look."""
+        """When a sample was taken, within what is recorded; the first tick has the samples of the first poll."""
         latest = seen.moment if self.course.is_first else seen.end
         return seen.moment if sample.moment is None else max(self.course.begun, min(sample.moment, latest))
 
     def begin_at(self, moment: float) -> None:
-        """The clock says an earlier moment than it did."""
+        """The clock shows an earlier moment than it did."""
         self.sampled_at, self.wanted_at = moment, float("-inf")
 
 

@@ -17,17 +17,17 @@ if TYPE_CHECKING:
     from .summary import Sample, Summary
     from .throttled import Throttled
 
-# how long what was seen waits for a source that is silent, since with it the moments can be told
+# how long what was seen waits for a source that is silent, since that source has the moments
 PATIENCE = 30
 
 
 @dataclass
 class Seen:
-    """What one look saw that began at a moment in seconds since 1970, and `took` so many. None is what was not asked,
+    """What one poll saw that began at a moment in seconds since 1970, and `took` so many. None is what was not asked,
     or gave no answer: `instances` has the instances of each pod's uid, `counters` the counts of probes, `pods` those
-    that are there, `low` the signals near their thresholds, `said` the Events of the pods that were asked for,
-    `ready` whether the node is Ready, `throttled` for how long instances were throttled, by their ids, and
-    `kubelet_started` when the kubelet was started, where it was since the look before."""
+    that are there, `low` the signals near their thresholds, `said` the Events of the pods that were asked for, `ready`
+    whether the node is Ready, `throttled` for how long instances were throttled, by their ids, and `kubelet_started`
+    when the kubelet was started, if it was since the poll before."""
     moment: float
     instances: Optional[dict[str, list[Instance]]] = None
     counters: Optional[Counters] = None
@@ -59,7 +59,8 @@ class Recorded:
     `absences` how many these are, and `went_absent` that it was taken for deleted by them alone; `ready` is its
     condition Ready as it was placed last, and `seen_at` when a list had it last; `probed` has what its status reports
     of its probes, and `shown` of which instances that was taken for results; `gates` has the statuses of its readiness
-    gates' conditions as they were placed last."""
+    gates' conditions as they were placed last. By container `resources` has the requests and limits that its spec had
+    last, and `given` the amounts of those that the trace has."""
     pod: Pod
     arrived: int
     changes_from: int
@@ -90,12 +91,14 @@ class Recorded:
     probed: dict[str, tuple] = field(default_factory=dict)
     shown: dict[str, tuple] = field(default_factory=dict)
     gates: dict[str, bool] = field(default_factory=dict)
+    resources: dict[str, dict] = field(default_factory=dict)
+    given: dict[str, dict] = field(default_factory=dict)
 
 
 @dataclass
 class Course:
     """How far a recording has come: the moment from which on what is seen is recorded, the one up to which what
-    happened has its place, and whether the first look is taken; and whether Events are asked for."""
+    happened has its place, and whether the first poll is taken; and whether Events are asked for."""
     begun: float = 0
     planned_at: float = 0
     is_first: bool = True

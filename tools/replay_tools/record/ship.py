@@ -20,7 +20,7 @@ from .sources import MOST_SAID, PART_BYTES, shown_line
 if TYPE_CHECKING:
     from .folder import Folder, Trace
 
-# in the operator's words the path of a trace stands for this; where it does not occur the path comes last
+# in the operator's command the path of a trace replaces this; if it does not occur, the path comes last
 PATH = "{}"
 # a command that takes longer is ended
 LONGEST_SECONDS = 600
@@ -41,11 +41,11 @@ class Shipment:
     begun_at: float
 
     def listen(self) -> bytes:
-        """What the command says on standard error by now. It waits for nothing."""
+        """What the command has written to standard error by now. It waits for nothing."""
         said = b""
         if self.process.stderr is not None:
             with contextlib.suppress(BlockingIOError):
-                # one that never ends to say something is not listened to for longer at a poll
+                # one that never stops writing is not read for longer at a poll
                 for _ in range(MOST_PARTS):
                     part = os.read(self.process.stderr.fileno(), PART_BYTES)
                     said += part

@@ -32,7 +32,7 @@ MOST_SHOWN = 300
 
 # what the recorder is ended by, of which no other thread hears
 INTERRUPTS = (signal.SIGINT, signal.SIGTERM, signal.SIGHUP)
-# --events has this word where kubectl asks the API server
+# the value of --events if kubectl asks the API server
 KUBECTL = "kubectl"
 PACKAGE = os.path.dirname(os.path.dirname(os.path.realpath(__file__)))
 
@@ -66,7 +66,7 @@ class Whole:
 
 
 def shown_line(text: str) -> str:
-    """The first line of what somebody else says, as a terminal only shows it, and not too long."""
+    """The first line of what another program prints, as a terminal only shows it, and not too long."""
     return outside.visible(text.split("\n", 1)[0].rstrip()[:MOST_SHOWN])
 
 
@@ -253,7 +253,7 @@ class Sources:
                         RUNTIME_SECONDS)
 
     def logged(self, container_id: str, count: int) -> Answer:
-        """The last lines that a container wrote; crictl says those of its standard error on its own."""
+        """The last lines that a container wrote; crictl prints the lines of its standard error on its own."""
         words = [*self.crictl, "logs", "--tail", str(count), container_id]
         return self.ask(f"crictl logs {container_id}", ["sh", "-c", 'exec "$@" 2>&1', "sh", *words], RUNTIME_SECONDS)
 

@@ -11,6 +11,7 @@ from replay_tools.restarting import restartings_in
 from .formats import without_nones
 from .gates import types_in
 from .lines import line_of, pod_fields
+from .resizes import amounts_in
 from .runtime import EXITED, LOST_CODE, RUNNING, UNKNOWN
 
 FIELDS = {"startup": "startupProbe", "liveness": "livenessProbe", "readiness": "readinessProbe"}
@@ -51,7 +52,7 @@ class Run:
         self.is_over = self.is_over or self.failures >= self.failures_wanted
 
     def results(self, probe: str) -> list[str]:
-        """The fewest results that show the same once more. A kill that was ordered stands until the next instance, so
+        """The fewest results that show the same once more. A kill that was ordered holds until the next instance, so
         that failures after it order none."""
         if self.is_over:
             return ["failure"] * self.failures_wanted
@@ -103,7 +104,6 @@ class Container:
     def show(self, listing: dict[str, Any] | None, second: int) -> None:
         """What a tick lists of it, or None. The first state of an exit counts, and what is not known changes none."""
         self.is_listed = listing is not None
-        self.take_resources(listing)
         known = self.listing
         if listing is None:
             if known is not None and known["state"] != EXITED:
@@ -118,14 +118,8 @@ class Container:
         elif listing["state"] not in (UNKNOWN, known["state"]):
             self.change(listing, second)
 
-    def take_resources(self, listing: dict[str, Any] | None) -> None:
-        """What an instance has by now may be said while it stays as it is listed."""
-        if listing is not None and self.listing is not None and listing["attempt"] == self.listing["attempt"]:
-            kept = {name: value for name, value in self.listing.items() if name != "resources"}
-            self.listing = kept | {name: listing[name] for name in ("resources",) if name in listing}
-
     def change(self, listing: dict[str, Any], second: int) -> None:
-        """It is listed otherwise from a second on; of its exit before that tells, and no later one."""
+        """It is listed otherwise from a second on. Of its exit the first listing counts, and no later one."""
         self.listing, self.since = {name: value for name, value in listing.items() if name not in OF_TICKS}, second
         if listing["state"] == RUNNING:
             self.started = second
@@ -152,7 +146,7 @@ class Container:
         return [] if self.previous is None else [self.previous, running(self.previous)]
 
     def take(self, probe: str, result: str, second: int) -> None:
-        """A result of a tick, behind what the tick lists."""
+        """A result of a tick, after what the tick lists."""
         run = self.runs.get(probe)
         if run is None or result == "unknown" or not self.is_listed or not self.is_running():
             return
@@ -208,8 +202,8 @@ class Container:
         return [{"startup": result} for result in early] + rows
 
     def listed(self, second: int, back: int) -> dict[str, Any] | None:
-        """What a tick that stands so many before the rotation lists of it: what was before where that counts. None
-        where it was never listed."""
+        """What a tick that comes so many before the rotation lists of it: what was before where that counts. None where
+        it was never listed."""
         if self.listing is None:
             return None
         before, place = self.history(), back - max(len(self.carried_of_newest()), 1)
@@ -245,6 +239,8 @@ class Pod:
         self.is_deleting = False
         # the statuses of its readiness gates' conditions
         self.conditions: dict[str, bool] = {}
+        # the requests and limits of containers after a resize
+        self.resized: dict[str, Any] = {}
         # members that the formats do not read: what is known of its deletion, its readiness gates as the standard
         # format has them, and since when its condition Ready has its value
         self.deletion: dict[str, Any] | None = None
@@ -277,6 +273,7 @@ class Pod:
         self.failed = self.failed or entry.get("failed")
         self.deletion = self.deletion or entry.get("deletion")
         self.conditions |= entry.get("conditions") or {}
+        self.resized |= without_nones(entry.get("resized") or {})
         self.gates = entry.get("readinessGates") or self.gates
         self.turn = (entry.get("readyTurns") or [self.turn])[-1]
         # a message is in the first tick alone
@@ -296,9 +293,15 @@ class Pod:
                 for name in ("initContainers", "containers") if spec.get(name)}
         return {**self.fields, "spec": {**spec, **made}}
 
+    def newest_resources(self) -> dict[str, Any]:
+        """The requests and limits of the containers that have others than the pod's line. The line stays as it is: by
+        it the pod has its class, which a resize never changes."""
+        return {name: resources for name, resources in self.resized.items() if name in self.containers
+                and amounts_in(resources) != amounts_in(self.containers[name].fields.get("resources") or {})}
+
     def entry(self, second: int, back: int) -> dict[str, Any] | None:
-        """Its entry of a tick that stands so many before the rotation: usage, and why it waits, are in that of the
-        rotation alone; that it is being deleted, or was ended, and its gates' conditions are in each."""
+        """Its entry of a tick that comes so many before the rotation: usage, and why it waits, are in the entry of the
+        rotation alone; that it is being deleted, or was ended, its gates' conditions and its resizes are in each."""
         listings = [each.listed(second, back) for _, each in sorted(self.containers.items())]
         containers = [listing for listing in listings if listing is not None]
         rows = [(name, each.carried()) for name, each in self.containers.items()]
@@ -306,7 +309,8 @@ class Pod:
                   if len(carried) > back for probe, result in carried[-1 - back].items()]
         said: dict[str, Any] = {"probes": probes or None, "deleting": self.is_deleting or None,
                                 "deletion": self.deletion, "failed": self.failed,
-                                "conditions": self.conditions or None, "readinessGates": self.gates}
+                                "conditions": self.conditions or None, "resized": self.newest_resources() or None,
+                                "readinessGates": self.gates}
         if back == 0:
             said |= {"usage": self.usage or None, "unsampled": self.is_unsampled or None,
                      "waiting": list(self.waiting.values()) or None,
@@ -317,7 +321,7 @@ class Pod:
 
 
 class Standing:
-    """What the lines so far say of the node, and of the pods that are there."""
+    """What the lines so far show of the node, and of the pods that are there."""
 
     def __init__(self) -> None:
         # the node line
@@ -326,7 +330,7 @@ class Standing:
         self.signals: dict[str, Any] = {}
         # what the last tick shows that the kubelet did to pods that are left out
         self.left_out: list[Any] = []
-        # the second of the last tick, whether it is judged, and whether any is reported not to be
+        # the second of the last tick, whether it is a sync tick, and whether any is reported to be none
         self.at: int | None = None
         self.judged: bool | None = None
         self.node_ready: dict[str, Any] | None = None
@@ -373,8 +377,8 @@ class Standing:
 
     def beginning(self, second: int, follows: dict[str, Any] | None) -> Iterator[str]:
         """The lines that a trace begins with at a rotation, or at the first tick of all: its node and pods, and the
-        ticks that show what is known, the last of which is that of the border. It has one, but where what probes have
-        shown needs more."""
+        ticks that show what is known, the last of which is the tick of the rotation. It has one, but where what probes
+        have shown needs more."""
         containers = [each for pod in self.pods.values() for each in pod.containers.values()]
         for container in containers:
             container.go_over()
@@ -385,12 +389,13 @@ class Standing:
         # of a pod without a line it is reported once
         did = [each for pod in self.pods.values() for each in pod.decisions] + ([] if follows else self.left_out)
         for back in reversed(range(count)):
-            # what is known was judged before
+            # the kubelet has evaluated what is known before
             judged = False if (follows or back) and self.tells_rounds else self.judged
             yield self.tick(second - back, back, did, judged)
 
     def tick(self, second: int, back: int, did: list[Any], judged: bool | None) -> str:
-        """One of the ticks that show what is known; signals, and what the kubelet did, are in that of the border."""
+        """One of the ticks that show what is known; signals, and what the kubelet did, are in the tick of the rotation.
+        """
         entries = [pod.entry(second, back) for pod in self.pods.values()]
         told: dict[str, Any] = {}
         for kind, decision in did if back == 0 else ():

@@ -1,5 +1,5 @@
-"""What an object of a pod says next to what the formats read: its readiness gates, by whom it is deleted, and the
-resources that its containers have by now."""
+"""What an object of a pod has next to what the formats read: its readiness gates, its condition Ready, and by whom it
+is deleted. Also the amounts of requests and limits."""
 
 from __future__ import annotations
 
@@ -26,10 +26,8 @@ TYPE = re.compile(rf"({SUBDOMAIN}/)?[A-Za-z0-9]([-A-Za-z0-9_.]{{0,61}}[A-Za-z0-9
 
 @dataclass(frozen=True)
 class Beside:
-    """Whether each readiness gate of a pod is true, by its condition's type; and by container the resources that the
-    status reports, where it does."""
+    """Whether each readiness gate of a pod is true, by its condition's type."""
     gates: dict = field(default_factory=dict)
-    resources: dict = field(default_factory=dict)
     left_out: int = 0
     """how many texts Kubernetes' grammar does not allow there, which are left out since they may be anything"""
 
@@ -70,20 +68,13 @@ def beside_in(item: Any, resources: tuple[str, ...]) -> Beside:
     values = {each.get("type"): each.get("status") for each in status.get("conditions") or []}
     types = [each.get("conditionType") for each in gates]
     known = [name for name in types if isinstance(name, str) and TYPE.fullmatch(name)]
-    amounts_of = {each.get("name"): resources_of(each["resources"], resources) or {}
-                  for each in container_statuses(status) if each.get("resources")}
     of_pod = resources_of((item.get("spec") or {}).get("resources"), resources) or {}
-    left_out = len(types) - len(known) + sum(map(faulty_amounts, [*amounts_of.values(), of_pod]))
     return Beside({name: values.get(name) == "True" for name in known},
-                  {name: with_quantities(found) for name, found in amounts_of.items()}, left_out)
-
-
-def container_statuses(status: dict[str, Any]) -> list[dict[str, Any]]:
-    return [*(status.get("initContainerStatuses") or []), *(status.get("containerStatuses") or [])]
+                  len(types) - len(known) + faulty_amounts(of_pod))
 
 
 def deletion_in(item: Any) -> dict[str, Any]:
-    """By whom a pod is deleted, where a condition says it, and its grace in seconds."""
+    """By whom a pod is deleted, if a condition has it, and its grace in seconds."""
     grace = (item.get("metadata") or {}).get("deletionGracePeriodSeconds")
     conditions = (item.get("status") or {}).get("conditions") or []
     reasons = [each.get("reason") for each in conditions
@@ -114,10 +105,10 @@ def faulty_amounts(found: dict[str, Any]) -> int:
     return sum(quantity_fault(amount) is not None for amounts_of in found.values() for amount in amounts_of.values())
 
 
-def changed(said: dict[str, Any], declared: dict[str, Any]) -> bool:
-    """Whether a container's status reports other resources than its pod's manifest did as it came."""
-    return any(amount_of(of_side.get(resource)) != amount_of((declared.get(side) or {}).get(resource))
-               for side, of_side in said.items() for resource in of_side)
+def is_above_limit(found: dict[str, Any]) -> bool:
+    """Whether a request is above its limit, which version 3 rejects. A limit of 0 is none."""
+    requests, limits = ({name: amount_of(value) or 0 for name, value in found.get(side, {}).items()} for side in SIDES)
+    return any(0 < limits.get(name, 0) < amount for name, amount in requests.items())
 
 
 def amount_of(value: Any) -> int | None:

@@ -1,4 +1,4 @@
-"""What the kubelet's /stats/summary reports in a trace's words. A value that is not there is None or left out."""
+"""What the kubelet's /stats/summary reports, by the names of a trace. A value that is not there is None or left out."""
 
 from __future__ import annotations
 
@@ -40,7 +40,7 @@ class Used:
     throttled: Optional[int] = None
 
     def told(self, second: int) -> dict[str, int]:
-        """What a tick says of it, with how many seconds before it that was."""
+        """What a tick has of it, with how many seconds before it that was."""
         return without_nones({"workingSet": self.working_set, "usage": self.usage, "cpu": self.cpu,
                               "age": max(second - int(self.moment), 0) or None, "throttled": self.throttled})
 
@@ -178,5 +178,5 @@ def usage_of(stats: dict[str, Any], local_volumes: set[str] | frozenset[str]) ->
 
 
 def newest(parts: list[dict[str, Any]]) -> float | None:
-    """The moment of the newest of some samples, or None where none says one."""
+    """The moment of the newest of some samples, or None if none has one."""
     return max(filter(None, (moment_of(part.get("time")) for part in parts)), default=None)

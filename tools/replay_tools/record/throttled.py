@@ -67,7 +67,7 @@ class Series:
         self.rest = b"\n"
         self.is_there = False
         self.found: dict[str, Throttled] = {}
-        # the instances of which it says two values
+        # the instances of which it has two values
         self.doubled: set[str] = set()
 
     def take(self, part: bytes) -> None:
@@ -94,7 +94,7 @@ class Series:
             raise Failed(f"has more than {MOST_SERIES} series of {METRIC}, the most that are read")
 
     def whole(self) -> dict[str, Throttled]:
-        """What a whole answer says, by the ids of the instances."""
+        """What a whole answer has, by the ids of the instances."""
         return {identity: series for identity, series in self.found.items() if identity not in self.doubled}
 
 
@@ -213,9 +213,8 @@ def are_limited(pods: Iterable[Pod], instances: dict[str, list[Instance]]) -> bo
 
 
 def limited(pod: Pod) -> set[str]:
-    """The containers of a pod whose processors have a limit, by now or as it came."""
+    """The containers of a pod whose processors have a limit, by its newest spec."""
     if pod.fault is not None:
         return set()
-    declared = {each["name"]: each.get("resources") for each in all_containers(pod.manifest)}
-    return {name for name, resources in declared.items()
-            for has in (resources, pod.beside.resources.get(name)) if "cpu" in ((has or {}).get("limits") or {})}
+    return {each["name"] for each in all_containers(pod.manifest)
+            if "cpu" in ((each.get("resources") or {}).get("limits") or {})}

@@ -5,7 +5,7 @@ what happened is at the second of its moment, with all else of that second, or a
 formats read it as it was: a start before its exit, a result before the exit that it led to, a startup's result before
 the others, and each result of one probe at a second of its own.
 
-A success behind as many as its probe wants changes nothing, so it needs no tick: the next one has it, once."""
+A success after as many as its probe needs changes nothing, so it needs no tick: the next one has it, once."""
 
 from __future__ import annotations
 
@@ -28,7 +28,7 @@ if TYPE_CHECKING:
     from .statuses import Beside, ReadyTurn
     from .summary import Used
 
-# a start that had to stand later must not bring a result before the probe's initial delay
+# a start that had to come later must not bring a result before the probe's initial delay
 ROUNDING_SECONDS = 2
 
 
@@ -56,6 +56,7 @@ class Tick:
     started: Optional[int] = None
     turns: dict = field(default_factory=dict)
     conditions: dict = field(default_factory=dict)
+    resized: dict = field(default_factory=dict)
     decisions: list = field(default_factory=list)
     departures: list = field(default_factory=list)
 
@@ -63,7 +64,7 @@ class Tick:
         """The other members of a pod that has gone by then are no more."""
         of_pods: dict
         for of_pods in (self.usages, self.deleted, self.failed, self.waits, self.beside, self.said, self.turns,
-                        self.conditions):
+                        self.conditions, self.resized):
             of_pods.pop(uid, None)
         for of_pods in (self.used, self.throttled):
             for place in [place for place in of_pods if place[0] == uid]:
@@ -135,7 +136,7 @@ class Ticks:
         return second
 
     def place_past_decision(self, pod: Pod, decision: Decision, at: int, moment: float) -> None:
-        """What the kubelet did to a pod that is left out, in a second before this moment, in whose tick it stands."""
+        """What the kubelet did to a pod that is left out, in a second before this moment, whose tick has it."""
         second = self.second_of(moment)
         self.tick(second, True).decisions.append(Told(pod, decision, min(at, second), True))
 
@@ -146,7 +147,7 @@ class Ticks:
         self.last_placed["signal", signal] = second
 
     def place_round(self, moment: float) -> None:
-        """The kubelet has judged its thresholds by a sample of this moment, whose tick says so."""
+        """The kubelet has evaluated its thresholds by a sample of this moment, whose tick shows that."""
         self.tick(self.second_of(moment), True).is_judged = True
 
     def place_waits(self, pod: Pod, moment: float, waits: dict[str, Reason], is_short: bool = False) -> None:
@@ -174,6 +175,10 @@ class Ticks:
         second = self.second_of(moment, arrived, self.last_placed.get((pod.uid, name, "condition"), 0))
         self.tick(second, True).conditions.setdefault(pod.uid, {})[name] = is_true
         self.last_placed[pod.uid, name, "condition"] = second
+
+    def place_resize(self, pod: Pod, container: str, moment: float, resources: dict[str, Any], arrived: int) -> None:
+        """A container has these requests and limits from a moment on. The tick that shows it has this moment."""
+        self.tick(self.second_of(moment, arrived), True).resized.setdefault(pod.uid, {})[container] = resources
 
     def place_said(self, pod: Pod, moment: float, said: Said) -> None:
         """What was reported of a pod, which is in the first tick from then on."""
@@ -208,7 +213,7 @@ class Ticks:
         return any([tick.deleted.pop(pod.uid, None) is not None for tick in self.ticks.values()])
 
     def place_end(self, pod: Pod, second: int, decision: Decision) -> None:
-        """The node has ended a pod in a second. What it says of an eviction is with the kubelet's decision."""
+        """The node has ended a pod in a second. What its status has of an eviction is with the kubelet's decision."""
         second = self.second_of(second)
         tick = self.tick(second, True)
         tick.failed[pod.uid] = decision.word
@@ -240,7 +245,8 @@ class Ticks:
             self.last_placed[(*key, "listing")] = second
 
     def without_exit_before(self, key: tuple[str, str], change: Change) -> Change:
-        """The change; an exit that is not written yet goes where its successor's start, known only now, says it too."""
+        """The change; an exit that is not written yet goes where its successor's start, known only now, shows it too.
+        """
         second = self.last_placed.get((*key, "listing"), -1)
         tick = self.ticks.get(second)
         before = None if tick is None else tick.listings.get(key)
@@ -265,7 +271,7 @@ class Ticks:
         self.last_placed[(*key, result.probe)] = second
 
     def is_repeated(self, pod: Pod, key: tuple[str, str], result: Result) -> bool:
-        """Whether a result is a success behind as many as its probe wants. Each instance begins at none."""
+        """Whether a result is a success after as many as its probe needs. Each instance begins at none."""
         run = self.successes.get((*key, result.probe), 0) + 1 if result.result == "success" else 0
         self.successes[(*key, result.probe)] = run
         return run > pod.successes_wanted(key[1], result.probe)

@@ -1,4 +1,4 @@
-"""Writes the ticks of a trace: the lines of each second, with what stands at it."""
+"""Writes the ticks of a trace: the lines of each second, with what holds then."""
 
 from __future__ import annotations
 
@@ -22,7 +22,7 @@ if TYPE_CHECKING:
 
 
 class Timeline(Ticks):
-    """The ticks that are not written yet, and what stands at the last one that was."""
+    """The ticks that are not written yet, and what holds at the last one that was."""
 
     def __init__(self, trace_format: Format) -> None:
         super().__init__(trace_format)
@@ -37,6 +37,7 @@ class Timeline(Ticks):
         self.said: dict[str, list[Said]] = {}
         self.turns: dict[str, list[ReadyTurn]] = {}
         self.conditions: dict[str, dict[str, bool]] = {}
+        self.resized: dict[str, dict[str, Any]] = {}
         self.ready: Ready | None = None
         self.signals: dict[str, int] = {}
         # when the kubelet evicted a pod last, and the signals that were not sampled since
@@ -67,12 +68,13 @@ class Timeline(Ticks):
         copied.said = {uid: list(said) for uid, said in self.said.items()}
         copied.turns = {uid: list(turns) for uid, turns in self.turns.items()}
         copied.conditions = {uid: dict(conditions) for uid, conditions in self.conditions.items()}
+        copied.resized = {uid: dict(resized) for uid, resized in self.resized.items()}
         copied.asides = self.asides.copied()
         copied.place_look(moment)
         return list(copied.due(float("inf"), silent_from))
 
     def lines_of(self, second: int, tick: Tick, is_silent: bool) -> list[str]:
-        """The lines of a second: the pods that come, the tick if one is wanted, the pods that go."""
+        """The lines of a second: the pods that come, the tick if one is needed, the pods that go."""
         lines = [self.pod_line(pod) for pod in tick.arrivals]
         self.present += tick.arrivals
         if not self.format.says_gone:
@@ -92,6 +94,8 @@ class Timeline(Ticks):
             self.turns.setdefault(uid, []).extend(turns)
         for uid, conditions in tick.conditions.items():
             self.conditions.setdefault(uid, {}).update(conditions)
+        for uid, resized in tick.resized.items():
+            self.resized.setdefault(uid, {}).update(resized)
         for uid, waits in tick.waits.items():
             self.asides.take_waits(uid, waits)
         self.asides.beside.update(tick.beside)
@@ -101,7 +105,7 @@ class Timeline(Ticks):
         if tick.is_wanted:
             lines.append(self.tick_of(second, tick, signals, set(tick.listings) if is_silent else None))
             self.results, self.usages, self.failed, self.deleted, self.unsampled = {}, {}, {}, {}, set()
-            self.said, self.turns, self.conditions = {}, {}, {}
+            self.said, self.turns, self.conditions, self.resized = {}, {}, {}, {}
         if self.format.says_gone:
             lines += [gone_line(pod) for pod in tick.departures]
             self.depart(tick.departures)
@@ -112,7 +116,7 @@ class Timeline(Ticks):
         return pod_line(pod, self.format.says_gone)
 
     def tick_of(self, second: int, tick: Tick, signals: dict[str, int], changed: set[tuple[str, str]] | None) -> str:
-        """The line of a tick with all that stands at it."""
+        """The line of a tick with all that holds then."""
         entries = [entry for entry in (self.entry(pod, changed) for pod in self.present) if entry is not None]
         return self.line_with(entries, second, tick, signals)
 
@@ -125,8 +129,8 @@ class Timeline(Ticks):
 
     def shown_signals(self, second: int, tick: Tick) -> dict[str, int]:
         """The signals of a tick, as last sampled. What was left before the kubelet evicted a pod is not what is left
-        behind it, and the kubelet takes a new sample before it evicts the next: until then a signal has no value, or
-        that of the new sample where a threshold goes on over the gap."""
+        after it, and the kubelet takes a new sample before it evicts the next: until then a signal has no value, or the
+        new sample's if a threshold goes on over the gap."""
         if self.format.says_gone and any(each.is_eviction(second) for each in tick.decisions):
             self.evicted_at, outdated = second, set(self.signals) - set(tick.signals)
             self.outdated = set(self.signals)
@@ -166,4 +170,4 @@ class Timeline(Ticks):
                   if uid == pod.uid} if self.results else {}
         return entry_of(pod, listings, of_pod, self.usages.get(pod.uid), pod.uid in self.unsampled,
                         self.deleted.get(pod.uid), self.asides, self.failed.get(pod.uid), self.said.get(pod.uid, ()),
-                        self.turns.get(pod.uid, ()), self.conditions.get(pod.uid))
+                        self.turns.get(pod.uid, ()), self.conditions.get(pod.uid), self.resized.get(pod.uid))

@@ -33,13 +33,13 @@ class Traces(Writing):
         self.each = each
         self.most_ticks = most_ticks
         self.most_bytes = most_bytes
-        # what the pods' statuses report at the first look
+        # what the pods' statuses report at the first poll
         self.probed: dict[str, Any] = {}
 
     # --- what comes ---
 
     def write(self, lines: list[str]) -> None:
-        """The node line; that of a trace is written with its first tick."""
+        """The node line; a trace's own is written with its first tick."""
         for line in lines:
             self.standing.take(json.loads(line))
 
@@ -48,7 +48,7 @@ class Traces(Writing):
 
     def take_look(self, due: list[Due], second: int | None, ahead: list[Due]) -> None:
         """Takes what a poll settles, all of which is before a second, and what it shows that may still change. First
-        all of it is written at once, in place of what the look before showed so: a crash then loses nothing of either,
+        all of it is written at once, in place of what the poll before showed so: a crash then loses nothing of either,
         wherever the rotations between traces are. Each trace that has ended is packed after that."""
         self.write_ahead([*due, *ahead])
         for lines, _ in due:

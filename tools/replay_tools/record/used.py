@@ -1,4 +1,4 @@
-"""What containers use, as the ticks tell it: each some seconds, and as an instance exits."""
+"""What containers use, as the ticks have it: each some seconds, and as an instance exits."""
 
 from __future__ import annotations
 
@@ -17,12 +17,12 @@ Place = tuple[str, str]
 TOLD_SECONDS = 9
 # a sample that is so old at an exit shows nothing of it
 OLD_SECONDS = 60
-# for how long it was throttled is reported with a sample that was taken so long before or behind
+# for how long it was throttled is reported with a sample that was taken so long before or after
 NEAR_SECONDS = 15
 
 
 class UsedByContainers:
-    """The newest samples of the containers, by pod and container, and which of them were told."""
+    """The newest samples of the containers, by pod and container, and which of them were written."""
 
     def __init__(self) -> None:
         self.newest: dict[Place, Used] = {}
@@ -67,7 +67,7 @@ class UsedByContainers:
         return replace(used, throttled=value) if abs(moment - used.moment) <= NEAR_SECONDS else used
 
     def of(self, uid: str, name: str) -> dict[str, Any]:
-        """The member of a listing: what a container used, where that is to be told now."""
+        """The member of a listing: what a container used, if that is to be written now."""
         used, told = self.newest.get((uid, name)), self.told.get((uid, name))
         if used is None:
             return {}
@@ -79,6 +79,6 @@ class UsedByContainers:
         return {"used": self.with_throttled((uid, name), used).told(self.second)}
 
     def before(self, uid: str, name: str) -> dict[str, Any]:
-        """The same of the instance before, whose exit a tick says with the start of the next one."""
+        """The same of the instance before, whose exit a tick has with the start of the next one."""
         used = self.ended.get((uid, name))
         return {} if used is None or self.second - used.moment > OLD_SECONDS else {"used": used.told(self.second)}

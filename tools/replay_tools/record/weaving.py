@@ -25,7 +25,7 @@ def is_seamless(item: Any, after: Result | Change) -> bool:
 
 
 def without_seamless_exits(items: list[Result | Change]) -> list[Result | Change]:
-    """Without the exits that the ticks of their successors' starts say, which keep them."""
+    """Without the exits that the ticks of their successors' starts have, which keep them."""
     kept: list[Any] = []
     item: Any
     for item in items:
@@ -46,15 +46,15 @@ def is_start(change: Change) -> bool:
 
 
 def woven(changes: list[Change], results: list[Result]) -> list[Result | Change]:
-    """Changes and results of one container between two polls, in the order in which they are written. Where an
-    instance exited between the looks a failure is before that exit, and where another one started any other result
-    is after that start."""
+    """Changes and results of one container between two polls, in the order in which they are written. Where an instance
+    exited between the polls a failure is before that exit, and where another one started any other result is after that
+    start."""
     first_exit = next((place for place, change in enumerate(changes) if is_exit(change)), None)
     if first_exit is None:
         return [*changes, *results]
     is_followed = any(map(is_start, changes[first_exit:]))
     early = [result for result in results if result.result == "failure" or not is_followed]
-    # the last of them has a second of its own before that of the exit
+    # the last of them has a second of its own before the exit's
     over = max((result.moment for result in early), default=0) - (changes[first_exit].moment - 1)
     early = [replace(result, moment=result.moment - max(over, 0)) for result in early]
     late = [result for result in results if result.result != "failure" and is_followed]

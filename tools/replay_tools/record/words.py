@@ -1,4 +1,4 @@
-"""The words of tools/record: what they mean, what is wrong with them, and its help."""
+"""The arguments of `record`: what they mean, and what is wrong with them."""
 
 from __future__ import annotations
 
@@ -18,45 +18,7 @@ from .logs import MOST_LINES
 from .metrics import fault_of
 from .sources import KUBECTL
 
-HELP = """\
-Record a node as a trace.
-
-Usage:
-  kubelet-replay record [--for N] [options] > TRACE
-  kubelet-replay record --into FOLDER [options]
-  kubelet-replay record --check [options]
-
-Examples:
-  # What works, and which permission is missing
-  kubelet-replay record --check --node worker-3
-  # Always, a trace an hour, for two days
-  kubelet-replay record --node worker-3 --into /var/lib/kubelet-replay
-
-Options:
-  --node NAME           the node's name in the cluster (uname -n)
-  --kubelet URL         ask the kubelet there, not kubectl; none: ask neither
-  --curl FILE           the token, and how to check the kubelet's certificate
-  --crictl COMMAND      how to start crictl ('chroot /host crictl')
-  --node-line FILE      a node line, if the kubelet serves no /configz
-  --for N, --ticks N    end after N seconds, or after N ticks (20000)
-  --look N, --every N   seconds between two polls (1), between two ticks (10)
-  --logs N              keep safe parts of a failed container's last N lines
-  --events URL          ask the API server for Events; kubectl: ask by kubectl
-  --metrics FILE        also write OpenMetrics text
-  --throttled yes|no    ask how long processors were throttled
-  --standard, --extended  the trace's format (--{default})
-  --eviction-pause N    the longest pause after an eviction, in seconds (30)
-  --simulate            let the rules evict pods by themselves
-  --into FOLDER         one trace after the other, each for --each TIME (1h)
-  --keep TIME, --most SIZE  remove older traces (48h), keep at most SIZE (2Gi)
-  --ship COMMAND        run COMMAND for each whole trace ('rclone copy {} x:')
-  --check               test each source once, and end
-
-Exit status: 0 done, 1 nothing recorded or a check failed, 2 bad input.
-More: man kubelet-replay-record, docs/recorder.md
-"""
-
-# word: what its value is
+# the options with numbers, and the greatest number of each
 NUMBERS = {"--every": 86400, "--look": 3600, "--ticks": MOST_TICKS, "--for": 31622400, "--logs": MOST_LINES}
 LASTING = ("--each", "--keep", "--most", "--ship")
 TEXTS = ("--node", "--kubelet", "--curl", "--crictl", "--node-line", "--eviction-pause", "--metrics", "--events",
@@ -72,13 +34,13 @@ LONGEST = 400 * 86400
 
 
 class BadWord(Exception):
-    """Words that are mistaken; its text says what to do."""
+    """Arguments that are mistaken; its text shows what to do."""
 
 
 @dataclass(frozen=True)
 class Into:
-    """Where traces stand one behind the other, for how many seconds each, how many seconds and bytes are kept, and the
-    words of the command that takes them away, if there is one."""
+    """Where traces follow one another, for how many seconds each, how many seconds and bytes are kept, and the words of
+    the command that takes them away, if there is one."""
     folder: str
     each: int
     keep: int
@@ -107,12 +69,8 @@ class Words:
     throttled: bool
 
 
-def help_text() -> Any:
-    return HELP.replace("{default}", "extended" if lines.DEFAULT.says_gone else "standard")
-
-
 def split(arguments: list[str]) -> dict[str, Any]:
-    """The values of words, {word: text or True}."""
+    """The values of options, {option: text or True}."""
     given: dict[str, Any] = {}
     rest = list(arguments)
     while rest:
@@ -140,7 +98,7 @@ def number(given: dict[str, Any], word: str) -> int | None:
 
 
 def trace_format(given: dict[str, Any]) -> lines.Format:
-    """The format that the words ask for. Raises BadWord where they ask for two."""
+    """The format that the arguments ask for. Raises BadWord if they ask for two."""
     text, is_simulated = given.get("--eviction-pause"), "--simulate" in given
     if "--standard" in given and "--extended" in given:
         raise BadWord("--standard and --extended are two formats: give one")
@@ -194,7 +152,7 @@ def size(given: dict[str, Any], word: str, default: str) -> int:
 
 
 def into(given: dict[str, Any], node: str) -> Into | None:
-    """Where and how traces stand one behind the other, or None where they don't."""
+    """Where and how traces follow one another, or None if they don't."""
     alone = [word for word in LASTING if word in given]
     if "--into" not in given:
         if alone:

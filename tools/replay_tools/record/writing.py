@@ -18,17 +18,17 @@ if TYPE_CHECKING:
 # a trace with so many times what it begins with is long
 SHORT = 2
 AGAIN_SECONDS = 5
-# a file that is made wants so much
+# a file that is made needs so much
 BLOCK = 4096
 
 
 def say_again(say: Callable[..., None], text: str) -> None:
-    """Says a line that may have been said before."""
+    """Prints a line that may have been printed before."""
     say(text, object())
 
 
 class Writing(Output):
-    """Whole lines in a trace of a folder, which begins with what is standing then; `say` takes what is reported."""
+    """Whole lines in a trace of a folder, which begins with what is known then; `say` takes what is reported."""
 
     def __init__(self, folder: Folder, packing: Packing, say: Callable[..., None]) -> None:
         super().__init__(float("inf"))
@@ -55,7 +55,7 @@ class Writing(Output):
         self.has_turned = True
 
     def turn_back(self, second: int, before: int) -> None:
-        """The clock said the one second, and now says an earlier one."""
+        """The clock showed one second, and now shows an earlier one."""
         if self.part is not None:
             self.reach(before)
             self.end()
@@ -72,14 +72,14 @@ class Writing(Output):
         self.finish()
 
     def leave(self) -> None:
-        """The trace has ended; what stands ahead in it stays for now."""
+        """The trace has ended; its lines ahead stay for now."""
         part, self.part = self.part, None
         if part is not None:
             self.last = f"{part.name}.gz" if part.ticks else self.last
             self.packing.ended.append(part)
 
     def finish(self) -> None:
-        """What has ended is packed: the trace that is written has all that stands ahead."""
+        """What has ended is packed: the trace that is written has all lines ahead."""
         self.packing.finish(self.until)
 
     def pack(self) -> None:

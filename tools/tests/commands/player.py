@@ -40,7 +40,8 @@ class Play:
                 `grace` is that of its deletion, `failed` since when the kubelet has ended it, for `reason`, with its
                 containers as they are; `condition` the moment that an evicted pod's status says, and `waits` a list of
                 {"container", "from", "until", "count", "reason", "message"}, of its status too, with its count of
-                restarts; `says` is a list of {"from", "status"}: members that its status has from then on
+                restarts; `says` is a list of {"from", "status"}: members that its status has from then on; `resized` is
+                a list of {"from", "resources"}: the resources of containers of its spec from then on, by their names
     containers  {"id", "pod", "name", "attempt", "created", "started", "exited", "code", "removed", "lost", "told",
                 "reason", "message", "env", "told_reason", "told_message", "shown", "wrote"}: `lost` is when
                 `crictl inspect` no longer knows it while a list still has it, and `told` when its pod's status has its
@@ -176,7 +177,15 @@ class Play:
             metadata |= {"deletionGracePeriodSeconds": life["grace"]} if "grace" in life else {}
         if "annotations" in life:
             metadata["annotations"] = life["annotations"]
-        return {"metadata": metadata, "spec": life["spec"], "status": self.status(life, metadata["uid"], moment)}
+        return {"metadata": metadata, "spec": self.spec(life, moment),
+                "status": self.status(life, metadata["uid"], moment)}
+
+    def spec(self, life, moment):
+        """A pod's spec, whose containers may have been resized."""
+        found = {name: resources for each in life.get("resized", []) if each["from"] <= moment
+                 for name, resources in each["resources"].items()}
+        return {member: [each | ({"resources": found[each["name"]]} if each["name"] in found else {}) for each in value]
+                if member in ("initContainers", "containers") else value for member, value in life["spec"].items()}
 
     def status(self, life, uid, moment):
         """A pod's status: that of a pod that the kubelet ended has no containers."""
