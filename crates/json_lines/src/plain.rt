@@ -21,9 +21,9 @@ const MISSES: u32 = 4;
 /// Of such a writer no more lines in a row are left untried than these.
 const MOST_UNTRIED: u32 = 32;
 
-/// A map of samples in a plain line has at most this many members: there may be members of other names than the
-/// signals', and each such name needs a look whether its last member is null. `serde_json` keeps each name once.
-const MOST_SAMPLES: usize = 64;
+/// A map of samples or of resizes in a plain line has at most this many members: each of its names needs a look for the
+/// name's last member. `serde_json` keeps each name once.
+const MOST_MEMBERS: usize = 64;
 
 /// Goes on if the text is no JSON. Returns `Err` only if an allocation fails.
 pub(crate) fn refused_memory(error: Error) -> Result<(), AllocError>
@@ -128,7 +128,7 @@ fn only_value<'a, A: Allocator + Copy>(
 /// Whether a member of the line is an object of many members.
 fn has_many<A: Allocator>(line: &Value<'_, A>, name: &str) -> bool {
     match line.get(name) {
-        Some(Value::Object(members)) => members.len() > MOST_SAMPLES,
+        Some(Value::Object(members)) => members.len() > MOST_MEMBERS,
         _ => false,
     }
 }
@@ -144,9 +144,17 @@ fn has_many_samples<A: Allocator>(alloc: Global, line: &Value<'_, A>) -> bool {
     are_read
 }
 
+/// Whether one of the line's entries has a map of resizes with many members.
+fn has_many_resizes<A: Allocator>(line: &Value<'_, A>) -> bool {
+    match line.get("pods") {
+        Some(Value::Array(entries)) => entries.iter().any(|entry| has_many(entry, "resized")),
+        _ => false,
+    }
+}
+
 /// The content of the text, if it is a tick line, each of its numbers consists of digits alone and is below 2^64, and
-/// no map of samples that is read has many members: so a line is read some four times as fast as by `serde_json`, which
-/// reads the others.
+/// no map of samples or of resizes that is read has many members: so a line is read some four times as fast as by
+/// `serde_json`, which reads the others.
 #[tactic(auto, using(crate::proofs::Said::plain_said))]
 fn tick_in<A: Allocator + Copy>(
     alloc: Global,
@@ -162,7 +170,10 @@ fn tick_in<A: Allocator + Copy>(
     let Some(value) = only_value(text, scratch, values)? else {
         return Ok(None);
     };
-    if !is_plain_in(&value) || !is_tick(&value) || has_many_samples(alloc, &value) {
+    if !is_plain_in(&value) || !is_tick(&value) {
+        return Ok(None);
+    }
+    if has_many_samples(alloc, &value) || has_many_resizes(&value) {
         return Ok(None);
     }
     Ok(Some(tick_record(alloc, &value)?))
