@@ -1,10 +1,12 @@
 -- Entries whose pods' numbers are known.
-use Rattle.std.proofs.Common.{◌≡◌, ◌∙◌, ℕ, suc, ◌<◌, Bool, List, [], ◌∷◌, length, Result, Ok, Err}
+use Rattle.std.proofs.Common.{◌≡◌, ◌∙◌, ℕ, suc, ◌<◌, Bool, List, [], ◌∷◌, ◌++◌, length, Result, Ok, Err}
+use Rattle.std.proofs.Common.{append_assoc}
 use Rattle.std.proofs.Common.{refl, ap, sym, subst}
 use Rattle.std.specs.Prelude.{All, IfOk, slice_get}
 use Rattle.std.proofs.lemmas.List.Elements.{All-nil, All-cons}
 use Rattle.std.proofs.lemmas.Option.{slice_get_within}
 use Rattle.json_fields.specs.rule.Reading.{◌>>=◌, each}
+use Rattle.json_fields.proofs.Each.{with_front}
 use Rattle.json_fields.proofs.Steps.{bind_ok, then_ok, there_is}
 use Rattle.json_fields.proofs.Only.{same_value}
 use Rattle.manifest.specs.declared.pod.PodSpec.{PodSpec}
@@ -78,6 +80,12 @@ by_numbers heeds roll (x ∷ xs) ns e =
     (same_value {E = FaultKind} (one.0 ∷ rest.0) ns rest.2)
     (entry_by_number heeds roll x one.0 (each (placed_entry heeds roll) xs) one.1
     ∙ ap add (by_numbers heeds roll xs rest.0 rest.1))
+
+-- one more at the end of those that were placed, where others are still to be placed
+pub in_front : {A E : Type 0} (all : List A) (one : A) (rest : Result (List A) E)
+    → with_front (all ++ one ∷ []) rest ≡ with_front all (rest >>= λ xs. Ok (one ∷ xs))
+in_front all one (Err fault) = refl
+in_front all one (Ok xs) = ap Ok (append_assoc all (one ∷ []) xs)
 
 -- this many entries, this many numbers
 pub as_many : {A B E : Type 0} (f : A → Result B E) (xs : List A) (ys : List B) → each f xs ≡ Ok ys

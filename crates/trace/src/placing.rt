@@ -1,6 +1,6 @@
 //! The entries of a tick line, with numbers in the place of names.
 
-ghost use Rattle.std.specs.Prelude.{◌≡◌, ◌==◌, length, map, None, if◌then◌else◌};
+ghost use Rattle.std.specs.Prelude.{◌≡◌, ◌==◌, ◌++◌, ◌∷◌, [], length, map, None, Ok, OnOk, if◌then◌else◌};
 ghost use Rattle.std.specs.List.{range_with_len};
 ghost use Rattle.manifest.specs.rule.Gates.{most_gates};
 ghost use Rattle.observations.specs.rule.Pods.{no_gates};
@@ -282,6 +282,14 @@ fn entry_of_pod(
     })
 }
 
+/// Appends an entry. Returns `Err` only if an allocation fails.
+fn add(all: &mut Vec<PlacedEntry>, entry: PlacedEntry) -> Result<(), FaultKind>
+    ensures added { OnOk result (all.new.items ≡ all.old.items ++ entry ∷ []) }
+    ensures memory { GivesUnless is_memory (λ t. t) result (Ok tt) }
+{
+    all.push(entry).map_err(|_| FaultKind::OutOfMemory)
+}
+
 /// The entries, each of the pod with its number.
 pub(crate) fn entries_of_pods(
     alloc: Global,
@@ -296,7 +304,7 @@ pub(crate) fn entries_of_pods(
     let mut all = Vec::with_capacity(alloc, entries.len())?;
     for (place, entry) in entries.iter().enumerate() {
         let placed = entry_of_pod(alloc, heeds, pods, numbers[place], entry)?;
-        all.push(placed).map_err(|_| FaultKind::OutOfMemory)?;
+        add(&mut all, placed)?;
     }
     Ok(all)
 }
