@@ -30,7 +30,7 @@ class Resize:
 
     def words(self) -> str:
         """What changed, from which amounts to which."""
-        before, now = self.before.amounts(), self.container.amounts()
+        before, now = self.before.amounts, self.container.amounts
         changed = [f"{resource} {NAMES[side]} from {text_of(resource, before.get((resource, side)))} to "
                    f"{text_of(resource, now.get((resource, side)))}"
                    for resource, side in sorted({*before, *now}, key=order) if before.get((resource, side))
@@ -94,7 +94,7 @@ class Resizes:
         if before is None:
             return
         container = before.resized(resources)
-        if container.amounts() != before.amounts():
+        if container.amounts != before.amounts:
             history = self.of_pods.setdefault(pod.number, {}).setdefault(name, History())
             history.moments.append(at)
             history.resizes.append(Resize(at, before, container, was_so, gap))
