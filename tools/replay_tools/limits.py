@@ -38,7 +38,7 @@ def limit_of(event: reports.Event, trace: traces.Trace) -> Limit | None:
         return None
     pod = trace.pods[event.number]
     found = trace.resizes.container_at(pod, event.container, event.at)
-    own, is_changed = found and found.memory_limit, bool(trace.resizes.of_container(pod.number, event.name, event.at))
+    own, is_changed = found and found.memory_limit, trace.resizes.newest(pod.number, event.name, event.at) is not None
     if not is_changed:
         listed = memory_in(trace.listed_as(pod, event.container, trace.places[event.at]).get("resources"))
         own, is_changed = listed or own, listed is not None

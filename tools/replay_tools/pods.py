@@ -6,7 +6,7 @@ from dataclasses import dataclass, field, replace
 from typing import Any
 
 from replay_tools import amounts
-from replay_tools.fields import Bounds, bounds_of, dict_at, list_at, number_at, object_at, text_at, value_at
+from replay_tools.fields import Bounds, dict_at, list_at, number_at, object_at, text_at, value_at
 from replay_tools.limits import memory_in
 from replay_tools.restarting import Restarting, restartings_in
 
@@ -40,11 +40,8 @@ class Container:
     """what decides about its restarts"""
     resources: dict[str, dict[str, int | str]] = field(default_factory=dict)
     """the requests and limits that its manifest sets, as they are written"""
-
-    def amounts(self) -> dict[tuple[str, str], int]:
-        """The thousandths that are set, by the resource and `requests` or `limits`."""
-        return {(resource, side): amounts.quantity(value) for side, of_side in self.resources.items()
-                for resource, value in of_side.items()}
+    amounts: dict[tuple[str, str], int] = field(default_factory=dict)
+    """the same in thousandths, by the resource and `requests` or `limits`"""
 
     def resized(self, resources: dict[str, Any]) -> Container:
         """The container with other requests and limits. Raises Wrong."""
@@ -122,14 +119,17 @@ def container_of(found: dict[str, Any], role: str) -> Container:
 
 def resource_fields(resources: dict[str, Any]) -> dict[str, Any]:
     """The fields of a container that its requests and limits decide. Raises Wrong."""
-    requests = {resource: amounts.quantity(value) for named in ("limits", "requests")
-                for resource, value in dict_at(resources, named).items()
-                if resource in ("memory", "ephemeral-storage") and value is not None and amounts.quantity(value)}
-    memory_limit = value_at(dict_at(resources, "limits"), "memory")
-    return {"requests": requests, "memory_limit": None if memory_limit is None else amounts.quantity(memory_limit),
-            "bounds": bounds_of(resources),
-            "resources": {side: {resource: value for resource, value in dict_at(resources, side).items()
-                                 if resource in RESOURCES and value is not None} for side in SIDES}}
+    written = {side: {resource: value for resource, value in dict_at(resources, side).items()
+                      if resource in RESOURCES and value is not None} for side in SIDES}
+    found = {(resource, side): amounts.quantity(value) for side, of_side in written.items()
+             for resource, value in of_side.items()}
+    # an amount of 0 sets none, and a limit is the request that is not set
+    requests = {resource: found.get((resource, "requests")) or found.get((resource, "limits"))
+                for resource in RESOURCES}
+    limits = {resource: found.get((resource, "limits")) or None for resource in RESOURCES}
+    return {"requests": {resource: amount for resource, amount in requests.items() if amount and resource != "cpu"},
+            "memory_limit": found.get(("memory", "limits")), "resources": written, "amounts": found,
+            "bounds": Bounds(requests["memory"] or None, limits["memory"], requests["cpu"] or None, limits["cpu"])}
 
 
 def probe_of(found: dict[str, Any]) -> Probe:

@@ -197,7 +197,7 @@ def condition_record(report: reports.Report, condition: reports.Condition, pod: 
 
 def resize_records(report: reports.Report, pod: reports.Pod, trace: traces.Trace | None) -> Iterator[dict[str, Any]]:
     """The resizes of a pod's containers, with the requests and limits before and after them, as the trace has them."""
-    for resize in trace.resizes.of_pod.get(pod.number, ()) if trace is not None else ():
+    for resize in trace.resizes.of_pod(pod.number) if trace is not None else ():
         yield {"record": "resize", "node": report.node, "pod": pod.key, "pod_number": pod.number,
                "container": resize.container.name, "at": resize.at, "words": resize.sentence(),
                "before": resize.before.resources, "after": resize.container.resources,

@@ -175,7 +175,7 @@ def border_words(pod: reports.Pod, event: reports.Event, show: Callable[[int], s
 def resize_rows(trace: traces.Trace | None, pod: reports.Pod,
                 show: Callable[[int], str]) -> list[tuple[int, str, str]]:
     """The resizes of a pod's containers: the moment, the container, and what changed."""
-    found = trace.resizes.of_pod.get(pod.number, ()) if trace is not None else ()
+    found = trace.resizes.of_pod(pod.number) if trace is not None else ()
     return [(resize.at, resize.container.name, resize.words() + resize.note(show)) for resize in found]
 
 

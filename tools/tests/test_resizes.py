@@ -227,7 +227,7 @@ def test_resizes_that_are_none():
         text = trace_of(first=None, then=None).replace('"used": {"workingSet": 262144000}}]', (
             f'"used": {{"workingSet": 262144000}}}}], "resized": {json.dumps(said)}'))
         trace = traces.trace_of(text.encode(), "it")
-        expect(f"a resize that is none: {name}", ('"resized"' in text, trace.resizes.of_pod), (True, {}))
+        expect(f"a resize that is none: {name}", ('"resized"' in text, trace.resizes.of_pods), (True, {}))
     for odd in ({"requests": 5}, {"limits": []}, {"requests": {"memory": "much"}}, {"limits": {"cpu": 1.5}}):
         refused = None
         try:
@@ -236,7 +236,7 @@ def test_resizes_that_are_none():
             refused = str(fault)
         expect(f"an odd resize: {odd}", refused and refused.startswith("it: line 5 is no line of a trace there"), True)
     expect("an odd resize in version 2", traces.trace_of(trace_of(version=2, first={"limits": []}).encode(), "it")
-           .resizes.of_pod, {})
+           .resizes.of_pods, {})
 
 
 # --- several traces ---
@@ -256,7 +256,7 @@ def joined(second, border, first=None):
     """The resizes of two traces that are joined, as they are printed."""
     parts = [traces.trace_of(text.encode(), "it") for text in (first or trace_of(), second)]
     made = of_traces.join_traces(parts, [border], [{0: 0, 1: 1}, {0: 0}])
-    return [(resize.at, resize.words() + resize.note(str)) for resize in made.resizes.of_pod.get(0, ())]
+    return [(resize.at, resize.words() + resize.note(str)) for resize in made.resizes.of_pod(0)]
 
 
 def test_resizes_of_joined_traces():

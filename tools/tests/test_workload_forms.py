@@ -10,7 +10,7 @@ import termios
 from fcntl import ioctl
 
 import cases
-from checks import TOOLS, expect, expect_refused
+from checks import REPLAY, TOOLS, expect, expect_refused
 from test_workload_sources import Bare
 from test_workloads import COMMANDS, NEW, SINCE, Cluster, event, pod
 
@@ -78,7 +78,8 @@ def on_terminal(cluster, columns, *words, **settings):
     master, terminal = pty.openpty()
     ioctl(terminal, termios.TIOCSWINSZ, struct.pack("HHHH", 24, columns, 0, 0))
     environment = {**os.environ, "CLUSTER": cluster.path, "PATH": f"{COMMANDS}:{os.environ['PATH']}", "TERM": "xterm",
-                   "TMPDIR": f"{cluster.path}/kept", "CONTEXT_NAMESPACE": "shop", **settings}
+                   "TMPDIR": f"{cluster.path}/kept", "CONTEXT_NAMESPACE": "shop",
+                   "KUBELET_REPLAY": REPLAY, **settings}
     environment.pop("COLUMNS", None)
     process = subprocess.Popen([f"{TOOLS}/kubectl-replay", *words], stdin=terminal, stdout=terminal,
                                stderr=subprocess.PIPE, env=environment, start_new_session=True)

@@ -99,7 +99,7 @@ class Follower:
 def asides(trace: traces.Trace, pod: reports.Pod) -> Iterator[Row]:
     """What the trace shows of a pod's deletion, resizes and waits. A resize that was so before the trace is no news."""
     yield from readiness.rows(trace, pod)
-    for resize in trace.resizes.of_pod.get(pod.number, ()):
+    for resize in trace.resizes.of_pod(pod.number):
         if not resize.was_so:
             yield resize.at, f"{resize.container.name} {resize.words()}"
     deletion = trace.deletions.get(pod.number)

@@ -115,7 +115,7 @@ def take_resizes(made: traces.Trace, trace: traces.Trace, of: dict[int, int], bo
             until = border.at
             for one in trace.resizes.pod_at(pod, until).containers if not (pod.is_guessed or ours.is_guessed) else ():
                 made.resizes.add(ours, until, one.name, one.resources, gap=border.since if border.is_gap else None)
-        for each in trace.resizes.of_pod.get(pod.number, ()):
+        for each in trace.resizes.of_pod(pod.number):
             if each.at > until:
                 made.resizes.add(ours, each.at, each.container.name, each.container.resources, each.was_so)
 
