@@ -54,6 +54,11 @@ def answer(name: str, words: list[str]) -> int:
         return Status.DONE
     if len(given) == 2 and given[1] in VERSION:
         return version(given[0])
+    command = COMMANDS[given[0]]
+    if not command.takes_file and not command.parses_itself:
+        # what finds its traces would take as long to import as the command itself
+        from replay_tools.cli import parsing
+        return work(command.name, parsing.parsed(command, given[1:], of_all.is_of_kubectl))
     from replay_tools.plugin import commands
     return commands.run(given, commands.Caller(name, of_all.is_of_kubectl))
 

@@ -146,12 +146,12 @@ class Account:
     def leaves_at(self) -> Optional[float]:
         """When it is no more: once it was told to go and all its instances have exited, else when the kubelet has
         removed it, has cleaned up behind its eviction, or has another pod of its name."""
-        instances = [each for chain in self.instances.chains for each in chain.instances]
-        ends = [each.end for each in instances]
-        ended = None
-        if self.deleted_at is not None and instances and all(end is not None for end in ends):
-            ended = max([self.deleted_at, *(end for end in ends if end is not None)])
-        known = [at for at in (ended, self.removed_at, self.cleaned_at, self.replaced_at) if at is not None]
+        known = [at for at in (self.removed_at, self.cleaned_at, self.replaced_at) if at is not None]
+        if self.deleted_at is None and not known:
+            return None
+        ends = [each.end for chain in self.instances.chains for each in chain.instances]
+        if self.deleted_at is not None and ends and None not in ends:
+            known.append(max([self.deleted_at, *(end for end in ends if end is not None)]))
         if not known:
             return None
         at = min(known)

@@ -126,9 +126,9 @@ class Chain:
 
     def is_open(self) -> bool:
         """Whether an instance has no exit though another one follows it, or its start is guessed."""
-        newest = self.newest
-        return any((each.is_unseen and each.is_guess) or (each.end is None and each is not newest)
-                   for each in self.instances)
+        if any(each.end is None for each in self.instances[:-1]):
+            return True
+        return any(each.is_unseen and each.is_guess for each in self.instances)
 
     def unplaced(self) -> Iterator[float]:
         """The moments of the starts and exits that are not placed yet, or a little before them."""

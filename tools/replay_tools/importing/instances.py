@@ -55,16 +55,16 @@ class Instances:
         """An instance of which no line says that it exited has exited all the same where its container is said to wait,
         or starts again: with the first line that says so."""
         for chain in self.chains:
-            if chain.newest.end is None or any(each.end is None for each in chain.instances):
-                waits = [at for at, name in self.hints.waits if name == chain.name]
-                for place, each in enumerate(chain.instances):
-                    after = chain.instances[place + 1] if place + 1 < len(chain.instances) else None
-                    self.lose_one(each, after, waits, horizon)
+            lost = [(each, after) for each, after in zip(chain.instances, [*chain.instances[1:], None])
+                    if each.end is None]
+            waits = [at for at, name in self.hints.waits if name == chain.name] if lost else []
+            for each, after in lost:
+                self.lose_one(each, after, waits, horizon)
 
     @staticmethod
     def lose_one(each: Instance, after: Optional[Instance], waits: list[float], horizon: float) -> None:
         begin = each.begin
-        if each.end is not None or begin is None:
+        if begin is None:
             return
         until = float("inf") if after is None else after.begin or 0.0
         place = bisect.bisect_right(waits, max(begin, each.seen or begin))

@@ -398,6 +398,8 @@ class Life(Account):
         that says so, since on a busy node results come late."""
         found: dict[tuple[str, str], list[float]] = {}
         self.first_results = {}
+        if not self.probings:
+            return
         for item in (*self.placed, *self.pending):
             if item.what == "result":
                 place = item.value[:2]

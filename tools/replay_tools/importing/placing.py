@@ -95,15 +95,10 @@ class Placing:
 
     def has_room(self, life: Life) -> bool:
         """Whether a trace can have one more pod; of traces one behind the other each has those that are there."""
-        if (self.present() if self.is_at_once else self.counts["pods"]) < MOST_PODS:
+        if (len(self.there) if self.is_at_once else self.counts["pods"]) < MOST_PODS:
             return True
         self.count("pods left out", life.key)
         return False
-
-    def present(self) -> int:
-        """How many pods are there behind all that is placed."""
-        return len(self.timeline.present) + sum(len(tick.arrivals) - len(tick.departures)
-                                                for tick in self.timeline.ticks.values())
 
     def is_there(self, key: str) -> bool:
         """Whether a pod of a name is there, so that no other one can come."""

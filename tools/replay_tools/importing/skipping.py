@@ -94,9 +94,12 @@ class OfProcess:
         self.process = b""
 
     def is_skipped(self, text: bytes) -> bool:
-        place, process = place_of_words(text), text[PROCESS]
-        if is_skipped_at(text, place) or (process == self.process and text.startswith(SILENT, place)):
+        place = place_of_words(text)
+        if is_skipped_at(text, place):
             return True
+        process = text[PROCESS]
+        if process == self.process:
+            return text.startswith(SILENT, place)
         self.process = process
         return False
 

@@ -48,8 +48,12 @@ class ImportedTimeline(Timeline):
         # a tick is judged where the journal has a round of the eviction manager
         self.tells_rounds = True
         self.steady: dict[str, Steady] = {}
-        # those that were made often enough
-        self.kept: dict[str, Steady] = {}
+        # the pods that are there by their uids, those whose entries the next tick may change, and what the last tick
+        # had of each, in the order of their lines: a tick takes time for the pods that change, and not for all
+        self.there: dict[str, Pod] = {}
+        self.unsettled: dict[str, Pod] = {}
+        self.texts: dict[str, str] = {}
+        self.entries: dict[str, Optional[dict[str, Any]]] = {}
         # whether a tick is kept as it was made, which is read again of its line otherwise, and the newest one
         self.keeps_ticks = False
         self.newest: tuple[str, dict[str, Any]] = "", {}
@@ -73,6 +77,9 @@ class ImportedTimeline(Timeline):
 
     def lines_of(self, second: int, tick: Tick, is_silent: bool) -> list[str]:
         """The lines of a second, whose changes make entries anew."""
+        for pod in tick.arrivals:
+            self.there[pod.uid] = self.unsettled[pod.uid] = pod
+            self.texts[pod.key], self.entries[pod.key] = "", None
         for uid in {*(uid for uid, _ in tick.listings), *tick.waits}:
             self.forget(uid)
         self.gaps = [gap for gap in self.gaps if gap[1] > second]
@@ -88,14 +95,16 @@ class ImportedTimeline(Timeline):
         """The line of a tick, put together of the texts of entries."""
         rows = self.rows_due(second)
         once = {*(place[0] for place in self.results), *self.deleted, *self.failed, *self.conditions}
-        apart = once | {pod.uid for pod in self.present if pod.key in rows} if rows else once
-        found = [(None if pod.uid in apart else self.kept.get(pod.uid))
-                 or self.steady_of(pod, rows, pod.uid in once) for pod in self.present]
+        of_rows = [pod for pod in self.there.values() if pod.key in rows] if rows else []
+        changed = self.unsettled | {uid: self.there[uid] for uid in once if uid in self.there}
+        for pod in (changed | {pod.uid: pod for pod in of_rows}).values():
+            found = self.steady_of(pod, rows, pod.uid in once)
+            self.texts[pod.key], self.entries[pod.key] = found.text, found.entry
         without_pods = self.line_with([], second, tick, signals)
-        texts = ",".join([each.text for each in found if each.text])
+        texts = ",".join(filter(None, self.texts.values()))
         line = line_of_text(without_pods.replace(NO_PODS, PODS.format(texts), 1))
         if self.keeps_ticks:
-            self.newest = line, json.loads(without_pods) | {"pods": [each.entry for each in found if each.text]}
+            self.newest = line, json.loads(without_pods) | {"pods": [*filter(None, self.entries.values())]}
         return line
 
     def record_of(self, line: str) -> dict[str, Any]:
@@ -111,12 +120,14 @@ class ImportedTimeline(Timeline):
             found.entry = self.entry(pod, None)
             found.text = "" if found.entry is None else shown(found.entry)
             found.made = found.made + 1 if self.guesses.has_news else STEADY
-            if found.made == STEADY and not is_once:
-                self.kept[pod.uid] = found
         if is_once:
             self.forget(pod.uid)
+        elif found.made == STEADY:
+            self.unsettled.pop(pod.uid, None)
         if pod.key not in rows:
             return found
+        # the next tick has its entry without these rows
+        self.unsettled[pod.uid] = pod
         entry = self.with_rows(pod.key, found.entry, rows)
         return Steady(entry, shown(entry))
 
@@ -129,13 +140,19 @@ class ImportedTimeline(Timeline):
             self.forget(uid)
 
     def forget(self, uid: str) -> None:
+        """What the entry of a pod was is not what it will be."""
         self.steady.pop(uid, None)
-        self.kept.pop(uid, None)
+        if uid in self.there:
+            self.unsettled[uid] = self.there[uid]
 
     def depart(self, pods: list[Pod]) -> None:
         super().depart(pods)
         for pod in pods:
-            self.forget(pod.uid)
+            for kept in (self.steady, self.there, self.unsettled):
+                kept.pop(pod.uid, None)
+            del self.texts[pod.key], self.entries[pod.key]
+        if pods:
             # a journal has more pods than a trace, and each of them looks through what is kept of the others
-            self.last_placed = {place: second for place, second in self.last_placed.items() if place[0] != pod.uid}
-            self.successes = {place: run for place, run in self.successes.items() if place[0] != pod.uid}
+            gone = {pod.uid for pod in pods}
+            self.last_placed = {place: second for place, second in self.last_placed.items() if place[0] not in gone}
+            self.successes = {place: run for place, run in self.successes.items() if place[0] not in gone}
