@@ -41,6 +41,9 @@ def answer(name: str, words: list[str]) -> int:
     given = words if name in ENTRIES else [name, *words]
     if given[:1] == ["__complete"]:
         return completed(given[1:], of_all.is_of_kubectl)
+    if given[:1] == ["__complete_line"] and len(given) == 2:
+        from replay_tools.cli import completion
+        return completed(completion.words_of_line(given[1]), of_all.is_of_kubectl)
     if given[:1] == ["help"] and len(given) > 1:
         given = [given[1], "--help"]
     if not given or given[0] in (*HELP, "help"):
