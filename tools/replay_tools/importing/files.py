@@ -14,6 +14,7 @@ from collections.abc import Callable, Iterator
 from typing import Any, BinaryIO, Optional
 
 from replay_tools import amounts, entry, packed
+from replay_tools.cli.statuses import Status
 
 from . import journals, records
 from .journals import PLAIN, SKIPPED, Counts, Line, Skipping, blocks_of, lines_of
@@ -249,7 +250,7 @@ class Journal:
             names = " and ".join(sorted(each.decode("ascii", "replace") for each in self.prefixes))
             what = "pods" if node.startswith("[") else "nodes"
             more = "give the lines of one" if what == "pods" else "give --node NAME"
-            raise entry.Fault(f"{self.name} has lines of several {what}, {names}: {more}", 1)
+            raise entry.Fault(f"{self.name} has lines of several {what}, {names}: {more}", Status.FAILED)
         return True
 
 

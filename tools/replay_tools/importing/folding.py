@@ -8,6 +8,7 @@ from collections.abc import Callable, Iterable
 from typing import Any, Optional, TYPE_CHECKING
 
 from replay_tools import entry
+from replay_tools.cli.statuses import Status
 from replay_tools.record.folder import Folder, Refused, made, may_be_made
 from replay_tools.record.formats import MOST_TICKS, shown
 from replay_tools.record.part import Ahead
@@ -98,9 +99,10 @@ class Folded(Writer):
             folder = Folder(self.path, node["name"], KEPT_SECONDS, KEPT_BYTES, self.say)
             folder.ahead = NoneAhead(self.path, node["name"])
         except Refused as refused:
-            raise entry.Fault(str(refused), 1) from None
+            raise entry.Fault(str(refused), Status.FAILED) from None
         if folder.traces():
-            raise entry.Fault(f"--into: '{self.path}' has traces of {node['name']} already: take an empty folder", 1)
+            raise entry.Fault(f"--into: '{self.path}' has traces of {node['name']} already: take an empty folder",
+                              Status.FAILED)
         self.traces = ImportedTraces(folder, self.each, MOST_TICKS, self.say, self.record_of)
         self.traces.write([shown(node)])
         self.thresholds = thresholds_in(node)
@@ -131,7 +133,7 @@ class Folded(Writer):
         if lines:
             self.traces.write_due([(list(map(self.with_start, lines)), has_tick)])
         if self.traces.is_lost:
-            raise Ended(1, f"--into: '{self.path}' takes no more")
+            raise Ended(Status.FAILED, f"--into: '{self.path}' takes no more")
 
     def with_start(self, line: str) -> str:
         """The first tick of the journal in a trace that begins as the kubelet was restarted has that moment."""

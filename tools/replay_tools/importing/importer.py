@@ -7,6 +7,7 @@ from collections.abc import Callable, Iterable, Iterator
 from typing import Optional
 
 from replay_tools import entry
+from replay_tools.cli.statuses import Status
 from replay_tools.record.decisions import EVICTION, REFUSED, Decision
 from replay_tools.record.events import Ready
 from replay_tools.record.formats import without_nones
@@ -258,4 +259,4 @@ def refuse_strangers(importer: Importer) -> None:
     met = importer.placing.counts["met"]
     if has_manifests and met and not importer.placing.counts[WITH_MANIFEST]:
         raise entry.Fault(f"none of the {entry.counted(met, 'pod')} of the journal is among the manifests: they are of "
-                          "another cluster, or of another time", 1)
+                          "another cluster, or of another time", Status.FAILED)

@@ -121,7 +121,7 @@ class Life(Account):
         self.leave(pod, horizon, placing)
 
     def next_due(self, placing: Placing) -> float:
-        """From when on something of it is to be placed. Until then nothing of it changes, unless a line speaks of it."""
+        """The moment from which something of it is to be placed. Until then only a line about it changes it."""
         is_replaced = self.replaced_at is not None and not self.is_end_told()
         if is_replaced or any(chain.is_open() for chain in self.instances.chains):
             return ALWAYS

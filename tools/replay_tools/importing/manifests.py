@@ -13,6 +13,7 @@ from dataclasses import dataclass, field
 from typing import Any
 
 from replay_tools import entry, outside, packed
+from replay_tools.cli.statuses import Status
 from replay_tools.record import pods as recorded
 from replay_tools.record.answers import NotJson, Text
 from replay_tools.record.sources import Failed
@@ -228,7 +229,8 @@ def yaml_of(data: bytes, path: str, what: str) -> Iterator[Any]:
     try:
         import yaml  # Debian's python3-yaml, which no other tool wants
     except ImportError:
-        raise entry.Fault(f"{what}: '{path}' is no JSON, and python3-yaml, which reads YAML, is missing", 127) from None
+        raise entry.Fault(f"{what}: '{path}' is no JSON, and python3-yaml, which reads YAML, is missing",
+                          Status.MISSING) from None
     if LONG_NUMBER.search(data) is not None:
         raise entry.Fault(f"{what}: '{path}' has a number that is too long")
     loader = getattr(yaml, "CSafeLoader", yaml.SafeLoader)

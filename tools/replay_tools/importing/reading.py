@@ -6,6 +6,7 @@ from collections.abc import Callable, Iterator
 from typing import Any
 
 from replay_tools import entry
+from replay_tools.cli.statuses import Status
 
 from . import facts, keyed, printed
 from .holes import FORWARD
@@ -49,7 +50,7 @@ class Processes:
         if process in self.seen:
             self.returns_left -= 1
         if self.returns_left < 0:
-            raise entry.Fault("the lines of several kubelets are mixed: give the lines of one", 1)
+            raise entry.Fault("the lines of several kubelets are mixed: give the lines of one", Status.FAILED)
         self.seen.add(process)
         self.current = process
 
@@ -59,7 +60,7 @@ class Processes:
             self.nodes.add(node)
             if len(self.nodes) > 1:
                 named = " and ".join(sorted(self.nodes))
-                raise entry.Fault(f"the journal has several nodes, {named}: give --node NAME", 1)
+                raise entry.Fault(f"the journal has several nodes, {named}: give --node NAME", Status.FAILED)
         return not node or self.node is None or node == self.node or node.partition(".")[0] == self.node
 
 
