@@ -83,7 +83,7 @@ class Cluster:
         return [kubelets] if of_runtime is None else [kubelets, of_runtime]
 
     def files(self, why: str) -> list[str]:
-        """The file of the system's log; without one the fault is that of the query."""
+        """The file of the system's log; without one the fault is the query's."""
         for name in FILES:
             try:
                 found = self.log(name, f"the file {name} of {self.node}", name)

@@ -23,7 +23,7 @@ if TYPE_CHECKING:
 
 # what is imported is not taken away for its age or its size
 KEPT_SECONDS, KEPT_BYTES = 1 << 36, 1 << 60
-# a tick behind a gap has this member
+# a tick after a gap has this member
 GAP = '"gap":{'
 MOMENTS = ("at", "since", "until", STARTED_AT)
 
@@ -84,7 +84,7 @@ class Folded(Writer):
         # by how much moments are earlier than they are given, since the clock went back
         self.back = 0
         self.node: Optional[NodeLine] = None
-        # what the node line says of thresholds
+        # the thresholds of the node line
         self.thresholds: dict[str, Any] = {}
         # when the kubelet was restarted, where the trace that begins with that has no tick of the journal yet
         self.started: Optional[int] = None
@@ -109,8 +109,8 @@ class Folded(Writer):
         self.is_begun = True
 
     def know(self, second: int, is_behind_gap: bool) -> None:
-        """What the node line says at a second. Where the thresholds are others than those of the trace it ends, and the
-        next one begins with them; behind a gap one begins in any case."""
+        """Takes the node line as it is at a second. If it has other thresholds than the trace, the trace ends, and the
+        next one begins with them; after a gap one begins in any case."""
         assert self.traces is not None and self.node is not None
         node = self.node(second)
         if thresholds_in(node) != self.thresholds:
@@ -143,11 +143,11 @@ class Folded(Writer):
         return f"{line[:-1]},{shown({STARTED_AT: started})[1:]}"
 
     def by_the_clock(self, lines: list[str]) -> list[str]:
-        """Lines with the moments that the clock said."""
+        """Lines with the moments that the clock had."""
         return [shown(set_back(json.loads(line), self.back)) for line in lines] if self.back else lines
 
     def begin_anew(self, lines: list[str]) -> list[str]:
-        """Ends the trace before a gap, and begins one behind it that follows none; the lines that are left."""
+        """Ends the trace before a gap, and begins one after it that follows none; the lines that are left."""
         assert self.traces is not None
         records = [json.loads(line) for line in lines]
         place = next(place for place, record in enumerate(records) if record["kind"] == "tick")

@@ -23,12 +23,12 @@ from .skipping import LONGEST_WORD, SKIPPING
 from .units import Units
 
 SUPPRESSED = "Suppressed "
-# a clock that goes back by less stands still until its time comes again, and so often at most it goes back
+# a clock that goes back by less is taken to stop until its time comes again; so often at most it goes back
 BACK_SECONDS = 60
 MOST_TURNS = 100
 # a clock that goes forward by so much went wrong, or the node was off: nothing is known of a time so long
 FORWARD_SECONDS = 86400
-# how often a process may say something again behind another one
+# how often a process may write again after another one
 MOST_RETURNS = 4
 
 
@@ -44,7 +44,7 @@ class Processes:
         self.returns_left = MOST_RETURNS * journals
 
     def take(self, process: int) -> None:
-        """Another process says something."""
+        """Another process writes."""
         if process == self.current:
             return
         if process in self.seen:
@@ -81,16 +81,16 @@ class Reader:
         self.process = -1
         self.node = ""
         self.now = 0.0
-        # the newest moment since the clock went back, that of the item before, and how often it went back
+        # the newest moment since the clock went back, the moment of the item before, and how often it went back
         self.newest = self.before = 0.0
         self.turns = 0
-        # whether moments are klog's own, and whether its messages are sentences, as those of a kubelet up to 1.20
+        # whether moments are klog's own, and whether its messages are sentences, as a kubelet writes them up to 1.20
         self.uses_klog = False
         self.has_sentences = False
 
     def all_facts(self) -> Iterator[facts.Fact]:
-        """Its facts by the moments that it has. A line whose moment is a little before that of the one before it is put
-        behind that one; where the clock went back that is a fact, and moments are those that it says from there on."""
+        """Its facts by the moments that it has. A line whose moment is a little earlier than the previous line's gets
+        the previous line's. A clock that went back is a fact, and from there on moments are as the clock has them."""
         for item in messages_of(self.journal.lines(self.klog, SKIPPING), self.klog, self.units):
             if item.node and not self.processes.is_ours(item.node):
                 continue

@@ -30,7 +30,7 @@ class Group:
 
 
 def moment_of(line: Line, klog: Klog) -> Optional[float]:
-    """A line's moment, or else that of klog's header."""
+    """A line's moment, or else the moment of klog's header."""
     if line.moment is not None:
         return line.moment
     if line.text.startswith(b"{"):

@@ -20,7 +20,7 @@ if TYPE_CHECKING:
     from replay_tools.record.seen import Recorded
     from replay_tools.record.ticks import Tick
 
-# what is told once, as a message, is out of an entry when it has been made so often, or when nothing in it is new
+# what a trace has once, as a message, is no more in an entry that was made so often, or in which nothing is new
 STEADY = 3
 NO_PODS, PODS = '"pods":[]', '"pods":[{}]'
 Rows = dict[str, list[tuple[int, str, Any]]]
@@ -36,7 +36,7 @@ class Steady:
 
 
 class ImportedTimeline(Timeline):
-    """A timeline that has no samples and no Events of pods. `rows_due` has what else stands in the entries of pods in a
+    """A timeline that has no samples and no Events of pods. `rows_due` has what else is in the entries of pods in a
     tick, by their keys, and `with_rows` an entry with that."""
 
     def __init__(self, trace_format: Format, rows_due: Callable[[int], Rows],
@@ -57,13 +57,13 @@ class ImportedTimeline(Timeline):
         # whether a tick is kept as it was made, which is read again of its line otherwise, and the newest one
         self.keeps_ticks = False
         self.newest: tuple[str, dict[str, Any]] = "", {}
-        # the pods whose manifests are those of their owners, or made of lines, by their keys
+        # the pods whose manifests are their owners' templates, or made of lines, by their keys
         self.templates: dict[str, bool] = {}
-        # times of which nothing is known: the seconds between which no tick stands
+        # times of which nothing is known: the seconds between which there is no tick
         self.gaps: list[tuple[int, int]] = []
 
     def second_of(self, moment: float, *after: Any) -> int:
-        """The second in which something stands: what happened in a gap stands at its end."""
+        """The second in which something is placed: what happened in a gap is placed at its end."""
         second = super().second_of(moment, *after)
         return next((until for since, until in self.gaps if since < second < until), second)
 
@@ -76,7 +76,7 @@ class ImportedTimeline(Timeline):
         return second
 
     def lines_of(self, second: int, tick: Tick, is_silent: bool) -> list[str]:
-        """The lines of a second, whose changes make entries anew."""
+        """The lines of a second; the entries that it changes are made again."""
         for pod in tick.arrivals:
             self.there[pod.uid] = self.unsettled[pod.uid] = pod
             self.texts[pod.key], self.entries[pod.key] = "", None
@@ -86,7 +86,7 @@ class ImportedTimeline(Timeline):
         return super().lines_of(second, tick, is_silent)
 
     def pod_line(self, pod: Pod) -> str:
-        """A pod's line. No journal has what it uses, by which the rules would name it, so it is spared. None has the
+        """A pod's line. No journal has what it uses, by which the rules would name it, so it is exempt. None has the
         conditions of readiness gates, without which the rules would never take it for Ready, so it has no gate."""
         fields = pod_fields(pod.known_uid(), without_gates(pod.manifest), pod.is_spared, pod.is_guessed)
         return line_of({**fields, "spared": True, **({"guessed": [MANIFEST]} if self.templates.get(pod.key) else {})})
@@ -113,7 +113,7 @@ class ImportedTimeline(Timeline):
         return record if line is newest else json.loads(line)
 
     def steady_of(self, pod: Pod, rows: Rows, is_once: bool) -> Steady:
-        """A pod's entry, made anew where something stands in it once."""
+        """A pod's entry, made again if this tick alone has something in it."""
         found = Steady() if is_once else self.steady.setdefault(pod.uid, Steady())
         if found.made < STEADY:
             self.guesses.has_news = False
@@ -132,7 +132,7 @@ class ImportedTimeline(Timeline):
         return Steady(entry, shown(entry))
 
     def mark(self, uid: str, name: str, attempt: int, marks: tuple[str, ...]) -> None:
-        """Parts of an instance that were guessed, beside those that were known to be."""
+        """Parts of an instance that were guessed, as well as the parts known to be."""
         place = uid, name, attempt
         new = tuple(dict.fromkeys([*self.guesses.guessed.get(place, ()), *marks]))
         if new:

@@ -1,5 +1,5 @@
-"""Where the lines go: one trace on standard output, or what folding.py has. What a node line reports a journal may tell
-behind what the trace has by then, so it is asked for when it is written."""
+"""Where the lines go: one trace on standard output, or what folding.py has. A journal may show what a node line
+reports after what the trace has by then, so the node line is made when it is written."""
 
 from __future__ import annotations
 
