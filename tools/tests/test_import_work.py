@@ -73,7 +73,7 @@ def test_work_of_an_import():
 
 
 def test_modules_of_an_import():
-    """An import starts without the modules that find and read traces, which take longer to load than a short journal."""
+    """An import starts without the modules that find and read traces, which take longer than a short journal."""
     script = ("import sys; sys.path.insert(0, sys.argv[1]); from replay_tools import tree; "
               "tree.run('import', ['--year', '2026', '--node', 'n1']); "
               f"print(*[name for name in {NEEDLESS} if name in sys.modules], file=sys.stderr)")

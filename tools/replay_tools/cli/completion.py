@@ -73,7 +73,7 @@ def waiting_option(own: Iterable[Option], given: list[str]) -> Option | None:
 
 
 def with_all(found: Namespace, is_of_kubectl: bool) -> Namespace:
-    """The same for a command that has no context: pods are those of all namespaces where none is named."""
+    """The same for a command that has no context: pods are taken of all namespaces if none is named."""
     everywhere = getattr(found, "is_everywhere", False) or not is_of_kubectl and getattr(found, "namespace", 0) is None
     every: dict[str, Any] = {"files": [], "trace": None, "traces": [], "namespace": None, "recorders": None,
                              "kubectl": []}
