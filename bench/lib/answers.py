@@ -4,7 +4,7 @@ import signal
 
 
 def manifest_faults(text):
-    """The numbers in the table of a manifest's faults. Want of memory names no line."""
+    """The numbers in the table of a manifest's faults. Out of memory names no line."""
     table = text.split("\n| Number | Manifest fault |", 1)[1].split("\n\n", 1)[0]
     rows = re.findall(r"^\| (\d+) \| (\w+) \|", table, re.MULTILINE)
     return [number for number, word in rows if word != "OutOfMemory"]
@@ -49,7 +49,7 @@ def kind_of(answer, lines, faults, tight=False):
 
 
 def agree(run, check):
-    """Whether `check` answers as `run` does. Want of memory may meet either of them alone."""
+    """Whether `check` answers as `run` does. Either of them alone may run out of memory."""
     if b"out of memory\n" in (run[2], check[2]):
         return True
     if run[0] != 0:

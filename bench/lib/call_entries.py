@@ -83,7 +83,7 @@ def needs(clauses):
 
 
 def of_refusal(clause):
-    """The name of a clause on a refusal, with what it shows where that is short."""
+    """The name of a clause on a failed call, with what it shows where that is short."""
     found = re.fullmatch(r"OnErr result \((.*)\)", clause.term)
     term = found[1] if found else clause.term
     return named(clause) + (f": {code(term)}" if len(term) <= SHORT else "")

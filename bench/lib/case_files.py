@@ -14,7 +14,7 @@ class Case(NamedTuple):
     trace: bytes
     report: bytes | None   # none if it is rejected, or accepted
     refusal: str           # its status and its line; '' where there is none
-    words: tuple = ()      # of the program, next to those of a run
+    words: tuple = ()      # of the program, next to the arguments of a run
 
     def fault(self, command, status, written, said):
         """What is wrong with a run, if anything is."""

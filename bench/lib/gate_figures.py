@@ -67,7 +67,7 @@ def edits_of(top, name):
 
 
 def read_figures(top):
-    """The figures of each crate by the run that proved it last, and those of ./test."""
+    """The figures of each crate by the run that proved it last, and the figures of ./test."""
     path = os.path.join(top, FIGURES)
     if not os.path.isfile(path):
         return {}

@@ -25,7 +25,7 @@ def read(top, path):
 
 
 def members_of(texts):
-    """The names that each type, module and crate has: by the blocks of its `impl`, `enum` or `trait`, and by its file."""
+    """The names that each type, module and crate has: by the blocks of its `impl`, `enum` or `trait`, and its file."""
     members = {}
     for path, text in texts.items():
         functions = set(re.findall(r"\bfn (\w+)", text))

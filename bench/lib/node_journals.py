@@ -21,7 +21,7 @@ SEVERITY = {True: "E", False: "I"}
 
 
 class Pod:
-    """A pod of the play, and when its containers run."""
+    """A pod of the simulated node, and when its containers run."""
 
     def __init__(self, chance, number, name):
         self.name, self.number = name, number

@@ -1,6 +1,6 @@
 """What processes cost: the seconds, the processor seconds and the peak memory of one that this one ran, by what the
-system says of a child that has ended. Nothing else in bench/ measures memory, and nothing here looks at a process that
-this one did not start."""
+system reports of a child that has ended. Nothing else in bench/ measures memory, and nothing here inspects a process
+that this one did not start."""
 import contextlib
 import os
 import resource

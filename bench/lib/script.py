@@ -1,4 +1,4 @@
-"""What the scripts of bench/ have in common: their words, what they refuse, the commands that they need, and the
+"""What the scripts of bench/ have in common: their arguments, what they reject, the commands that they need, and the
 program that they run."""
 import os
 import shutil

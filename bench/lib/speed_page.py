@@ -71,11 +71,11 @@ def manner(measured, machine):
         f"The machine: {machine.words}; the kit: `{machine.kit}`.", "",
         paragraph(
             f"The baseline is a plain Rust program (`bench/baseline`, {machine.compiler}, serde_json {machine.reader})"
-            " that reads each line of the same trace into a `serde_json::Value` and drops it. The script runs the program as"
-            " `run TRACE --workers N`, with its report in a file. The two run alternately. The tables have the least"
-            f" seconds and the greatest peak of memory of {measured.rounds} rounds. The script itself has a peak of"
-            f" {measured.floor / 1e6:.1f} MB, so no lower peak shows. The reports of a trace are the same with any"
-            " number of workers, byte for byte."), ""]
+            " that reads each line of the same trace into a `serde_json::Value` and drops it. The script runs the"
+            " program as `run TRACE --workers N`, with its report in a file. The two run alternately. The tables have"
+            f" the least seconds and the greatest peak of memory of {measured.rounds} rounds. The script itself has a"
+            f" peak of {measured.floor / 1e6:.1f} MB, so no lower peak shows. The reports of a trace are the same with"
+            " any number of workers, byte for byte."), ""]
 
 
 def names_of(workers):
@@ -140,8 +140,9 @@ def workers_words(measured):
                       " until 32,768 updates wait. Threads start again for each. One thread takes the contents of the"
                       " lines in order. One thread also makes a round of less than 2,048 updates, as each in"
                       " `pressed_pods`, where the node acts on a threshold in every tick."), "",
-            paragraph("An update is what one pod takes of one tick. A worker starts if it has 1,024 updates. In a sketch in"
-                      " Rust with pieces, updates and a lock of this size (0.23 microseconds an update, without JSON)"
+            paragraph("An update is what one pod takes of one tick. A worker starts if it has 1,024 updates. In a"
+                      " sketch in Rust with pieces, updates and a lock of this size (0.23 microseconds an update,"
+                      " without JSON)"
                       " two threads paid from some 1,200 updates, four from some 1,600."),
             "", *items]
 

@@ -38,7 +38,7 @@ def kind_of(line, before):
 
 
 def statuses(text):
-    """The lines on a list of statuses, as `Status 0: done; 1: ..`; on another text it says itself what it is."""
+    """The lines on a list of statuses, as `Status 0: done; 1: ..`; another text is returned as it is."""
     plain = " ".join(text.split()).removeprefix("Status").removeprefix(":").strip()
     items = re.split(r"; (?=\d+: )", plain)
     lines = []

@@ -9,8 +9,8 @@ class TooLarge(Exception):
 
 
 class Shape(NamedTuple):
-    """How many pods and ticks. Every `calm`-th tick evicts a pod while one is left; each `period`-th has what the probes
-    found."""
+    """How many pods and ticks. Every `calm`-th tick evicts a pod while one is left; each `period`-th has what the
+    probes found."""
     pods: int
     ticks: int
     calm: int

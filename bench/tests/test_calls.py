@@ -128,7 +128,8 @@ class Shown(Case):
     def test_comments(self):
         self.assertEqual(call_entries.comment_in("The first of\n[`a < b`](crate::a)s, a < b"),
                          "The first of `a < b`s, a &lt; b.")
-        self.assertEqual(call_entries.module_lines("Two\nlines.\n\nA list:\n\n- one\n- two\n  lines\n\n```text\n a\n\n```"), [
+        text = "Two\nlines.\n\nA list:\n\n- one\n- two\n  lines\n\n```text\n a\n\n```"
+        self.assertEqual(call_entries.module_lines(text), [
             "Two lines.", "", "A list:", "", "- one.", "- two lines.", "", "```text", " a", "", "```", ""])
 
     def test_no_line_begins_as_an_item(self):

@@ -10,7 +10,7 @@ from common import TOP, Case, read, run, write
 
 NODE = '{"kind":"node","name":"n1"}\n'
 REPORT = "node n1 pods=2 ticks=3\ntotals updates=6 events=0 orders=0\n"
-# refuses what has no node line, and a text with an x where it is not in the extended format
+# rejects what has no node line, and a text with an x where it is not in the extended format
 PROGRAM = f"""#!/bin/sh
 [ "$(head -n 1 "$2")" = '{NODE.rstrip()}' ] || {{ echo 'line 1: 34 Order' >&2; exit 2; }}
 case $*,$(cat "$2") in

@@ -117,7 +117,7 @@ def all_texts():
 
 
 class Texts(Case):
-    """What the texts are, and that what is said of them is of their lines."""
+    """What the texts are, and that what is reported of them is of their lines."""
 
     def test_each_has_a_name_and_one_answer(self):
         self.assertEqual(len(all_texts()), len(list(texts())))

@@ -1,7 +1,7 @@
 """Tests of bench/gate: its parts with what was recorded, and the whole over theorem/small, where stand-ins take the
-place of the gate, the kit and bench/ticks. gate/log has lines of a gate's log: those of proofs as a run of the kit
-wrote them, with other names, those of edits and tests by the kit's words. gate/gate.md is the page for gate/gate.tsv
-and gate/wrong_bodies.tsv."""
+place of the gate, the kit and bench/ticks. gate/log has lines of a gate's log: the lines of proofs as a run of the kit
+wrote them, with other names, the lines of edits and tests by the kit's words. gate/gate.md is the page for
+gate/gate.tsv and gate/wrong_bodies.tsv."""
 import os
 import re
 import shutil
@@ -303,7 +303,7 @@ class Whole(Case):
         return os.path.exists(f"{self.top}/docs/gate.md")
 
     def lines(self, told):
-        """What it said of each command, by name."""
+        """What it printed of each command, by name."""
         return dict(line.split(": ", 1) for line in told.splitlines())
 
     def test_a_gate_that_passes(self):

@@ -1,5 +1,5 @@
-"""Tests of what writes the manual pages: manual/program says the help that the program's is made of, and those of the
-tools are made of their own."""
+"""Tests of what writes the manual pages: manual/program prints the help that the program's page is made of, and the
+pages of the tools are made of their own."""
 import glob
 import shutil
 import subprocess

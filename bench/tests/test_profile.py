@@ -1,4 +1,4 @@
-"""Tests of bench/profile. profile/costs is a file as callgrind writes it, small enough to be reckoned by hand: 1,000
+"""Tests of bench/profile. profile/costs is a file as callgrind writes it, small enough to be worked out manually: 1,000
 instructions, of which core::fmt::write takes 200, a quarter of its calls' by kubelet_replay and the rest by trace."""
 import os
 import tempfile

@@ -1,4 +1,4 @@
-"""Tests of bench/proofs, over a repository of five crates and an rt that proves all but those that it is told."""
+"""Tests of bench/proofs, over a repository of five crates and an rt that proves all but the ones that it is given."""
 import os
 import shutil
 import subprocess
@@ -51,7 +51,7 @@ class Proofs(Case):
         return path
 
     def run_copy(self, *words, unproved=""):
-        """The status, what is said without the seconds, the fault, and the crates that were checked."""
+        """The status, what is printed without the seconds, the fault, and the crates that were checked."""
         log = self.path("log")
         write("", self.top, "log")
         done = subprocess.run(words, stdin=subprocess.DEVNULL, capture_output=True, text=True, check=False, env={

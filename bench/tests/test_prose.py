@@ -44,7 +44,8 @@ class Prose(Case):
 
     def test_style_takes_the_whole_of_a_sentence(self):
         for text, plain in (("a trace: what was seen (all of it) ..", "A trace, what was seen all of it."),
-                            ("It ends. 20 pods start. (So `run` reads it.)", "It ends. N20 pods start. So Code reads it."),
+                            ("It ends. 20 pods start. (So `run` reads it.)",
+                             "It ends. N20 pods start. So Code reads it."),
                             ("Run it: The rest follows:", "Run it: The rest follows."),
                             ("A pod ends ([IsEnd], [a.Ends]).", "A pod ends.")):
             self.assertEqual(prose_counts.plain(text), plain)

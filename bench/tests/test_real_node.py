@@ -71,7 +71,7 @@ def listed(pod, state, **fields):
 
 
 def trace_text():
-    """Two pods that run; one is evicted at 5 and gone behind 7, the other exits at 9."""
+    """Two pods that run; one is evicted at 5 and gone after 7, the other exits at 9."""
     both = [listed("a", "RUNNING"), listed("b", "RUNNING")]
     evicted = {"evicted": [{"pod": "shop/a", "at": BEGIN + 6, "reason": "Evicted", "message": ""}]}
     pods = [{"kind": "pod", "pod": {"metadata": {"name": name, "namespace": "shop"},
@@ -130,7 +130,7 @@ class Counted(Case):
             counted.Evicted("1", Fact("shop/a", "-", "evicted", BEGIN + 5), True)])
 
     def test_evictions_by_a_limit_of_the_pods_own(self):
-        """What is in no ranking is evicted when the log says it, and an eviction takes one ranking."""
+        """What is in no ranking is evicted when the log has it, and an eviction takes one ranking."""
         line = "I0101 00:00:0{0}.500000    9 eviction_manager.go:574] eviction manager: pod {1}_shop({2}) is evicted " \
                "successfully\n"
         first = LOG.partition("\n")[0] + "\n"
@@ -142,7 +142,7 @@ class Counted(Case):
             self.assertEqual(found, wanted)
 
     def test_pods_that_went(self):
-        """One that was evicted goes by that, and one that the kubelet refused was never there."""
+        """One that was evicted goes by that, and one that the kubelet rejected was never there."""
         evicted = {each.uid: each.fact for each in counted.evictions_of(LOG, 2026)}
         self.assertEqual(list(counted.going_facts(shown_text(), evicted)), [Fact("shop/a", "-", "gone", BEGIN + 5)])
 
@@ -159,14 +159,14 @@ class Counted(Case):
             "00:00:09 shop/b app died 0 0: missing", "00:00:09 shop/b app died 0 137: in the report alone"])
 
     def test_exits_behind_an_eviction(self):
-        """One that the report says is not false, and one that it does not say is not missing."""
+        """One that the report has is not false, and one that it lacks is not missing."""
         real = [Fact("shop/a", "app", "ends 0 137", 7)]
         for said in ([], [Fact("shop/a", "app", "died 0 137", 8)]):
             row = counted.row_of("exits", "died", real, said)
             self.assertEqual((row.real, row.missing, row.false), (0, 0, 0))
 
     def test_an_exit_before_an_eviction_of_the_same_name(self):
-        """What is said of the pod before is not taken for the exit after the eviction of the next one."""
+        """What is reported of the pod before is not taken for the exit after the eviction of the next one."""
         real = [Fact("shop/a", "app", "died 0 137", 50), Fact("shop/a", "app", "ends 0 137", 71)]
         row = counted.row_of("exits", "died", real, [Fact("shop/a", "app", "died 0 137", 50)])
         self.assertEqual((row.real, row.near, row.missing, row.false), (1, 1, 0, 0))
@@ -228,7 +228,7 @@ class Restarts(Case):
 
 class FromALog(Case):
     def test_levels(self):
-        """A message has the lines that continue it, and what ends a failure is told at 1."""
+        """A message has the lines that continue it, and what ends a failure is written at 1."""
         head = "I0101 00:00:01.000000    9 {}] {}\n"
         said = [head.format("kubelet.go:1898", "SyncLoop (ADD)"), head.format("exec.go:62", "Exec probe response: a"),
                 "b\n", head.format("kubelet.go:1284", "Image garbage collection succeeded"),
@@ -239,7 +239,7 @@ class FromALog(Case):
         self.assertEqual(from_log.unknown_places(said[0] + head.format("new.go:7", "what")), ["new.go:7"])
 
     def test_codes(self):
-        """A code that is not the kubelet's is marked, or is said."""
+        """A code that is not the kubelet's is marked, or is reported."""
         entry = {"name": "app", "attempt": 0, "guessed": ["exitCode"]}
         trace = json.dumps({"kind": "tick", "pods": [{"pod": "shop/a", "containers": [entry]}]}) + "\n"
         real = [Fact("shop/b", "app", "died 0 1", 5), Fact("shop/c", "app", "ends 0 137", 6)]
@@ -275,7 +275,7 @@ class Chained(Case):
         self.assertEqual([(row.real, row.near, row.false) for row in rows[:2]], [(1, 1, 0), (0, 0, 0)])
 
     def test_told_twice(self):
-        """What a trace says once more after its begin is false."""
+        """What a trace has once more after its begin is false."""
         twice = [*self.parts[:1], chained.Part("second", True, 60, 66, [Fact("shop/a", "app", "started 0", 61)])]
         rows, lost, _ = chained.counts_of([Fact("shop/a", "app", "started 0", 20)], twice)
         self.assertEqual((rows[0].near, rows[0].false, lost), (1, 1, []))

@@ -47,7 +47,7 @@ class Files(Case):
             self.assertIn("](docs/theorem.md)", read(room, "README.md"))
             self.assertFalse(os.path.exists(f"{room}/tools/tests") or os.path.exists(f"{room}/tools/test"))
             self.assertTrue(os.access(f"{room}/tools/story", os.X_OK))
-            # but for links the documents are those of the repository
+            # but for links the documents are the repository's
             for path in "docs/report.md", "docs/gate.md", "examples/README.md":
                 self.assertEqual(read(room, path), read(TOP, path))
 
@@ -85,7 +85,7 @@ class Bytecode(Case):
 
 
 class Signed(Case):
-    """The sums of a release are signed by a key of each kind, and checked as its help says."""
+    """The sums of a release are signed by a key of each kind, and checked as its help shows."""
 
     def check(self, signer):
         if shutil.which(signer) is None:

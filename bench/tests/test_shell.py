@@ -66,7 +66,8 @@ class Words(Case):
         self.assertEqual(run("try_release"), (
             2, "", "bench/try_release: usage: bench/try_release FOLDER [ROOT]\n"))
         self.assertEqual(gate("--all"), (
-            2, "", "test: unknown argument '--all'; known are --install, --without-tools, --proofs NAME.. and --help\n"))
+            2, "",
+            "test: unknown argument '--all'; known are --install, --without-tools, --proofs NAME.. and --help\n"))
         status, said, fault = gate("--help")
         self.assertEqual((status, fault), (0, ""))
         self.assertTrue(said.startswith("Runs the gate. "), said)
@@ -79,7 +80,8 @@ class Words(Case):
         status, said, fault = run("release", "--help")
         self.assertEqual((status, fault), (0, ""))
         self.assertTrue(said.startswith("Makes the archives and the Debian package of a release, from "), said)
-        self.assertTrue(said.endswith("\nIt needs python3, git, dpkg-deb and readelf; to sign, openssl or signify-openbsd.\n"), said)
+        needs = "\nIt needs python3, git, dpkg-deb and readelf; to sign, openssl or signify-openbsd.\n"
+        self.assertTrue(said.endswith(needs), said)
 
     def test_commands_that_are_missing(self):
         with tempfile.TemporaryDirectory() as room:

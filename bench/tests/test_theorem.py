@@ -1,6 +1,6 @@
 """Tests of bench/theorem. theorem/small is a repository with the pages that belong to it; each folder of theorem/faults
-has files that are laid over it, and `said`, what bench/theorem --check then says on standard error. The names of their
-sources end in `.text`, since the gate wants those of a crate nowhere but in crates/."""
+has files that are laid over it, and `said`, what bench/theorem --check then prints on standard error. The names of
+their sources end in `.text`, since the gate accepts a crate's sources only in crates/."""
 import os
 import re
 import tempfile
@@ -114,7 +114,7 @@ class Theorem(Case):
         lay_over(SMALL, self.top)
 
     def has_the_pages(self):
-        """The pages are those of theorem/small, and no others."""
+        """The pages are the ones of theorem/small, and no others."""
         for page in PAGES:
             self.assertEqual(read(self.top, "docs", page), read(SMALL, "docs", page))
         self.assertEqual(len(os.listdir(os.path.join(self.top, "docs/theorem"))), len(CRATES))

@@ -32,7 +32,7 @@ class Timing(Case):
         self.assertEqual(str(fault.exception), "hyperfine failed: Error: Command terminated with non-zero exit code.")
 
     def ran(self, text):
-        """How a run of the shell ended, what it wrote and what is said of it."""
+        """How a run of the shell ended, what it wrote and what is printed of it."""
         output = f"{self.room}/it's written"
         with contextlib.redirect_stderr(io.StringIO()) as said:
             took = timing.run(["sh", "-c", text], output, 20)

@@ -6,14 +6,14 @@ import tempfile
 
 from common import TOP, Case, write
 
-PARTS = ("version", "theorem", "calls", "planted", "architecture", "texts", "test", "lint", "cases", "commands", "edges",
-         "refused_memory", "release", "try_release")
+PARTS = ("version", "theorem", "calls", "planted", "architecture", "texts", "test", "lint", "cases", "commands",
+         "edges", "refused_memory", "release", "try_release")
 PART = """\
 #!/bin/sh
 echo "ran ${0##*/} $*"
 [ "${0##*/}" != "$FAILS" ]
 """
-# it shows what the kit says, and waits until the program was tried where that is to come before its end
+# it shows what the kit prints, and waits until the program was tried where that is to come before its end
 KIT = """\
 #!/bin/sh
 mkdir -p crates/replay_program/out
@@ -69,7 +69,7 @@ class Whole(Case):
         status, said, fault = self.run_copy()
         self.assertEqual((status, fault, said[-1]), (0, "", "47 passed, 0 failed"))
         self.assertIn("rt: the program was tried by then", said)
-        # what is said quietly is not shown
+        # what is printed quietly is not shown
         self.assertEqual(self.ran(said), [*(name for name in PARTS[:-2] if name != "theorem"), "try_release", "test"])
 
     def test_a_program_that_is_kept(self):
@@ -84,8 +84,8 @@ class Whole(Case):
 
     def test_a_program_that_is_another_one_at_the_end(self):
         """The copy that was tried next to the proofs is no longer the program, so the program is tried too."""
-        self.put("kit/rt", KIT.replace("echo \"rt: calls_tests", "echo other >crates/replay_program/out/replay_program\n"
-                                       "echo \"rt: calls_tests"))
+        written = "echo other >crates/replay_program/out/replay_program\necho \"rt: calls_tests"
+        self.put("kit/rt", KIT.replace("echo \"rt: calls_tests", written))
         status, said, _ = self.run_copy()
         self.assertEqual((status, said[-1]), (0, "47 passed, 0 failed"))
         self.assertEqual(self.ran(said).count("cases"), 2)
@@ -100,8 +100,8 @@ class Whole(Case):
     def test_without_the_kit_nothing_is_installed(self):
         os.mkdir(f"{self.top}/commands")
         self.put("commands/apt-get", "#!/bin/sh\ntouch installed\n")
-        done = subprocess.run([f"{self.top}/test", "--install"], stdin=subprocess.DEVNULL, capture_output=True, text=True,
-                              check=False, cwd=self.top, env={"PATH": f"{self.top}/commands:/usr/bin:/bin"})
+        done = subprocess.run([f"{self.top}/test", "--install"], stdin=subprocess.DEVNULL, capture_output=True,
+                              text=True, check=False, cwd=self.top, env={"PATH": f"{self.top}/commands:/usr/bin:/bin"})
         self.assertEqual((done.returncode, done.stdout), (127, ""))
         self.assertEqual(done.stderr, "test: the Rattle kit is missing: put its command rt on the PATH\n")
         self.assertFalse(os.path.exists(f"{self.top}/installed"))

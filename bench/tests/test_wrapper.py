@@ -1,5 +1,5 @@
-"""Tests of ./kubelet_replay over a small folder whose program is a stand-in: the words that it hands on, and where its
-standard output goes."""
+"""Tests of ./kubelet_replay over a small folder whose program is a stand-in: the arguments that it passes on, and where
+its standard output goes."""
 import os
 import shutil
 import subprocess
@@ -7,7 +7,7 @@ import tempfile
 
 from common import LONGEST, TOP, Case, write
 
-# it says its words, then what it reads of standard input, then many lines; that it can't write is a line, as of Rust
+# it prints its arguments, then what it reads of standard input, then many lines; a failed write is a line, as of Rust
 PROGRAM = """#!/usr/bin/env python3
 import os, signal, sys
 signal.signal(signal.SIGPIPE, signal.SIG_IGN)
@@ -39,8 +39,8 @@ class Wrapper(Case):
 
     def said(self, command, **settings):
         """The status, the output and the errors of a line of shell in the folder."""
-        done = subprocess.run(["bash", "-c", command], cwd=self.top, input=b"a trace\n", capture_output=True, check=False,
-                              timeout=LONGEST, env={**os.environ, **settings})
+        done = subprocess.run(["bash", "-c", command], cwd=self.top, input=b"a trace\n", capture_output=True,
+                              check=False, timeout=LONGEST, env={**os.environ, **settings})
         return done.returncode, done.stdout.decode(), done.stderr.decode()
 
     def test_words_are_handed_on(self):

@@ -125,7 +125,7 @@ class Whole(Case):
         self.assertEqual(read(logs, "d_killed.log"), "== marks\nrattle: killed\n")
         self.assertEqual(read(logs, "e_twice.log"), "")
         self.assertEqual(read(self.top, "called"), 6 * "check --jobs 1\n")
-        # an edit that said nothing of a contract leaves the figures as they were
+        # an edit whose log has nothing of a contract leaves the figures as they were
         self.assertIsNone(self.found())
         self.assertEqual(read(self.top, "crates/marks/src/lib.rt"), source)
 

@@ -41,6 +41,9 @@ def answer(name: str, words: list[str]) -> int:
     given = words if name in ENTRIES else [name, *words]
     if given[:1] == ["__complete"]:
         return completed(given[1:], of_all.is_of_kubectl)
+    if given[:1] == ["__complete_line"] and len(given) == 2:
+        from replay_tools.cli import completion
+        return completed(completion.words_of_line(given[1]), of_all.is_of_kubectl)
     if given[:1] == ["help"] and len(given) > 1:
         given = [given[1], "--help"]
     if not given or given[0] in (*HELP, "help"):
@@ -54,6 +57,11 @@ def answer(name: str, words: list[str]) -> int:
         return Status.DONE
     if len(given) == 2 and given[1] in VERSION:
         return version(given[0])
+    command = COMMANDS[given[0]]
+    if not command.takes_file and not command.parses_itself:
+        # what finds its traces would take as long to import as the command itself
+        from replay_tools.cli import parsing
+        return work(command.name, parsing.parsed(command, given[1:], of_all.is_of_kubectl))
     from replay_tools.plugin import commands
     return commands.run(given, commands.Caller(name, of_all.is_of_kubectl))
 

@@ -1,5 +1,5 @@
-"""The tests of kubelet-replay, the one command of the program and the tools: its words, its helps, and its completion
-in the shells that are there."""
+"""The tests of kubelet-replay, the one command of the program and the tools: its words, its helps, and its
+completion."""
 
 import gzip
 import importlib
@@ -440,18 +440,3 @@ def test_command_completion():
     ):
         answer = run([COMMAND, "__complete", *words])
         expect(f"kubelet-replay, completion of {words}", (answer[0], answer[1].split(), answer[2]), (0, candidates, ""))
-
-
-def test_shells_complete():
-    words = f"kubelet-replay story -f {TRACE} default/"
-    in_bash = (f"source '{TOOLS}/completion/kubelet-replay.bash'; COMP_WORDS=({words}) COMP_CWORD=4; _kubelet_replay; "
-               'printf "%s\\n" "${COMPREPLY[@]}"')
-    in_fish = f"source '{TOOLS}/completion/kubelet-replay.fish'; complete -C '{words}'"
-    for shell, script, wanted in (("bash", in_bash, "default/a\ndefault/b\ndefault/c\n"),
-                                  ("fish", in_fish, "default/a\ndefault/b\ndefault/c\n"),
-                                  ("zsh", f"zsh -n '{TOOLS}/completion/_kubelet-replay'", "")):
-        if shutil.which(shell) is None:
-            print(f"left out: completion in {shell}, since that is missing")
-            continue
-        answer = run([shell, "-c", f'export PATH="{TOOLS}:$PATH"; {script}'])
-        expect(f"completion in {shell}", answer, (0, wanted, ""))

@@ -2,7 +2,9 @@
 each form in which a journal is kept; manifests; and what is no journal. Holes and clocks are in test_import_gaps.py,
 and what a real kubelet's log comes to is in test_import_real.py."""
 
+import ast
 import calendar
+import glob
 import gzip
 import json
 import os
@@ -423,6 +425,17 @@ def test_import_of_what_is_no_journal():
         file.write("- 5\n")
     expect_refused("import --pods of no manifest", imported(given=text, pods=f"{folder}/none"), 2, "has no manifest")
     shutil.rmtree(folder)
+
+
+def test_statuses_of_an_import():
+    """Its statuses are members of the list that all commands have, and no plain numbers."""
+    found = []
+    for path in sorted(glob.glob(f"{TOOLS}/replay_tools/importing/*.py")):
+        for node in ast.walk(ast.parse(read(path))):
+            if isinstance(node, ast.Call) and ast.unparse(node.func) in ("entry.Fault", "NoLog", "Nothing", "Ended"):
+                found += [f"{os.path.basename(path)}:{each.lineno}" for each in node.args
+                          if isinstance(each, ast.Constant) and isinstance(each.value, int)]
+    expect("plain numbers as statuses", found, [])
 
 
 def test_import_of_hostile_lines():

@@ -5,10 +5,12 @@ import cProfile
 import io
 import os
 import pstats
+import subprocess
+import sys
 import tempfile
 
 import cases
-from checks import expect
+from checks import TOOLS, expect
 from imported_lines import Journal
 
 from replay_tools import tree
@@ -17,8 +19,10 @@ load_tests = cases.loaded(__name__)
 
 FEW, MANY, HOUR = 10, 60, 3600
 # calls of functions for each pod that is there for an hour. An import that looks at each pod once a minute takes 4,155,
-# and 5,559 where it reads each line of a folder again
-MOST_ALONE, MOST_INTO = 1200, 2500
+# and 5,559 where it reads each line of a folder again. One that looks at each pod in each tick takes 1,718
+MOST_ALONE, MOST_INTO = 1200, 1500
+# what finds and reads traces, which an import doesn't
+NEEDLESS = "replay_tools.plugin.files", "replay_tools.traces", "replay_tools.report"
 
 
 class Output(io.TextIOWrapper):
@@ -66,3 +70,13 @@ def test_work_of_an_import():
         expect(f"{name}: traces", count > 0, bool(words))
         each = (many - few) // (MANY - FEW)
         expect(f"{name}: {each} calls for each pod", each < most, True)
+
+
+def test_modules_of_an_import():
+    """An import starts without the modules that find and read traces, which take longer than a short journal."""
+    script = ("import sys; sys.path.insert(0, sys.argv[1]); from replay_tools import tree; "
+              "tree.run('import', ['--year', '2026', '--node', 'n1']); "
+              f"print(*[name for name in {NEEDLESS} if name in sys.modules], file=sys.stderr)")
+    done = subprocess.run([sys.executable, "-c", script, TOOLS], input=journal_of(1).encode(), capture_output=True,
+                          check=False)
+    expect("modules of an import", (done.returncode, done.stderr.decode().split("\n")[-2]), (0, ""))

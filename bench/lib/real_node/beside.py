@@ -1,4 +1,4 @@
-"""What a kubelet showed next to what a report says: each start, exit, code, kill and change of Ready, pod by pod."""
+"""What a kubelet showed next to what a report has: each start, exit, code, kill and change of Ready, pod by pod."""
 
 import calendar
 import json
@@ -8,7 +8,7 @@ from dataclasses import dataclass
 
 # what counts as the same moment, in seconds
 NEAR = 2
-# a kubelet 1.20 kills for a startup probe with the next sync of the pod only, as docs/profile.md says
+# a kubelet 1.20 kills for a startup probe with the next sync of the pod only, as docs/profile.md has it
 NAMED = ("kill", "startup")
 KILLING = re.compile(r"I(\d\d)(\d\d) (\d\d):(\d\d):(\d\d).*\"Event occurred\" object=\"([^\"/]+)/([^\"]+)\".*"
                      r"reason=\"Killing\" message=\"Container (\S+) failed (\w+) probe")
@@ -51,7 +51,7 @@ def instances_of(status):
 
 def instance_facts(statuses, exits=None):
     """Starts and exits with their codes, each instance of a pod numbered in the order in which it was shown. `exits`
-    has those that the runtime told, by the instances' ids, for an instance whose exit no status has."""
+    has the exits that the runtime reported, by the instances' ids, for an instance whose exit no status has."""
     found, numbers = {}, {}
     for key, uid, status in statuses:
         for container, identity, start, exit_at, code in instances_of(status):
@@ -110,7 +110,7 @@ def facts_from(text):
     return [Fact(pod, container, what, int(moment)) for moment, pod, container, what in parts]
 
 
-# --- what the report says ---
+# --- what the report has ---
 
 
 def report_facts(report):
@@ -149,8 +149,8 @@ def app_containers(report):
 
 
 def paired(shown, said):
-    """Each fact of the kubelet with the nearest one of the report that says the same, or None; then those of the report
-    that are left over."""
+    """Each fact of the kubelet with the nearest one of the report that is the same, or None; then the facts of the
+    report that are left over."""
     left, pairs = list(said), []
     for fact in sorted(shown, key=lambda fact: fact.moment):
         same = [each for each in left if (each.pod, each.container, each.what) == (fact.pod, fact.container, fact.what)]
@@ -194,7 +194,7 @@ def show_kind(kind, pairs, left, show):
 
 
 def show_beside(facts, report, show):
-    """Shows what the kubelet showed next to what a report says; whether each fact is in it within two seconds."""
+    """Shows what the kubelet showed next to what a report has; whether each fact is in it within two seconds."""
     pairs, left = paired(facts, report_facts(report))
     for key in sorted({fact.pod for fact in facts} | {fact.pod for fact in left}):
         show_pod(key, pairs, left, show)

@@ -13,7 +13,7 @@ from replay_tools.record import answers, connections, program, sources  # noqa: 
 
 
 class KeptClock:
-    """The node's clock; each moment that it said is kept."""
+    """The node's clock; each moment that it showed is kept."""
 
     def __init__(self, file):
         self.file = file

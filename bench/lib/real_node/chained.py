@@ -1,5 +1,5 @@
-"""What a kubelet did next to what several traces of its node say, one after the other: each alone, of what ticks behind
-its begin, and all of them as the tools join them."""
+"""What a kubelet did next to what several traces of its node show, one after the other: each alone, from the ticks
+after its begin, and all of them as the tools join them."""
 
 import glob
 import gzip
@@ -52,7 +52,7 @@ def first_look(trace):
 
 
 def gaps_of(parts):
-    """The seconds of which no trace says anything: (from, to)."""
+    """The seconds of which no trace shows anything: (from, to)."""
     return [(before.ended, after.begun) for before, after in zip(parts, parts[1:]) if not after.follows]
 
 
@@ -69,7 +69,7 @@ def is_among(fact, others):
 
 
 def joined_said(folder, parts):
-    """What all traces together say, as the tools join them. What is known at the end of a gap is no news."""
+    """What all traces together show, as the tools join them. What is known at the end of a gap is no news."""
     whole = join.joined(asked.Asked([folder]))
     known = {ended for _, ended in gaps_of(parts)}
     return [fact for fact in said_facts(whole.report, whole.trace)
@@ -77,7 +77,7 @@ def joined_said(folder, parts):
 
 
 def counts_of(real, parts, said=None, until=float("inf")):
-    """The rows of each trace alone or of what all of them say, what is lost in gaps, and the exits with a false code;
+    """The rows of each trace alone or of all of them together, what is lost in gaps, and the exits with a false code;
     up to what the kubelet showed last, which shows a little later what the runtime knows at once."""
     said = [fact for part in parts for fact in part.said] if said is None else said
     until = min(until, parts[-1].ended)

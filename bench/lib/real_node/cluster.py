@@ -19,7 +19,7 @@ API = "https://127.0.0.1:16443"
 ETCD, ETCD_PEERS = "http://127.0.0.1:12379", "http://127.0.0.1:12380"
 NAMESPACE = "shop"
 ADMIN, RECORDER = "admin", "recorder"
-# the least that tools/record wants of kubectl
+# the least that the recorder needs of kubectl
 ROLE = [{"apiGroups": [""], "resources": ["nodes/proxy"], "verbs": ["get"]},
         {"apiGroups": [""], "resources": ["pods"], "verbs": ["list"]}]
 ACCESS = "rbac.authorization.k8s.io"

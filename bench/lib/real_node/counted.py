@@ -1,5 +1,5 @@
-"""What a kubelet with an API server did next to what a report says, counted: starts, exits, kills, changes of Ready,
-evictions and pods that went; what it evicted next to what a recording of it tells."""
+"""What a kubelet with an API server did next to what a report has, counted: starts, exits, kills, changes of Ready,
+evictions and pods that went; what it evicted next to what a recording of it shows."""
 
 import calendar
 import json
@@ -41,7 +41,7 @@ class Row:
 
 
 def exits_of(text):
-    """The exits that the runtime told, {id: (moment, code)}; what was run for a probe is none."""
+    """The exits that the runtime reported, {id: (moment, code)}; what was run for a probe is none."""
     found = {}
     for line in EXIT.findall(text):
         told = json.loads(line)
@@ -61,7 +61,7 @@ class Evicted:
 
 
 def evictions_of(log, year):
-    """Each eviction that the kubelet's log has. Behind a ranking the kubelet evicts one pod, which it says once the
+    """Each eviction that the kubelet's log has. After a ranking the kubelet evicts one pod, which it reports once the
     pod's containers have been stopped."""
     ranked, ranked_at = set(), None
     for line in log.splitlines():
@@ -135,16 +135,16 @@ def real_facts(shown, log, exits):
 
 
 def unnumbered(fact):
-    """A kill without its instance's number, which the log does not say."""
+    """A kill without its instance's number, which the log does not have."""
     word, _, probe = fact.what.split()
     return Fact(fact.pod, fact.container, f"{word} {probe}", fact.moment)
 
 
-# --- what report and trace say ---
+# --- what report and trace show ---
 
 
 def said_facts(report, trace):
-    """What a report and its trace say of each pod, and whom the trace shows that the kubelet evicted."""
+    """What a report and its trace show of each pod, and whom the trace shows that the kubelet evicted."""
     facts = []
     for pod in report.pods:
         facts += pod_facts(pod)
@@ -175,7 +175,7 @@ def turned_facts(trace_path):
 
 
 def with_turns(said, trace_path):
-    """What a report says, and the turns of Ready that it has not."""
+    """What a report has, and the turns of Ready that it lacks."""
     found = list(said)
     for turn in turned_facts(trace_path):
         if not any((each.pod, each.what) == (turn.pod, turn.what) and abs(each.moment - turn.moment) <= NEAR
@@ -210,7 +210,7 @@ def pod_facts(pod):
 
 
 def matched(real, said):
-    """Facts and what is said of the same, nearest first: {place of the fact: place of what is said}."""
+    """Facts and what is reported of the same, nearest first: {place of the fact: place of what is reported}."""
     found, taken = {}, set()
     pairs = sorted((abs(one.moment - other.moment), here, there) for here, one in enumerate(real)
                    for there, other in enumerate(said)
@@ -228,7 +228,7 @@ def of_kind(facts, kind):
 
 def row_of(name, kind, real, said, edge=()):
     """A kind's counts. An exit after an eviction, and what happened at an edge of the recording, before its first tick
-    or after its last one, may be said, and need not be."""
+    or after its last one, may be reported, and need not be."""
     may_be = [Fact(fact.pod, fact.container, fact.what.replace(END, "died"), fact.moment)
               for fact in of_kind(real, END)] + of_kind(edge, kind)
     real, said = of_kind(real, kind), of_kind(said, kind)
@@ -256,7 +256,7 @@ def counts_of_facts(real, said, begun, ended, kinds=None):
 
 
 def false_codes(real, said):
-    """Exits that have another code than the one that the kubelet or the runtime told."""
+    """Exits that have another code than the one that the kubelet or the runtime reported."""
     others = {(fact.pod, fact.container, fact.what.rsplit(" ", 1)[0], fact.moment): fact.what
               for fact in real if fact.what.startswith("died")}
     for fact in said:

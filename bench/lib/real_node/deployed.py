@@ -52,8 +52,8 @@ def content_of(path):
 
 def manifest_of(text, folder, traces):
     """The manifest with what an operator puts in: where crictl and the traces are on this machine, the image that was
-    loaded, the rights that a kubelet 1.20 knows, its certificate, which it has signed itself; short traces, and each
-    second a look."""
+    loaded, the rights that a kubelet 1.20 knows, its certificate, which it has signed itself; short traces, and a
+    poll each second."""
     version = content_of(f"{TOP}/VERSION").decode().strip()
     for old, new in (('"--look", "5"', f'"--look", "{LOOK}"'), ('"--each", "1h"', f'"--each", "{EACH}s"'),
                      ("{path: /usr/local/bin/crictl,", f"{{path: {folder}/bin/crictl,"),
@@ -79,7 +79,7 @@ def pod_of(daemonset):
 
 
 class Deployed:
-    """The recorder's pod next to a run; the folder keeps the traces as they were fetched, and what it said."""
+    """The recorder's pod next to a run; the folder keeps the traces as they were fetched, and what it printed."""
 
     def __init__(self, machine, cluster, scenario):
         self.machine, self.cluster = machine, cluster

@@ -1,4 +1,4 @@
-"""How a run ends: it leaves no process and no mount behind, also when it is interrupted."""
+"""How a run ends: it leaves no process and no mount, also when it is interrupted."""
 
 import ctypes
 import os

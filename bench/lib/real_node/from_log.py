@@ -11,7 +11,7 @@ from kit import PARTS, read, write
 
 IMPORT = f"{PARTS}/../../../tools/import"
 HEADER = re.compile(r"[IWEF]\d{4} [\d:.]+ +\d+ (\S+?:\d+)\] ")
-# what a kubelet says at level 1 where it ends a failure, and else at 4
+# what a kubelet writes at level 1 where it ends a failure, and else at 4
 ENDS_A_FAILURE = {"kubelet.go:1256": "Container garbage collection failed",
                   "kubelet.go:1284": "Image garbage collection failed"}
 ANY_CODE = "exits, whatever their codes"
@@ -25,7 +25,7 @@ TAIL_SECONDS = 2
 
 @dataclass
 class Imported:
-    """The rows of a log, the exits with a wrong code that is not marked, and what the importer said at its end."""
+    """The rows of a log, the exits with a wrong code that is not marked, and what the importer printed at its end."""
     rows: list
     unmarked: list
     said: str

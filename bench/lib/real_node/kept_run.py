@@ -168,7 +168,7 @@ class Kubelet:
         return calendar.timegm((self.year, int(month), int(day), int(hour), int(minute), 0)) + float(second)
 
     def specs_of(self, watch):
-        """The manifest and the annotations of each pod, by its uid; of a static pod by that of its file."""
+        """The manifest and the annotations of each pod, by its uid; of a static pod by its file's."""
         found = {}
         for each in watch:
             metadata = each["object"]["metadata"]

@@ -15,7 +15,7 @@ from kit import PARTS, call, read, write
 CTR_SECONDS = 30
 # until its first round of samples is done a kubelet has no summary of its pods
 FIRST_ROUND_SECONDS = 12
-# where a runtime mounts next to its root; the first is its state, as containerd.toml says
+# where a runtime mounts next to its root; the first is its state, as containerd.toml has it
 RUNTIME_FOLDERS = ("/run/real_node-containerd", "/run/containerd", "/run/netns")
 KUBELET = "https://127.0.0.1:10250"
 NODE = "node-a"
@@ -32,7 +32,7 @@ class Machine:
         self.mounts = ending.mount_points()
 
     def start(self, name, words, stdout=None, **variables):
-        """Starts a program with its log in the folder; `variables` are those of its environment."""
+        """Starts a program with its log in the folder; `variables` are its environment's."""
         with open(f"{self.folder}/{name}.log", "w", encoding="utf-8") as log:
             process = subprocess.Popen(words, stdout=stdout or log, stderr=log, stdin=subprocess.DEVNULL,
                                        env={**self.kit.settings, **variables}, start_new_session=True)

@@ -19,7 +19,7 @@ from scenario import RUNS
 WANTED = ("starts", "exits with their codes", "evictions told as a fact")
 # each of these is in no report that is none of the kubelet's
 UNWANTED = ("pods ended as evicted",)
-# from the verbosity of managed clusters to that of the run
+# from the verbosity of managed clusters to the run's
 LEVELS = (2, 3, 4)
 
 

@@ -2,6 +2,8 @@
 
 from __future__ import annotations
 
+import os
+import shlex
 from argparse import Namespace
 from collections.abc import Iterable, Iterator
 from typing import Any
@@ -14,6 +16,18 @@ from replay_tools.plugin import files, of_cluster, words
 
 # kubectl's directives: the shell offers no files, or its files
 NO_FILES, FILES = 4, 0
+
+
+def words_of_line(line: str) -> list[str]:
+    """The arguments on a line of bash up to the cursor, without their quotes; the last one may be empty, or its quote
+    open. bash itself splits a line at each colon, and keeps the quotes."""
+    for end in ("", "'", '"'):
+        try:
+            found = shlex.split(f"{line}.{end}")
+        except ValueError:
+            continue
+        return [os.path.expanduser(word) for word in [*found[:-1], found[-1][:-1]]][1:]
+    return []
 
 
 def answer(given: list[str], is_of_kubectl: bool) -> str:
@@ -41,6 +55,11 @@ def candidates(given: list[str], is_of_kubectl: bool) -> tuple[list[str], int]:
         return [], NO_FILES
     if waiting is not None:
         return values_of(waiting, found, last)
+    name, equals, value = last.partition("=")
+    if equals and name.startswith("--"):
+        # the shell puts the option in front of its value again
+        own_value = next((option for option in own if option.value and name in option.names), None)
+        return ([], NO_FILES) if own_value is None else values_of(own_value, found, value)
     if last.startswith("-"):
         return beginning(names_of(command, own, is_of_kubectl), last), NO_FILES
     return arguments_of(command, found, last)
@@ -54,7 +73,7 @@ def waiting_option(own: Iterable[Option], given: list[str]) -> Option | None:
 
 
 def with_all(found: Namespace, is_of_kubectl: bool) -> Namespace:
-    """The same for a command that has no context: pods are those of all namespaces where none is named."""
+    """The same for a command that has no context: pods are taken of all namespaces if none is named."""
     everywhere = getattr(found, "is_everywhere", False) or not is_of_kubectl and getattr(found, "namespace", 0) is None
     every: dict[str, Any] = {"files": [], "trace": None, "traces": [], "namespace": None, "recorders": None,
                              "kubectl": []}
@@ -67,7 +86,9 @@ def values_of(option: Option, found: Namespace, last: str) -> tuple[list[str], i
     if option.names == options.NAMESPACE.names and named:
         return beginning([key.partition("/")[0] for key in named], last), NO_FILES
     if option.choices:
-        return beginning(option.choices, last), NO_FILES
+        before = last[:last.rfind(",") + 1] if option.is_list else ""
+        left = [each for each in option.choices if each not in before.split(",")]
+        return beginning([before + each for each in left], last), NO_FILES
     names = [] if found.files else of_cluster.values(option.names[-1], found)
     if names:
         return beginning(names, last), NO_FILES

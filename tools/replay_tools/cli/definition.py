@@ -221,7 +221,7 @@ RUN = Command(
     lines=(
         options.FILE_OF_TRACE,
         Option(("--fail-on",), "KINDS", f"status 4 if it happened: {', '.join(KINDS)}", kind=values.some_of(KINDS),
-               choices=KINDS),
+               choices=KINDS, is_list=True),
         Option(("--workers",), "N", "how many workers take the steps of the replay"),
         Option(("--extended",), says="read the trace in the extended format, whatever it is")),
     exits={Status.DONE: "done", Status.FAILED: "the program failed", Status.BAD_INPUT: "bad input",

@@ -35,6 +35,8 @@ class Option:
     """makes the value of its text; raises ArgumentTypeError"""
     choices: tuple[str, ...] = ()
     """what completion offers for the value"""
+    is_list: bool = False
+    """the value is some of the choices, with a comma between them"""
     may_repeat: bool = False
     is_of_file: bool = False
     is_hidden: bool = False

@@ -1,4 +1,4 @@
-"""What lines of a journal say of one pod."""
+"""What the lines of a journal show of one pod."""
 
 from __future__ import annotations
 
@@ -21,9 +21,9 @@ if TYPE_CHECKING:
 GOING_SECONDS = 30
 # what came and went between two looks of the kubelet's
 BETWEEN_LOOKS = 0.9
-# a line that a pod is evicted stands at most so long behind that its last container was found to have exited
+# the line that a pod is evicted comes at most so long after the exit of its last container was found
 STOPPED_SECONDS = 2.0
-# by how much a look of the kubelet's may be late
+# by how much a poll of the kubelet's may be late
 LOOK_SECONDS = 1.0
 ORDER = {"start": 0, "result": 1, "kill": 2, "exit": 3, "wait": 4}
 
@@ -43,7 +43,7 @@ IN_ORDER = operator.attrgetter("at", "order", "number", "what")
 
 
 class Account:
-    """One pod, as lines tell of it."""
+    """One pod, as lines show it."""
 
     def __init__(self, number: int, key: str, uid: Optional[str], at: float) -> None:
         self.number = number
@@ -54,7 +54,7 @@ class Account:
         self.follows_at = 0.0
         self.pod: Optional[Pod] = None
         self.is_template = False
-        # whether a line says that it comes, and whether it did not run before that
+        # whether a line shows that it comes, and whether it did not run before that
         self.is_listed = self.was_added = False
         # whether it is of a file on the node, and the uids of its copies in the API server
         self.is_static = False
@@ -64,7 +64,7 @@ class Account:
         self.instances = Instances()
         # what waits to be placed
         self.pending: list[Item] = []
-        # when it was told to go, is gone for the kubelet, was cleaned up behind its eviction, or came anew
+        # when it was ordered to go, is gone for the kubelet, was cleaned up after its eviction, or came again
         self.deleted_at: Optional[float] = None
         self.removed_at: Optional[float] = None
         self.cleaned_at: Optional[float] = None
@@ -74,18 +74,18 @@ class Account:
         # the moment and the message of the Event of its eviction
         self.evicting: Optional[tuple[float, str]] = None
         self.decision: Optional[Decision] = None
-        # when a line said that it is evicted, whether one told the moment of that decision, and whether it is placed
+        # when a line reported its eviction, whether one has the moment of that decision, and whether it is placed
         self.told_at = 0.0
         self.is_moment_told = False
         self.is_decided = False
 
-    # --- what lines say ---
+    # --- what lines report ---
 
     def add(self, at: float, what: str, value: Any) -> None:
         self.pending.append(Item(at, ORDER[what], len(self.pending), what, value))
 
     def turn(self, fact: facts.Turned, is_met: bool) -> None:
-        """A start or an exit, which may be told more than once: the first counts, and the runtime's is exact."""
+        """A start or an exit, which may be reported more than once: the first counts, and the runtime's is exact."""
         instance = self.instances.of(fact.id)
         instance.is_looked = instance.is_looked or not fact.is_exact
         if fact.what == "started":
@@ -120,7 +120,7 @@ class Account:
     # --- what follows from it ---
 
     def may_have_run(self) -> bool:
-        """Whether a container of it may have run before its first line: no line says that it came."""
+        """Whether a container of it may have run before its first line: no line reports that it came."""
         met = sum(each.is_met for each in self.instances.by_id.values())
         return not self.was_added and met < (1 if self.pod is None else len(self.pod.containers()))
 
@@ -129,33 +129,33 @@ class Account:
         return self.uid if self.uid is not None else f"?{self.number}"
 
     def is_copied_as(self, uid: str) -> bool:
-        """Whether a uid is that of a copy of it in the API server, as it is a static pod."""
+        """Whether a copy of it in the API server, as it is a static pod, has this uid."""
         return uid in self.copies
 
     @property
     def has_left(self) -> bool:
-        """Whether something of it has ended behind a line that says that it goes."""
+        """Whether something of it has ended after a line that reports that it goes."""
         since = self.deleted_at if self.removed_at is None else self.removed_at
         return since is not None and any(each.gone is not None and each.gone >= since
                                          for each in self.instances.by_id.values())
 
     def come_back(self) -> None:
-        """A line says that it comes, under the same uid: it did not go."""
+        """A line reports that it comes, under the same uid: it did not go."""
         self.deleted_at = self.removed_at = None
 
     def leaves_at(self) -> Optional[float]:
-        """When it is no more: once it was told to go and all its instances have exited, else when the kubelet has
-        removed it, has cleaned up behind its eviction, or has another pod of its name."""
-        instances = [each for chain in self.instances.chains for each in chain.instances]
-        ends = [each.end for each in instances]
-        ended = None
-        if self.deleted_at is not None and instances and all(end is not None for end in ends):
-            ended = max([self.deleted_at, *(end for end in ends if end is not None)])
-        known = [at for at in (ended, self.removed_at, self.cleaned_at, self.replaced_at) if at is not None]
+        """When it is no more: once it was ordered to go and all its instances have exited, else when the kubelet has
+        removed it, has cleaned up after its eviction, or has another pod of its name."""
+        known = [at for at in (self.removed_at, self.cleaned_at, self.replaced_at) if at is not None]
+        if self.deleted_at is None and not known:
+            return None
+        ends = [each.end for chain in self.instances.chains for each in chain.instances]
+        if self.deleted_at is not None and ends and None not in ends:
+            known.append(max([self.deleted_at, *(end for end in ends if end is not None)]))
         if not known:
             return None
         at = min(known)
-        # what is deleted by force exits behind that
+        # what is deleted by force exits after that
         return max([at, *(end for end in ends if end is not None and at < end <= at + GOING_SECONDS)])
 
     # --- its eviction ---
@@ -169,9 +169,9 @@ class Account:
         return self.evicting[1] if self.evicting is not None else ""
 
     def evict(self, at: float, ranked_at: Optional[float], message: str) -> None:
-        """A line says that the kubelet has evicted it. It decided that as it ranked the pods; of a pod that no ranking
-        has, as one that has reached a limit of its own, as it made the Event, or gave the first order to stop what ran
-        by then."""
+        """A line reports that the kubelet has evicted it. The kubelet decided that as it ranked the pods. No ranking
+        has a pod that has reached a limit of its own: the moment is then the Event's, or the first order to stop what
+        ran by then."""
         moments = [ranked_at] if ranked_at is not None else [
             moment for moment in (self.evicting and self.evicting[0], self.stopped_since(at)) if moment is not None]
         self.told_at, self.is_moment_told = at, bool(moments)
@@ -179,7 +179,7 @@ class Account:
 
     def end(self, at: float, reason: str, message: str, is_late: bool, kind: str = ENDED) -> None:
         """The kubelet has ended it for a reason of its own, or has not admitted it again as it was restarted. A line
-        that may come late is behind the first order to stop what ran, or behind the first exit that this led to."""
+        that may come late follows the first order to stop what ran, or the first exit that this led to."""
         ordered = self.stopped_since(at) if is_late else at
         self.told_at, self.is_moment_told = at, ordered is not None
         self.decision = Decision(kind, at if ordered is None else min(at, ordered), reason, message)
@@ -218,8 +218,8 @@ class Account:
         return known if leaves_at is None else min(known, leaves_at)
 
     def moment_of(self, decision: Decision) -> float:
-        """When the kubelet decided; where no line tells that, with the first of the last exits, if it is of the second
-        before the line that it is evicted."""
+        """When the kubelet decided. If no line has that, it is the first of the last exits, if that is of the second
+        before the line about the eviction."""
         moment = decision.moment or 0.0
         if self.is_moment_told:
             return moment
@@ -230,9 +230,9 @@ class Account:
         return min([moment, *(end for end in ends if end >= moment - (GOING_SECONDS if is_ended else 1))])
 
     def failed_in(self, second: int, decision: Decision) -> int:
-        """The second in which it has failed, as a kubelet says where it begins to stop the containers: that of its
-        eviction. Where one started behind that, since its sync was on its way, it is that of this start, and where one
-        had exited by itself, which the next look found, of this exit."""
+        """The second in which it has failed, as a kubelet reports when it begins to stop the containers: the second of
+        its eviction. If a container started after that, since its sync was on its way, it is the second of this start.
+        If one had exited by itself, and the next poll found that, it is the second of this exit."""
         at, instances = decision.moment or 0.0, [each for chain in self.instances.chains for each in chain.instances]
         starts = [each.started_in for each in instances if (each.begin or 0.0) <= self.told_at + LOOK_SECONDS]
         exits = [each.ended_in for each in instances

@@ -1,5 +1,5 @@
-"""The instances of a pod's containers: what lines say of one, those of one container, and the lines that name a
-container without an instance."""
+"""The instances of a pod's containers: what lines show of one instance, the instances of one container, and the lines
+that name a container without an instance."""
 
 from __future__ import annotations
 
@@ -11,26 +11,26 @@ from typing import Optional, TYPE_CHECKING
 if TYPE_CHECKING:
     from . import facts
 
-# starts that the kubelet told within so many seconds came from one look
+# starts that the kubelet reported within so many seconds came from one poll
 LOOK_SECONDS = 0.4
 # how long a container waits for its next start, by how often it exited
 BACK_OFFS = (0.0, 10.0, 20.0, 40.0, 80.0, 160.0, 300.0)
-# a container of which no line says the name
+# a container of which no line has the name
 UNNAMED = "unnamed"
-# a start comes so soon behind the exit that no line has
+# a start comes so soon after the exit that no line has
 AFTER = 0.0001
-# the look that finds what could not be started comes at most so long behind the line that says so
+# the poll that finds what could not be started comes at most so long after the line that reports it
 FAILED_SECONDS = 2.0
 # a pod has at most so many containers in a trace, and so many names are kept of one without a manifest
 MOST_CHAINS, MOST_NAMES = 16, 64
-# so many of the lines behind a moment are looked through for one that says that a container waits
+# so many of the lines after a moment are searched for one that shows that a container waits
 MOST_NEXT = 100
 
 
 @dataclass(eq=False)
 class Instance:
     """One instance of a container, or a sandbox: when the kubelet's look found it started and exited, what is known
-    exactly, and how it ended. `name` is that of its container, once it is known or found."""
+    exactly, and how it ended. `name` is its container's, once it is known or found."""
     id: str
     seen: Optional[float] = None
     gone: Optional[float] = None
@@ -72,7 +72,7 @@ class Instance:
 
     @property
     def is_killed(self) -> bool:
-        """Whether the kubelet ordered to stop it before it exited; it orders that of what has exited too, as of a pod
+        """Whether the kubelet ordered to stop it before it exited. It also orders to stop what has exited, as in a pod
         that has ended."""
         if self.killing is None:
             return False
@@ -85,7 +85,7 @@ class Instance:
         return self.is_unseen and self.started is None and self.gone is not None and self.written is None
 
     def know(self, known: facts.Known) -> None:
-        """Takes what a line says of it; what was known stays."""
+        """Takes what a line shows of it; what was known stays."""
         self.name = self.name if known.container is None or (self.name and not self.is_found) else known.container
         self.is_found = self.is_found and known.container is None
         self.attempt = known.attempt if self.attempt is None else self.attempt
@@ -98,7 +98,7 @@ class Instance:
 
 @dataclass(eq=False)
 class Chain:
-    """The instances of one container, one behind the other, whose name may not be known yet."""
+    """The instances of one container, one after the other, whose name may not be known yet."""
     instances: list[Instance]
     name: Optional[str] = None
 
@@ -126,9 +126,9 @@ class Chain:
 
     def is_open(self) -> bool:
         """Whether an instance has no exit though another one follows it, or its start is guessed."""
-        newest = self.newest
-        return any((each.is_unseen and each.is_guess) or (each.end is None and each is not newest)
-                   for each in self.instances)
+        if any(each.end is None for each in self.instances[:-1]):
+            return True
+        return any(each.is_unseen and each.is_guess for each in self.instances)
 
     def unplaced(self) -> Iterator[float]:
         """The moments of the starts and exits that are not placed yet, or a little before them."""
@@ -150,12 +150,12 @@ class Hints:
     waits: list[tuple[float, str]] = field(default_factory=list)
     created: list[tuple[float, str]] = field(default_factory=list)
     probed: list[tuple[float, str]] = field(default_factory=list)
-    # those that say that a container could not be started, and that the pod's object has changed
+    # lines that a container could not be started, and that the pod's object has changed
     failed: list[tuple[float, str]] = field(default_factory=list)
     updated: list[float] = field(default_factory=list)
 
     def has_wait(self, name: str, since: float) -> bool:
-        """Whether a line says from a moment on that a container waits."""
+        """Whether a line shows from a moment on that a container waits."""
         place = bisect.bisect_left(self.waits, (since, ""))
         return any(each == name for _, each in self.waits[place:place + MOST_NEXT])
 

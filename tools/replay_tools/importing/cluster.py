@@ -12,6 +12,7 @@ from dataclasses import dataclass, field
 from urllib.parse import quote
 
 from replay_tools import entry
+from replay_tools.cli.statuses import Status
 from replay_tools.cluster import kubectl
 
 MOST_OF_LOG, MOST_OF_LIST = 4 << 30, 1 << 30
@@ -82,7 +83,7 @@ class Cluster:
         return [kubelets] if of_runtime is None else [kubelets, of_runtime]
 
     def files(self, why: str) -> list[str]:
-        """The file of the system's log; without one the fault is that of the query."""
+        """The file of the system's log; without one the fault is the query's."""
         for name in FILES:
             try:
                 found = self.log(name, f"the file {name} of {self.node}", name)
@@ -91,7 +92,7 @@ class Cluster:
             if found is not None:
                 entry.say(f"{self.node} answers no query of its log: taken is its file {name}, as a whole")
                 return [found]
-        raise NoLog(why, 1, instead(self.node, self.since))
+        raise NoLog(why, Status.FAILED, instead(self.node, self.since))
 
     def log(self, name: str, what: str, path: str) -> str | None:
         """A log in a file; None where the node has none, or answers with a list of files."""

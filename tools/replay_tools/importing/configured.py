@@ -1,4 +1,4 @@
-"""What a kubelet says of its eviction thresholds: as it starts, by its flags, and in rounds in which one is met. The
+"""What a kubelet reports of its eviction thresholds: as it starts, by its flags, and in rounds in which one is met. The
 form from 1.21 on is written from knowledge."""
 
 from __future__ import annotations

@@ -122,7 +122,7 @@ KEYED: dict[str, Callable[[Message], Iterator[facts.Fact]]] = {
 
 
 def of_conditions(at: float, pod: facts.Reference, status: Any) -> Iterator[facts.Fact]:
-    """What a status in JSON says of the pod itself: that it was ended, and whether it is ready."""
+    """What a status in JSON shows of the pod itself: that it was ended, and whether it is ready."""
     if not isinstance(status, dict):
         return
     reason = status.get("reason")

@@ -1,4 +1,4 @@
-"""Events of a cluster, of `kubectl get events -o json`: what the kubelet said of pods."""
+"""Events of a cluster, of `kubectl get events -o json`: what the kubelet reported of pods."""
 
 from __future__ import annotations
 

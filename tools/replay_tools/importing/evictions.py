@@ -43,7 +43,7 @@ class Ranking:
         return {"reason": RANKED_WORD, "message": f"{short_of}{', '.join(names)}{more}"}
 
     def message(self) -> str:
-        """The first sentence of the kubelet's message, of the resource that it says to be short of."""
+        """The first sentence of the kubelet's message, of the resource that the node is short of."""
         return f"The node was low on resource: {self.resource}." if self.resource else ""
 
 
@@ -81,13 +81,13 @@ class Evictions:
             self.ranking = None
 
     def of_status(self, life: Life) -> str:
-        """What the status of a pod that was evicted says, of a list of pods."""
+        """The message in the status of a pod that was evicted, of a list of pods."""
         reason, message = self.manifests.ended.get(life.uid or "", ("", ""))
         return message_of(message) or "" if reason == EVICTION else ""
 
     @staticmethod
     def take_event(life: Life, fact: facts.Happened) -> None:
-        """The kubelet's Event of an eviction, which stands where that begins."""
+        """The kubelet's Event of an eviction, which comes as the eviction begins."""
         message = message_of(fact.message)
         if message is not None:
             life.take_event_of_eviction(fact.at, message)

@@ -15,7 +15,7 @@ from .references import key_of
 from .statuses import of_status
 
 EVENTS, AUDIT = "events", "audit"
-# what a trace is made of, beside "imported", where that is no journal
+# the member next to "imported": what a trace is made of if there is no journal
 MEMBER = "importedFrom"
 LACKS = {
     EVENTS: "of Events alone: starts are known, of several alike the first and the last one; exits without their "
@@ -27,7 +27,7 @@ LACKS = {
 PROBED = re.compile(r"(Readiness|Liveness|Startup) probe failed: ?(.*)", re.S)
 ASSIGNED = re.compile(r"Successfully assigned \S+ to (\S+)")
 USER = "system:node:"
-# an Event's moment is in whole seconds, as that of a status is
+# an Event's moment is in whole seconds, as a status's is
 SAME_SECOND = 2.0
 
 
@@ -43,15 +43,15 @@ def read_all(of_events: list[str], of_audit: list[str], known: manifests.Manifes
 
 
 class Events:
-    """What Events say of instances, which have no ids there."""
+    """What Events show of instances, which have no ids there."""
 
     def __init__(self, known: manifests.Manifests, node: Optional[str]) -> None:
         self.node = node
-        # instances of which a status says when they started, by their containers
+        # instances of which a status has the start, by their containers
         self.started: dict[tuple[Optional[str], Optional[str]], list[facts.Known]] = {}
         for each in known.known:
             self.started.setdefault((each.pod.key, each.container), []).append(each)
-        # the starts of each container, and when it was said not to run
+        # the starts of each container, and when it was reported not to run
         self.starts: dict[tuple[facts.Reference, str], dict[float, str]] = {}
         self.downs: dict[tuple[facts.Reference, str], list[float]] = {}
 
@@ -72,7 +72,7 @@ class Events:
                     yield from self.of_event(value, happened)
 
     def is_ours(self, value: dict[str, Any], happened: facts.Happened) -> bool:
-        """Whether an Event is of the node that was given, as far as it says one."""
+        """Whether an Event is of the node that was given, as far as it names one."""
         source = value.get("source")
         host = source.get("host") if isinstance(source, dict) else None
         assigned = ASSIGNED.match(happened.message) if happened.reason == "Scheduled" else None
@@ -110,8 +110,8 @@ class Events:
         yield facts.Turned(at, pod, identity, facts.STARTED, True)
 
     def exits(self) -> Iterator[facts.Fact]:
-        """The exits that follow from starts and from what was said of a container that did not run: each is before the
-        next start, and at the latest when the container waited."""
+        """The exits that follow from starts and from reports of a container that did not run: each is before the next
+        start, and at the latest when the container waited."""
         for (pod, container), starts in self.starts.items():
             moments = sorted(starts)
             for at, after in zip(moments, [*moments[1:], float("inf")]):
@@ -124,7 +124,7 @@ class Events:
 # --- an audit log ---
 
 def of_audited(value: Any, node: Optional[str]) -> Iterator[facts.Fact]:
-    """What an event of an audit log says of a pod: that it was bound to the node, deleted, or has a status."""
+    """What an event of an audit log shows of a pod: that it was bound to the node, deleted, or has a status."""
     if not isinstance(value, dict) or value.get("kind") != "Event" or "auditID" not in value:
         for each in value if isinstance(value, list) else value.get("items") or () if isinstance(value, dict) else ():
             yield from of_audited(each, node) if isinstance(each, dict) else ()
@@ -150,14 +150,14 @@ def of_audited(value: Any, node: Optional[str]) -> Iterator[facts.Fact]:
 
 
 def is_failed(value: dict[str, Any]) -> bool:
-    """Whether the API server refused a request."""
+    """Whether the API server rejected a request."""
     status = value.get("responseStatus")
     code = status.get("code") if isinstance(status, dict) else None
     return isinstance(code, int) and code >= 400
 
 
 def pod_of(value: dict[str, Any], named: dict[str, Any]) -> Optional[facts.Reference]:
-    """The pod of an event, whose uid stands where its object is."""
+    """The pod of an event, whose uid is next to its object."""
     key = key_of(named.get("namespace"), named.get("name"))
     if key is None:
         return None
@@ -170,7 +170,7 @@ def pod_of(value: dict[str, Any], named: dict[str, Any]) -> Optional[facts.Refer
 
 
 def of_sent(at: float, pod: facts.Reference, value: dict[str, Any]) -> Iterator[facts.Fact]:
-    """What a status that the kubelet sent says: the whole one, as the server has it then, or what was sent of it."""
+    """Reads a status that the kubelet sent: the whole one, as the server has it then, or the part that was sent."""
     for part in ("responseObject", "requestObject"):
         body = value.get(part)
         status = body.get("status") if isinstance(body, dict) else None

@@ -1,4 +1,4 @@
-"""What a line says, whatever its form: one kind of fact for each kind of message. Moments are seconds since 1970."""
+"""What a line reports, whatever its form: one kind of fact for each kind of message. Moments are seconds since 1970."""
 
 from __future__ import annotations
 
@@ -23,7 +23,7 @@ class Fact:
 
 @dataclass(eq=False, repr=False)
 class Process(Fact):
-    """The kubelet's process, where it is another one than before; and the node's name, where a line says it."""
+    """The kubelet's process, where it is another one than before; and the node's name, where a line has it."""
     process: int
     node: str = ""
 
@@ -46,8 +46,8 @@ class Missing(Fact):
 
 @dataclass(eq=False, repr=False)
 class TurnedBack(Fact):
-    """The node's clock went back by so many seconds from a moment. Moments behind that are so much later than it
-    says."""
+    """The node's clock went back by so many seconds from a moment. Moments after that are so much later than it
+    shows."""
     seconds: int
     since: float = 0.0
 
@@ -78,8 +78,8 @@ class Removed(Fact):
 
 @dataclass(eq=False, repr=False)
 class Turned(Fact):
-    """The kubelet's look found, or its runtime said, that a container or a sandbox has started or has died. A moment of
-    the runtime's is exact."""
+    """The kubelet's poll found, or its runtime reported, that a container or a sandbox has started or has died. The
+    runtime's moment is exact."""
     pod: Reference
     id: str
     what: str
@@ -88,7 +88,7 @@ class Turned(Fact):
 
 @dataclass(eq=False, repr=False)
 class Known(Fact):
-    """What a line says of one instance of a container by its id: each part of it may be unknown."""
+    """What a line shows of one instance of a container by its id: each part of it may be unknown."""
     id: str
     pod: Reference = Reference()
     container: Optional[str] = None
@@ -102,7 +102,7 @@ class Known(Fact):
 
 @dataclass(eq=False, repr=False)
 class Created(Fact):
-    """A container of a pod is started now, by its name; its id is in another line. What the cluster says may be of a
+    """A container of a pod is started now, by its name; its id is in another line. What the cluster has may be of a
     pod of another node."""
     pod: Reference
     container: str
@@ -129,7 +129,7 @@ class Turnover(Fact):
 
 @dataclass(eq=False, repr=False)
 class Killing(Fact):
-    """The kubelet ends an instance: its grace, and why, as far as a line says that."""
+    """The kubelet ends an instance: its grace, and why, as far as a line has that."""
     id: str
     pod: Reference = Reference()
     container: Optional[str] = None
@@ -148,7 +148,7 @@ class Waits(Fact):
 
 @dataclass(eq=False, repr=False)
 class Observed(Fact):
-    """A round of the eviction manager, and what it found of a signal; None where it says that there was a round."""
+    """A round of the eviction manager, and what it found of a signal; None if a line only shows that there was one."""
     signal: Optional[str] = None
     available: Optional[int] = None
     capacity: Optional[int] = None
@@ -205,8 +205,8 @@ class Ranked(Fact):
 
 @dataclass(eq=False, repr=False)
 class Evicted(Fact):
-    """The kubelet has evicted a pod, which it says once it has stopped the pod's containers, or could not; or it has
-    cleaned up behind that."""
+    """The kubelet has evicted a pod, which it reports once it has stopped the pod's containers, or could not; or it has
+    cleaned up after that."""
     pod: Reference
     is_cleaned_up: bool = False
 
@@ -221,7 +221,7 @@ class Refused(Fact):
 @dataclass(eq=False, repr=False)
 class Ended(Fact):
     """The kubelet ended a pod for a reason of its own, or did not admit it: no eviction under pressure of the node.
-    What was ended may have exited before the line that says so."""
+    What was ended may have exited before the line that reports it."""
     pod: Reference
     reason: str
     message: str = ""
@@ -239,8 +239,8 @@ class Readied(Fact):
 
 @dataclass(eq=False, repr=False)
 class Happened(Fact):
-    """An Event that the kubelet made of a pod, or of one of its containers; or a line of the kubelet's that says as
-    much, of a pod of its own."""
+    """An Event that the kubelet made of a pod, or of one of its containers; or a line of the kubelet's with the
+    same, about a pod of its own."""
     pod: Reference
     reason: str
     message: str

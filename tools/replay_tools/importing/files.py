@@ -14,6 +14,7 @@ from collections.abc import Callable, Iterator
 from typing import Any, BinaryIO, Optional
 
 from replay_tools import amounts, entry, packed
+from replay_tools.cli.statuses import Status
 
 from . import journals, records
 from .journals import PLAIN, SKIPPED, Counts, Line, Skipping, blocks_of, lines_of
@@ -37,7 +38,7 @@ FORMS = {"export": journals.EXPORTED, "verbose": journals.VERBOSE, "short-iso": 
          "container": re.compile(rb"(?:%b|%b)" % (journals.CONTAINER.pattern, journals.STAMPED.pattern)),
          "syslog": journals.SYSLOG, "short-full": journals.SHORT_FULL,
          "short-unix": re.compile(rb"(?:%b|%b)" % (journals.SHORT_UNIX.pattern, journals.SINCE_START.pattern))}
-# those of records, which a store of logs exports in whatever order
+# the forms of records, which a store of logs exports in whatever order
 UNORDERED = "records", "document", "table"
 NOT_SKIPPED = Skipping(lambda _: False, lambda _, __: False, lambda blocks, _: lines_of(blocks))
 
@@ -111,7 +112,7 @@ def form_of_lines(lines: list[bytes]) -> Optional[str]:
 
 
 def form_of_records(lines: list[bytes]) -> Optional[str]:
-    """That of records of JSON, a line each or in documents, or of a table."""
+    """The form of records of JSON, a line each or in documents, or of a table."""
     first = lines[0].lstrip(records.SEPARATOR).removeprefix(records.OF_STREAM)[:1] if lines else b""
     if first not in (b"{", b"[") or lines[0].startswith(OF_POD):
         return "table" if records.delimiter_of(b"\n".join(lines)) is not None else None
@@ -249,7 +250,7 @@ class Journal:
             names = " and ".join(sorted(each.decode("ascii", "replace") for each in self.prefixes))
             what = "pods" if node.startswith("[") else "nodes"
             more = "give the lines of one" if what == "pods" else "give --node NAME"
-            raise entry.Fault(f"{self.name} has lines of several {what}, {names}: {more}", 1)
+            raise entry.Fault(f"{self.name} has lines of several {what}, {names}: {more}", Status.FAILED)
         return True
 
 

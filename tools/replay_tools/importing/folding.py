@@ -8,6 +8,7 @@ from collections.abc import Callable, Iterable
 from typing import Any, Optional, TYPE_CHECKING
 
 from replay_tools import entry
+from replay_tools.cli.statuses import Status
 from replay_tools.record.folder import Folder, Refused, made, may_be_made
 from replay_tools.record.formats import MOST_TICKS, shown
 from replay_tools.record.part import Ahead
@@ -22,7 +23,7 @@ if TYPE_CHECKING:
 
 # what is imported is not taken away for its age or its size
 KEPT_SECONDS, KEPT_BYTES = 1 << 36, 1 << 60
-# a tick behind a gap has this member
+# a tick after a gap has this member
 GAP = '"gap":{'
 MOMENTS = ("at", "since", "until", STARTED_AT)
 
@@ -83,7 +84,7 @@ class Folded(Writer):
         # by how much moments are earlier than they are given, since the clock went back
         self.back = 0
         self.node: Optional[NodeLine] = None
-        # what the node line says of thresholds
+        # the thresholds of the node line
         self.thresholds: dict[str, Any] = {}
         # when the kubelet was restarted, where the trace that begins with that has no tick of the journal yet
         self.started: Optional[int] = None
@@ -98,17 +99,18 @@ class Folded(Writer):
             folder = Folder(self.path, node["name"], KEPT_SECONDS, KEPT_BYTES, self.say)
             folder.ahead = NoneAhead(self.path, node["name"])
         except Refused as refused:
-            raise entry.Fault(str(refused), 1) from None
+            raise entry.Fault(str(refused), Status.FAILED) from None
         if folder.traces():
-            raise entry.Fault(f"--into: '{self.path}' has traces of {node['name']} already: take an empty folder", 1)
+            raise entry.Fault(f"--into: '{self.path}' has traces of {node['name']} already: take an empty folder",
+                              Status.FAILED)
         self.traces = ImportedTraces(folder, self.each, MOST_TICKS, self.say, self.record_of)
         self.traces.write([shown(node)])
         self.thresholds = thresholds_in(node)
         self.is_begun = True
 
     def know(self, second: int, is_behind_gap: bool) -> None:
-        """What the node line says at a second. Where the thresholds are others than those of the trace it ends, and the
-        next one begins with them; behind a gap one begins in any case."""
+        """Takes the node line as it is at a second. If it has other thresholds than the trace, the trace ends, and the
+        next one begins with them; after a gap one begins in any case."""
         assert self.traces is not None and self.node is not None
         node = self.node(second)
         if thresholds_in(node) != self.thresholds:
@@ -131,7 +133,7 @@ class Folded(Writer):
         if lines:
             self.traces.write_due([(list(map(self.with_start, lines)), has_tick)])
         if self.traces.is_lost:
-            raise Ended(1, f"--into: '{self.path}' takes no more")
+            raise Ended(Status.FAILED, f"--into: '{self.path}' takes no more")
 
     def with_start(self, line: str) -> str:
         """The first tick of the journal in a trace that begins as the kubelet was restarted has that moment."""
@@ -141,11 +143,11 @@ class Folded(Writer):
         return f"{line[:-1]},{shown({STARTED_AT: started})[1:]}"
 
     def by_the_clock(self, lines: list[str]) -> list[str]:
-        """Lines with the moments that the clock said."""
+        """Lines with the moments that the clock had."""
         return [shown(set_back(json.loads(line), self.back)) for line in lines] if self.back else lines
 
     def begin_anew(self, lines: list[str]) -> list[str]:
-        """Ends the trace before a gap, and begins one behind it that follows none; the lines that are left."""
+        """Ends the trace before a gap, and begins one after it that follows none; the lines that are left."""
         assert self.traces is not None
         records = [json.loads(line) for line in lines]
         place = next(place for place, record in enumerate(records) if record["kind"] == "tick")

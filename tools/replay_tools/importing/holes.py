@@ -1,5 +1,5 @@
-"""Holes in a journal, by the numbers that journald gives to lines. It numbers the lines of all programs, so those of
-some alone have holes all along: a hole tells of lines that are lost only where there was none before for some time, and
+"""Holes in a journal, by the numbers that journald gives to lines. It numbers the lines of all programs, so some
+of them alone have holes all along: a hole means lost lines only where there was none before for some time, and
 lines of other programs too. And where a clock went forward, by the other one that journald has for each line, which
 counts the time since the node's start."""
 
@@ -12,11 +12,11 @@ from typing import Any, Optional
 
 from replay_tools import outside
 
-# so long a journal had no hole where one tells of lines that are lost
+# so long a journal had no hole where one means lost lines
 WHOLE_SECONDS = 60
-# a clock that goes forward by less has not told anything
+# a clock that goes forward by less shows nothing
 FORWARD_SECONDS = 60
-# what a line is behind
+# what a line follows
 HOLE, FORWARD = "hole", "forward"
 # programs whose lines journalctl prints where it is asked for the kubelet and its runtime
 OURS = ("kubelet", "systemd", "containerd", "crio", "cri-o", "dockerd")
@@ -47,14 +47,14 @@ class Run:
 
 class Numbers:
     """The numbers of a journal's lines so far, by their sequences: there is another one where journald began again. And
-    by how much the clock is ahead of that of the node's start, by the starts."""
+    by how much the clock is ahead of the time since the node's start, by the starts."""
 
     def __init__(self) -> None:
         self.runs: dict[Any, Run] = {}
         self.ahead: dict[Any, int] = {}
 
     def before_json(self, text: bytes) -> Optional[str]:
-        """Takes a record of JSON; what it is behind, if it does."""
+        """Takes a record of JSON; the hole that it follows, if it does."""
         found = JSON_CURSOR.search(text)
         if found is not None:
             return self.before(found, lambda: program_in(text))
@@ -64,7 +64,7 @@ class Numbers:
                                    lambda: program_in(text))
 
     def before_record(self, record: dict[str, Any]) -> Optional[str]:
-        """Takes a record; what it is behind, if it does."""
+        """Takes a record; the hole that it follows, if it does."""
         def program() -> str:
             return str(record.get("SYSLOG_IDENTIFIER") or "")
 

@@ -7,6 +7,7 @@ from collections.abc import Callable, Iterable, Iterator
 from typing import Optional
 
 from replay_tools import entry
+from replay_tools.cli.statuses import Status
 from replay_tools.record.decisions import EVICTION, REFUSED, Decision
 from replay_tools.record.events import Ready
 from replay_tools.record.formats import without_nones
@@ -22,17 +23,17 @@ from .silences import OF_KUBELET
 from .summary import stamp
 from .thresholds import Round, Thresholds
 
-# what is placed waits so long for what later lines say of it
+# what is placed waits so long for later lines about it
 HOLD_SECONDS = 600
 # so often, in seconds of the journal, what is settled is placed, and what is over forgotten
 SETTLE_SECONDS, FORGET_SECONDS = 60, 300
-# a process that says twice that it begins is one
+# a process that reports twice that it begins is one
 AGAIN_SECONDS = 60
 # the observations of one round of the eviction manager follow each other within so many seconds
 ROUND_SECONDS = 1.0
-# the same line stands in two journals within so many seconds
+# the same line is in two journals within so many seconds
 FILLED_SECONDS = 1.0
-# the reasons of Events that are told; of failures of probes, kills and evictions there are lines
+# the reasons of Events that a trace has; of failures of probes, kills and evictions there are lines
 TOLD = ("BackOff", "Failed", "FailedCreatePodSandBox", "FailedMount", "FailedPostStartHook", "FailedPreStopHook",
         "NodeNotReady", "Preempting", "ProbeWarning", "SandboxChanged", "TaintManagerEviction")
 
@@ -85,7 +86,7 @@ class Importer(Pods):
             yield from self.settle(self.now, True)
 
     def ignore(self, fact: facts.Fact) -> None:
-        """What says nothing of a pod by itself."""
+        """A fact that shows nothing of a pod by itself."""
 
     def settle(self, horizon: float, is_end: bool = False) -> Iterator[tuple[list[str], bool]]:
         """Places what happened up to a moment, and gives the lines that nothing changes any more."""
@@ -109,8 +110,8 @@ class Importer(Pods):
             self.forget(horizon)
 
     def note_silence(self, fact: facts.Fact) -> None:
-        """A time before a fact in which the kubelet said nothing is a hole where its rounds say so, and no line that it
-        was started anew."""
+        """A time before a fact in which the kubelet wrote nothing is a hole if its rounds show that, and if no line
+        shows that it was started again."""
         silence = self.placing.silences.take(fact)
         if silence is None or not silence.is_hole:
             return
@@ -159,7 +160,7 @@ class Importer(Pods):
         self.placing.gap(self.before, fact.at)
 
     def pause(self) -> None:
-        """Lines are missing: what they would say of the rounds before is not known."""
+        """Lines are missing: what they would show of the rounds before is not known."""
         self.thresholds.pause()
         self.evictions.end_round()
 
@@ -170,8 +171,8 @@ class Importer(Pods):
         self.say(f"{stamp(fact.at - fact.seconds)}: the clock went back by {fact.seconds} s")
 
     def on_observed(self, fact: facts.Observed) -> None:
-        """A round says first that it begins, and then, by less than a second, what it finds: that stands in one tick,
-        of the moment of the first one. A round that finds nothing judges nothing."""
+        """A round reports first that it begins, and then, within less than a second, what it finds. One tick has all of
+        that, with the moment of the first observation. A round that finds nothing evaluates no threshold."""
         if fact.signal is None:
             self.thresholds.end_round()
             self.evictions.end_round()
@@ -230,7 +231,7 @@ class Importer(Pods):
         return pod if known is None else facts.Reference(known.key, pod.uid)
 
     def on_happened(self, fact: facts.Happened) -> None:
-        """An Event says more of what a line says."""
+        """An Event has more of what a line reports."""
         life = self.life_of(self.pod_of_line(fact.pod), fact.at) if fact.is_line else self.known_life(fact.pod)
         if life is None or (fact.is_line and self.happened.get((life.key, "", fact.reason)) == fact.message):
             return
@@ -242,7 +243,7 @@ class Importer(Pods):
         self.endings.take_event(life, fact)
 
     def say_event(self, key: str, fact: facts.Happened) -> None:
-        """What an Event says, where that is another message than the one before for its reason."""
+        """Places an Event whose message is not the one before for its reason."""
         place, message = (key, fact.container or "", fact.reason), message_kept(fact.reason, fact.message)
         if self.happened.get(place) != fact.message:
             is_left_out = message is None and bool(fact.message.strip())
@@ -253,9 +254,9 @@ class Importer(Pods):
 
 
 def refuse_strangers(importer: Importer) -> None:
-    """Refuses manifests of which none is of a pod of the journal."""
+    """Rejects manifests of which none is of a pod of the journal."""
     has_manifests = bool(importer.manifests.by_key or importer.manifests.owners)
     met = importer.placing.counts["met"]
     if has_manifests and met and not importer.placing.counts[WITH_MANIFEST]:
         raise entry.Fault(f"none of the {entry.counted(met, 'pod')} of the journal is among the manifests: they are of "
-                          "another cluster, or of another time", 1)
+                          "another cluster, or of another time", Status.FAILED)

@@ -1,6 +1,6 @@
-"""What the lines say of one pod, gathered until it is settled: its instances, and which container each is of. A look of
-the kubelet's says an id and no name, so where no line says it, it is found by exclusion: the container that does not
-run is the one that starts."""
+"""What the lines show of one pod, gathered until it is settled: its instances, and which container each is of. A poll
+of the kubelet's has an id and no name, so if no line has it, it is found by exclusion: the container that does not run
+is the one that starts."""
 
 from __future__ import annotations
 
@@ -23,16 +23,16 @@ class Instances:
         self.chains: list[Chain] = []
         self.hints = Hints()
         self.names: list[str] = []
-        # whether a line said something since their containers were found
+        # whether a line had something new since their containers were found
         self.is_news = False
 
     def of(self, identity: str) -> Instance:
-        """The instance of an id, of which a line says something."""
+        """The instance of an id that a line names."""
         self.is_news = True
         return self.by_id.setdefault(identity, Instance(identity))
 
     def note_name(self, name: str) -> None:
-        """A name of a container that a line says, of a pod without a manifest."""
+        """A container's name that a line has, of a pod without a manifest."""
         self.is_news = True
         if name not in self.names and len(self.names) < MOST_NAMES:
             self.names.append(name)
@@ -47,24 +47,24 @@ class Instances:
         self.hints.forget(before)
 
     def lost(self) -> list[tuple[Instance, Instance]]:
-        """The instances of which no line says that they exited, each with the next one of its container."""
+        """The instances whose exit no line has, each with the next one of its container."""
         return [(each, after) for chain in self.chains for each, after in zip(chain.instances, chain.instances[1:])
                 if each.end is None]
 
     def lose(self, horizon: float) -> None:
-        """An instance of which no line says that it exited has exited all the same where its container is said to wait,
-        or starts again: with the first line that says so."""
+        """An instance whose exit no line has has exited all the same if a line shows that its container waits or starts
+        again: with the first such line."""
         for chain in self.chains:
-            if chain.newest.end is None or any(each.end is None for each in chain.instances):
-                waits = [at for at, name in self.hints.waits if name == chain.name]
-                for place, each in enumerate(chain.instances):
-                    after = chain.instances[place + 1] if place + 1 < len(chain.instances) else None
-                    self.lose_one(each, after, waits, horizon)
+            lost = [(each, after) for each, after in zip(chain.instances, [*chain.instances[1:], None])
+                    if each.end is None]
+            waits = [at for at, name in self.hints.waits if name == chain.name] if lost else []
+            for each, after in lost:
+                self.lose_one(each, after, waits, horizon)
 
     @staticmethod
     def lose_one(each: Instance, after: Optional[Instance], waits: list[float], horizon: float) -> None:
         begin = each.begin
-        if each.end is not None or begin is None:
+        if begin is None:
             return
         until = float("inf") if after is None else after.begin or 0.0
         place = bisect.bisect_right(waits, max(begin, each.seen or begin))
@@ -73,7 +73,7 @@ class Instances:
             each.gone, each.is_lost = max(ends[0], begin), True
 
     def untangle(self) -> None:
-        """An instance whose start no look found ran behind those that started and exited before its exit."""
+        """An instance whose start no poll found ran after the instances that started and exited before its exit."""
         for chain in self.chains:
             guessed = [each for each in chain.instances if each.is_guess]
             if not guessed:
@@ -89,7 +89,7 @@ class Instances:
             chain.instances.sort(key=lambda each: (each.written is None, each.seen or 0))
 
     def see_starts_that_failed(self) -> None:
-        """What came and went between two looks never ran, if a line says that the container could not be started."""
+        """What came and went between two polls never ran, if a line shows that the container could not be started."""
         for chain in self.chains:
             for each in chain.instances:
                 if each.is_guess and each.gone is not None:
@@ -99,7 +99,7 @@ class Instances:
 
     def in_holes(self) -> Iterator[tuple[Instance, float, float]]:
         """The instances that the kubelet's looks found, and whose exits no look found, though one found the next: each
-        with the last moment at which a line said that it ran, and that of the next start."""
+        with the last moment at which a line showed that it ran, and the moment of the next start."""
         lost = [(each, after) for each, after in self.lost() if each.is_looked and after.is_looked]
         probed: dict[str, list[float]] = {}
         for at, name in self.hints.probed if lost else ():
@@ -111,7 +111,7 @@ class Instances:
             yield each, max([each.seen or 0.0, *of_name[max(place - 1, 0):place], *killed]), start
 
     def complete(self, added_at: float) -> None:
-        """Instances that no look found, and of which a status says when they started, ran all the same: from then on,
+        """Instances that no poll found, and whose start a status has, ran all the same: from then on,
         or from before the pod was met."""
         for each in self.by_id.values():
             if each.gone is None and each.finished is not None:
@@ -138,8 +138,8 @@ class Instances:
                     running.is_sandbox, running.name, running.is_found = True, None, False
 
     def sandbox_before(self, most: int, is_ending: bool) -> Instance:
-        """The sandbox of a pod that was there before the journal begins, of whose start no line tells: of what exits
-        and was not seen to start the last one, if nothing of the pod runs behind it, and it is one more than the pod
+        """The sandbox of a pod that was there before the journal begins, whose start no line has: of what exits
+        and was not seen to start the last one, if nothing of the pod runs after it, and it is one more than the pod
         has containers, or the pod ends. Until then none has a line."""
         unseen = sorted((each for each in self.by_id.values() if each.is_unseen), key=lambda each: each.gone or 0)
         last = unseen[-1] if unseen and (len(unseen) > most or is_ending) else None
@@ -164,7 +164,7 @@ class Instances:
     # --- of which container an instance is ---
 
     def resolve(self, pod: Optional[Pod], added_at: float, is_listed: bool, is_ending: bool) -> None:
-        """Finds the container of each instance that has not been written yet. A pod of which no line says that it comes
+        """Finds the container of each instance that has not been written yet. A pod whose arrival no line has
         was there before."""
         if not self.is_news:
             return

@@ -20,7 +20,7 @@ PIECE = 1 << 20
 # a line that is longer is cut, which is counted
 LONGEST_LINE = 1 << 18
 MOST_PARTS = 64
-# so many seconds and programs are kept, since most lines have those of the line before
+# so many seconds and programs are kept, since most lines have the same as the line before
 MOST_KEPT = 16
 # the form of a log as a process writes it
 PLAIN = "plain"
@@ -52,7 +52,7 @@ EXPORTED = re.compile(rb"__(?:CURSOR|REALTIME_TIMESTAMP|SEQNUM)=")
 @dataclass
 class Line:
     """One line of a journal: its moment in seconds since 1970 (None where only its message has one), what it shows, and
-    which process of which unit of which node said it, as far as that is known."""
+    which process of which unit of which node wrote it, as far as that is known."""
     moment: Optional[float]
     text: bytes
     unit: str = ""
@@ -62,12 +62,12 @@ class Line:
 
 @dataclass
 class Hole(Line):
-    """Stands for lines that a journal lacks, or for a clock that went forward, with the moment, the node and the
+    """In place of lines that a journal lacks, or of a clock that went forward, with the moment, the node and the
     process of the line after it."""
     why: str = HOLE
 
 
-# stands for messages that are not read
+# in place of messages that are not read
 SKIPPED = Line(None, b"")
 
 
@@ -145,7 +145,7 @@ def of_json(lines: Iterator[bytes], counts: Counts, skipping: Skipping) -> Itera
 
 
 def standing_behind(what: Optional[str], line: Line) -> Iterator[Line]:
-    """A line, with what it is behind before it, if it does."""
+    """A line, with the hole that it follows in front of it, if there is one."""
     if what is not None:
         yield Hole(line.moment, b"", line.unit, line.process, line.node, what)
     yield line
@@ -292,7 +292,7 @@ def of_short_full(lines: Iterator[Optional[bytes]], counts: Counts, shift: int) 
 
 
 def of_short_unix(lines: Iterator[Optional[bytes]], counts: Counts) -> Iterator[Line]:
-    """`journalctl -o short-unix`, and short-monotonic and short-delta, whose moments are those of the messages."""
+    """`journalctl -o short-unix`, and short-monotonic and short-delta, whose moments are the messages' own."""
     for text in lines:
         if text is None:
             yield SKIPPED
@@ -310,7 +310,7 @@ def of_short_unix(lines: Iterator[Optional[bytes]], counts: Counts) -> Iterator[
 
 
 def of_verbose(lines: Iterator[bytes], counts: Counts) -> Iterator[Line]:
-    """`journalctl -o verbose`: a line with the record's cursor, and its members behind blanks."""
+    """`journalctl -o verbose`: a line with the record's cursor, and its members after blanks."""
     numbers = Numbers()
     record: dict[str, Any] = {}
     for text in itertools.chain(lines, (None,)):

@@ -1,5 +1,5 @@
 """Messages of kubelets from 1.21 on, which are a few words and keys, as text or as JSON: each form with the fact that
-it says. The forms are written from knowledge of the kubelet's sources."""
+it reports. The forms are written from knowledge of the kubelet's sources."""
 
 from __future__ import annotations
 
@@ -162,7 +162,7 @@ def of_observed(message: Message) -> Iterator[facts.Fact]:
 
 
 def of_list(message: Message) -> Iterator[facts.Fact]:
-    """What a round tells of, by the name of a list."""
+    """What a round reports, by the name of a list."""
     if "observations" in str(message.keys.get("log")):
         yield from of_observed(message)
 
@@ -200,7 +200,7 @@ def of_ranked(message: Message) -> Iterator[facts.Fact]:
 
 
 def of_evicted(message: Message) -> Iterator[facts.Fact]:
-    """One pod, or those of a round."""
+    """One pod, or the pods of a round."""
     pods = references_of(message.keys["pods"]) if "pods" in message.keys else [pod_of(message)]
     yield from (facts.Evicted(message.at, pod) for pod in pods)
 

@@ -10,7 +10,7 @@ from replay_tools.restarting import ALWAYS, Restarting
 
 from .chains import LOOK_SECONDS, MOST_CHAINS, MOST_NEXT, UNNAMED, Chain, Hints, Instance
 
-# a line that names a container which is started stands so long before the poll that finds it
+# a line that names a container which is started comes so long before the poll that finds it
 CREATED_SECONDS = 4.0
 # containers that start so soon after an exit come one after the other
 SOON_SECONDS = 3.0
@@ -35,7 +35,7 @@ class Linking:
 
     def __init__(self, chains: list[Chain], names: list[str], decides: dict[str, Restarting], hints: Hints,
                  has_manifest: bool) -> None:
-        # the containers that no manifest has, as ephemeral ones, are not among those of which one is found by exclusion
+        # the containers that no manifest has, as ephemeral ones, are no candidates when one is found by exclusion
         self.has_manifest = has_manifest
         self.others = [chain for chain in chains if has_manifest and chain.name is not None and chain.name not in names]
         self.chains = [chain for chain in chains if chain not in self.others]
@@ -43,7 +43,7 @@ class Linking:
         # what decides about the restarts of each container of its manifest
         self.decides = decides
         self.inits = [name for name, each in decides.items() if each.is_init]
-        # those of them that run on next to what comes after them, and come again
+        # the init containers that run on next to what comes after them, and come again
         self.sidecars = {name for name, each in decides.items() if each.is_sidecar}
         # of a container that is not known yet the pod's policy decides
         self.of_pod = Restarting(next((each.of_pod for each in decides.values()), ALWAYS))
@@ -152,7 +152,7 @@ class Linking:
         return self.waits[place][1] if place < len(self.waits) else None
 
     def count_extra(self, instances: list[Instance]) -> None:
-        """How often an init container ran again without a code that says it, by how many came one after the other up
+        """How often an init container ran again without a code that shows it, by how many came one after the other up
         to the app's. Which of them it was is not known: the middle one leaves most of the others right."""
         apps = [name for name in self.names if name not in self.inits]
         if not self.inits or self.chains or not instances:

@@ -28,11 +28,11 @@ if TYPE_CHECKING:
     from .placing import Placing
 
 STARTUP, LIVENESS, READINESS = PROBES
-# a container that has failed is said to wait, or starts again, within so many seconds
+# a container that has failed is reported to wait, or starts again, within so many seconds
 LEFT_SECONDS = 15.0
 # of a moment in whole seconds as a status has it
 WHOLE = 0.999
-# a start that comes so soon behind an exit is of the same second
+# a start that comes so soon after an exit is of the same second
 AFTER = 0.0001
 # due each time that what is settled is placed, and since a line spoke of it
 ALWAYS, HEARD = 0.0, -1.0
@@ -88,16 +88,16 @@ class Life(Account):
         self.is_deleting = False
         self.is_over = False
         self.is_refused = False
-        # from when on something of it is to be placed, as far as lines say so far
+        # from when on something of it is to be placed, as far as lines show by now
         self.due_at = HEARD
-        # whether its manifest was made of lines, and the names of containers that lines have only behind its own
+        # whether its manifest was made of lines, and the names of containers that lines have only after its own
         self.is_made = False
         self.named_late: dict[str, str] = {}
 
     # --- what is placed ---
 
     def settle(self, horizon: float, is_end: bool, placing: Placing) -> None:
-        """Places all that happened up to a moment, behind which there may be no line any more."""
+        """Places all that happened up to a moment, after which there may be no line any more."""
         if self.is_over or self.is_refused:
             return
         if self.added_at <= horizon:
@@ -121,7 +121,7 @@ class Life(Account):
         self.leave(pod, horizon, placing)
 
     def next_due(self, placing: Placing) -> float:
-        """From when on something of it is to be placed. Until then nothing of it changes, unless a line speaks of it."""
+        """The moment from which something of it is to be placed. Until then only a line about it changes it."""
         is_replaced = self.replaced_at is not None and not self.is_end_told()
         if is_replaced or any(chain.is_open() for chain in self.instances.chains):
             return ALWAYS
@@ -157,7 +157,7 @@ class Life(Account):
             self.removed_at = placing.hole_between(self.heard_at, self.replaced_at)
 
     def is_end_told(self) -> bool:
-        """Whether a line says that the pod goes, or that the kubelet ended it."""
+        """Whether a line reports that the pod goes, or that the kubelet ended it."""
         return self.decision is not None or any(at is not None for at in (
             self.deleted_at, self.removed_at, self.cleaned_at))
 
@@ -221,7 +221,7 @@ class Life(Account):
         return sorted(found, key=IN_ORDER)
 
     def hold_waits(self) -> None:
-        """A line may say that a container waits before the look that finds its exit: it waits from that exit on."""
+        """A line may report that a container waits before the poll that finds its exit: it waits from that exit on."""
         chains = {chain.name: chain for chain in self.instances.chains}
         for item in self.pending:
             chain = chains.get(next(iter(item.value))) if item.what == "wait" and item.value else None
@@ -265,7 +265,7 @@ class Life(Account):
                 self.place_exit(pod, chain, instance, placing)
 
     def place_kill(self, at: float, instance: Instance, grace: int, placing: Placing) -> None:
-        """The kubelet ends an instance, which stands at its own second; what has exited already it does not."""
+        """The kubelet ends an instance, in a second of its own. An instance that has exited already has no kill."""
         if not instance.is_killed:
             return
         said = None if instance.killing is None else why_killed(instance.killing.why)
@@ -286,7 +286,7 @@ class Life(Account):
         placing.timeline.place_container(pod, name, [Change(moment, Listing(attempt, RUNNING))], [], self.changes_from)
         instance.started_in = placing.timeline.listed_in(pod, name) or 0
         self.started[name] = moment
-        # behind a startup that has not passed no other probe comes
+        # until startup has passed no other probe comes
         first = (STARTUP,) if (name, STARTUP) in self.probings else PROBES
         self.end_probes(name)
         self.begin_probes(name, first, instance.seen or moment)
@@ -344,9 +344,9 @@ class Life(Account):
                 probing.end()
 
     def code_of(self, pod: recorded.Pod, chain: Chain, instance: Instance, placing: Placing) -> tuple[int, bool]:
-        """The code of an exit, and whether it is guessed: then it is 0 where what came behind it says so, else that of
-        an instance that is lost, which the rules take as a failure; or one after which a rule has the restart come that
-        came."""
+        """The code of an exit, and whether it is guessed. A guessed code is 0 if what came after it shows that, else
+        the code of a lost instance, which the rules take as a failure; or a code after which a rule restarts it, as it
+        was."""
         if instance.code is not None:
             return instance.code, False
         has_next = chain.newest is not instance
@@ -364,7 +364,7 @@ class Life(Account):
 
     def is_left(self, chain: Chain, instance: Instance, placing: Placing) -> bool:
         """Whether an exit of a container that is started again where it failed was left as it is, so that it did not:
-        no line says by then that it waits."""
+        no line shows by then that it waits."""
         end = instance.end or 0.0
         is_going = any(at is not None and at <= end + LOOK_SECONDS for at in (
             self.deleted_at, None if self.decision is None else self.decision.moment))
@@ -374,7 +374,7 @@ class Life(Account):
     # --- probes ---
 
     def place_result(self, pod: recorded.Pod, at: float, result: tuple[str, str, str], placing: Placing) -> None:
-        """A result that a line has, behind those without one."""
+        """A result that a line has, after the results without one."""
         container, probe, found = result
         probing = self.probings.get((container, probe))
         if probing is None:
@@ -384,7 +384,7 @@ class Life(Account):
             self.place_results(pod, container, iter([Result(at, probe, found)]), placing)
 
     def place_silent(self, pod: recorded.Pod, name: Optional[str], until: float, placing: Placing) -> None:
-        """The successes that have no line, of one container or of all, up to a moment: those whose line would stand
+        """The successes that have no line, of one container or of all, up to a moment: those whose line would come
         before it, though late."""
         for (container, probe), probing in self.probings.items():
             if name in (None, container) and placing.is_silent(probe):
@@ -395,9 +395,11 @@ class Life(Account):
     def foresee(self, pod: recorded.Pod, placing: Placing) -> None:
         """What is placed now and waits to be placed has of each probe: its first result, and the times in which none
         was a success: gaps, and from the first of the failures for which the kubelet ends an instance up to the line
-        that says so, since on a busy node results come late."""
+        that reports it, since on a busy node results come late."""
         found: dict[tuple[str, str], list[float]] = {}
         self.first_results = {}
+        if not self.probings:
+            return
         for item in (*self.placed, *self.pending):
             if item.what == "result":
                 place = item.value[:2]
@@ -433,7 +435,7 @@ class Life(Account):
     # --- its end ---
 
     def decide(self, pod: recorded.Pod, horizon: float, is_end: bool, placing: Placing) -> None:
-        """The kubelet told it to go, or evicted it."""
+        """The kubelet ordered it to go, or evicted it."""
         if self.deleted_at is not None and self.deleted_at <= horizon and not self.is_deleting:
             self.is_deleting = True
             moment = max(self.deleted_at, float(self.arrived or 0))

@@ -13,6 +13,7 @@ from dataclasses import dataclass, field
 from typing import Any
 
 from replay_tools import entry, outside, packed
+from replay_tools.cli.statuses import Status
 from replay_tools.record import pods as recorded
 from replay_tools.record.answers import NotJson, Text
 from replay_tools.record.sources import Failed
@@ -23,7 +24,7 @@ from .statuses import of_status
 
 # so many bytes of a file of manifests are read, and of YAML, which is held as a whole
 LONGEST_FILE, LONGEST_YAML = 1 << 30, 64 << 20
-# what YAML may have of values, once each alias is what it stands for, and how deep they nest
+# how many values YAML may have once each alias is replaced by its value, and how deep they nest
 MOST_VALUES, DEEPEST = 5_000_000, 100
 # a number of so many digits, in YAML's own notations, is none of a manifest
 LONG_NUMBER = re.compile(rb"[0-9_:]{1000}")
@@ -77,7 +78,7 @@ class Manifests:
         return node is not None and self.node_of.get(str(reference.uid)) == node
 
     def take(self, value: Any, depth: int = 0) -> None:
-        """What a document has: a pod, a list, an owner, an audit event, or what a watch tells."""
+        """What a document has: a pod, a list, an owner, an audit event, or an event of a watch."""
         if depth > DEEPEST_LIST:
             return
         if not isinstance(value, dict):
@@ -226,9 +227,10 @@ def parts_of(text: Text) -> Iterator[Any]:
 
 def yaml_of(data: bytes, path: str, what: str) -> Iterator[Any]:
     try:
-        import yaml  # Debian's python3-yaml, which no other tool wants
+        import yaml  # Debian's python3-yaml, which no other tool needs
     except ImportError:
-        raise entry.Fault(f"{what}: '{path}' is no JSON, and python3-yaml, which reads YAML, is missing", 127) from None
+        raise entry.Fault(f"{what}: '{path}' is no JSON, and python3-yaml, which reads YAML, is missing",
+                          Status.MISSING) from None
     if LONG_NUMBER.search(data) is not None:
         raise entry.Fault(f"{what}: '{path}' has a number that is too long")
     loader = getattr(yaml, "CSafeLoader", yaml.SafeLoader)
@@ -257,7 +259,7 @@ class Multiplied(Exception):
 
 
 class Plain:
-    """Values of YAML as JSON has them: each alias as what it stands for, names and moments as texts."""
+    """Values of YAML as JSON has them: each alias replaced by its value, names and moments as texts."""
 
     def __init__(self) -> None:
         self.left = MOST_VALUES

@@ -1,4 +1,4 @@
-"""What stands beside what the formats read in an imported trace: what was guessed, and what the kubelet said."""
+"""The members of an imported trace that the formats don't read: what was guessed, and what the kubelet reported."""
 
 from __future__ import annotations
 
@@ -14,14 +14,14 @@ LOST = "lost"
 
 
 def doubted(listing: dict[str, Any]) -> dict[str, Any]:
-    """A listing behind a gap of which no line there speaks: what ran before is said to run, and marked."""
+    """A listing after a gap that no line there confirms: what ran before is listed as running, and marked."""
     if listing["state"] != RUNNING:
         return listing
     return {**listing, "guessed": [*listing.get("guessed", ()), STATE]}
 
 
 def is_code_known(listing: dict[str, Any]) -> bool:
-    """Whether the code of an exit that a tick lists, or says of the instance before, is one that was seen."""
+    """Whether the code of an exit that a tick has, of this instance or the one before, is one that was seen."""
     guessed = listing.get("guessed")
     return not (isinstance(guessed, list) and CODE in guessed)
 
@@ -34,12 +34,12 @@ def of_exit(found: tuple[str, ...]) -> tuple[str, ...]:
 
 
 class ImportedAsides(Asides):
-    """Those of a recording, with the parts of an instance's exit and start that were guessed."""
+    """The members that a recording has too, with the parts of an instance's exit and start that were guessed."""
 
     def __init__(self) -> None:
         super().__init__()
         self.guessed: dict[tuple[str, str, int], tuple[str, ...]] = {}
-        # whether something was asked for that was not told before
+        # whether something was asked for that no tick has had
         self.has_news = False
 
     def is_new(self, place: tuple[str, ...], said: Any) -> bool:
@@ -48,8 +48,8 @@ class ImportedAsides(Asides):
         return is_new
 
     def of_listing(self, uid: str, name: str, listing: Any) -> dict[str, Any]:
-        """That a code is guessed stands in each tick that has it, as a reason does; the other marks of an instance in
-        the first tick of each of its states."""
+        """The mark of a guessed code is in each tick that has the code, as a reason is; the other marks of an instance
+        are in the first tick of each of its states."""
         said = super().of_listing(uid, name, listing)
         marks = self.guessed.get((uid, name, listing.attempt), ())
         marks = of_exit(marks) if listing.exit_code is not None else tuple(

@@ -16,10 +16,10 @@ from .runtimes import KEYS, OF_RUNTIME
 from .units import Units, is_runtime
 
 HEADER = re.compile(rb"[IWEF](\d{4} \d\d:\d\d:\d\d)(\.\d{1,9}) +(\d{1,10}) [^\]\s]{1,200}:\d+\] ")
-# key="value" or key=value behind a quoted message; a value may have blanks in brackets, and one of several lines has a
+# key="value" or key=value after a quoted message; a value may have blanks in brackets, and one of several lines has a
 # tab before each, for which journalctl prints eight blanks
 NAME = re.compile(r" ([A-Za-z][\w./-]*)=")
-# how an object ends, with the next key behind it, and how a value in brackets does, each in one line
+# how an object ends, with the next key after it, and how a value in brackets does, each in one line
 OBJECT_END = re.compile(r"\}(?= [A-Za-z][\w./-]*=|$)|\n")
 ENDS = {"{": re.compile(r"[}\n]"), "&": re.compile(r"[}\n]"), "[": re.compile(r"[\]\n]")}
 LINES, LINES_END = re.compile(r"<\n(?:(?:\t| {8})[^\n]*\n)*"), re.compile(r" *>")
@@ -34,7 +34,7 @@ NO_KEYS: Mapping[str, Any] = {}
 
 @dataclass
 class Message:
-    """One message: its moment, the process that says it, its text up to its keys, and those. Plain text has no keys."""
+    """One message: its moment, the process that wrote it, its text up to its keys, and its keys, if it has any."""
     at: float
     process: int
     text: str
@@ -66,7 +66,7 @@ def split(text: str) -> tuple[str, dict[str, Any], bool]:
 
 
 class Keys:
-    """Reads the keys behind a message. What does not end is looked for once, however often it begins."""
+    """Reads the keys after a message. What does not end is looked for once, however often it begins."""
 
     def __init__(self, text: str, at: int) -> None:
         self.text = text
@@ -83,7 +83,7 @@ class Keys:
         return keys
 
     def value(self) -> str:
-        """The value that begins here, behind which it goes on."""
+        """The value that begins here; reading goes on after it."""
         begin, mark = self.at, self.text[self.at:self.at + 1]
         end = None
         if mark == '"':
@@ -157,7 +157,7 @@ def text_message(text: bytes, line: Line, klog: Klog) -> Message | None:
 
 
 def of_other_unit(line: Line, units: Units) -> Line:
-    """A line of another unit than the kubelet's, which says nothing of the kubelet whatever its words are."""
+    """A line of another unit than the kubelet's, which shows nothing of the kubelet whatever its words are."""
     if line.text.startswith(b"{"):
         made = json_message(line.text, line) if is_runtime(line.unit) else None
         return made if isinstance(made, Line) else line
@@ -167,7 +167,7 @@ def of_other_unit(line: Line, units: Units) -> Line:
 
 
 def messages_of(lines: Iterator[Line], klog: Klog, units: Units | None = None) -> Iterator[Message | Line]:
-    """The messages of a journal that are wanted, and the lines that are no kubelet's, as they are."""
+    """The messages of a journal that are read, and the lines that are no kubelet's, as they are."""
     held: Message | None = None
     units, continued = units or Units(), 0
     for line in lines:

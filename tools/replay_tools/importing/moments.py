@@ -64,7 +64,7 @@ class Klog:
         return self.second
 
     def moment(self, month: int, day: int, hour: int, minute: int, second: int, fraction: float) -> Optional[float]:
-        """The moment of a line. Behind the end of a year comes the next one."""
+        """The moment of a line. After the end of a year comes the next one."""
         if (month, day) != self.day:
             self.take_day(month, day)
         if self.midnight is None or hour > 23 or minute > 59 or second > 60:

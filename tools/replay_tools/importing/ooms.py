@@ -13,11 +13,11 @@ REASON = "OOMKilled"
 KILLED_SECONDS = 5.0
 # of kills without an id: what may lie between the kill and the kubelet's look, and how late a line is
 LOOKED_SECONDS, LATE_SECONDS = 2.0, 2.5
-# a moment of the kernel's may be so much later than that of the exit
+# a moment of the kernel's may be so much later than the exit's
 EARLY_SECONDS = 0.2
 MOST_KEPT = 1000
 CODE = 137
-# by so much an exit may come behind a later one, as a runtime's line may have a moment before those of the lines before
+# by so much an exit may follow a later one, since a runtime's line may have an earlier moment than the lines before it
 UNORDERED_SECONDS = 120.0
 WATCHED = facts.Turned, facts.OutOfMemory, facts.Killing, facts.Known
 

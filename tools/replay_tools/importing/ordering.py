@@ -1,4 +1,4 @@
-"""Facts of several journals in the order of their moments, by one clock: that of the node, which may go back. Each
+"""Facts of several journals in the order of their moments, by one clock, the node's, which may go back. Each
 journal shows that where its next line comes, so those that have shown it wait for the others."""
 
 from __future__ import annotations
@@ -11,20 +11,20 @@ from . import facts
 if TYPE_CHECKING:
     from .reading import Reader
 
-# a journal that waits has waited for all that was said before the clock went back, when the others are so far beyond
+# a journal that waits has waited for all lines from before the clock went back once the others are so far beyond
 BEYOND_SECONDS = 60
 # by how much the moments of a line differ in the forms of a journal
 FORMS_SECONDS = 0.01
 
 
 class Source:
-    """A journal with its next fact, and by how much later its moments are taken than its clock says."""
+    """A journal with its next fact, and by how much later its moments are taken than its clock shows."""
 
     def __init__(self, reader: Reader) -> None:
         self.reader = reader
         self.found = reader.all_facts()
         self.shift = 0
-        # the moment to which the clock went back last, as it says
+        # the moment to which the clock went back last, as the clock shows it
         self.turned_at = 0.0
         self.head: facts.Fact | None = None
         self.advance()
@@ -96,14 +96,14 @@ def in_order(readers: list[Reader]) -> Iterator[facts.Fact]:
 
 
 def moment_of_next(source: Source) -> float:
-    """When its next fact comes. That lines are missing before a moment comes behind what others have at it."""
+    """When its next fact comes. That lines are missing before a moment comes after what others have at it."""
     if source.head is None:
         return 0.0
     return source.head.at + (FORMS_SECONDS if isinstance(source.head, facts.Missing) else 0.0)
 
 
 def turned(sources: list[Source], waiting: list[facts.TurnedBack]) -> facts.TurnedBack:
-    """The clock went back in journals: from there on it is as if all of them were behind the newest of its moments."""
+    """The clock went back in journals: from there on it is as if all of them came after the newest of its moments."""
     moment = min(each.at for each in waiting)
     seconds = int(max(each.since for each in waiting)) + 1 - int(moment)
     for each in sources:

@@ -63,7 +63,7 @@ class Overlaps:
             self.let_go(list(self.minutes))
 
     def forget(self, journal: int, minute: int) -> None:
-        """Forgets what all journals are behind of."""
+        """Forgets what all journals have passed."""
         if minute <= self.newest[journal]:
             return
         self.newest[journal] = minute

@@ -1,4 +1,4 @@
-"""Where all pods of a journal are placed: the seconds of a trace, with what stands beside what the formats read."""
+"""Where all pods of a journal are placed: the seconds of a trace, with the members that the formats don't read."""
 
 from __future__ import annotations
 
@@ -24,21 +24,21 @@ if TYPE_CHECKING:
 
     from .lives import Life
 
-# a tick stands at least so often
+# a trace has a tick at least so often
 EVERY = 10
-# the seconds behind one in which something may still be placed
+# the seconds after one in which something may still be placed
 LATE_SECONDS = 60
-# what is counted: holes that the journal of the kubelet alone shows, those of a journal that another one fills, pods of
-# which no line behind a gap speaks, and how often the clock went back
+# what is counted: holes that the journal of the kubelet alone shows, holes of a journal that another one fills, pods
+# that no line after a gap names, and how often the clock went back
 HOLES, FILLED, DOUBTED, TURNS = "holes", "filled holes", "pods in doubt", "turns"
 # pods that have probes, and new processes of the kubelet
 PROBED, RESTARTS = "pods with probes", "processes of the kubelet"
-# those of which lines have a manifest, those of a made one, and those of which no line says whether they failed
+# pods that have a manifest, pods with a made one, and pods of which no line shows whether they failed
 WITH_MANIFEST, WITHOUT_MANIFEST = "met with a manifest", "pods without a manifest"
 UNKNOWN_PHASES = "pods of an unknown phase"
-# containers that lines name only behind the line of their pod
+# containers that lines name only after the line of their pod
 NAMED_LATE = "containers named late"
-# a member of a pod's entry: what the kubelet said
+# members of a pod's entry, the first of which is what the kubelet reported
 SAID, FAILED, GUESSED, READY_TURNS = "said", "failed", "guessed", "readyTurns"
 # of a tick: when the kubelet was started again
 STARTED_AT = "kubeletStartedAt"
@@ -61,14 +61,14 @@ class Placing:
         # which of the probes have their successes in the journal
         self.told_probes: set[str] = set()
         self.has_successes = False
-        # what is said of pods from a second on, in the order of these
+        # the members of pods' entries from a second on, in the order of these
         self.beside: list[tuple[int, int, str, str, Any]] = []
         self.said = 0
         self.gaps: list[tuple[int, dict[str, int]]] = []
         # the seconds in which the kubelet was started again, and the newest moment of the journal
         self.started: list[int] = []
         self.now = 0.0
-        # the ends of gaps of which it is not settled which pods are there behind them
+        # the ends of gaps after which it is not settled which pods are there
         self.behind: list[float] = []
         self.silences = Silences()
         # the keys of the pods that are there
@@ -94,23 +94,18 @@ class Placing:
         self.timeline.mark(str(life.pod and life.pod.uid), name, attempt, tuple(one for each in found for one in each))
 
     def has_room(self, life: Life) -> bool:
-        """Whether a trace can have one more pod; of traces one behind the other each has those that are there."""
-        if (self.present() if self.is_at_once else self.counts["pods"]) < MOST_PODS:
+        """Whether a trace can have one more pod; of traces one after the other each has the pods that are there."""
+        if (len(self.there) if self.is_at_once else self.counts["pods"]) < MOST_PODS:
             return True
         self.count("pods left out", life.key)
         return False
-
-    def present(self) -> int:
-        """How many pods are there behind all that is placed."""
-        return len(self.timeline.present) + sum(len(tick.arrivals) - len(tick.departures)
-                                                for tick in self.timeline.ticks.values())
 
     def is_there(self, key: str) -> bool:
         """Whether a pod of a name is there, so that no other one can come."""
         return key in self.there
 
     def arrive(self, life: Life, pod: Pod) -> int:
-        """The second of a pod's line, behind that in which the one before it under its name went."""
+        """The second of a pod's line, after the second in which the pod before it under its name went."""
         self.count("pods")
         self.there.add(life.key)
         if life.is_made:
@@ -131,7 +126,7 @@ class Placing:
         return second
 
     def say(self, key: str, at: float, said: dict[str, Any]) -> None:
-        """What the kubelet said of a pod, which stands in the first tick from then on."""
+        """What the kubelet reported of a pod, which is in the first tick from then on."""
         self.put_beside(key, int(at), SAID, {"at": int(at), **said})
 
     def put_beside(self, key: str, second: int, member: str, value: Any) -> None:
@@ -146,7 +141,7 @@ class Placing:
             self.timeline.place_signal(at, signal, available, True)
 
     def gap(self, since: float, until: float, clock_back: int = 0) -> None:
-        """Nothing is known of the time between; a tick stands at its end. A clock may have gone back there."""
+        """Nothing is known of the time between; there is a tick at its end. A clock may have gone back there."""
         self.silences.tell(since, until)
         self.timeline.gaps.append((int(since), int(until)))
         self.timeline.place_look(until)
@@ -155,7 +150,7 @@ class Placing:
         self.behind.append(until)
 
     def hole(self, since: float, until: float) -> None:
-        """Lines of the kubelet are missing there, which nothing told before."""
+        """Lines of the kubelet are missing there, which nothing showed before."""
         if not self.silences.is_told(since, until):
             self.count(HOLES)
             self.gap(since, until)
@@ -170,8 +165,8 @@ class Placing:
         return found.until
 
     def doubt(self, lives: list[Life], before: float) -> None:
-        """Behind gaps that end before a moment: the instances of pods of which no line there speaks are as they were
-        before, which is marked."""
+        """After gaps that end before a moment, the instances of pods that no line there names are as they were before,
+        which is marked."""
         for until in [each for each in self.behind if each < before]:
             self.behind.remove(until)
             for life in lives:
@@ -236,7 +231,7 @@ class Placing:
         return f"{line[:-1]},{shown({STARTED_AT: seconds[-1]})[1:]}"
 
     def rows_due(self, at: int) -> Rows:
-        """What was said of each pod up to a second, which is taken; a later tick has what is more than a line takes."""
+        """Takes what was reported of each pod up to a second. A later tick has what is more than a line takes."""
         due: Rows = {}
         left: list[tuple[int, int, str, str, Any]] = []
         said = 0

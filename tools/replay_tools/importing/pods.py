@@ -26,7 +26,7 @@ STARTS_FAILED = ("RunContainerError", "StartError", "ContainerCannotRun")
 
 
 class Pods:
-    """Hands each fact of a pod, an instance or a probe to the pod that it is of."""
+    """Passes each fact of a pod, an instance or a probe to the pod that it is of."""
 
     def __init__(self, manifests: Manifests, placing: Placing, say: Callable[..., None], hold: float) -> None:
         self.manifests = manifests
@@ -39,7 +39,7 @@ class Pods:
         self.of_id: dict[str, Life] = {}
         # the uids of pods that have gone, of which a late line makes no other pod
         self.left: dict[str, None] = {}
-        # what lines say of ids that no pod is known of yet
+        # what lines show of ids whose pod is not known yet
         self.loose: dict[str, list[facts.Known]] = {}
         for known in manifests.known:
             self.loose.setdefault(known.id, []).append(known)
@@ -139,7 +139,7 @@ class Pods:
         return life
 
     def meet_running(self) -> None:
-        """Pods whose statuses say that they ran before the journal begins, and of which it may say nothing."""
+        """Pods that ran before the journal begins, as their statuses show; the journal may have nothing of them."""
         self.has_met_running = True
         begun = self.begun or 0.0
         for known in self.manifests.known:
@@ -162,7 +162,7 @@ class Pods:
 
     def life_there_before(self, life: Optional[Life]) -> Optional[Life]:
         """A pod of which a line speaks that a kubelet writes where it writes too which pods come: without such a line
-        it was there before the journal begins, or goes on behind a gap."""
+        it was there before the journal begins, or goes on after a gap."""
         if life is not None and not life.is_listed and life.arrived is None:
             since = max([self.begun or 0.0, life.follows_at, *self.placing.behind])
             life.added_at = min(life.added_at, since)
@@ -204,7 +204,7 @@ class Pods:
             life.come_back()
         life.is_static = life.is_static or fact.source in FILES
         life.is_listed = True
-        # what a kubelet that is started anew finds was there before
+        # what a kubelet that is started again finds was there before
         life.was_added = life.was_added or not self.is_begin_of_process(fact.at)
 
     def on_deleted(self, fact: facts.Deleted) -> None:
@@ -240,7 +240,7 @@ class Pods:
         life.turn(fact, not life.was_added and self.is_begin_of_process(fact.at))
 
     def own(self, identity: str, life: Life) -> None:
-        """An id is of a pod; what lines reported of it before is told to it."""
+        """An id is of a pod; the pod takes what lines reported of the id before."""
         if identity not in self.of_id:
             self.of_id[identity] = life
             for known in self.loose.pop(identity, ()):
@@ -278,7 +278,7 @@ class Pods:
         instance.killing = fact if before is None else facts.Killing(
             before.at, fact.id, grace=fact.grace if before.grace is None else before.grace, why=before.why or fact.why)
         self.placing.count("kills" if before is None else "lines of kills")
-        # why stands in a line before that of the grace
+        # the line with the reason precedes the line with the grace
         if fact.grace is not None and (before is None or before.grace is None):
             life.add(fact.at, "kill", (instance, fact.grace))
 

@@ -1,4 +1,4 @@
-"""Messages of kubelets up to 1.20, which are sentences: each form with the fact that it says."""
+"""Messages of kubelets up to 1.20, which are sentences: each form with the fact that it reports."""
 
 from __future__ import annotations
 
@@ -47,7 +47,7 @@ NODE = re.compile(r'FLAG: --hostname-override="([^"]+)"'
 NAMED = re.compile(r'(?:killContainer|failed to remove pod init container) "([^"]*)".{0,300}?'
                    r'(?:\{"\w+" |container )"([0-9a-f]{12,64})"')
 DECODER = json.JSONDecoder()
-# what a patch has that says something of instances, or of the pod
+# what a patch has if it shows something of instances, or of the pod
 SIGNS = "containerID", "Ready", '"reason'
 # what is a sentence in JSON too
 FLAG, OPERATION = "FLAG: ", "Operation for "
@@ -73,7 +73,7 @@ def of_loop(message: Message) -> Iterator[facts.Fact]:
 def of_probe(message: Message) -> Iterator[facts.Fact]:
     found = PROBE.match(message.text)
     pod = None if found is None else placed_in(found[2])
-    # what errored says nothing of the container, and is no result
+    # a probe that errored shows nothing of the container, and is no result
     if found is not None and pod is not None and outside.is_label(found[3]) and (found[4] or found[5] == "failure"):
         yield facts.Probed(message.at, pod, found[3], found[1].lower(), "success" if found[4] else "failure",
                            found[6] or "")
@@ -193,7 +193,7 @@ def of_eviction(message: Message) -> Iterator[facts.Fact]:
 
 
 def below(at: float, signal: str, limit: str, observed: str, is_unreclaimed: bool) -> Iterator[facts.Fact]:
-    """A threshold of a list that a round tells of."""
+    """A threshold of a list that a round reports."""
     least, found = amount(limit), amount(observed)
     if signal in SIGNALS and least is not None and found is not None:
         yield facts.Below(at, signal, least, found, is_unreclaimed)

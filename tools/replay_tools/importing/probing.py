@@ -31,7 +31,7 @@ class Probing:
         self.failures: list[float] = []
 
     def start(self, started: float, seen: float) -> None:
-        """An instance runs; its first result comes with the first period behind its delay."""
+        """An instance runs; its first result comes with the first period after its delay."""
         self.successes = 0
         self.failures = []
         self.due = self.first_behind(max(seen + LOOK_SECONDS, started + self.delay))
@@ -63,7 +63,7 @@ class Probing:
         return self.successes <= self.wanted
 
     def silent(self, until: float, without: Sequence[tuple[float, float]]) -> Iterator[Result]:
-        """The successes without a line that were due by a moment, up to those that are wanted: none in a time without
+        """The successes without a line that were due by a moment, up to as many as are needed: none in a time without
         them, as a gap, of which no line is known. These times are in order."""
         while self.due is not None and self.due <= until and self.successes < self.wanted:
             place = bisect.bisect_left(without, (self.due, 0.0))

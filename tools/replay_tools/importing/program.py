@@ -13,6 +13,7 @@ import time
 from argparse import Namespace
 
 from replay_tools import entry, outside
+from replay_tools.cli.statuses import Status
 from replay_tools.joined import asked
 from replay_tools.record.formats import name_fault
 from replay_tools.record.lines import TooLong
@@ -64,7 +65,7 @@ def run(words: Namespace) -> int:
         try:
             return imported(words)
         except Nothing:
-            raise entry.Fault(f"what the cluster answers is no log of the kubelet of {node}", 1,
+            raise entry.Fault(f"what the cluster answers is no log of the kubelet of {node}", Status.FAILED,
                               cluster.instead(node, since)) from None
 
 
@@ -114,13 +115,13 @@ def imported(words: Namespace) -> int:
         entry.say(f"{ended.reason}; --into writes several")
     except TooLong as fault:
         progress.end()
-        raise entry.Fault(str(fault), 1) from None
+        raise entry.Fault(str(fault), Status.FAILED) from None
     for line in notes.said:
         entry.say(line)
     counts = reading.all_counts(journals)
     for line in evidence.lacks(sources) if sources else summary.lines_of(importer, readers, counts, words):
         entry.say(line)
-    return 0
+    return Status.DONE
 
 
 def writer_of(words: Namespace, placing: Placing) -> Writer:
@@ -133,7 +134,7 @@ def writer_of(words: Namespace, placing: Placing) -> Writer:
 
 
 class Notes:
-    """What is said at the end, once of each text: where nothing is written that alone is said."""
+    """The lines that are printed at the end, each text once. If nothing is written, these alone are printed."""
 
     def __init__(self) -> None:
         self.said: dict[str, None] = {}
@@ -164,8 +165,8 @@ def manifests_of(words: Namespace) -> manifests.Manifests:
 
 
 def journals_of(words: Namespace) -> list[Journal]:
-    """The journals that are named, or the one of standard input, which may be a pipe that nobody closes: beside what a
-    trace can be made of alone it is read only where it is named."""
+    """The journals that are named, or the one of standard input, which may be a pipe that nobody closes. If a trace can
+    be made from the rest, standard input is read only if it is named."""
     if not words.journal and (words.events or words.audit):
         if has_input():
             entry.say(f"standard input is not read: for a journal of it pass --journal {STANDARD_INPUT}")
@@ -214,20 +215,22 @@ def node_line_of(importer: Importer, name: str, sources: list[str]) -> NodeLine:
 
 
 def refuse_no_evidence(importer: Importer, sources: list[str]) -> None:
-    """Refuses Events and audit logs that have nothing of a pod."""
+    """Rejects Events and audit logs that have nothing of a pod."""
     if not importer.placing.counts["met"]:
-        raise entry.Fault(f"nothing in {' and '.join(f'--{each}' for each in sources)} is of a pod of the node", 1)
+        raise entry.Fault(f"nothing in {' and '.join(f'--{each}' for each in sources)} is of a pod of the node",
+                          Status.FAILED)
 
 
 def refuse_nothing(importer: Importer, journals: list[Journal], units: Units) -> None:
-    """Refuses journals of which nothing was understood."""
+    """Rejects journals of which nothing was understood."""
     if units.others and (importer.begun is None or not importer.placing.counts["met"]):
         raise Nothing(f"no line is of the kubelet's unit; lines of its form are of {named(units)}: if one of these "
-                      "runs the kubelet, as k3s does, pass --unit with its name", 1)
+                      "runs the kubelet, as k3s does, pass --unit with its name", Status.FAILED)
     if importer.begun is None:
         faults = [fault for journal in journals for fault in journal.counts.faults]
         names = ", ".join(journal.name for journal in journals)
-        raise Nothing(faults[0] if faults else f"no line of {names} is a kubelet's or a runtime's", 1)
+        raise Nothing(faults[0] if faults else f"no line of {names} is a kubelet's or a runtime's",
+                      Status.FAILED)
     if not importer.placing.counts["met"]:
-        raise entry.Fault("the journal names no pod of the node", 1)
+        raise entry.Fault("the journal names no pod of the node", Status.FAILED)
 

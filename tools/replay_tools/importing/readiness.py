@@ -1,5 +1,5 @@
-"""Since when the node was not Ready, and until when. A kubelet that does nothing for pods says so each few seconds, and
-nothing when it goes on: then that it is silent says it."""
+"""Since when the node was not Ready, and until when. A kubelet that does nothing for pods reports that each few
+seconds. It reports nothing when it goes on, so its silence shows that."""
 
 from __future__ import annotations
 
@@ -7,7 +7,7 @@ from collections.abc import Iterable, Iterator
 
 from . import facts
 
-# a kubelet that is not Ready says so at least so often, and is Ready if it has not for so long
+# a kubelet that is not Ready reports that at least so often, and is Ready if it has not for so long
 AGAIN_SECONDS, SILENT_SECONDS = 5.0, 15.0
 
 
@@ -17,7 +17,7 @@ class Readiness:
     def __init__(self) -> None:
         self.is_ready = True
         self.reason = ""
-        # when the kubelet said last that it does nothing; None where a line has the condition itself
+        # when the kubelet reported last that it does nothing; None where a line has the condition itself
         self.said_at: float | None = None
 
     def over(self, found: Iterable[facts.Fact]) -> Iterator[facts.Fact]:

@@ -6,6 +6,7 @@ from collections.abc import Callable, Iterator
 from typing import Any
 
 from replay_tools import entry
+from replay_tools.cli.statuses import Status
 
 from . import facts, keyed, printed
 from .holes import FORWARD
@@ -22,12 +23,12 @@ from .skipping import LONGEST_WORD, SKIPPING
 from .units import Units
 
 SUPPRESSED = "Suppressed "
-# a clock that goes back by less stands still until its time comes again, and so often at most it goes back
+# a clock that goes back by less is taken to stop until its time comes again; so often at most it goes back
 BACK_SECONDS = 60
 MOST_TURNS = 100
 # a clock that goes forward by so much went wrong, or the node was off: nothing is known of a time so long
 FORWARD_SECONDS = 86400
-# how often a process may say something again behind another one
+# how often a process may write again after another one
 MOST_RETURNS = 4
 
 
@@ -43,13 +44,13 @@ class Processes:
         self.returns_left = MOST_RETURNS * journals
 
     def take(self, process: int) -> None:
-        """Another process says something."""
+        """Another process writes."""
         if process == self.current:
             return
         if process in self.seen:
             self.returns_left -= 1
         if self.returns_left < 0:
-            raise entry.Fault("the lines of several kubelets are mixed: give the lines of one", 1)
+            raise entry.Fault("the lines of several kubelets are mixed: give the lines of one", Status.FAILED)
         self.seen.add(process)
         self.current = process
 
@@ -59,7 +60,7 @@ class Processes:
             self.nodes.add(node)
             if len(self.nodes) > 1:
                 named = " and ".join(sorted(self.nodes))
-                raise entry.Fault(f"the journal has several nodes, {named}: give --node NAME", 1)
+                raise entry.Fault(f"the journal has several nodes, {named}: give --node NAME", Status.FAILED)
         return not node or self.node is None or node == self.node or node.partition(".")[0] == self.node
 
 
@@ -80,16 +81,16 @@ class Reader:
         self.process = -1
         self.node = ""
         self.now = 0.0
-        # the newest moment since the clock went back, that of the item before, and how often it went back
+        # the newest moment since the clock went back, the moment of the item before, and how often it went back
         self.newest = self.before = 0.0
         self.turns = 0
-        # whether moments are klog's own, and whether its messages are sentences, as those of a kubelet up to 1.20
+        # whether moments are klog's own, and whether its messages are sentences, as a kubelet writes them up to 1.20
         self.uses_klog = False
         self.has_sentences = False
 
     def all_facts(self) -> Iterator[facts.Fact]:
-        """Its facts by the moments that it has. A line whose moment is a little before that of the one before it is put
-        behind that one; where the clock went back that is a fact, and moments are those that it says from there on."""
+        """Its facts by the moments that it has. A line whose moment is a little earlier than the previous line's gets
+        the previous line's. A clock that went back is a fact, and from there on moments are as the clock has them."""
         for item in messages_of(self.journal.lines(self.klog, SKIPPING), self.klog, self.units):
             if item.node and not self.processes.is_ours(item.node):
                 continue

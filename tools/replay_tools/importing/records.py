@@ -42,7 +42,7 @@ SEPARATOR, OF_STREAM = b"\x1e", b"data: "
 
 @dataclass
 class Found:
-    """What a record has: texts that are lines, and what tells their moment, their unit and their node."""
+    """What a record has: texts that are lines, and the members with their moment, their unit and their node."""
     texts: list[str] = field(default_factory=list)
     members: dict[str, Any] = field(default_factory=dict)
     stamp: Optional[float] = None
@@ -96,7 +96,7 @@ def moment_of_text(text: str) -> Optional[float]:
 
 
 def look_through(value: Any, name: str, found: Found, depth: int = 0) -> None:
-    """Finds the lines of a record, and what tells of them."""
+    """Finds the lines of a record, and the members about them."""
     found.left -= 1
     if found.left < 0 or depth > DEEPEST:
         return

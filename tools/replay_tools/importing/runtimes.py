@@ -52,7 +52,7 @@ SIGNS = (b"sandbox", b"ontainer", b"TaskExit", b"exit event", b"TaskOOM", b"shim
 OF_RUNTIME = RUNTIMES[0]
 # what of a runtime's line of JSON is after its message
 KEYS = "containerID", "description", "id"
-# how a runtime's own line begins where it stands alone
+# how a runtime's own line begins if nothing is in front of it
 OWN = b'time="'
 
 
@@ -61,7 +61,7 @@ class Runtime:
 
     def __init__(self) -> None:
         self.pods: dict[str, facts.Reference] = {}
-        # those of which an exit's line has the code, and those that are known to have ended
+        # the containers whose exit's line has the code, and those known to have ended
         self.coded: set[str] = set()
         self.ended: set[str] = set()
         # the newest instance of each container that CRI-O made, and the ids by what its monitors have of them
@@ -148,7 +148,7 @@ class Runtime:
             yield from self.turned(at, found[1])
 
     def monitor(self, at: float, text: str) -> Iterator[facts.Fact]:
-        """What CRI-O's monitor of a container says: its exit with the code, or that memory was short."""
+        """What CRI-O's monitor of a container reports: its exit with the code, or that memory was short."""
         found = MONITORED.search(text)
         identity = None if found is None else self.monitored.get(found[1][:MONITORED_DIGITS])
         if found is None or identity is None:
@@ -176,7 +176,7 @@ class Runtime:
             yield facts.Known(at, found[1], self.pods.get(found[1], facts.Reference()), reason="OOMKilled")
 
     def ordered(self, at: float, text: str) -> Iterator[facts.Fact]:
-        """A container is to be stopped, as the kubelet orders it, which it says itself from -v=2 on."""
+        """A container is to be stopped, as the kubelet orders it, which it reports itself from -v=2 on."""
         found = ORDERED.search(text)
         if found is not None:
             yield facts.Killing(at, found[1], self.pods.get(found[1], facts.Reference()), grace=int(found[2]))

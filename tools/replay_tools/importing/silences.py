@@ -1,7 +1,7 @@
-"""Times in which a kubelet's journal shows nothing, and which of them are holes. The journal of the kubelet alone has
-no numbers by which a lost line shows (holes.py has those of the whole one), but what it shows shows it: from -v=3 on a
-kubelet tells of each round of its eviction manager, each ten seconds, so that a minute without a line is a hole; and
-from -v=2 on of each exit, so that where a container starts again, and no line has the exit before, that was lost."""
+"""Times in which a kubelet's journal has no line, and which of them are holes. The journal of the kubelet alone has no
+numbers by which a lost line shows (holes.py reads the numbers of the whole one), but its lines show it. From -v=3 on a
+kubelet reports each round of its eviction manager, each ten seconds, so a minute without a line is a hole. From -v=2 on
+it reports each exit, so if a container starts again, and no line has the exit before, that line was lost."""
 
 from __future__ import annotations
 
@@ -13,11 +13,11 @@ from . import facts
 
 # so long a time without a line may be a hole
 LONG_SECONDS = 60
-# a kubelet that told of so many rounds in the last so many seconds tells of them all
+# a kubelet that reported so many rounds in the last so many seconds reports them all
 ROUNDS, ROUND_SECONDS = 3, 60
-# the runtime's line of a start stands so long before that of the kubelet's look
+# the runtime's line of a start comes so long before the line of the kubelet's poll
 LOOK_SECONDS = 2
-# what a kubelet alone says
+# what a kubelet alone reports
 OF_KUBELET = {facts.Process, facts.Begun, facts.Added, facts.Deleted, facts.Removed, facts.Turned, facts.Probed,
               facts.Turnover, facts.Killing, facts.Waits, facts.Observed, facts.Reclaims, facts.Ranked, facts.Evicted,
               facts.Refused, facts.Updated, facts.Ended, facts.Readied}
@@ -45,7 +45,7 @@ class Silences:
         self.found: list[Silence] = []
 
     def take(self, fact: facts.Fact) -> Optional[Silence]:
-        """Takes a fact of the kubelet's; the time before it in which it said nothing, where it is long."""
+        """Takes a fact of the kubelet's; the time before it in which it wrote nothing, if that is long."""
         if isinstance(fact, facts.Turned) and fact.is_exact:
             return None
         since, self.newest = self.newest, fact.at
@@ -58,7 +58,7 @@ class Silences:
         return found
 
     def has_rounds(self, at: float) -> bool:
-        """Whether the kubelet told of its rounds up to a moment."""
+        """Whether the kubelet reported its rounds up to a moment."""
         return len(self.rounds) == ROUNDS and at - self.rounds[0] <= ROUND_SECONDS
 
     def is_told(self, since: float, until: float) -> bool:
@@ -77,7 +77,7 @@ class Silences:
 
     def open_from(self, horizon: float) -> float:
         """Up to when all is settled, of what is so far after the newest line: what a silence is, the lines after it
-        say."""
+        show."""
         return min([horizon, *(each.since for each in self.found if not each.is_told and each.until > horizon)])
 
     def forget(self, before: float) -> None:

@@ -1,4 +1,4 @@
-"""Which lines of a journal are not read: messages of klog's that are of no form that is known, or say nothing. Most of
+"""Which lines of a journal are not read: messages of klog's that are of no form that is known, or show nothing. Most of
 a log are these, so they are passed over before anything is taken apart."""
 
 from __future__ import annotations
@@ -30,14 +30,14 @@ def any_of(words: Iterable[bytes]) -> bytes:
     return b"(?:%b)" % b"|".join(re.escape(letter) + any_of(by_letter[letter]) for letter in sorted(by_letter))
 
 
-# how the words of a message begin that may be read: most others are told from these by that alone
+# how the words of a message begin that may be read: most others differ in that alone
 BEGINS = any_of({*WANTED - {FLAG}, *READ_FLAGS})
 # where a header ends, at the earliest and at the latest, and how long a first word may be
 SHORTEST, LONGEST_HEADER, LONGEST_WORD = 24, 260, 64
 LETTERS = b"IWEF"
-# what stands in a line before a "]"; said as ranges it takes half the time that [^\]\n] takes
+# what a line has before a "]"; written as ranges it takes half the time that [^\]\n] takes
 BEFORE_BRACKET = rb"[\x00-\t\x0b-\\^-\xff]"
-# how klog's header stands behind what journald and a runtime have of a line
+# how klog's header follows what journald and a runtime have of a line
 OF_JOURNALD, OF_RUNTIME = rb"\]: " + HEADER, rb" F " + HEADER
 JOURNALDS = "short-iso", "syslog", "short-full", "short-unix"
 HEADERS = {**dict.fromkeys(JOURNALDS, re.compile(OF_JOURNALD)), "container": re.compile(OF_RUNTIME)}
@@ -45,19 +45,19 @@ HEADERS = {**dict.fromkeys(JOURNALDS, re.compile(OF_JOURNALD)), "container": re.
 UP_TO_WORDS = {PLAIN: rb"[%b]%b{%d,%d}\] " % (LETTERS, BEFORE_BRACKET, SHORTEST - 1, LONGEST_HEADER - 3),
                **dict.fromkeys(JOURNALDS, BEFORE_BRACKET + b"*" + OF_JOURNALD),
                "container": rb"[^ \n]+ [^ \n]+" + OF_RUNTIME}
-# how messages begin that begin as others do, and say nothing
+# how messages begin that begin as others do, and show nothing
 SILENT = (b"SyncLoop (RECONCILE", b"SyncLoop (SYNC)", b"SyncLoop (housekeeping", b"Error getting ",
           b"Container runtime ", b"eviction manager: no resources", b"Failed to remove container",
           b"Created an OOM event")
 # where klog's header has the process
 PROCESS = slice(22, 29)
-# how a line of JSON begins, where its message stands, and the messages that are read
+# how a line of JSON begins, where its message is, and the messages that are read
 RECORD, SAYS = b'{"ts":', b'"msg":"'
 MESSAGES = {json.dumps(words)[1:-1].encode() for words in keyed.FORMS}
 
 
 def place_of_words(text: bytes) -> int:
-    """Where a line's words begin behind klog's header; less than SHORTEST in one that has none."""
+    """Where a line's words begin after klog's header; less than SHORTEST in one that has none."""
     return text.find(b"] ", SHORTEST, LONGEST_HEADER) + 2
 
 
@@ -67,7 +67,7 @@ def is_skipped(text: bytes) -> bool:
 
 
 def is_skipped_at(text: bytes, place: int) -> bool:
-    """The same of a line whose words stand at a place."""
+    """Whether a line is skipped whose words begin at a place."""
     if place >= SHORTEST and text[0] in LETTERS:
         return is_unwanted(text, place)
     return text.startswith(RECORD) and is_record_skipped(text)
@@ -81,33 +81,36 @@ def is_record_skipped(text: bytes) -> bool:
 
 
 def is_unwanted(text: bytes, place: int) -> bool:
-    """Whether the message whose words stand at a place is of no form that is read."""
+    """Whether the message whose words begin at a place is of no form that is read."""
     word = text[place:place + LONGEST_WORD].partition(b" ")[0]
     return word not in WANTED or (word == FLAG and not text.startswith(READ_FLAGS, place))
 
 
 class OfProcess:
-    """Tells which lines of a log as a process writes it are skipped: a silent one where its process is that of the line
-    before it that is not."""
+    """Finds which lines of a log as a process writes it are skipped. A silent line is skipped if the last line that was
+    not skipped is of the same process."""
 
     def __init__(self) -> None:
         self.process = b""
 
     def is_skipped(self, text: bytes) -> bool:
-        place, process = place_of_words(text), text[PROCESS]
-        if is_skipped_at(text, place) or (process == self.process and text.startswith(SILENT, place)):
+        place = place_of_words(text)
+        if is_skipped_at(text, place):
             return True
+        process = text[PROCESS]
+        if process == self.process:
+            return text.startswith(SILENT, place)
         self.process = process
         return False
 
 
 def kept_in(form: str) -> re.Pattern[bytes]:
-    """The end of a line behind which one of a form comes that its first words do not tell to be skipped."""
+    """The end of a line after which a line of a form comes that is not skipped by its first words."""
     return re.compile(rb"\n(?!%b(?!%b))" % (UP_TO_WORDS[form], BEGINS))
 
 
 def skipped_in(form: str) -> Callable[[bytes], bool]:
-    """What tells of a line of a form that is text whether it is skipped."""
+    """Returns the test whether a line of a form that is text is skipped."""
     if form == PLAIN:
         return OfProcess().is_skipped
     header = HEADERS[form]

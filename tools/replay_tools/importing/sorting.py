@@ -8,6 +8,7 @@ from dataclasses import dataclass, field
 from typing import Optional
 
 from replay_tools import entry
+from replay_tools.cli.statuses import Status
 
 from .journals import SKIPPED, Hole, Line
 from .messages import HEADER, json_message
@@ -29,7 +30,7 @@ class Group:
 
 
 def moment_of(line: Line, klog: Klog) -> Optional[float]:
-    """A line's moment, or else that of klog's header."""
+    """A line's moment, or else the moment of klog's header."""
     if line.moment is not None:
         return line.moment
     if line.text.startswith(b"{"):
@@ -81,7 +82,8 @@ def oldest_first(lines: Iterable[Line], klog: Klog, name: str, is_reversed: bool
             break
     if size > MOST_BYTES and not is_ordered:
         raise entry.Fault(f"{name} has its lines in another order than they were written, and more than is sorted here "
-                          f"({MOST_BYTES >> 20} MiB): give it the oldest first, as journalctl does without -r", 1)
+                          f"({MOST_BYTES >> 20} MiB): give it the oldest first, as journalctl does without -r",
+                          Status.FAILED)
     held.sort(key=lambda each: (each.moment, each.place))
     for group in held:
         yield from group.lines
@@ -93,6 +95,6 @@ def in_order(groups: Iterator[Group], newest: float, name: str) -> Iterator[Line
     for group in groups:
         if group.moment < newest - NEAR_SECONDS:
             raise entry.Fault(f"{name} is in the order of its moments first, and in another later: sort it, the oldest "
-                              "first", 1)
+                              "first", Status.FAILED)
         newest = max(newest, group.moment)
         yield from group.lines

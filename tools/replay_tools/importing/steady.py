@@ -20,7 +20,7 @@ if TYPE_CHECKING:
     from replay_tools.record.seen import Recorded
     from replay_tools.record.ticks import Tick
 
-# what is told once, as a message, is out of an entry when it has been made so often, or when nothing in it is new
+# what a trace has once, as a message, is no more in an entry that was made so often, or in which nothing is new
 STEADY = 3
 NO_PODS, PODS = '"pods":[]', '"pods":[{}]'
 Rows = dict[str, list[tuple[int, str, Any]]]
@@ -36,7 +36,7 @@ class Steady:
 
 
 class ImportedTimeline(Timeline):
-    """A timeline that has no samples and no Events of pods. `rows_due` has what else stands in the entries of pods in a
+    """A timeline that has no samples and no Events of pods. `rows_due` has what else is in the entries of pods in a
     tick, by their keys, and `with_rows` an entry with that."""
 
     def __init__(self, trace_format: Format, rows_due: Callable[[int], Rows],
@@ -48,18 +48,22 @@ class ImportedTimeline(Timeline):
         # a tick is judged where the journal has a round of the eviction manager
         self.tells_rounds = True
         self.steady: dict[str, Steady] = {}
-        # those that were made often enough
-        self.kept: dict[str, Steady] = {}
+        # the pods that are there by their uids, those whose entries the next tick may change, and what the last tick
+        # had of each, in the order of their lines: a tick takes time for the pods that change, and not for all
+        self.there: dict[str, Pod] = {}
+        self.unsettled: dict[str, Pod] = {}
+        self.texts: dict[str, str] = {}
+        self.entries: dict[str, Optional[dict[str, Any]]] = {}
         # whether a tick is kept as it was made, which is read again of its line otherwise, and the newest one
         self.keeps_ticks = False
         self.newest: tuple[str, dict[str, Any]] = "", {}
-        # the pods whose manifests are those of their owners, or made of lines, by their keys
+        # the pods whose manifests are their owners' templates, or made of lines, by their keys
         self.templates: dict[str, bool] = {}
-        # times of which nothing is known: the seconds between which no tick stands
+        # times of which nothing is known: the seconds between which there is no tick
         self.gaps: list[tuple[int, int]] = []
 
     def second_of(self, moment: float, *after: Any) -> int:
-        """The second in which something stands: what happened in a gap stands at its end."""
+        """The second in which something is placed: what happened in a gap is placed at its end."""
         second = super().second_of(moment, *after)
         return next((until for since, until in self.gaps if since < second < until), second)
 
@@ -72,14 +76,17 @@ class ImportedTimeline(Timeline):
         return second
 
     def lines_of(self, second: int, tick: Tick, is_silent: bool) -> list[str]:
-        """The lines of a second, whose changes make entries anew."""
+        """The lines of a second; the entries that it changes are made again."""
+        for pod in tick.arrivals:
+            self.there[pod.uid] = self.unsettled[pod.uid] = pod
+            self.texts[pod.key], self.entries[pod.key] = "", None
         for uid in {*(uid for uid, _ in tick.listings), *tick.waits}:
             self.forget(uid)
         self.gaps = [gap for gap in self.gaps if gap[1] > second]
         return super().lines_of(second, tick, is_silent)
 
     def pod_line(self, pod: Pod) -> str:
-        """A pod's line. No journal has what it uses, by which the rules would name it, so it is spared. None has the
+        """A pod's line. No journal has what it uses, by which the rules would name it, so it is exempt. None has the
         conditions of readiness gates, without which the rules would never take it for Ready, so it has no gate."""
         fields = pod_fields(pod.known_uid(), without_gates(pod.manifest), pod.is_spared, pod.is_guessed)
         return line_of({**fields, "spared": True, **({"guessed": [MANIFEST]} if self.templates.get(pod.key) else {})})
@@ -88,14 +95,16 @@ class ImportedTimeline(Timeline):
         """The line of a tick, put together of the texts of entries."""
         rows = self.rows_due(second)
         once = {*(place[0] for place in self.results), *self.deleted, *self.failed, *self.conditions}
-        apart = once | {pod.uid for pod in self.present if pod.key in rows} if rows else once
-        found = [(None if pod.uid in apart else self.kept.get(pod.uid))
-                 or self.steady_of(pod, rows, pod.uid in once) for pod in self.present]
+        of_rows = [pod for pod in self.there.values() if pod.key in rows] if rows else []
+        changed = self.unsettled | {uid: self.there[uid] for uid in once if uid in self.there}
+        for pod in (changed | {pod.uid: pod for pod in of_rows}).values():
+            found = self.steady_of(pod, rows, pod.uid in once)
+            self.texts[pod.key], self.entries[pod.key] = found.text, found.entry
         without_pods = self.line_with([], second, tick, signals)
-        texts = ",".join([each.text for each in found if each.text])
+        texts = ",".join(filter(None, self.texts.values()))
         line = line_of_text(without_pods.replace(NO_PODS, PODS.format(texts), 1))
         if self.keeps_ticks:
-            self.newest = line, json.loads(without_pods) | {"pods": [each.entry for each in found if each.text]}
+            self.newest = line, json.loads(without_pods) | {"pods": [*filter(None, self.entries.values())]}
         return line
 
     def record_of(self, line: str) -> dict[str, Any]:
@@ -104,24 +113,26 @@ class ImportedTimeline(Timeline):
         return record if line is newest else json.loads(line)
 
     def steady_of(self, pod: Pod, rows: Rows, is_once: bool) -> Steady:
-        """A pod's entry, made anew where something stands in it once."""
+        """A pod's entry, made again if this tick alone has something in it."""
         found = Steady() if is_once else self.steady.setdefault(pod.uid, Steady())
         if found.made < STEADY:
             self.guesses.has_news = False
             found.entry = self.entry(pod, None)
             found.text = "" if found.entry is None else shown(found.entry)
             found.made = found.made + 1 if self.guesses.has_news else STEADY
-            if found.made == STEADY and not is_once:
-                self.kept[pod.uid] = found
         if is_once:
             self.forget(pod.uid)
+        elif found.made == STEADY:
+            self.unsettled.pop(pod.uid, None)
         if pod.key not in rows:
             return found
+        # the next tick has its entry without these rows
+        self.unsettled[pod.uid] = pod
         entry = self.with_rows(pod.key, found.entry, rows)
         return Steady(entry, shown(entry))
 
     def mark(self, uid: str, name: str, attempt: int, marks: tuple[str, ...]) -> None:
-        """Parts of an instance that were guessed, beside those that were known to be."""
+        """Parts of an instance that were guessed, as well as the parts known to be."""
         place = uid, name, attempt
         new = tuple(dict.fromkeys([*self.guesses.guessed.get(place, ()), *marks]))
         if new:
@@ -129,13 +140,19 @@ class ImportedTimeline(Timeline):
             self.forget(uid)
 
     def forget(self, uid: str) -> None:
+        """What the entry of a pod was is not what it will be."""
         self.steady.pop(uid, None)
-        self.kept.pop(uid, None)
+        if uid in self.there:
+            self.unsettled[uid] = self.there[uid]
 
     def depart(self, pods: list[Pod]) -> None:
         super().depart(pods)
         for pod in pods:
-            self.forget(pod.uid)
+            for kept in (self.steady, self.there, self.unsettled):
+                kept.pop(pod.uid, None)
+            del self.texts[pod.key], self.entries[pod.key]
+        if pods:
             # a journal has more pods than a trace, and each of them looks through what is kept of the others
-            self.last_placed = {place: second for place, second in self.last_placed.items() if place[0] != pod.uid}
-            self.successes = {place: run for place, run in self.successes.items() if place[0] != pod.uid}
+            gone = {pod.uid for pod in pods}
+            self.last_placed = {place: second for place, second in self.last_placed.items() if place[0] not in gone}
+            self.successes = {place: run for place, run in self.successes.items() if place[0] not in gone}

@@ -1,4 +1,4 @@
-"""What is said of a journal at the end: what it had and what it lacked, by kind; and the node line."""
+"""What is printed of a journal at the end: what it had and what it lacked, by kind; and the node line."""
 
 from __future__ import annotations
 
@@ -36,7 +36,7 @@ NAMED = 3
 
 def node_line(importer: Importer, name: str, second: int | None) -> dict[str, Any]:
     """The node line of a trace that begins at a second, or of the one trace of all, with the thresholds that the
-    journal tells of."""
+    journal shows."""
     known = importer.capacity
     thresholds = importer.thresholds.of_all(known)[0] if second is None else importer.thresholds.of(second, known)
     capacity = {signal: known[signal] for signal in SIGNALS if signal in known}
@@ -46,7 +46,7 @@ def node_line(importer: Importer, name: str, second: int | None) -> dict[str, An
 
 
 def lines_of(importer: Importer, readers: list[Reader], counts: Counts, words: Namespace) -> list[str]:
-    """What is said, a line each."""
+    """What is printed, a line each."""
     kinds, placed = importer.kinds, importer.placing.counts
     span = f"{stamp(importer.begun)} to {stamp(importer.now)}"
     had = [f"{called} {kinds[kind]}" for kind, (called, _) in KINDS.items() if kinds[kind]]
@@ -105,7 +105,7 @@ def lacking(importer: Importer, kinds: Counter[str], placed: Counter[str], has_s
 
 
 def of_thresholds(importer: Importer) -> list[str]:
-    """The thresholds that the journal told of."""
+    """The thresholds that the journal showed."""
     members, has_others = importer.thresholds.of_all(importer.capacity)
     limits = [f"{signal} {limit} ({kind})" for kind, name in (("hard", HARD), ("soft", SOFT))
               for signal, limit in members.get(name, {}).items()]

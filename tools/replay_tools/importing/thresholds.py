@@ -1,4 +1,4 @@
-"""The eviction thresholds that a journal tells of, by the processes of the kubelet; and what its rounds show of how
+"""The eviction thresholds that a journal shows, by the processes of the kubelet; and what its rounds show of how
 long a condition stays, and of how much has to be reclaimed."""
 
 from __future__ import annotations
@@ -30,7 +30,7 @@ NEAR = 1e-6
 
 @dataclass
 class Configuration:
-    """What one process of the kubelet says. Limits that its rounds show are in whole units, by signal."""
+    """What one process of the kubelet reports. Limits that its rounds show are in whole units, by signal."""
     begun: float
     hard: Optional[dict[str, str]] = None
     soft: dict[str, tuple[str, str]] = field(default_factory=dict)
@@ -38,7 +38,7 @@ class Configuration:
     shown: dict[str, set[int]] = field(default_factory=dict)
     # by how much a signal was above its limit while that was not reclaimed
     unreclaimed: dict[str, int] = field(default_factory=dict)
-    # when a round met a condition last; how long one was true behind that, and behind how long it was not
+    # when a round met a condition last; how long one was true after that, and after how long it was not
     met: dict[str, int] = field(default_factory=dict)
     held: int = 0
     over: Optional[int] = None
@@ -57,11 +57,11 @@ class Configuration:
                 self.over = min(second - since, self.over or second)
                 del self.met[condition]
 
-    # --- what stands in a node line ---
+    # --- the members of a node line ---
 
     def flag(self, name: str) -> Optional[str]:
-        """The value of a flag that counts: without a file of a configuration each does, beside one those that were
-        given, which are known by their not being a kubelet's own."""
+        """The value of a flag that counts. Without a file of a configuration each flag counts, next to one the flags
+        that were given: their values are not a kubelet's defaults."""
         value = self.flags.get(name)
         is_own = value in OWN.get(name, ("",)) and self.flags.get("config") != ""
         return None if is_own else value
@@ -76,7 +76,7 @@ class Configuration:
         return {signal: (limit, graces[signal]) for signal, limit in limits.items() if signal in graces} | self.soft
 
     def hard_limits(self, capacity: dict[str, int]) -> dict[str, str]:
-        """Those of its configuration or its flags, else those that rounds show and that are not soft."""
+        """The limits of its configuration or its flags, else the limits that rounds show and that are not soft."""
         if self.hard is not None:
             return self.hard
         if self.is_whole():
@@ -140,7 +140,7 @@ class Round:
 
 
 class Thresholds:
-    """The configurations of the kubelet's processes, one behind the other, and the round that is read now."""
+    """The configurations of the kubelet's processes, one after the other, and the round that is read now."""
 
     def __init__(self) -> None:
         self.configurations = [Configuration(0.0)]
@@ -167,13 +167,13 @@ class Thresholds:
             self.configurations.append(Configuration(at))
 
     def pause(self) -> None:
-        """Lines are missing: what the rounds before say of conditions is over."""
+        """Lines are missing: what the rounds before show of conditions is over."""
         self.asked = None
         self.round = Round(0.0)
         self.newest.met.clear()
 
     def take_hard(self, fact: facts.HardThresholds) -> None:
-        # it is said once of a process, which may have the number of the one before, as in a container
+        # a process reports it once; it may have the number of the one before, as in a container
         if self.newest.hard is not None:
             self.begin(fact.at)
         self.newest.hard = fact.limits
@@ -205,7 +205,7 @@ class Thresholds:
             self.newest.take_round(int(self.round.at), self.round.met, self.round.true)
         self.round = Round(0.0)
 
-    # --- what stands in a node line ---
+    # --- the members of a node line ---
 
     def of(self, second: int, capacity: dict[str, int]) -> dict[str, Any]:
         """The members of a node line of a trace that begins at a second."""
@@ -216,8 +216,7 @@ class Thresholds:
         return self.asked[2]
 
     def of_all(self, capacity: dict[str, int]) -> tuple[dict[str, Any], bool]:
-        """Those of one trace of all processes, and whether one of these had other thresholds, which do not stand in
-        it."""
+        """The members of one trace of all processes, and whether one of these had other thresholds, which it lacks."""
         known = [(each, each.fields(capacity)) for each in self.configurations if each.has_begun()]
         if not known:
             return self.newest.fields(capacity), False

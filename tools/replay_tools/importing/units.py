@@ -28,7 +28,7 @@ def unit_of(record: Any) -> str:
 
 
 def parts_of(unit: str) -> list[str]:
-    """The names of a unit: of snap.microk8s.daemon-kubelite.service each that its dots part. A scope, as that of a
+    """The names of a unit: of snap.microk8s.daemon-kubelite.service each that its dots part. A scope, as the one of a
     container's own processes, has none."""
     unit = unit.lower()
     return [] if unit.endswith(".scope") else unit.removesuffix(SERVICE).split(".")

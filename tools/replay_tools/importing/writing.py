@@ -1,18 +1,19 @@
-"""Where the lines go: one trace on standard output, or what folding.py has. What a node line reports a journal may tell
-behind what the trace has by then, so it is asked for when it is written."""
+"""Where the lines go: one trace on standard output, or what folding.py has. A journal may show what a node line
+reports after what the trace has by then, so the node line is made when it is written."""
 
 from __future__ import annotations
 
 from collections.abc import Callable
 from typing import Any, Optional, TextIO
 
+from replay_tools.cli.statuses import Status
 from replay_tools.record.formats import LONGEST_LINE, MOST_BYTES, MOST_TICKS, shown
 
 
 class Ended(Exception):
     """Nothing more is written, with a status, for a reason or none."""
 
-    def __init__(self, status: int, reason: Optional[str] = None) -> None:
+    def __init__(self, status: Status, reason: Optional[str] = None) -> None:
         super().__init__(reason)
         self.status = status
         self.reason = reason
@@ -54,12 +55,12 @@ class Plain(Writer):
 
     def write(self, lines: list[str], has_tick: bool) -> None:
         if has_tick and self.ticks_left == 0:
-            raise Ended(0, f"the trace has reached {MOST_TICKS} ticks, the most that one takes")
+            raise Ended(Status.DONE, f"the trace has reached {MOST_TICKS} ticks, the most that one takes")
         self.ticks_left -= has_tick
         data = "".join(f"{line}\n" for line in lines).encode()
         self.bytes_left -= len(data)
         if self.bytes_left < 0:
-            raise Ended(0, "the trace has reached 64 MiB, the most that one takes")
+            raise Ended(Status.DONE, "the trace has reached 64 MiB, the most that one takes")
         self.held.append(data)
 
     def end(self) -> None:

@@ -39,5 +39,5 @@ Without -n a pod may be of any namespace. kubectl replay is the same with the na
 kubectl's own options."""
 NEEDS = """\
 Without python3 the program alone, kubelet_replay, writes reports. With __complete before other arguments it prints what
-the last of them may become, for the completion of shells."""
+the last of them may become, for the completion of bash, zsh, fish and PowerShell. No PowerShell has run its script."""
 TEXT = OF_BOTH.format(of_caller=OF_CALLER, needs=NEEDS)

@@ -27,8 +27,6 @@ def run(given: list[str], caller: Caller) -> int:
     if command.parses_itself:
         return tree.work(command.name, given[1:])
     found = parsing.parsed(command, given[1:], caller.is_of_kubectl)
-    if not command.takes_file:
-        return tree.work(command.name, found)
     if command.is_of_program or command.name == "explain":
         return run_on_traces(command, found, caller)
     words.take_files(found)
