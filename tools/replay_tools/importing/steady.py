@@ -96,8 +96,8 @@ class ImportedTimeline(Timeline):
         rows = self.rows_due(second)
         once = {*(place[0] for place in self.results), *self.deleted, *self.failed, *self.conditions}
         of_rows = [pod for pod in self.there.values() if pod.key in rows] if rows else []
-        changed = self.unsettled | {uid: self.there[uid] for uid in once if uid in self.there}
-        for pod in (changed | {pod.uid: pod for pod in of_rows}).values():
+        due = self.unsettled | {uid: self.there[uid] for uid in once if uid in self.there}
+        for pod in (due | {pod.uid: pod for pod in of_rows}).values():
             found = self.steady_of(pod, rows, pod.uid in once)
             self.texts[pod.key], self.entries[pod.key] = found.text, found.entry
         without_pods = self.line_with([], second, tick, signals)
@@ -148,8 +148,9 @@ class ImportedTimeline(Timeline):
     def depart(self, pods: list[Pod]) -> None:
         super().depart(pods)
         for pod in pods:
-            for kept in (self.steady, self.there, self.unsettled):
-                kept.pop(pod.uid, None)
+            self.steady.pop(pod.uid, None)
+            self.there.pop(pod.uid, None)
+            self.unsettled.pop(pod.uid, None)
             del self.texts[pod.key], self.entries[pod.key]
         if pods:
             # a journal has more pods than a trace, and each of them looks through what is kept of the others
