@@ -19,6 +19,7 @@ import restarts  # noqa: E402
 import scenario  # noqa: E402
 from beside import Fact  # noqa: E402
 from cluster import Changes  # noqa: E402
+from replay_tools.record.words import words_of  # noqa: E402
 
 BEGIN = 1767225600
 NODE = {"kind": "node", "version": 3, "name": "n1", "evictionHard": {"memory.available": "100Mi"},
@@ -345,11 +346,14 @@ class Scenarios(Case):
         """What is started for each recorder takes its words."""
         with tempfile.TemporaryDirectory() as folder:
             os.mkdir(f"{folder}/hard")
+            write("", folder, "curl.conf")
             recorders = evictions.Recorders(SimpleNamespace(folder=folder), None, scenario.RUNS["hard"])
             for name in scenario.BOTH:
-                done = subprocess.run([*recorders.words(name), "--help"], capture_output=True, text=True, check=False)
-                said = done.returncode, done.stdout.partition("\n")[0], done.stderr
-                self.assertEqual(said, (0, "Record a node as a trace.", ""), name)
+                command = recorders.words(name)
+                begin = command.index("--node")
+                self.assertTrue(os.path.exists(command[0]), command[0])
+                taken = words_of(command[begin:])
+                self.assertEqual((taken.node, taken.format.says_gone), (evictions.NODE, name != "standard"), name)
 
     def test_words(self):
         for words in ((), ("--api",), ("--api", "folder", "hard", "other"), ("folder", "some"), ("a", "1", "2"),
