@@ -95,9 +95,10 @@ class ImportedTimeline(Timeline):
         """The line of a tick, put together of the texts of entries."""
         rows = self.rows_due(second)
         once = {*(place[0] for place in self.results), *self.deleted, *self.failed, *self.conditions}
-        of_rows = [pod for pod in self.there.values() if pod.key in rows] if rows else []
-        due = self.unsettled | {uid: self.there[uid] for uid in once if uid in self.there}
-        for pod in (due | {pod.uid: pod for pod in of_rows}).values():
+        due = dict(self.unsettled)
+        if once or rows:
+            due.update((uid, pod) for uid, pod in self.there.items() if uid in once or pod.key in rows)
+        for pod in due.values():
             found = self.steady_of(pod, rows, pod.uid in once)
             self.texts[pod.key], self.entries[pod.key] = found.text, found.entry
         without_pods = self.line_with([], second, tick, signals)
@@ -151,7 +152,8 @@ class ImportedTimeline(Timeline):
             self.steady.pop(pod.uid, None)
             self.there.pop(pod.uid, None)
             self.unsettled.pop(pod.uid, None)
-            del self.texts[pod.key], self.entries[pod.key]
+            self.texts.pop(pod.key, None)
+            self.entries.pop(pod.key, None)
         if pods:
             # a journal has more pods than a trace, and each of them looks through what is kept of the others
             gone = {pod.uid for pod in pods}
