@@ -2,7 +2,6 @@
 shown; what is done to its pods, and when. Its run is tried on a throw-away machine alone."""
 import json
 import os
-import subprocess
 import sys
 import tempfile
 from types import SimpleNamespace
