@@ -6,12 +6,13 @@ TEXT = """\
 It writes one object for each record: the node, its events, its pods with their containers and conditions, the node's
 conditions, and the evictions. docs/report.schema.json has the members of each.
 
-If the trace has it, as a recording does, records of decisions have what the kubelet did, deaths have their reason, and
-records of causes have how often instances died and how long containers waited for what. Without the trace an eviction
+If the trace has it, as a recording does, records of decisions have what the kubelet did, deaths have their reason,
+records of resizes have which container got other requests and limits, and records of causes have how often instances
+died and how long containers waited for what. Without the trace an eviction
 is one that the rules make of the recorded samples, and a code 137 may be of an instance that a tick just left out.
 
 With --sqlite it writes the same records as tables of an SQLite database: nodes, pods, containers, events, conditions,
-evictions, borders, decisions and causes. It replaces a database of its own once the new one is whole, and no other
+resizes, evictions, borders, decisions and causes. It replaces a database of its own once the new one is whole, and no other
 file. A pod has the worst that happened to it, and its rank among the report's pods.
 
 """ + shared.ORDER + """
