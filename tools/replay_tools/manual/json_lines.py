@@ -12,8 +12,8 @@ died and how long containers waited for what. Without the trace an eviction
 is one that the rules make of the recorded samples, and a code 137 may be of an instance that a tick just left out.
 
 With --sqlite it writes the same records as tables of an SQLite database: nodes, pods, containers, events, conditions,
-resizes, evictions, borders, decisions and causes. It replaces a database of its own once the new one is whole, and no other
-file. A pod has the worst that happened to it, and its rank among the report's pods.
+resizes, evictions, borders, decisions and causes. It replaces a database of its own once the new one is whole, and no
+other file. A pod has the worst that happened to it, and its rank among the report's pods.
 
 """ + shared.ORDER + """
 """ + shared.SEVERAL + """
