@@ -51,10 +51,9 @@ container 1 app state=Running code=- restarts=0 ready=false started=false
 nodecondition MemoryPressure True 10
 nodecondition DiskPressure False 0
 nodecondition PIDPressure False 0
-eviction 0 default/b memory.available hard 0
-totals updates=8 events=12 orders=1
+eviction 10 default/b memory.available hard 0
+totals updates=8 events=9 orders=1
 """
-REPORT = REPORT.replace("eviction 0", "eviction 10").replace("totals updates=8", "totals updates=7")
 
 
 def lines_of(*lines):
@@ -77,12 +76,12 @@ HARD = {"memory.available": "100Mi"}
 
 def trace_of(version=3, first=RAISED, then=LOWERED, **node):
     """A trace in which the node runs low on memory at 10, whose first pod then runs out of its own memory. It is
-    resized at 10 and 15."""
+    resized at 10 and 15. An eviction pauses the next one."""
     at_10 = {} if first is None else {"resized": {"app": first}}
     at_15 = {} if then is None else {"resized": {"app": then}}
     low = {"memory.available": "50Mi"}
     return lines_of(
-        {"kind": "node", "name": "n1", "version": version, "evictionHard": HARD, **node},
+        {"kind": "node", "name": "n1", "version": version, "evictionHard": HARD, "evictionPauseSeconds": 30, **node},
         manifest_of("a", requests={"memory": "100Mi"}, limits={"cpu": "1500m"}),
         manifest_of("b", requests={"memory": "300Mi"}),
         {"kind": "tick", "at": 0, "pods": [{"pod": f"default/{name}", "containers": listed(), "usage": {"memory": used}}
