@@ -1,13 +1,13 @@
-mod ProbedLemmas
+pub mod ProbedLemmas
 pub mod ViewLemmas
 mod FirstLemmas
-mod TickLemmas
-mod FollowLemmas
+pub mod TickLemmas
+pub mod FollowLemmas
 mod ListLemmas
 mod ExitLemmas
 mod CountLemmas
 mod RestartLemmas
-mod ComesLemmas
+pub mod ComesLemmas
 mod EventLemmas
 mod StepLemmas
 pub mod FoundLemmas

@@ -13,8 +13,9 @@
 //! ```
 //!
 //! By the invariant of the type each counter in it is the state of the history beside it: probes' counters, back-off,
-//! conditions and their moments, the newest samples of the pod's use, the requests and limits of its containers. `status()` promises `IsStatusOf`, over the whole
-//! history; `events()` promises `AreLastEvents`. An update for which there is no memory gives the piece back as it was.
+//! conditions and their moments, the newest samples of the pod's use, the requests and limits of its containers.
+//! `status()` promises `IsStatusOf`, over the whole history; `events()` promises `AreLastEvents`. An update for which
+//! there is no memory gives the piece back as it was.
 //!
 //! A [`Gate`] makes the updates of a round: the program's counts them, those of tests hold them back.
 #![tactic(auto)]

@@ -14,4 +14,5 @@ mod readiness;
 mod run_length;
 mod startup;
 
+pub use outcome::belonging;
 pub use probe_set::{Cause, ProbeSet, Verdicts};

@@ -25,9 +25,10 @@ fn is_known(outcome: Outcome) -> bool
     !matches!(outcome, Outcome::Unknown)
 }
 
-/// The outcome, if it belongs to an instance of this age in seconds: it is known, and the initial
-/// delay is over.
-pub(crate) fn belonging(probe: Probe, age: u64, outcome: Option<Outcome>) -> Option<Outcome>
+/// The outcome, if it belongs to an instance of this age in seconds: it is a success or a failure, and the probe's
+/// initial delay is over. (Kubernetes, "Pod Lifecycle", "Probe outcome"; "Configure Liveness, Readiness and Startup
+/// Probes", initialDelaySeconds.)
+pub fn belonging(probe: Probe, age: u64, outcome: Option<Outcome>) -> Option<Outcome>
     ensures { result ≡ belonging probe age outcome }
 {
     let outcome = outcome?;

@@ -13,18 +13,19 @@ use std::cmp::Reverse;
 #[derive(Clone, Copy, PartialEq, Eq, PartialOrd, Ord)]
 pub struct RankKey {
     /// Whether it has a sample, where pods without one come before all others.
-    follows_unsampled: bool,
+    pub follows_unsampled: bool,
     /// Whether its usage is within its request, where pods request anything of this.
-    within_request: bool,
-    priority: i32,
+    pub within_request: bool,
+    /// The pod's priority: the pod of the lower one is evicted first.
+    pub priority: i32,
     /// Whether it has a sample, or none was reported missing.
-    is_sampled: bool,
+    pub is_sampled: bool,
     /// By how much its usage is above its request, in thousandths.
-    excess: Reverse<u128>,
+    pub excess: Reverse<u128>,
     /// By how much its usage is below its request, in thousandths.
-    shortfall: u128,
+    pub shortfall: u128,
     /// The pod's number.
-    pub(crate) number: usize,
+    pub number: usize,
 }
 
 /// The key of the pod with this status, by the signal. Whether images and containers have a file system of their own

@@ -1,6 +1,6 @@
--- The raw phase of a pod whose containers all go by the pod's restart policy, as in the standard format (Kubernetes, "Pod
--- Lifecycle", "Pod phase" and "Container restart policy"; "Init Containers"; "Sidecar Containers"; the order of the
--- cases is this profile's).
+-- The raw phase of a pod whose containers all go by the pod's restart policy, as in the standard format (Kubernetes,
+-- "Pod Lifecycle", "Pod phase" and "Container restart policy"; "Init Containers"; "Sidecar Containers"; the order of
+-- the cases is this profile's).
 use Rattle.std.specs.Prelude.{◌≡◌, ℤ, List, Any}
 use Rattle.manifest.specs.declared.policy.Policy.{Policy}
 use Rattle.manifest.specs.declared.policy.Policy.TheVariants.{Never}

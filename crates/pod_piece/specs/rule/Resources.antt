@@ -1,5 +1,6 @@
--- The requests and limits that a pod's containers have by now: those of the manifest, until a tick resizes the container
--- (Kubernetes, "Pod Lifecycle", "Pod resize"; that ticks after the pod's end don't count is this profile's rule).
+-- The requests and limits that a pod's containers have by now: those of the manifest, until a tick resizes the
+-- container (Kubernetes, "Pod Lifecycle", "Pod resize"; that ticks after the pod's end don't count is this profile's
+-- rule).
 use Rattle.std.specs.Prelude.{◌≡◌, ℕ, List, length, Option, Some, unwrap_or, slice_get}
 use Rattle.manifest.specs.declared.pod.ContainerSpec.{ContainerSpec}
 use Rattle.manifest.specs.declared.pod.PodSpec.{PodSpec}
@@ -15,7 +16,7 @@ pub record IsResizedTo (h : List PodTick) (number : ℕ) (first now : Resources)
   pub is_last : IsLastSaid (λ entry. resized_to entry.resized number) h last
   pub now_is : now ≡ unwrap_or last first
 
--- those of each container, by number
+-- the requests and limits of each container, by number
 pub record AreResized (h : List PodTick) (containers : List ContainerSpec) (resources : List Resources)
     : Type 0 where
   pub as_many : length resources ≡ length containers

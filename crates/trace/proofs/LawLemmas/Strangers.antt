@@ -239,7 +239,8 @@ all_known roll es numbers e is = no_fault numbers StrangerPod (sym e ∙ unknown
 
 entries_fault : (heeds : Bool) (roll : Roll) (es : List TickEntry) (kind : FaultKind)
     → placed_of heeds roll es ≡ Err kind
-    → ((kind ≡ StrangerPod) × NamesStranger roll es) ⊎ ((kind ≡ StrangerContainer) × NamesStrangerContainer heeds roll es)
+    → ((kind ≡ StrangerPod) × NamesStranger roll es)
+    ⊎ ((kind ≡ StrangerContainer) × NamesStrangerContainer heeds roll es)
 unfolding placed_of
 entries_fault heeds roll es kind e =
     elim (bind_err (each (number_in roll) es) (λ numbers. each (placed_entry heeds roll) es) kind

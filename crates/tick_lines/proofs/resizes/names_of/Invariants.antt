@@ -6,4 +6,5 @@ use Rattle.tick_lines.proofs.resizes.names_of.Given as goal
 
 abbrev pub invariant-loop-name : goal.invariant-loop-name
 invariant-loop-name l =
-    map string_bytes l.names.items ++ names_in (members_view l.name-iterator) ≡ names_in (members_view l.fn.members.entries)
+    map string_bytes l.names.items ++ names_in (members_view l.name-iterator)
+    ≡ names_in (members_view l.fn.members.entries)
