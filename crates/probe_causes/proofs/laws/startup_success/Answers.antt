@@ -1,0 +1,5 @@
+use Rattle.probe_causes.proofs.Startup.{passes_by_last}
+use Rattle.probe_causes.proofs.laws.startup_success.Goals as goal
+
+pub returns-clause-by_last : goal.returns-clause-by_last
+returns-clause-by_last c = passes_by_last

@@ -1,0 +1,2 @@
+pub mod ResultMoments
+pub mod Laws
