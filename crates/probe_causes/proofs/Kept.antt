@@ -29,9 +29,9 @@ whole which outcome n startup p start ticks c moments counted are =
     let back = counted_back startup start ticks c counted in
     let enough : n ≤ length (results_of which p start c) = are.run.enough in
     let long : length (moments_of which p start c) ≡ length (results_of which p start c) =
-        told_length which p start c in
+    told_length which p start c in
     let split : moments_of which p start (back.0 ++ c) ≡ moments_of which p start back.0 ++ moments_of which p start c =
-        moments_more which p start back.0 c in
+    moments_more which p start back.0 c in
     are.at ∙ sym (last_back n (moments_of which p start back.0) (moments_of which p start c) (omega (arith, long)))
     ∙ ap (λ (ms : List ℕ). last_of n ms) (sym split)
     ∙ ap (λ (ts : List Tick). last_of n (moments_of which p start ts)) back.1

@@ -114,11 +114,11 @@ some_failures (Some p) start before next range fails not =
     let xs : List Outcome = results_of liveness_in p start before in
     let b : Option Outcome = belonging p (next.moment - start) next.entry.liveness in
     let now : FailsInARow f (xs ++ cons_option b []) =
-        subst (FailsInARow f) (results_more liveness_in p start before next) fails in (
-          last_of f (moments_of liveness_in p start (before ++ next ∷ [])),
-          some_last liveness_in Failure f p start before next range.some_failures (failures_now f b xs now not)
-              (λ old. not (length xs, old)),
-        )
+    subst (FailsInARow f) (results_more liveness_in p start before next) fails in (
+      last_of f (moments_of liveness_in p start (before ++ next ∷ [])),
+      some_last liveness_in Failure f p start before next range.some_failures (failures_now f b xs now not)
+          (λ old. not (length xs, old)),
+    )
 
 liveness_kill : (probes : Probes) (start : ℕ) (ticks : List Tick) (next : Tick) → AreInRange probes
     → IsKillOrdered probes start Liveness (ticks ++ next ∷ []) → (IsKillOrdered probes start Liveness ticks → ⊥)
@@ -128,8 +128,7 @@ liveness_kill probes start ticks next range (c, counted, fails) not =
       | inl w ↦
           let now = subst (HasLivenessFailed probes.liveness start) w.3 fails in
           let found = some_failures probes.liveness start w.0 next range.liveness now
-              (λ old. not (w.0, w.1, old)) in
-          (
+          (λ old. not (w.0, w.1, old)) in (
             found.0,
             (w.0 ++ next ∷ [], subst (AreCounted probes.startup start (ticks ++ next ∷ [])) w.3 counted, found.1),
           )
@@ -153,7 +152,7 @@ some_kill probes start cause ticks t range comes =
     let w = up_to_more ticks t comes.holds.within in
     let ordered = subst (IsKillOrdered probes start cause) w.1 comes.holds.so in
     let found = some_kill_now probes start cause (take t ticks) w.0 range ordered
-        (not_before (IsKillOrdered probes start cause) ticks t (kill_lasts probes start cause range) comes) in
+    (not_before (IsKillOrdered probes start cause) ticks t (kill_lasts probes start cause range) comes) in
     subst (λ (ts : List Tick). (moments : List ℕ) × AreKillFailures probes start cause ts moments) (sym w.1) found
 
 -- each moment is that of a result that belongs
@@ -166,7 +165,7 @@ in_words which outcome n probe start ticks moments k moment are at =
     let long : length ms ≡ length xs = told_length which probe start ticks in
     let enough : n ≤ length xs = are.run.enough in
     let there : slice_get ms ((length ms - n) + k) ≡ Some moment =
-        drop_at_place (length ms - n) ms k moment (subst (λ (l : List ℕ). slice_get l k ≡ Some moment) are.at at) in
+    drop_at_place (length ms - n) ms k moment (subst (λ (l : List ℕ). slice_get l k ≡ Some moment) are.at at) in
     let within : (length ms - n) + k < length ms = slice_get_within ms ((length ms - n) + k) moment there in
     paired which probe start ticks outcome moment ((length ms - n) + k) there
     (are.run.all ((length ms - n) + k) (omega (arith, long)) (omega (arith, long)))

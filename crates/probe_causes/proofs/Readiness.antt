@@ -60,11 +60,11 @@ some_successes (Some p) start before next some range holds not =
     let xs : List Outcome = results_of readiness_in p start before in
     let b : Option Outcome = belonging p (next.moment - start) next.entry.readiness in
     let now : HoldsAfter s f (xs ++ cons_option b []) =
-        subst (HoldsAfter s f) (results_more readiness_in p start before next) holds in (
-          last_of s (moments_of readiness_in p start (before ++ next ∷ [])),
-          some_last readiness_in Success s p start before next range.some_successes (successes_now s f b xs now not)
-              (λ old. not (successes_hold s f xs old)),
-        )
+    subst (HoldsAfter s f) (results_more readiness_in p start before next) holds in (
+      last_of s (moments_of readiness_in p start (before ++ next ∷ [])),
+      some_last readiness_in Success s p start before next range.some_successes (successes_now s f b xs now not)
+          (λ old. not (successes_hold s f xs old)),
+    )
 
 -- none is ready without a tick that counts
 none_ready : (readiness : Option Probe) (start : ℕ) → IsSome readiness → HasNumbersInRange readiness
@@ -81,8 +81,7 @@ some_ready probes start ticks next range some (started, (c, counted, holds)) not
       | inl w ↦
           let now = subst (HoldsReady probes.readiness start) w.3 holds in
           let found = some_successes probes.readiness start w.0 next some range.readiness now
-              (λ old. not (w.2, (w.0, w.1, old))) in
-          (
+          (λ old. not (w.2, (w.0, w.1, old))) in (
             found.0,
             (w.0 ++ next ∷ [], subst (AreCounted probes.startup start (ticks ++ next ∷ [])) w.3 counted, found.1),
           )
@@ -104,11 +103,11 @@ some_failures (Some p) start before next range holds not =
     let xs : List Outcome = results_of readiness_in p start before in
     let b : Option Outcome = belonging p (next.moment - start) next.entry.readiness in
     let ended : HoldsAfter s f (xs ++ cons_option b []) → ⊥ =
-        λ h. not (subst (HoldsAfter s f) (sym (results_more readiness_in p start before next)) h) in (
-          last_of f (moments_of readiness_in p start (before ++ next ∷ [])),
-          some_last readiness_in Failure f p start before next range.some_failures (failures_undo s f b xs holds ended)
-              (λ old. undone s f xs range.some_successes range.some_failures holds old),
-        )
+    λ h. not (subst (HoldsAfter s f) (sym (results_more readiness_in p start before next)) h) in (
+      last_of f (moments_of readiness_in p start (before ++ next ∷ [])),
+      some_last readiness_in Failure f p start before next range.some_failures (failures_undo s f b xs holds ended)
+          (λ old. undone s f xs range.some_successes range.some_failures holds old),
+    )
 
 pub some_unready : (probes : Probes) (start : ℕ) (ticks : List Tick) (next : Tick) → AreInRange probes
     → IsInstanceReady probes start ticks → (IsInstanceReady probes start (ticks ++ next ∷ []) → ⊥)
@@ -117,7 +116,7 @@ some_unready probes start ticks next range (started, (c, counted, holds)) not =
     let more = AreCounted-more probes.startup start ticks (next ∷ []) c started counted in
     let later = started_later probes.startup start ticks (next ∷ []) started in
     let found = some_failures probes.readiness start c next range.readiness holds
-        (λ now. not (later, (c ++ next ∷ [], more, now))) in
+    (λ now. not (later, (c ++ next ∷ [], more, now))) in
     (found.0, (c ++ next ∷ [], more, found.1))
 
 -- readiness by the last results

@@ -21,7 +21,7 @@ success_now p start ticks next passes not =
     let xs : List Outcome = results_of startup_in p start ticks in
     let b : Option Outcome = belonging p (next.moment - start) next.entry.startup in
     let more : results_of startup_in p start (ticks ++ next ∷ []) ≡ xs ++ cons_option b [] =
-        results_more startup_in p start ticks next in
+    results_more startup_in p start ticks next in
     let w = passes_now p.failure_threshold b xs (subst (PassesWithin p.failure_threshold) more passes) not in
     record {
       place = length xs;
@@ -36,5 +36,5 @@ passes_by_last probe start ticks t comes =
     let w = up_to_more ticks t comes.holds.within in
     let passes = subst (HasPassed probe start) w.1 comes.holds.so in
     let found = success_now probe start (take t ticks) w.0 passes
-        (not_before (HasPassed probe start) ticks t (passed_lasts probe start) comes) in
+    (not_before (HasPassed probe start) ticks t (passed_lasts probe start) comes) in
     subst (λ (ts : List Tick). IsFirstSuccess probe start ts (length (startup_results probe start ts))) (sym w.1) found

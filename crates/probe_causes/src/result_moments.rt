@@ -53,8 +53,20 @@ impl ResultMoments {
         let [startup, liveness, readiness] = results;
         let start = self.start;
         take_result(&mut self.startup, self.probes.startup(), start, at, startup)?;
-        take_result(&mut self.liveness, self.probes.liveness(), start, at, liveness)?;
-        take_result(&mut self.readiness, self.probes.readiness(), start, at, readiness)
+        take_result(
+            &mut self.liveness,
+            self.probes.liveness(),
+            start,
+            at,
+            liveness,
+        )?;
+        take_result(
+            &mut self.readiness,
+            self.probes.readiness(),
+            start,
+            at,
+            readiness,
+        )
     }
 
     /// The moments of the failures for which the instance is to be killed, in the tick that was taken last.
@@ -64,9 +76,7 @@ impl ResultMoments {
             → IfOk result (λ found. found.items ≡ moments) }
     {
         match cause {
-            Cause::Startup => {
-                first_of(alloc, &self.startup, failures_of(self.probes.startup()))
-            }
+            Cause::Startup => { first_of(alloc, &self.startup, failures_of(self.probes.startup())) }
             Cause::Liveness => {
                 last_of(alloc, &self.liveness, failures_of(self.probes.liveness()))
             }
@@ -79,7 +89,11 @@ impl ResultMoments {
             → AreMomentsOf probes start ticks self.now → AreReadySuccesses probes start ticks moments
             → IfOk result (λ found. found.items ≡ moments) }
     {
-        last_of(alloc, &self.readiness, successes_of(self.probes.readiness()))
+        last_of(
+            alloc,
+            &self.readiness,
+            successes_of(self.probes.readiness()),
+        )
     }
 
     /// The moments of the failures that make the instance unready, in the tick that was taken last.
