@@ -34,4 +34,5 @@ pub fn startup_success()
     ensures one { laws.OneSuccess }
     ensures follows { laws.PassFollows }
     ensures by_last { laws.PassesByLast }
+    ensures one_moment { laws.OnePassMoment }
 {}

@@ -1,10 +1,11 @@
 //! The moments of an instance's results.
 
-ghost use Rattle.std.specs.Prelude.{◌≡◌, ℕ, List, [], ◌∷◌, ◌++◌, length, Some, OnOk, IfOk};
+ghost use Rattle.std.specs.Prelude.{◌≡◌, ℕ, List, [], ◌∷◌, ◌++◌, length, Some, if◌then◌else◌, IsTrue, OnOk, IfOk};
 ghost use Rattle.manifest.specs.rule.Probe.{Probe as AProbe, Probes as AllProbes};
 ghost use Rattle.probes.specs.rule.Ticks.{Tick, tick, startup_results};
 ghost use Rattle.probe_causes.specs.rule.Causes.{AreKillFailures, AreReadySuccesses, AreUnreadyFailures};
-ghost use Rattle.probe_causes.specs.state.ResultMoments.{AreMomentsOf, told_with};
+ghost use Rattle.probe_causes.specs.rule.Causes.{IsPassMoment};
+ghost use Rattle.probe_causes.specs.state.ResultMoments.{AreMomentsOf, told_with, PassesNow};
 
 use crate::moments::{add_told, first_of, last_of};
 use manifest::{Outcome, Probe, Probes};
@@ -16,6 +17,7 @@ use std::alloc::{AllocError, Global};
 pub struct ResultMoments {
     probes: Probes,
     start: u64,
+    passed: Option<u64>,
     startup: Vec<u64>,
     liveness: Vec<u64>,
     readiness: Vec<u64>,
@@ -29,6 +31,7 @@ impl ResultMoments {
         ResultMoments {
             probes,
             start,
+            passed: None,
             startup: Vec::new(alloc),
             liveness: Vec::new(alloc),
             readiness: Vec::new(alloc),
@@ -43,10 +46,25 @@ impl ResultMoments {
         self.start
     }
 
-    /// Takes the results of the next tick, at this moment in seconds, in the order startup, liveness, readiness. An
-    /// error leaves some of the results out.
-    pub fn take(&mut self, at: u64, results: [Option<Outcome>; 3]) -> Result<(), AllocError>
+    /// The moment, in seconds, of the tick in which startup passed; none while it has not, and none without a startup
+    /// probe.
+    pub fn passed(&self) -> Option<u64>
+        ensures { (probes : AllProbes) (start : ℕ) (ticks : List Tick) → AreMomentsOf probes start ticks self.now
+            → IsPassMoment probes.startup start ticks result }
+    {
+        self.passed
+    }
+
+    /// Takes the results of the next tick, at this moment in seconds, in the order startup, liveness, readiness;
+    /// `passes`: the startup probe passes in this tick. An error leaves some of the results out.
+    pub fn take(
+        &mut self,
+        at: u64,
+        results: [Option<Outcome>; 3],
+        passes: bool,
+    ) -> Result<(), AllocError>
         ensures { OnOk result ((probes : AllProbes) (start : ℕ) (ticks : List Tick)
+            → PassesNow probes.startup start ticks (tick at results) (IsTrue passes)
             → AreMomentsOf probes start ticks self.old
             → AreMomentsOf probes start (ticks ++ tick at results ∷ []) self.new) }
     {
@@ -66,7 +84,9 @@ impl ResultMoments {
             start,
             at,
             readiness,
-        )
+        )?;
+        self.passed = pass_moment(self.passed, passes, at);
+        Ok(())
     }
 
     /// The moments of the failures for which the instance is to be killed, in the tick that was taken last.
@@ -114,6 +134,13 @@ impl ResultMoments {
     {
         self.startup.as_slice().len()
     }
+}
+
+/// The moment of the pass, which comes at this moment or came before, if it has come.
+fn pass_moment(before: Option<u64>, passes: bool, at: u64) -> Option<u64>
+    ensures { result ≡ (if passes then Some at else before) }
+{
+    if passes { Some(at) } else { before }
 }
 
 /// Adds the moment of a probe's result, if there is a probe and the result belongs.

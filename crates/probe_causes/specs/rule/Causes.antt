@@ -2,15 +2,15 @@
 -- that make it ready, the failures that make it unready, and the success of its startup probe. All ticks are those of
 -- one instance up to the tick of the event. (Kubernetes, "Configure Liveness, Readiness and Startup Probes",
 -- "Configure Probes": successThreshold, failureThreshold; "Pod Lifecycle", "Types of probe".)
-use Rattle.std.specs.Prelude.{◌≡◌, ℕ, suc, ◌<◌, ◌-◌, List, length, take, slice_get, Option, Some, IsSomeAnd}
+use Rattle.std.specs.Prelude.{◌≡◌, ℕ, suc, ◌<◌, ◌-◌, List, length, take, slice_get, Option, Some, None, IsSomeAnd}
 use Rattle.manifest.specs.declared.outcome.Outcome.{Outcome}
 use Rattle.manifest.specs.declared.outcome.Outcome.TheVariants.{Success, Failure}
 use Rattle.manifest.specs.rule.Probe.{Probe, Probes}
-use Rattle.histories.specs.rule.Histories.{IsFirst, last_moment}
+use Rattle.histories.specs.rule.Histories.{HoldsAt, IsFirst, IsFirstMoment, last_moment}
 use Rattle.probes.specs.declared.probe_set.Cause.{Cause}
 use Rattle.probes.specs.declared.probe_set.Cause.TheVariants.{Startup, Liveness}
 use Rattle.probes.specs.rule.Outcomes.{EndsRun, FailsWithin}
-use Rattle.probes.specs.rule.Ticks.{Results, Tick, startup_results}
+use Rattle.probes.specs.rule.Ticks.{Results, Tick, startup_results, HasPassed}
 use Rattle.probes.specs.rule.Container.{AreCounted}
 use Rattle.probe_causes.specs.rule.Moments.{startup_in, liveness_in, readiness_in, results_of, moments_of, last_of}
 
@@ -53,3 +53,8 @@ pub record IsFirstSuccess (probe : Probe) (start : ℕ) (ticks : List Tick) (num
   pub counts : number ≡ suc place
   pub in_time : place < probe.failure_threshold
   pub first : IsFirst (λ k. slice_get (startup_results probe start ticks) k ≡ Some Success) place
+
+-- the moment of the tick in which startup passed: none while it has not, and none without a startup probe
+abbrev pub IsPassMoment : Option Probe → ℕ → List Tick → Option ℕ → Type 0
+IsPassMoment None start ticks moment = moment ≡ None
+IsPassMoment (Some probe) start ticks moment = IsFirstMoment ticks (HoldsAt (HasPassed probe start) ticks) moment

@@ -10,6 +10,7 @@ use Rattle.probes.specs.rule.Ticks.{Results, Tick, belonging, startup_results, H
 use Rattle.probes.specs.rule.Container.{IsKillOrdered, IsInstanceReady, IsPassTick}
 use Rattle.probes.specs.state.Container.{AreInRange, IsKillTick}
 use Rattle.probe_causes.specs.rule.Causes.{AreLast, AreKillFailures, AreReadySuccesses, AreUnreadyFailures, IsFirstSuccess}
+use Rattle.probe_causes.specs.rule.Causes.{IsPassMoment}
 
 -- the failures of a kill are one list
 abbrev pub OneKill : Type 0
@@ -94,3 +95,8 @@ PassFollows = (probe : Probe) (start : ℕ) (ticks : List Tick) (number : ℕ)
 abbrev pub PassesByLast : Type 0
 PassesByLast = (probe : Probe) (start : ℕ) (ticks : List Tick) (t : ℕ) → IsPassTick probe start ticks t
     → IsFirstSuccess probe start (up_to ticks t) (length (startup_results probe start (up_to ticks t)))
+
+-- the moment of the pass is one
+abbrev pub OnePassMoment : Type 0
+OnePassMoment = (startup : Option Probe) (start : ℕ) (ticks : List Tick) (moment other : Option ℕ)
+    → IsPassMoment startup start ticks moment → IsPassMoment startup start ticks other → moment ≡ other
