@@ -79,6 +79,13 @@ kill_count probes start Startup ticks moments are =
 kill_count probes start Liveness ticks moments (c, counted, are) =
     mapped _ _ probes.liveness (λ p a. last_count liveness_in Failure p.failure_threshold p start c moments a) are
 
+-- where there are such failures, the kill is ordered
+pub kill_follows : (probes : Probes) (start : ℕ) (cause : Cause) (ticks : List Tick) (moments : List ℕ)
+    → AreKillFailures probes start cause ticks moments → IsKillOrdered probes start cause ticks
+kill_follows probes start Startup ticks moments are = mapped _ _ probes.startup (λ p a. a.failed) are
+kill_follows probes start Liveness ticks moments (c, counted, are) =
+    (c, counted, mapped _ _ probes.liveness (λ p a. (_, a.run)) are)
+
 -- a startup that has failed has its first failures
 some_first : (startup : Option Probe) (start : ℕ) (ticks : List Tick) → HasStartupFailed startup start ticks
     → (moments : List ℕ) × IsSomeAnd startup (λ p. AreFirst p start ticks moments)
@@ -137,7 +144,7 @@ liveness_kill probes start ticks next range (c, counted, fails) not =
           (subst (HasLivenessFailed probes.liveness start) none fails))
     ]
 
-some_kill_now : (probes : Probes) (start : ℕ) (cause : Cause) (ticks : List Tick) (next : Tick) → AreInRange probes
+pub some_kill_now : (probes : Probes) (start : ℕ) (cause : Cause) (ticks : List Tick) (next : Tick) → AreInRange probes
     → IsKillOrdered probes start cause (ticks ++ next ∷ []) → (IsKillOrdered probes start cause ticks → ⊥)
     → (moments : List ℕ) × AreKillFailures probes start cause (ticks ++ next ∷ []) moments
 some_kill_now probes start Startup ticks next range ordered not =

@@ -20,7 +20,7 @@ use Rattle.probe_causes.proofs.Told.{results_more}
 use Rattle.probe_causes.proofs.Runs.{passes_now}
 use Rattle.probe_causes.proofs.Counted.{not_before, up_to_more}
 
-success_now : (p : Probe) (start : ℕ) (ticks : List Tick) (next : Tick) → HasPassed p start (ticks ++ next ∷ [])
+pub success_now : (p : Probe) (start : ℕ) (ticks : List Tick) (next : Tick) → HasPassed p start (ticks ++ next ∷ [])
     → (HasPassed p start ticks → ⊥)
     → IsFirstSuccess p start (ticks ++ next ∷ []) (length (startup_results p start (ticks ++ next ∷ [])))
 success_now p start ticks next passes not =

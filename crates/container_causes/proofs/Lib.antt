@@ -1,0 +1,4 @@
+pub mod RunsOnLemmas
+pub mod TakenLemmas
+pub mod KeptLemmas
+pub mod CauseLemmas

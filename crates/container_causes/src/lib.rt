@@ -1,0 +1,12 @@
+//! What led to the events of a container. (Kubernetes, "Pod Lifecycle", "Types of probe" and "Container restart
+//! policy"; "Configure Liveness, Readiness and Startup Probes".)
+//!
+//! The definitions say it over all ticks of the container. A [`WatchedContainer`] takes the ticks one by one, as a
+//! `Container` does, and keeps what the causes need of the past.
+#![tactic(auto)]
+
+mod instance_results;
+pub mod laws;
+mod watched_container;
+
+pub use watched_container::WatchedContainer;

@@ -1,0 +1,73 @@
+//! A container with what the causes of its events need of the past.
+
+ghost use Rattle.std.specs.Prelude.{◌≡◌, ◌<◌, ℕ, List, [], ◌∷◌, ◌++◌, length, Some, option_map, IsSome, IsSomeAnd, IfOk};
+ghost use Rattle.quantity.specs.rule.Duration.{end_of_time};
+ghost use Rattle.histories.specs.rule.Histories.{recorded};
+ghost use Rattle.manifest.specs.declared.pod.ContainerSpec.{ContainerSpec as AContainerSpec};
+ghost use Rattle.state_diff.specs.rule.Instances.{IsNewest, IsExit};
+ghost use Rattle.containers.specs.declared.pod_event_kind.PodEventKind.TheVariants.{Kill, StartupPassed, Ready, Unready};
+ghost use Rattle.containers.specs.rule.Ticks.{ContainerTick, listings};
+ghost use Rattle.containers.specs.rule.Events.{AreEvents, IsKilled, Passes, ChangesReadiness};
+ghost use Rattle.containers.specs.state.Container.{Accepts, IsBefore};
+ghost use Rattle.container_causes.specs.rule.Results.{AreKillFailures, AreReadySuccesses, AreUnreadyFailures};
+ghost use Rattle.container_causes.specs.rule.Results.{IsStartupSuccess, IsPassMoment};
+ghost use Rattle.container_causes.specs.state.Watched.{IsWatchedOf, RunsOn};
+
+use crate::instance_results::{InstanceResults, begin, take_results, takes_results};
+use containers::{Container, ContainerEvents};
+use manifest::{ContainerSpec, MaxRestartDelay, OwnRestarts, Policy, Probes};
+use observations::ContainerObs;
+use probes::Cause;
+use std::alloc::{AllocError, Global};
+
+/// A container, as its ticks so far leave it, with the moments of its newest instance's results.
+#[derive(Drop)]
+pub struct WatchedContainer {
+    alloc: Global,
+    probes: Probes,
+    container: Container,
+    instance: Option<InstanceResults>,
+}
+
+impl WatchedContainer {
+    /// A container that no tick has shown yet, on a node with this maximum restart delay.
+    pub fn new(alloc: Global, spec: &ContainerSpec, max_restart_delay: MaxRestartDelay) -> Self
+        ensures { IsWatchedOf spec.now max_restart_delay [] result }
+    {
+        WatchedContainer {
+            alloc,
+            probes: spec.probes,
+            container: Container::new(spec, max_restart_delay),
+            instance: None,
+        }
+    }
+
+    /// Takes the next tick, as `Container::step` does, and answers its events. After an error the container takes no
+    /// further tick.
+    pub fn step(
+        &mut self,
+        policy: Policy,
+        own: Option<&OwnRestarts>,
+        at: u64,
+        observed: ContainerObs,
+    ) -> Result<ContainerEvents, AllocError>
+        requires accepted { Accepts self.old.container observed.seen }
+        requires later { IsBefore self.old.container at }
+        requires bounded { at < end_of_time }
+        ensures state { IfOk result (λ events. (spec : AContainerSpec) (max_restart_delay : ℕ) (h : List ContainerTick)
+            → option_map (λ o. o.now) own.entry ≡ spec.own_restarts
+            → IsWatchedOf spec max_restart_delay h self.old
+            → IsWatchedOf spec max_restart_delay (h ++ recorded at observed ∷ []) self.new) }
+        ensures events { IfOk result (λ events. (spec : AContainerSpec) (max_restart_delay : ℕ)
+            (h : List ContainerTick)
+            → option_map (λ o. o.now) own.entry ≡ spec.own_restarts
+            → IsWatchedOf spec max_restart_delay h self.old
+            → AreEvents policy max_restart_delay spec (h ++ recorded at observed ∷ []) (length h) events) }
+    {
+        let events = self.container.step(policy, own, at, observed);
+        let takes = takes_results(observed.seen, self.container.differ().newest());
+        begin(&mut self.instance, self.alloc, self.probes, events.started, at);
+        take_results(&mut self.instance, events.passed, takes, at, observed.results)?;
+        Ok(events)
+    }
+}
