@@ -36,7 +36,7 @@ said_one R one h a m n s t =
     one s.start s.ticks m n s.says (said (R n) h a s.start s.ticks s.starts s.are_ticks t)
 
 -- what follows from what is said
-said_so : (Q R : ℕ → List ProbeTick → Type 0) (h : List ContainerTick) (a : ℕ)
+pub said_so : (Q R : ℕ → List ProbeTick → Type 0) (h : List ContainerTick) (a : ℕ)
     → ((start : ℕ) (ticks : List ProbeTick) → Q start ticks → R start ticks) → SaysOf Q h a → SaysOf R h a
 said_so Q R h a f s = record {
   start = s.start;

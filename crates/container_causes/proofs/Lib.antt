@@ -2,3 +2,5 @@ pub mod RunsOnLemmas
 pub mod TakenLemmas
 pub mod KeptLemmas
 pub mod CauseLemmas
+pub mod ReadinessLemmas
+pub mod LookedUpLemmas

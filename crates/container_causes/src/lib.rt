@@ -7,6 +7,7 @@
 
 mod instance_results;
 pub mod laws;
+mod looked_up;
 mod watched_container;
 
 pub use watched_container::WatchedContainer;

@@ -14,6 +14,7 @@ ghost use Rattle.container_causes.specs.rule.Results.{IsStartupSuccess, IsPassMo
 ghost use Rattle.container_causes.specs.state.Watched.{IsWatchedOf, RunsOn};
 
 use crate::instance_results::{InstanceResults, begin, take_results, takes_results};
+use crate::looked_up::{kill_failures_of, ready_successes_of, startup_count_of, unready_failures_of};
 use containers::{Container, ContainerEvents};
 use manifest::{ContainerSpec, MaxRestartDelay, OwnRestarts, Policy, Probes};
 use observations::ContainerObs;
@@ -69,5 +70,53 @@ impl WatchedContainer {
         begin(&mut self.instance, self.alloc, self.probes, events.started, at);
         take_results(&mut self.instance, events.passed, takes, at, observed.results)?;
         Ok(events)
+    }
+
+    /// The moments of the failures for which the newest instance is to be killed, where the tick that was taken last
+    /// has that event.
+    pub fn kill_failures(&self, cause: Cause) -> Result<Vec<u64>, AllocError>
+        ensures { (spec : AContainerSpec) (max_restart_delay : ℕ) (h : List ContainerTick) (x : ContainerTick) (a : ℕ)
+            → IsWatchedOf spec max_restart_delay (h ++ x ∷ []) self.now
+            → IsKilled spec (h ++ x ∷ []) (length h) (Kill a cause)
+            → IfOk result (λ found. AreKillFailures spec cause a (h ++ x ∷ []) found.items) }
+    {
+        kill_failures_of(&self.instance, self.alloc, cause)
+    }
+
+    /// The moments of the successes that made the container ready, where the tick that was taken last has that event,
+    /// and the container a readiness probe.
+    pub fn ready_successes(&self) -> Result<Vec<u64>, AllocError>
+        ensures { (spec : AContainerSpec) (max_restart_delay : ℕ) (h : List ContainerTick) (x : ContainerTick)
+            (before : WatchedContainer) → IsWatchedOf spec max_restart_delay h before
+            → Accepts before.container x.entry.seen → IsWatchedOf spec max_restart_delay (h ++ x ∷ []) self.now
+            → ChangesReadiness spec (h ++ x ∷ []) (length h) Ready → IsSome spec.probes.readiness
+            → IfOk result (λ found. (a : ℕ) × IsNewest (listings (h ++ x ∷ [])) a
+            × AreReadySuccesses spec a (h ++ x ∷ []) found.items) }
+    {
+        ready_successes_of(&self.instance, self.alloc)
+    }
+
+    /// The moments of the failures that made the container unready, where the tick that was taken last has that event,
+    /// and the instance that was ready did not exit.
+    pub fn unready_failures(&self) -> Result<Vec<u64>, AllocError>
+        ensures { (spec : AContainerSpec) (max_restart_delay : ℕ) (h : List ContainerTick) (x : ContainerTick)
+            (before : WatchedContainer) (a : ℕ) → IsWatchedOf spec max_restart_delay h before
+            → Accepts before.container x.entry.seen → IsWatchedOf spec max_restart_delay (h ++ x ∷ []) self.now
+            → ChangesReadiness spec (h ++ x ∷ []) (length h) Unready → IsNewest (listings h) a
+            → ((t : ℕ) → IsExit (listings (h ++ x ∷ [])) a t → ⊥)
+            → IfOk result (λ found. AreUnreadyFailures spec a (h ++ x ∷ []) found.items) }
+    {
+        unready_failures_of(&self.instance, self.alloc)
+    }
+
+    /// The number of the success by which the startup probe of the newest instance passed, counted from 1, where the
+    /// tick that was taken last has that event.
+    pub fn startup_success(&self) -> usize
+        ensures { (spec : AContainerSpec) (max_restart_delay : ℕ) (h : List ContainerTick) (x : ContainerTick) (a : ℕ)
+            → IsWatchedOf spec max_restart_delay (h ++ x ∷ []) self.now
+            → Passes spec (h ++ x ∷ []) (length h) (StartupPassed a)
+            → IsStartupSuccess spec a (h ++ x ∷ []) result }
+    {
+        startup_count_of(&self.instance)
     }
 }

@@ -1,5 +1,5 @@
 -- The results that make an instance ready and unready.
-use Rattle.std.proofs.Common.{◌≡◌, ◌∙◌, inl, inr, ℕ, ◌-◌, ◌≤◌, List, [], ◌∷◌, ◌++◌, length, Option, Some, None, refl, sym}
+use Rattle.std.proofs.Common.{◌≡◌, ◌∙◌, inl, inr, ℕ, ◌-◌, ◌<◌, ◌≤◌, List, [], ◌∷◌, ◌++◌, length, Option, Some, None, refl, sym}
 use Rattle.std.proofs.Common.{subst, arith}
 use Rattle.std.specs.Prelude.{IsSome, IsSomeAnd}
 use Rattle.std.specs.List.{cons_option}
@@ -89,6 +89,18 @@ some_ready probes start ticks next range some (started, (c, counted, holds)) not
           absurd (none_ready probes.readiness start some range.readiness
           (subst (HoldsReady probes.readiness start) none holds))
     ]
+
+-- without a tick an instance with a readiness probe is not ready
+pub not_ready_yet : (probes : Probes) (start : ℕ) → IsSome probes.readiness → AreInRange probes
+    → IsInstanceReady probes start [] → ⊥
+not_ready_yet probes start some range (started, (c, counted, holds)) =
+    none_ready probes.readiness start some range.readiness
+    (subst (HoldsReady probes.readiness start) (none_counted probes.startup c counted) holds)
+  where
+    none_counted : (startup : Option Probe) (c : List Tick) → AreCounted startup start [] c → c ≡ []
+    none_counted None c is = is
+    none_counted (Some p) c (inl (t, f, is)) = let within : t < 0 = f.holds.within in absurd (omega arith)
+    none_counted (Some p) c (inr (never, is)) = is
 
 -- a readiness that held and no longer does with one more tick that counts
 some_failures : (readiness : Option Probe) (start : ℕ) (before : List Tick) (next : Tick)
