@@ -1,6 +1,6 @@
 -- The results that led to an event: one list, some for each event, and the event by them.
-use Rattle.std.proofs.Common.{◌≡◌, ◌∙◌, inl, inr, ℕ, List, [], ◌∷◌, ◌++◌, length, Option, Some, None, refl, subst, sym}
-use Rattle.std.specs.Prelude.{◌↔◌, IsSomeAnd, map}
+use Rattle.std.proofs.Common.{◌≡◌, inl, inr, ℕ, List, [], ◌∷◌, ◌++◌, length, Option, Some, None, subst}
+use Rattle.std.specs.Prelude.{IsSomeAnd, map}
 use Rattle.histories.specs.rule.Histories.{HoldsAt, ComesTrue}
 use Rattle.histories.proofs.Picked.{picked_one, so_picked_back, so_picked_in}
 use Rattle.manifest.specs.rule.Probe.{Probe}
@@ -16,9 +16,8 @@ use Rattle.probe_causes.specs.rule.Causes.{AreUnreadyFailures as UnreadyBy, IsFi
 use Rattle.probe_causes.proofs.Kills.{one_kill, some_kill_now, kill_follows}
 use Rattle.probe_causes.proofs.Readiness.{one_ready, one_unready}
 use Rattle.probe_causes.proofs.Startup.{success_now}
-use Rattle.containers.specs.declared.pod_event_kind.PodEventKind.{PodEventKind}
 use Rattle.containers.specs.declared.pod_event_kind.PodEventKind.TheVariants.{Kill, StartupPassed}
-use Rattle.containers.specs.rule.Ticks.{ContainerTick, listings, BelongsTo, results_of, AreTicksOf, StartsAt, SaysOf}
+use Rattle.containers.specs.rule.Ticks.{ContainerTick, BelongsTo, results_of, AreTicksOf, SaysOf}
 use Rattle.containers.specs.rule.Probed.{HasPassed, IsKillOrdered}
 use Rattle.containers.specs.rule.Events.{IsKilled, Passes}
 use Rattle.containers.proofs.ProbedLemmas.{said}
@@ -59,9 +58,9 @@ lifted {M} Q R nothing step h x a comes =
       | inl belongs ↦
           let before = some_list_of_results h a in
           let after : AreTicksOf (h ++ x ∷ []) a (before.0 ++ results_of x ∷ []) =
-              so_picked_in (BelongsTo a) results_of h x before.0 before.1 belongs in
+          so_picked_in (BelongsTo a) results_of h x before.0 before.1 belongs in
           let now : Q s.start (before.0 ++ results_of x ∷ []) =
-              said Q (h ++ x ∷ []) a s.start (before.0 ++ results_of x ∷ []) s.starts after s in
+          said Q (h ++ x ∷ []) a s.start (before.0 ++ results_of x ∷ []) s.starts after s in
           let found = step s.start before.0 (results_of x) now (not s before.0 before.1) in (
             found.0,
             record {
@@ -83,7 +82,7 @@ lifted {M} Q R nothing step h x a comes =
           (record { start = s.start; starts = old; ticks = ticks; are_ticks = are; says = q }) comes
       | inr w ↦
           let empty : ticks ≡ [] =
-              picked_one (HoldsAt (BelongsTo a) h) (map results_of h) ticks [] are (none_before_start h a w.2) in
+          picked_one (HoldsAt (BelongsTo a) h) (map results_of h) ticks [] are (none_before_start h a w.2) in
           nothing s.start (subst (λ (ts : List ProbeTick). Q s.start ts) empty q)
     ]
 

@@ -1,12 +1,11 @@
 -- What is kept after one more tick.
-use Rattle.std.proofs.Common.{◌≡◌, ◌∙◌, ◌⊎◌, inl, inr, ℕ, Bool, true, false, List, [], ◌∷◌, ◌++◌, length, Option, Some, None, refl}
+use Rattle.std.proofs.Common.{◌≡◌, ◌∙◌, ◌⊎◌, ℕ, Bool, true, false, List, [], ◌∷◌, ◌++◌, length, Option, Some, None, refl}
 use Rattle.std.proofs.Common.{subst, sym}
 use Rattle.std.specs.Prelude.{◌↔◌, IsSomeAnd, IfSome, IsTrue}
 use Rattle.histories.specs.rule.TheOne.{IsTheOne}
 use Rattle.histories.proofs.Picked.{so_picked_out}
 use Rattle.manifest.specs.declared.pod.ContainerSpec.{ContainerSpec}
 use Rattle.state_diff.specs.declared.differ.Differ.{Differ}
-use Rattle.state_diff.specs.rule.Instances.{IsNewest}
 use Rattle.state_diff.specs.state.Differ.{IsStateOf as IsDifferOf, Accepts}
 use Rattle.state_diff.proofs.Unique.{IsNewest-unique}
 use Rattle.probes.specs.rule.Ticks.{Tick as ProbeTick}
@@ -15,8 +14,7 @@ use Rattle.containers.specs.declared.pod_event_kind.PodEventKind.{PodEventKind}
 use Rattle.containers.specs.declared.pod_event_kind.PodEventKind.TheVariants.{StartupPassed}
 use Rattle.containers.specs.rule.Ticks.{ContainerTick, listings, BelongsTo, results_of, AreTicksOf, StartsAt}
 use Rattle.containers.specs.rule.Events.{HasStarted, Passes}
-use Rattle.containers.proofs.TickLemmas.{start_cases}
-use Rattle.containers.proofs.FollowLemmas.{belongs_newest, start_belongs}
+use Rattle.containers.proofs.FollowLemmas.{belongs_newest}
 use Rattle.container_causes.specs.declared.instance_results.InstanceResults.{InstanceResults}
 use Rattle.container_causes.specs.state.Watched.{IsKept, AreResultsOf, IsBegun, IsTaken, IsTakenTo}
 use Rattle.container_causes.proofs.TakenLemmas.{kept_begun, taken_by, passes_now}
@@ -69,7 +67,7 @@ kept_more spec h x d e started passed kept begun after true before accepts is on
 kept_more spec h x d e started passed kept begun after false before accepts is one one' begins taken iff results a start
     n starts =
     let none : (b : ℕ) → BelongsTo b (h ++ x ∷ []) → ⊥ = λ b belongs.
-        (let so : IsTrue false = iff.1 (b, belongs) in cc) in
+    (let so : IsTrue false = iff.1 (b, belongs) in cc) in
     rw (taken.idle (λ so. cc))
     (mapped begun (kept_begun spec h x e started kept begun is one begins results a start n starts) (none a))
   where

@@ -13,9 +13,8 @@ use Rattle.probe_causes.specs.rule.Causes.{IsFirstSuccess}
 use Rattle.probe_causes.proofs.Startup.{success_now}
 use Rattle.state_diff.specs.declared.differ.Differ.{Differ}
 use Rattle.state_diff.specs.state.Differ.{IsStateOf as IsDifferOf}
-use Rattle.containers.specs.declared.pod_event_kind.PodEventKind.{PodEventKind}
 use Rattle.containers.specs.declared.pod_event_kind.PodEventKind.TheVariants.{Kill, StartupPassed}
-use Rattle.containers.specs.rule.Probed.{HasPassed, IsKillOrdered}
+use Rattle.containers.specs.rule.Probed.{HasPassed}
 use Rattle.containers.specs.rule.Events.{IsKilled, Passes}
 use Rattle.containers.proofs.FollowLemmas.{belongs_newest}
 use Rattle.container_causes.specs.rule.Results.{IsStartupSuccess}
@@ -68,7 +67,7 @@ pub killed_newest : (spec : ContainerSpec) (h : List ContainerTick) (x : Contain
 killed_newest spec h x d a cause range is (b, of, e, comes) =
     let same : b ≡ a = cc in
     let belongs = comes_belongs (λ start. IsOrderedBy spec.probes start of)
-        (λ start. (kill_lasts spec.probes start of range).none) h x b comes in
+    (λ start. (kill_lasts spec.probes start of range).none) h x b comes in
     subst (λ (k : ℕ). IsNewest (listings (h ++ x ∷ [])) k) same (belongs_newest (h ++ x ∷ []) d b is belongs)
 
 -- the number of a success, which is how many results there are
@@ -112,13 +111,13 @@ pub startup_found : (spec : ContainerSpec) (h : List ContainerTick) (x : Contain
 startup_found spec h x d a result kept is results (b, e, comes) give =
     let same : b ≡ a = cc in
     let mine = subst (λ (k : ℕ). IsSomeAnd spec.probes.startup
-        (λ p. ComesTrue (HasPassed p k) (h ++ x ∷ []) (length h))) same comes in
+    (λ p. ComesTrue (HasPassed p k) (h ++ x ∷ []) (length h))) same comes in
     let w = counted spec.probes.startup h x d a is mine in
     let number = looked_up spec (h ++ x ∷ []) a kept (IsCounted spec.probes.startup w.1.0) (result ≡ w.1.0) results w.0
-        w.1.1
-        (if_some _ _ kept (λ i f start ticks are so.
-        number_of spec.probes spec.probes.startup w.1.0 result start ticks refl so
-        (λ probe some. f spec.probes start ticks probe are some)) give) in
+    w.1.1
+    (if_some _ _ kept (λ i f start ticks are so.
+    number_of spec.probes spec.probes.startup w.1.0 result start ticks refl so
+    (λ probe some. f spec.probes start ticks probe are some)) give) in
     subst (λ (n : ℕ). IsStartupSuccess spec a (h ++ x ∷ []) n) (sym number)
     (said_so (IsCounted spec.probes.startup w.1.0) _ (h ++ x ∷ []) a
     (λ start ticks are. first_of spec.probes.startup w.1.0 start ticks are) w.1.1)

@@ -1,17 +1,15 @@
 -- The results by which a container becomes ready, and unready.
-use Rattle.std.proofs.Common.{◌≡◌, ◌∙◌, ◌⊎◌, inl, inr, ℕ, suc, ◌<◌, List, [], ◌∷◌, ◌++◌, length, take, Option, Some, None, refl}
-use Rattle.std.proofs.Common.{subst, sym, arith}
-use Rattle.std.specs.Prelude.{◌↔◌, IsSome, IsSomeAnd, map}
+use Rattle.std.proofs.Common.{◌≡◌, inl, inr, ℕ, suc, List, [], ◌∷◌, ◌++◌, length, refl}
+use Rattle.std.proofs.Common.{subst, arith}
+use Rattle.std.specs.Prelude.{IsSome, map}
 use Rattle.std.proofs.lemmas.List.{take_all}
-use Rattle.histories.specs.rule.Histories.{HoldsAt, ComesTrue, IsFirstMoment, up_to}
-use Rattle.histories.proofs.First.{IsFirstMoment-unique}
-use Rattle.histories.proofs.Growth.{grows_so, so_last}
-use Rattle.histories.proofs.Lists.{take_old}
+use Rattle.histories.specs.rule.Histories.{HoldsAt, ComesTrue}
+use Rattle.histories.proofs.Growth.{grows_so}
 use Rattle.histories.proofs.Picked.{picked_one, so_picked_back, so_picked_in}
 use Rattle.manifest.specs.declared.pod.ContainerSpec.{ContainerSpec}
 use Rattle.state_diff.specs.declared.seen.CriState.TheVariants.{Running, Exited}
 use Rattle.state_diff.specs.declared.differ.Differ.{Differ}
-use Rattle.state_diff.specs.rule.Instances.{Listed, ListedAs, IsNewest, IsState, IsExit}
+use Rattle.state_diff.specs.rule.Instances.{IsNewest, IsState, IsExit}
 use Rattle.state_diff.specs.state.Differ.{IsStateOf as IsDifferOf, Accepts}
 use Rattle.state_diff.proofs.Growth.{IsExit-old}
 use Rattle.state_diff.proofs.Unique.{IsNewest-unique}
@@ -24,8 +22,8 @@ use Rattle.containers.specs.rule.Ticks.{ContainerTick, listings, BelongsTo, resu
 use Rattle.containers.specs.rule.Probed.{Serves, IsContainerReady}
 use Rattle.containers.specs.rule.Events.{WasReady, ChangesReadiness}
 use Rattle.containers.proofs.ProbedLemmas.{said}
-use Rattle.containers.proofs.TickLemmas.{listing, long, onto, from, start_cases, start_kept, newest_now}
-use Rattle.containers.proofs.FollowLemmas.{belongs_newest, belongs_now, newest_before, none_before_start, start_belongs}
+use Rattle.containers.proofs.TickLemmas.{listing, onto, start_cases, start_kept, newest_now}
+use Rattle.containers.proofs.FollowLemmas.{belongs_now, newest_before, none_before_start}
 use Rattle.containers.proofs.FoundLemmas.{belongs_or_not, some_list_of_results}
 use Rattle.containers.proofs.ComesLemmas.{said_now, said_before}
 use Rattle.container_causes.specs.rule.Results.{AreReadySuccesses, AreUnreadyFailures}
@@ -50,7 +48,7 @@ comes_belongs Q nothing h x a comes = elim (belongs_or_not a (h ++ x ∷ [])) [
           (record { start = s.start; starts = old; ticks = ticks; are_ticks = are; says = q }) comes
       | inr w ↦
           let empty : ticks ≡ [] =
-              picked_one (HoldsAt (BelongsTo a) h) (map results_of h) ticks [] are (none_before_start h a w.2) in
+          picked_one (HoldsAt (BelongsTo a) h) (map results_of h) ticks [] are (none_before_start h a w.2) in
           nothing s.start (subst (λ (ts : List ProbeTick). Q s.start ts) empty q)
     ]
 
@@ -69,9 +67,12 @@ running_no_exit h a (inr w) t e = w.0 t e
 was_ready_by : (spec : ContainerSpec) (h : List ContainerTick) (x : ContainerTick) → IsContainerReady spec h
     → WasReady spec (h ++ x ∷ []) (length h)
 was_ready_by spec [] x (a, serves, says) = absurd (says.starts.1.holds)
-was_ready_by spec (y ∷ h) x ready =
-    (length h, refl, (grows_so (IsContainerReady spec) (y ∷ h) x).old (length h)
-    (record { within = omega arith; so = rw (take_all (suc (length h)) (y ∷ h) (omega arith)) ready }))
+was_ready_by spec (y ∷ h) x ready = (
+  length h,
+  refl,
+  (grows_so (IsContainerReady spec) (y ∷ h) x).old (length h)
+      (record { within = omega arith; so = rw (take_all (suc (length h)) (y ∷ h) (omega arith)) ready }),
+)
 
 ready_before : (spec : ContainerSpec) (h : List ContainerTick) (x : ContainerTick)
     → WasReady spec (h ++ x ∷ []) (length h) → IsContainerReady spec h
@@ -110,18 +111,24 @@ ready_has_successes spec h x d range is accepts on some (a, serves, s) not =
       | inl belongs ↦
           let before = some_list_of_results h a in
           let after : AreTicksOf (h ++ x ∷ []) a (before.0 ++ results_of x ∷ []) =
-              so_picked_in (BelongsTo a) results_of h x before.0 before.1 belongs in
+          so_picked_in (BelongsTo a) results_of h x before.0 before.1 belongs in
           let now = said (IsInstanceReady spec.probes) (h ++ x ∷ []) a s.start (before.0 ++ results_of x ∷ []) s.starts
-              after s in
+          after s in
           let found = some_ready spec.probes s.start before.0 (results_of x) range some now
-              (earlier before.0 before.1) in
-          (a, serves.newest, (found.0, record {
-            start = s.start;
-            starts = s.starts;
-            ticks = before.0 ++ results_of x ∷ [];
-            are_ticks = after;
-            says = found.1;
-          }))
+          (earlier before.0 before.1) in (
+            a,
+            serves.newest,
+            (
+              found.0,
+              record {
+                start = s.start;
+                starts = s.starts;
+                ticks = before.0 ++ results_of x ∷ [];
+                are_ticks = after;
+                says = found.1;
+              },
+            ),
+          )
       | inr none ↦
           absurd (earlier s.ticks (so_picked_back (BelongsTo a) results_of h x s.ticks s.are_ticks none) s.says)
     ]
@@ -131,7 +138,7 @@ ready_has_successes spec h x d range is accepts on some (a, serves, s) not =
       | inl old ↦ not_ready_before spec h x a s.start ticks on serves old are not ready
       | inr w ↦
           let empty : ticks ≡ [] =
-              picked_one (HoldsAt (BelongsTo a) h) (map results_of h) ticks [] are (none_before_start h a w.2) in
+          picked_one (HoldsAt (BelongsTo a) h) (map results_of h) ticks [] are (none_before_start h a w.2) in
           not_ready_yet spec.probes s.start some range
           (subst (λ (ts : List ProbeTick). IsInstanceReady spec.probes s.start ts) empty ready)
     ]
@@ -152,13 +159,13 @@ unready_has_failures spec h x d e range is accepts is' not was b newest never =
         let runs = subst (λ (k : ℕ). IsState (listings h) k Running) same serves.runs in
         let says = subst (λ (k : ℕ). SaysOf (IsInstanceReady spec.probes) h k) same s in
         let on = goes_on (listings h) d (listing x) b is accepts newest runs
-            (λ t exit. never t (onto (λ k. IsExit k b t) h x exit)) in
+        (λ t exit. never t (onto (λ k. IsExit k b t) h x exit)) in
         let running = onto (λ k. IsState k b Running) h x on.1 in
         let belongs = belongs_now h x b on.0 running in
         let now = newest_now h x e b is' on.0 in
         let starts = start_kept h x b says.start says.starts in
         let after : AreTicksOf (h ++ x ∷ []) b (says.ticks ++ results_of x ∷ []) =
-            so_picked_in (BelongsTo b) results_of h x says.ticks says.are_ticks belongs in
+        so_picked_in (BelongsTo b) results_of h x says.ticks says.are_ticks belongs in
         let ended : IsInstanceReady spec.probes says.start (says.ticks ++ results_of x ∷ []) → ⊥ = λ ready. not (
           b,
           record { role = serves.role; newest = now; runs = running },
@@ -172,13 +179,16 @@ unready_has_failures spec h x d e range is accepts is' not was b newest never =
         ) in
         let found = some_unready spec.probes says.start says.ticks (results_of x) range says.says ended in (
           now,
-          (found.0, record {
-            start = says.start;
-            starts = starts;
-            ticks = says.ticks ++ results_of x ∷ [];
-            are_ticks = after;
-            says = found.1;
-          }),
+          (
+            found.0,
+            record {
+              start = says.start;
+              starts = starts;
+              ticks = says.ticks ++ results_of x ∷ [];
+              are_ticks = after;
+              says = found.1;
+            },
+          ),
         )
 
 -- what the events say of readiness

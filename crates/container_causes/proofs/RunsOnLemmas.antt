@@ -1,10 +1,10 @@
 -- An instance that has started runs on until it exits.
-use Rattle.std.proofs.Common.{◌≡◌, ◌∙◌, inl, inr, ℕ, ◌-◌, ◌<◌, ◌≤◌, List, [], ◌∷◌, ◌++◌, length, Option, Some, None, refl}
+use Rattle.std.proofs.Common.{◌≡◌, inl, inr, ℕ, ◌≤◌, List, [], ◌∷◌, ◌++◌, length, Option, Some, None, refl}
 use Rattle.std.proofs.Common.{subst, sym, arith}
 use Rattle.std.specs.Prelude.{IsSomeAnd}
 use Rattle.std.proofs.lemmas.Bool.{cases_eq}
 use Rattle.histories.specs.rule.Histories.{IsFirstMoment}
-use Rattle.histories.proofs.First.{IsFirst-new, none_more}
+use Rattle.histories.proofs.First.{IsFirst-new}
 use Rattle.histories.proofs.Decide.{OrNot}
 use Rattle.state_diff.specs.declared.seen.Seen.{Seen}
 use Rattle.state_diff.specs.declared.seen.CriState.{CriState}
@@ -12,14 +12,14 @@ use Rattle.state_diff.specs.declared.seen.CriState.TheVariants.{Created, Running
 use Rattle.state_diff.specs.declared.instance.Instance.{Instance}
 use Rattle.state_diff.specs.declared.differ.Differ.{Differ}
 use Rattle.state_diff.specs.rule.States.{rank}
-use Rattle.state_diff.specs.rule.Instances.{Tick, IsOf, IsOfAs, IsOfKnown, Listed, ListedAs, IsNewest, IsEffective, IsState}
+use Rattle.state_diff.specs.rule.Instances.{Tick, IsOf, IsOfAs, IsOfKnown, IsNewest, IsEffective, IsState}
 use Rattle.state_diff.specs.rule.Instances.{IsExit, Ends}
 use Rattle.state_diff.specs.state.Instances.{IsAcceptable}
 use Rattle.state_diff.specs.state.Differ.{IsNewestOf, IsStateOf as IsDifferOf, Accepts}
 use Rattle.state_diff.proofs.Growth.{grows_ends, IsExit-old, IsEffective-old, IsEffective-new}
 use Rattle.state_diff.proofs.Unique.{IsNewest-unique}
-use Rattle.containers.specs.rule.Ticks.{ContainerTick, listings, StartsAt}
-use Rattle.containers.proofs.TickLemmas.{listing, onto, from, start_cases, running_now}
+use Rattle.containers.specs.rule.Ticks.{ContainerTick, listings}
+use Rattle.containers.proofs.TickLemmas.{listing, onto, start_cases, running_now}
 use Rattle.containers.proofs.FollowLemmas.{newest_before}
 use Rattle.container_causes.specs.state.Watched.{RunsOn}
 use Rattle.container_causes.proofs.TakenLemmas.{start_listed}
@@ -106,7 +106,7 @@ runs_on_more h x d is accepts on a start n starts never =
           let l = start_listed h a start old in
           let before = newest_before h x a l.0 n l.1 in
           let gone : (t : ℕ) → IsExit (listings h ++ listing x ∷ []) a t → ⊥ =
-              λ t e. never t (onto (λ k. IsExit k a t) h x e) in
+          λ t e. never t (onto (λ k. IsExit k a t) h x e) in
           let runs = on a start before old (λ t e. gone t (IsExit-old (listings h) a (listing x) t e)) in
           onto (λ k. IsState k a Running) h x
           (goes_on (listings h) d (listing x) a is accepts before runs gone).1

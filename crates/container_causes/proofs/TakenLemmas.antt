@@ -1,26 +1,25 @@
 -- One more tick of the newest instance.
-use Rattle.std.proofs.Common.{◌≡◌, ◌∙◌, ◌⊎◌, inl, inr, ℕ, ◌<◌, List, [], ◌∷◌, ◌++◌, length, Option, Some, None, refl, subst}
+use Rattle.std.proofs.Common.{◌≡◌, ◌⊎◌, inl, inr, ℕ, ◌<◌, List, [], ◌∷◌, ◌++◌, length, Option, Some, None, refl, subst}
 use Rattle.std.proofs.Common.{sym, suc, take, drop, arith}
 use Rattle.std.proofs.lemmas.List.{take-append-drop}
-use Rattle.std.specs.Prelude.{◌↔◌, IsSomeAnd, IsTrue}
-use Rattle.histories.specs.rule.Histories.{HoldsAt, IsFirstMoment, ComesTrue}
+use Rattle.std.specs.Prelude.{◌↔◌, IsSomeAnd}
+use Rattle.histories.specs.rule.Histories.{HoldsAt, ComesTrue}
 use Rattle.histories.specs.rule.TheOne.{IsTheOne}
 use Rattle.histories.proofs.First.{IsFirst-new, IsFirstMoment-unique}
 use Rattle.histories.proofs.Picked.{so_picked_in, so_picked_front}
 use Rattle.histories.proofs.Growth.{grows_so}
 use Rattle.histories.proofs.Lasting.{ComesTrue-now}
 use Rattle.histories.specs.state.Histories.{Lasts}
-use Rattle.manifest.specs.rule.Probe.{Probe, Probes}
+use Rattle.manifest.specs.rule.Probe.{Probe}
 use Rattle.manifest.specs.declared.pod.ContainerSpec.{ContainerSpec}
 use Rattle.state_diff.specs.declared.seen.CriState.TheVariants.{Running}
 use Rattle.state_diff.specs.declared.differ.Differ.{Differ}
 use Rattle.state_diff.specs.rule.Instances.{seen_at, IsOfAs, Listed, ListedAs, IsNewest, IsStart}
-use Rattle.state_diff.specs.state.Differ.{IsStateOf as IsDifferOf, Accepts}
+use Rattle.state_diff.specs.state.Differ.{IsStateOf as IsDifferOf}
 use Rattle.state_diff.proofs.Growth.{grows_seen}
 use Rattle.state_diff.proofs.Listings.{of_weaker}
 use Rattle.state_diff.proofs.Unique.{IsNewest-unique}
 use Rattle.probes.specs.rule.Ticks.{Tick as ProbeTick, HasPassed as PassesBy}
-use Rattle.probes.specs.rule.Container.{IsPassTick}
 use Rattle.probes.proofs.Counted.{passed_lasts}
 use Rattle.probe_causes.specs.state.ResultMoments.{AreMomentsOf, PassesNow}
 use Rattle.containers.specs.declared.pod_event_kind.PodEventKind.{PodEventKind}
@@ -31,7 +30,7 @@ use Rattle.containers.specs.rule.Events.{HasStarted, Passes}
 use Rattle.containers.specs.state.Step.{IsTaken}
 use Rattle.containers.proofs.ProbedLemmas.{said}
 use Rattle.containers.proofs.TickLemmas.{listing, long, onto, onto_at, seen_now, newest_now, start_cases, start_kept}
-use Rattle.containers.proofs.FollowLemmas.{belongs_newest, newest_before, none_before_start}
+use Rattle.containers.proofs.FollowLemmas.{newest_before, none_before_start}
 use Rattle.containers.proofs.ComesLemmas.{start_later, said_before, said_now}
 use Rattle.container_causes.specs.declared.instance_results.InstanceResults.{InstanceResults}
 use Rattle.container_causes.specs.state.Watched.{IsKept, AreResultsOf, IsBegun}
@@ -71,12 +70,12 @@ kept_begun spec h x d started kept begun is one begins results a start n starts 
       | inl old ↦
           let l = start_listed h a start old in
           let none : (b : ℕ) → started ≡ Some (Started b) → ⊥ =
-              λ b e. let w = (one (Started b)).0 e in none_starts h x d a start w.0 is n old w.2 in
+          λ b e. let w = (one (Started b)).0 e in none_starts h x d a start w.0 is n old w.2 in
           rw (begins.same none) (was kept (results a start (newest_before h x a l.0 n l.1) old) old)
       | inr w ↦
           let g = grows_seen (IsOfAs a Running) (listings h) (listing x) in
           let here : IsStart (listings (h ++ x ∷ [])) a (length h) =
-              onto_at (λ k t. IsStart k a t) h x (IsFirst-new (length (listings h)) _ _ _ g w.2 w.1) in
+          onto_at (λ k t. IsStart k a t) h x (IsFirst-new (length (listings h)) _ _ _ g w.2 w.1) in
           let event : started ≡ Some (Started a) = (one (Started a)).1 (a, refl, here) in
           fresh begun w.0 (none_before_start h a w.2) (begins.begins a event)
     ]

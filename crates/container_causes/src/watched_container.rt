@@ -14,7 +14,9 @@ ghost use Rattle.container_causes.specs.rule.Results.{IsStartupSuccess, IsPassMo
 ghost use Rattle.container_causes.specs.state.Watched.{IsWatchedOf, RunsOn};
 
 use crate::instance_results::{InstanceResults, begin, take_results, takes_results};
-use crate::looked_up::{kill_failures_of, ready_successes_of, startup_count_of, unready_failures_of};
+use crate::looked_up::{
+    kill_failures_of, ready_successes_of, startup_count_of, unready_failures_of,
+};
 use containers::{Container, ContainerEvents};
 use manifest::{ContainerSpec, MaxRestartDelay, OwnRestarts, Policy, Probes};
 use observations::ContainerObs;
@@ -67,8 +69,20 @@ impl WatchedContainer {
     {
         let events = self.container.step(policy, own, at, observed);
         let takes = takes_results(observed.seen, self.container.differ().newest());
-        begin(&mut self.instance, self.alloc, self.probes, events.started, at);
-        take_results(&mut self.instance, events.passed, takes, at, observed.results)?;
+        begin(
+            &mut self.instance,
+            self.alloc,
+            self.probes,
+            events.started,
+            at,
+        );
+        take_results(
+            &mut self.instance,
+            events.passed,
+            takes,
+            at,
+            observed.results,
+        )?;
         Ok(events)
     }
 

@@ -1,6 +1,6 @@
 -- The ticks that count, with one more tick.
-use Rattle.std.proofs.Common.{◌≡◌, ◌∙◌, ◌⊎◌, inl, inr, ℕ, zero, suc, ◌<◌, List, [], ◌∷◌, ◌++◌, length, take, drop, Option}
-use Rattle.std.proofs.Common.{Some, None, refl, sym, subst, append-nil, arith}
+use Rattle.std.proofs.Common.{◌≡◌, ◌∙◌, ◌⊎◌, inl, inr, ℕ, zero, suc, ◌<◌, List, [], ◌∷◌, ◌++◌, length, take, Option}
+use Rattle.std.proofs.Common.{Some, None, append-nil, arith}
 use Rattle.std.proofs.lemmas.List.{length_push, drop_all, take-append-drop}
 use Rattle.manifest.specs.rule.Probe.{Probe}
 use Rattle.histories.specs.rule.Histories.{ComesTrue, up_to}

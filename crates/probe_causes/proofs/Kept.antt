@@ -1,13 +1,12 @@
 -- What is kept of the moments gives the causes.
-use Rattle.std.proofs.Common.{◌≡◌, ◌∙◌, ℕ, ◌≤◌, List, [], ◌∷◌, ◌++◌, length, take, Option, Some, None, refl, sym, ap, subst}
-use Rattle.std.proofs.Common.{append-nil, arith}
+use Rattle.std.proofs.Common.{◌≡◌, ◌∙◌, ℕ, ◌≤◌, List, [], ◌∷◌, ◌++◌, length, take, Option, Some, None, refl, sym, ap}
+use Rattle.std.proofs.Common.{arith}
 use Rattle.std.specs.Prelude.{IsSomeAnd}
-use Rattle.std.specs.List.{cons_option}
 use Rattle.manifest.specs.declared.outcome.Outcome.{Outcome}
 use Rattle.manifest.specs.rule.Probe.{Probe}
 use Rattle.probes.specs.rule.Ticks.{Results, Tick, startup_results}
 use Rattle.probes.specs.rule.Container.{AreCounted}
-use Rattle.probe_causes.specs.rule.Moments.{startup_in, told_at, results_of, moments_of, last_of}
+use Rattle.probe_causes.specs.rule.Moments.{startup_in, results_of, moments_of, last_of}
 use Rattle.probe_causes.specs.rule.Causes.{AreLast, AreFirst}
 use Rattle.probe_causes.specs.state.ResultMoments.{moments_with, told_with}
 use Rattle.probe_causes.proofs.Parts.{last_back}

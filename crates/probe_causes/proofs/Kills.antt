@@ -8,11 +8,11 @@ use Rattle.manifest.specs.declared.outcome.Outcome.{Outcome}
 use Rattle.manifest.specs.declared.outcome.Outcome.TheVariants.{Failure}
 use Rattle.manifest.specs.rule.Probe.{Probe, Probes}
 use Rattle.manifest.specs.state.Probe.{HasNumbersInRange}
-use Rattle.histories.specs.rule.Histories.{up_to, last_moment}
+use Rattle.histories.specs.rule.Histories.{up_to}
 use Rattle.histories.proofs.Moments.{last_moment-more}
 use Rattle.probes.specs.declared.probe_set.Cause.{Cause}
 use Rattle.probes.specs.declared.probe_set.Cause.TheVariants.{Startup, Liveness}
-use Rattle.probes.specs.rule.Outcomes.{EndsRun, FailsInARow}
+use Rattle.probes.specs.rule.Outcomes.{FailsInARow}
 use Rattle.probes.specs.rule.Ticks.{Results, Tick, belonging, HasStartupFailed, HasLivenessFailed}
 use Rattle.probes.specs.rule.Container.{AreCounted, IsKillOrdered}
 use Rattle.probes.specs.state.Container.{AreInRange, IsKillTick}

@@ -1,5 +1,5 @@
 -- The results that make an instance ready and unready.
-use Rattle.std.proofs.Common.{◌≡◌, ◌∙◌, inl, inr, ℕ, ◌-◌, ◌<◌, ◌≤◌, List, [], ◌∷◌, ◌++◌, length, Option, Some, None, refl, sym}
+use Rattle.std.proofs.Common.{◌≡◌, inl, inr, ℕ, ◌-◌, ◌<◌, ◌≤◌, List, [], ◌∷◌, ◌++◌, Option, Some, None, sym}
 use Rattle.std.proofs.Common.{subst, arith}
 use Rattle.std.specs.Prelude.{IsSome, IsSomeAnd}
 use Rattle.std.specs.List.{cons_option}
@@ -7,17 +7,15 @@ use Rattle.manifest.specs.declared.outcome.Outcome.{Outcome}
 use Rattle.manifest.specs.declared.outcome.Outcome.TheVariants.{Success, Failure}
 use Rattle.manifest.specs.rule.Probe.{Probe, Probes}
 use Rattle.manifest.specs.state.Probe.{HasNumbersInRange}
-use Rattle.histories.specs.state.Histories.{Lasts}
 use Rattle.probes.specs.rule.Outcomes.{HoldsAfter}
 use Rattle.probes.specs.rule.Ticks.{Tick, belonging, IsStarted, HoldsReady}
 use Rattle.probes.specs.rule.Container.{AreCounted, IsInstanceReady}
 use Rattle.probes.specs.state.Container.{AreInRange}
 use Rattle.probes.proofs.Counted.{passed_lasts, AreCounted-unique, AreCounted-more}
-use Rattle.probes.proofs.Determined.{counted_of}
 use Rattle.probe_causes.specs.rule.Moments.{readiness_in, results_of, moments_of, last_of}
 use Rattle.probe_causes.specs.rule.Causes.{AreLast, AreReadySuccesses, AreUnreadyFailures}
 use Rattle.probe_causes.proofs.Told.{results_more}
-use Rattle.probe_causes.proofs.Runs.{EndsNow, successes_now, successes_hold, failures_undo, undone}
+use Rattle.probe_causes.proofs.Runs.{successes_now, successes_hold, failures_undo, undone}
 use Rattle.probe_causes.proofs.Counted.{counted_next, started_by}
 use Rattle.probe_causes.proofs.Kills.{one_last, some_last}
 

@@ -1,9 +1,8 @@
 -- Laws of the causes, over the definitions alone.
-use Rattle.std.specs.Prelude.{◌≡◌, ℕ, List, [], ◌∷◌, ◌++◌, length, IsSomeAnd}
+use Rattle.std.specs.Prelude.{◌≡◌, ℕ, List, [], ◌∷◌, ◌++◌, length}
 use Rattle.manifest.specs.declared.pod.ContainerSpec.{ContainerSpec}
 use Rattle.probes.specs.declared.probe_set.Cause.{Cause}
 use Rattle.probes.specs.state.Container.{AreInRange}
-use Rattle.histories.specs.rule.Histories.{ComesTrue}
 use Rattle.containers.specs.declared.pod_event_kind.PodEventKind.TheVariants.{Kill, StartupPassed}
 use Rattle.containers.specs.rule.Ticks.{ContainerTick}
 use Rattle.containers.specs.rule.Probed.{IsKillOrdered}

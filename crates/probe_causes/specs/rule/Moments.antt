@@ -1,6 +1,6 @@
 -- The moments of the results of one instance's probes. (Kubernetes, "Configure Liveness, Readiness and Startup Probes";
 -- "Pod Lifecycle", "Probe outcome".)
-use Rattle.std.specs.Prelude.{ℕ, ◌-◌, List, [], length, drop, Option, Some, None, option_map}
+use Rattle.std.specs.Prelude.{ℕ, ◌-◌, List, length, drop, Option, option_map}
 use Rattle.std.specs.List.{filter_map}
 use Rattle.manifest.specs.declared.outcome.Outcome.{Outcome}
 use Rattle.manifest.specs.rule.Probe.{Probe}

@@ -1,7 +1,6 @@
 -- Laws of the causes, over the definitions alone: for every container and every list of ticks.
-use Rattle.std.specs.Prelude.{◌≡◌, ◌+◌, ◌-◌, ◌∷◌, ℕ, List, [], ◌++◌, length, slice_get, Option, Some, IsSome, IsSomeAnd}
+use Rattle.std.specs.Prelude.{◌≡◌, ◌-◌, ◌∷◌, ℕ, List, [], ◌++◌, length, slice_get, Option, Some, IsSome, IsSomeAnd}
 use Rattle.manifest.specs.declared.outcome.Outcome.{Outcome}
-use Rattle.manifest.specs.declared.outcome.Outcome.TheVariants.{Success, Failure}
 use Rattle.manifest.specs.rule.Probe.{Probe, Probes}
 use Rattle.histories.specs.rule.Histories.{up_to}
 use Rattle.probes.specs.declared.probe_set.Cause.{Cause}

@@ -1,5 +1,4 @@
-use Rattle.std.proofs.Common.{◌≡◌, refl}
-use Rattle.std.specs.Prelude.{◌↔◌}
+use Rattle.std.proofs.Common.{refl}
 use Rattle.std.proofs.lemmas.Result.{on_ok_weaker}
 use Rattle.container_causes.proofs.KeptLemmas.{passes_same}
 use Rattle.container_causes.proofs.instance_results.InstanceResults.take.Goals as goal

@@ -1,9 +1,8 @@
-use Rattle.std.proofs.Common.{◌≡◌, List, ◌∷◌, [], ◌++◌, length, subst}
+use Rattle.std.proofs.Common.{◌∷◌, [], ◌++◌, subst}
 use Rattle.std.specs.Prelude.{◌↔◌, IsTrue, ℕ}
 use Rattle.histories.specs.rule.Histories.{recorded}
 use Rattle.state_diff.specs.state.Differ.{IsStateOf as IsDifferOf}
 use Rattle.containers.specs.rule.Ticks.{ContainerTick, listings, BelongsTo}
-use Rattle.containers.specs.rule.Events.{AreEvents}
 use Rattle.containers.specs.state.Container.{IsStateOf}
 use Rattle.containers.proofs.FollowLemmas.{takes_is}
 use Rattle.container_causes.specs.state.Watched.{IsBegun}
@@ -15,13 +14,13 @@ pub returns-clause-state : goal.returns-clause-state
 returns-clause-state c = λ spec max_restart_delay h own is.
     let x : ContainerTick = recorded c.args.at c.args.observed in
     let now : IsStateOf spec max_restart_delay (h ++ x ∷ []) c.step-events.new.self =
-        c.step-events.ensures.state spec max_restart_delay h is.container in
+    c.step-events.ensures.state spec max_restart_delay h is.container in
     let events = c.step-events.ensures.events spec max_restart_delay h own is.container in
     let differ : IsDifferOf (listings (h ++ x ∷ [])) c.differ.result =
-        c.differ.ensures spec max_restart_delay (h ++ x ∷ []) now in
+    c.differ.ensures spec max_restart_delay (h ++ x ∷ []) now in
     let takes : IsTrue c.takes_results-takes.result ↔ ((a : ℕ) × BelongsTo a (h ++ x ∷ [])) =
-        takes_is h x c.differ.result c.newest.result c.takes_results-takes.result differ (c.newest.ensures _ differ)
-        c.takes_results-takes.ensures in
+    takes_is h x c.differ.result c.newest.result c.takes_results-takes.result differ (c.newest.ensures _ differ)
+    c.takes_results-takes.ensures in
     record {
       container = now;
       follows = is.follows;

@@ -1,4 +1,4 @@
-use Rattle.std.proofs.Common.{◌≡◌, ◌∙◌, ap, subst}
+use Rattle.std.proofs.Common.{◌∙◌, ap, subst}
 use Rattle.std.proofs.lemmas.Result.{IfOk-weaker}
 use Rattle.manifest.specs.declared.outcome.Outcome.TheVariants.{Failure}
 use Rattle.manifest.specs.rule.Probe.{Probe, Probes}

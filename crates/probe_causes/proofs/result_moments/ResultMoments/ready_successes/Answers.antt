@@ -1,4 +1,4 @@
-use Rattle.std.proofs.Common.{◌≡◌, ◌∙◌, ap}
+use Rattle.std.proofs.Common.{◌∙◌, ap}
 use Rattle.std.proofs.lemmas.Result.{IfOk-weaker}
 use Rattle.manifest.specs.declared.outcome.Outcome.TheVariants.{Success}
 use Rattle.manifest.specs.rule.Probe.{Probe, Probes}

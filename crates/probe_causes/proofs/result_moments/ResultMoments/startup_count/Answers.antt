@@ -1,4 +1,4 @@
-use Rattle.std.proofs.Common.{◌≡◌, ◌∙◌, length, ap}
+use Rattle.std.proofs.Common.{◌∙◌, length, ap}
 use Rattle.probe_causes.proofs.Kept.{kept_count}
 use Rattle.probe_causes.proofs.result_moments.ResultMoments.startup_count.Goals as goal
 

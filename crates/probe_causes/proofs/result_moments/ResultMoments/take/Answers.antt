@@ -1,4 +1,4 @@
-use Rattle.std.proofs.Common.{◌≡◌, ◌∙◌, ◌++◌, ap, sym}
+use Rattle.std.proofs.Common.{◌∙◌, ap}
 use Rattle.probes.specs.rule.Ticks.{tick}
 use Rattle.probe_causes.specs.rule.Moments.{startup_in, liveness_in, readiness_in}
 use Rattle.probe_causes.proofs.Kept.{taken}
