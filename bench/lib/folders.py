@@ -1,8 +1,13 @@
 """In which folder of a crate's specs/ a definition is: in rule/ what the contracts of a replay reach, and in state/
-all else."""
+all else. A crate on which no replay stands yet has in rule/ what its contracts will be reached by: there this isn't
+asked."""
 import glob
 
+from crates import standing_below
 from reach import RULE, STATE, bare
+
+# the crate whose contracts are those of a replay
+REPLAY = "kubelet_replay"
 
 # they name the files, and have no definition of their own
 NAMING = ("Lib.antt", f"{RULE}.antt", f"{STATE}.antt")
@@ -17,8 +22,9 @@ def is_in_folder(file):
     return file.startswith((f"{RULE}/", f"{STATE}/"))
 
 
-def faults_in(repository, crate, file, places):
-    """What is wrong with the place of a file, or of its definitions. What is reached has its place among these."""
+def faults_in(repository, crate, file, places, is_used):
+    """What is wrong with the place of a file, or of its definitions. What is reached has its place among these; of a
+    crate that no replay uses yet, nothing is."""
     path, module = f"crates/{crate}/specs/{file}", file.removesuffix(".antt").replace("/", ".")
     read = repository.module(crate, module)
     # a definition without a word before its name can be named by those next to it
@@ -31,7 +37,7 @@ def faults_in(repository, crate, file, places):
         return [f"{path} stands in neither specs/{RULE} nor specs/{STATE}"]
     for definition in read.definitions:
         is_reached = ((crate, bare(module), definition.name), path) in places
-        if is_reached != file.startswith(f"{RULE}/"):
+        if is_reached != file.startswith(f"{RULE}/") and (is_used or is_reached):
             said, folder = ("is reached", RULE) if is_reached else ("is not reached", STATE)
             faults.append(f"{path}:{definition.line}: {definition.name} {said}, so it belongs in specs/{folder}")
     return faults
@@ -40,5 +46,7 @@ def faults_in(repository, crate, file, places):
 def misplaced(repository, nodes):
     """What is in the wrong folder, crate by crate; the nodes are what the contracts of a replay reach."""
     places = {(node.key, node.path) for node in nodes.values()}
+    below = {name: crate.below for name, crate in repository.crates.items()}
+    used = standing_below(below, REPLAY) if REPLAY in below else set(below)
     return [fault for crate in repository.crates for file in files_in(repository, crate)
-            for fault in faults_in(repository, crate, file, places)]
+            for fault in faults_in(repository, crate, file, places, crate in used)]

@@ -1,0 +1,3 @@
+pub mod Orders
+pub mod SomeOrders
+pub mod KeyLists
