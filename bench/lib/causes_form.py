@@ -78,7 +78,7 @@ VALUES = {
     "state": "created|running|unknown", "was": "nothing|other|created|unknown|-",
     "lacks": "start|(start,)?(startup|readiness|startup,readiness)", "probe": "startup|liveness|readiness",
     "role": "app|init|sidecar", "policy": "Always|OnFailure|Never", "by": "sidecar|rule|container|pod",
-    "why": "first|long", "phase": "Pending|Running", "now": "[1-5]|failed", "for": "completion|start|set-up",
+    "why": "first|long", "phase": "Pending|Running", "now": "[1-5]|failed", "for": "completion",
     "is": "waiting|running|restarting", "reason": r"[A-Za-z][\w./-]{0,62}", "container": "[a-z0-9-]+",
     "key": "[a-z0-9-]+/[a-z0-9.-]+",
 }

@@ -3,7 +3,7 @@ import glob
 import os
 import re
 
-from causes_form import FORMS, ORDERS, WITHOUT_EVENT, faults_of, read as read_causes
+from causes_form import FORMS, ORDERS, WITHOUT_EVENT, check_order, faults_of, read as read_causes
 from common import TOP, Case, read
 
 CASES = os.path.join(TOP, "bench/causes")
@@ -155,3 +155,12 @@ class Form(Case):
         written = {form for form in FORMS if form[0] in re.findall(r"\| [1-5`a-z]+ \| `([a-z-]+)`:", page)}
         in_words = {("decided", "pod", "container", "by", "policy", "rule"), ("more", "count"), ("same", "since")}
         self.assertEqual(found | written | in_words, set(FORMS))
+
+    def test_the_examples_of_the_page(self):
+        """Each has all causes of its event, in their forms."""
+        page = read(TOP, "docs/why.md")
+        events, alone = read_causes("".join(re.findall(r"^    ((?:event|because) [a-z0-9].*\n)", page, re.MULTILINE)))
+        for event in events:
+            check_order(event)
+        self.assertEqual({event.name for event in events} | {"names"}, set(ORDERS))
+        self.assertEqual([cause.kind for cause in alone], ["paused"])
