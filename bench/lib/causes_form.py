@@ -36,21 +36,21 @@ decided pod container by policy rule
 sample value limit capacity percent since
 active signal kind since
 met last period
-due value limit since grace at
+asks value limit since grace at
 reclaimed value enough
 acted-on signal kind value limit since grace at
 other signal kind why
 candidates count ended exempt
 candidate pod key unsampled exceeds priority usage request excess failed
 more count
-decided by
+ordered by
 grace pod-period greatest
 pause by at until ended
 same since
 paused at signal kind by since until
 nobody at signal kind ended exempt
 """.strip().splitlines()]
-"""Each kind with its keys. A pod's cause begins with the key `pod`, so `due` and `decided` have two forms each."""
+"""Each kind with its keys. A pod's cause begins with the key `pod`."""
 
 CHOICE = "acted-on( other)* candidates( candidate)+"
 ORDERS = {
@@ -59,8 +59,8 @@ ORDERS = {
     "backoff": "exit wanted delay", "restart": "exit wanted delay due lives",
     "phase": "case (failed|init-failed decided|awaited|completed( completed)*|stopped decided( stopped decided)*"
              "|unfinished( decided)?)",
-    "threshold": "sample", "pressure": "active( active)*|met", "reclaim": "due reclaimed",
-    "evicted": f"{CHOICE} decided( grace)?( pause)?", "names": f"same|{CHOICE}( more)? decided",
+    "threshold": "sample", "pressure": "active( active)*|met", "reclaim": "asks reclaimed",
+    "evicted": f"{CHOICE} ordered( grace)?( pause)?", "names": f"same|{CHOICE}( more)? ordered",
 }
 """The kinds of the causes of each event, in order"""
 WITHOUT_EVENT = ("paused", "nobody")
@@ -89,7 +89,8 @@ OTHER_VALUES = {
     ("case", "before"): "[1-5]|-", ("sample", "value"): f"{AMOUNT}|-", ("sample", "since"): f"{NUMBER}|-",
     ("other", "why"): "reclaimed|later", ("pause", "ended"): "seconds|exited|gone", ("pause", "by"): NUMBER,
     ("paused", "by"): NUMBER, ("grace", "greatest"): NUMBER,
-    ("decided", "by"): "unsampled|exceeds|priority|excess|usage|number|alone|sidecar|rule|container|pod",
+    ("ordered", "by"): "unsampled|exceeds|priority|excess|usage|number|alone",
+    ("decided", "by"): "sidecar|rule|container|pod",
 }
 """The values of a key in a kind where they are others"""
 MOMENTS = {"start", "at", "since", "passed", "last"}
@@ -312,7 +313,7 @@ def check_choice(event, facts):
     for row in rows:
         check_row(row, event.at, facts)
     need(rows[0]["key"] == event.words[2], "the first candidate is another pod")
-    need((event.first("decided")["by"] == "alone") == (count == 1), "it is alone if it is the only candidate")
+    need((event.first("ordered")["by"] == "alone") == (count == 1), "it is alone if it is the only candidate")
     if event.name == "evicted":
         check_grace(event)
 

@@ -30,7 +30,7 @@ WRONG = (
     (LISTED, "because unprobed pod=0 attempt=0\n", "", "line 3: ready has not these causes: up"),
     (LISTED, "because left pod=0 attempt=0 code=137 listed=false\n", "",
      "line 11: unready has not these causes: was-ready"),
-    (NAMED, "because more count=2\nbecause decided by=exceeds\n", "because decided by=exceeds\nbecause more count=2\n",
+    (NAMED, "because more count=2\nbecause ordered by=exceeds\n", "because ordered by=exceeds\nbecause more count=2\n",
      "line 5: names has not these causes"),
     (SHARE, "event 3 node threshold", "event 3 node limit", "line 1: there is no event limit"),
     # moments
@@ -70,7 +70,7 @@ WRONG = (
     (SOFT, "candidate pod=2 key=default/c", "candidate pod=2 key=default/d", "line 8: pod 2 is another pod"),
     (SOFT, "excess=1 failed", "excess=- failed", "line 8: exceeds, request and excess do not agree"),
     (SOFT, "evicted default/a", "evicted default/b", "line 8: the first candidate is another pod"),
-    (SOFT, "decided by=alone", "decided by=number", "line 26: it is alone if it is the only candidate"),
+    (SOFT, "ordered by=alone", "ordered by=number", "line 26: it is alone if it is the only candidate"),
     (SOFT, "because grace pod-period=45 greatest=20\n", "", "line 26: only a soft threshold has a grace period"),
     (SOFT, "pod-period=45", "pod-period=15", "line 26: the causes have a grace period of 15"),
     (SOFT, "evicted default/a memory.available hard", "evicted default/a memory.available soft",
