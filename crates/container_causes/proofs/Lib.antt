@@ -4,3 +4,4 @@ pub mod KeptLemmas
 pub mod CauseLemmas
 pub mod ReadinessLemmas
 pub mod LookedUpLemmas
+pub mod ListingLemmas

@@ -7,7 +7,9 @@
 
 mod instance_results;
 pub mod laws;
+mod listing_causes;
 mod looked_up;
 mod watched_container;
 
+pub use listing_causes::{Exited, Listed, Unlisted};
 pub use watched_container::WatchedContainer;

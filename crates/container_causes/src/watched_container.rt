@@ -1,19 +1,25 @@
 //! A container with what the causes of its events need of the past.
 
-ghost use Rattle.std.specs.Prelude.{◌≡◌, ◌<◌, ℕ, List, [], ◌∷◌, ◌++◌, length, Some, option_map, IsSome, IsSomeAnd, IfOk};
+ghost use Rattle.std.specs.Prelude.{◌≡◌, ◌<◌, ℕ, ℤ, List, [], ◌∷◌, ◌++◌, length, Some, option_map, IsSome, IsSomeAnd, IfOk};
 ghost use Rattle.quantity.specs.rule.Duration.{end_of_time};
 ghost use Rattle.histories.specs.rule.Histories.{recorded};
 ghost use Rattle.manifest.specs.declared.pod.ContainerSpec.{ContainerSpec as AContainerSpec};
-ghost use Rattle.state_diff.specs.rule.Instances.{IsNewest, IsExit};
+ghost use Rattle.state_diff.specs.rule.Instances.{IsNewest, IsExit, killed_code};
 ghost use Rattle.containers.specs.declared.pod_event_kind.PodEventKind.TheVariants.{Kill, StartupPassed, Ready, Unready};
+ghost use Rattle.containers.specs.declared.pod_event_kind.PodEventKind.TheVariants.{Died, Started};
 ghost use Rattle.containers.specs.rule.Ticks.{ContainerTick, listings};
 ghost use Rattle.containers.specs.rule.Events.{AreEvents, IsKilled, Passes, ChangesReadiness};
+ghost use Rattle.containers.specs.rule.Events.{IsGone, HasStarted, HasDied};
 ghost use Rattle.containers.specs.state.Container.{Accepts, IsBefore};
+ghost use Rattle.container_causes.specs.rule.Listings.{IsUnlisted, IsListed, IsExited};
 ghost use Rattle.container_causes.specs.rule.Results.{AreKillFailures, AreReadySuccesses, AreUnreadyFailures};
 ghost use Rattle.container_causes.specs.rule.Results.{IsStartupSuccess, IsPassMoment};
 ghost use Rattle.container_causes.specs.state.Watched.{IsWatchedOf, RunsOn};
 
 use crate::instance_results::{InstanceResults, begin, take_results, takes_results};
+use crate::listing_causes::{
+    Exited, KeptTick, Listed, Unlisted, listing_of, moment_of, run_of, unlisted_by,
+};
 use crate::looked_up::{
     kill_failures_of, ready_successes_of, startup_count_of, unready_failures_of,
 };
@@ -30,6 +36,8 @@ pub struct WatchedContainer {
     probes: Probes,
     container: Container,
     instance: Option<InstanceResults>,
+    before: Option<KeptTick>,
+    last: Option<KeptTick>,
 }
 
 impl WatchedContainer {
@@ -42,6 +50,8 @@ impl WatchedContainer {
             probes: spec.probes,
             container: Container::new(spec, max_restart_delay),
             instance: None,
+            before: None,
+            last: None,
         }
     }
 
@@ -83,6 +93,11 @@ impl WatchedContainer {
             at,
             observed.results,
         )?;
+        self.before = self.last;
+        self.last = Some(KeptTick {
+            at,
+            seen: observed.seen,
+        });
         Ok(events)
     }
 
@@ -132,5 +147,42 @@ impl WatchedContainer {
             → IsStartupSuccess spec a (h ++ x ∷ []) result }
     {
         startup_count_of(&self.instance)
+    }
+
+    /// Why an instance died that the tick that was taken last no longer lists, where it has that event.
+    pub fn unlisted(&self) -> Option<Unlisted>
+        ensures { (spec : AContainerSpec) (max_restart_delay : ℕ) (h : List ContainerTick) (x : ContainerTick) (a : ℕ)
+            → IsWatchedOf spec max_restart_delay (h ++ x ∷ []) self.now
+            → IsGone (h ++ x ∷ []) (length h) (Died a killed_code)
+            → IsSomeAnd result (λ cause. (cause.attempt ≡ a) × IsUnlisted h x cause) }
+    {
+        unlisted_by(self.before, self.last)
+    }
+
+    /// Why this instance started, where the tick that was taken last has that event.
+    pub fn listed(&self, attempt: u32) -> Listed
+        ensures { (spec : AContainerSpec) (max_restart_delay : ℕ) (h : List ContainerTick) (x : ContainerTick)
+            → IsWatchedOf spec max_restart_delay (h ++ x ∷ []) self.now
+            → HasStarted (h ++ x ∷ []) (length h) (Started attempt) → IsListed h x result }
+    {
+        Listed {
+            attempt,
+            before: moment_of(self.before),
+            was: listing_of(self.before),
+        }
+    }
+
+    /// Why this instance died, where the tick that was taken last has that event and lists it.
+    pub fn exited(&self, attempt: u32) -> Exited
+        ensures { (spec : AContainerSpec) (max_restart_delay : ℕ) (h : List ContainerTick) (x : ContainerTick) (code : ℤ)
+            → IsWatchedOf spec max_restart_delay (h ++ x ∷ []) self.now
+            → HasDied (h ++ x ∷ []) (length h) (Died attempt code) → IsExited h x code result }
+    {
+        let differ = self.container.differ();
+        Exited {
+            attempt,
+            start: differ.first_running(),
+            run: run_of(differ.run()),
+        }
     }
 }

@@ -1,5 +1,5 @@
 -- What is kept of a container's past for the causes of its events.
-use Rattle.std.specs.Prelude.{◌≡◌, ℕ, Bool, List, [], ◌∷◌, ◌++◌, Option, Some, IsTrue, IsSomeAnd, IfSome}
+use Rattle.std.specs.Prelude.{◌≡◌, ℕ, Bool, List, [], ◌∷◌, ◌++◌, Option, Some, IsTrue, IsSomeAnd, IfSome, option_map}
 use Rattle.manifest.specs.declared.outcome.Outcome.{Outcome}
 use Rattle.manifest.specs.declared.pod.ContainerSpec.{ContainerSpec}
 use Rattle.manifest.specs.rule.Probe.{Probes}
@@ -12,6 +12,8 @@ use Rattle.containers.specs.declared.pod_event_kind.PodEventKind.TheVariants.{St
 use Rattle.containers.specs.rule.Ticks.{ContainerTick, listings, AreTicksOf, StartsAt}
 use Rattle.containers.specs.state.Container.{IsStateOf}
 use Rattle.container_causes.specs.declared.instance_results.InstanceResults.{InstanceResults}
+use Rattle.container_causes.specs.rule.Listings.{IsLastTick}
+use Rattle.container_causes.specs.declared.listing_causes.KeptTick.{KeptTick}
 use Rattle.container_causes.specs.declared.watched_container.WatchedContainer.{WatchedContainer}
 
 -- the results of the instance with this start are kept
@@ -31,6 +33,14 @@ abbrev pub RunsOn : List ContainerTick → Type 0
 RunsOn h = (a start : ℕ) → IsNewest (listings h) a → StartsAt h a start
     → ((t : ℕ) → IsExit (listings h) a t → ⊥) → IsState (listings h) a Running
 
+-- what is kept of a tick
+abbrev pub kept_tick : ContainerTick → KeptTick
+kept_tick x = record { at = x.moment; seen = x.entry.seen }
+
+-- the last of these ticks is kept, if there is one
+abbrev pub IsLastKept : List ContainerTick → Option KeptTick → Type 0
+IsLastKept h kept = (last : Option ContainerTick) × IsLastTick h last × (kept ≡ option_map kept_tick last)
+
 -- what is kept after these ticks, on a node with a maximum restart delay
 pub record IsWatchedOf (spec : ContainerSpec) (max_restart_delay : ℕ) (h : List ContainerTick)
     (watched : WatchedContainer) : Type 0 where
@@ -38,6 +48,8 @@ pub record IsWatchedOf (spec : ContainerSpec) (max_restart_delay : ℕ) (h : Lis
   pub follows : watched.probes ≡ spec.probes
   pub results : AreResultsOf spec h watched.instance
   pub runs_on : RunsOn h
+  pub last : IsLastKept h watched.last
+  pub before : (front : List ContainerTick) (x : ContainerTick) → h ≡ front ++ x ∷ [] → IsLastKept front watched.before
 
 -- an instance whose results are kept from its start on, if one starts at this moment
 pub record IsBegun (probes : Probes) (started : Option PodEventKind) (at : ℕ) (old new : Option InstanceResults)

@@ -1,4 +1,4 @@
-use Rattle.std.proofs.Common.{◌∷◌, [], ◌++◌, subst}
+use Rattle.std.proofs.Common.{◌∷◌, [], ◌++◌, Some, refl, subst}
 use Rattle.std.specs.Prelude.{◌↔◌, IsTrue, ℕ}
 use Rattle.histories.specs.rule.Histories.{recorded}
 use Rattle.state_diff.specs.state.Differ.{IsStateOf as IsDifferOf}
@@ -7,6 +7,7 @@ use Rattle.containers.specs.state.Container.{IsStateOf}
 use Rattle.containers.proofs.FollowLemmas.{takes_is}
 use Rattle.container_causes.specs.state.Watched.{IsBegun}
 use Rattle.container_causes.proofs.KeptLemmas.{kept_more}
+use Rattle.container_causes.proofs.ListingLemmas.{front_kept}
 use Rattle.container_causes.proofs.RunsOnLemmas.{runs_on_more}
 use Rattle.container_causes.proofs.watched_container.WatchedContainer.step.Goals as goal
 
@@ -29,6 +30,8 @@ returns-clause-state c = λ spec max_restart_delay h own is.
           (subst (λ p. IsBegun p c.step-events.result.started c.args.at c.args.self.now.instance c.begin.new.kept) is.follows
           c.begin.ensures) c.in_ok-take_results.ensures takes is.results;
       runs_on = runs_on_more h x c.args.self.now.container.differ is.container.differ c.requires.accepted is.runs_on;
+      last = (Some x, (h, refl), refl);
+      before = λ front y e. front_kept h front x y _ e is.last;
     }
 
 pub returns-clause-events : goal.returns-clause-events
