@@ -13,7 +13,7 @@ import pages
 import reach
 
 FAULTS = os.path.join(TESTS, "theorem/faults")
-NAMING = ("rules.md", "formats.md", "extended.md", "report.md", "quantities.md")
+NAMING = ("rules.md", "formats.md", "extended.md", "report.md")
 CRATES = ("kubelet_replay", "grading", "text", "marks")
 PAGES = ("theorem.md", *(f"theorem/{crate}.md" for crate in CRATES), *NAMING)
 GRADE = "crates/grading/specs/rule/Grade.antt"
