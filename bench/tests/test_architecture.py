@@ -14,18 +14,18 @@ class Architecture(Case):
     def test_a_picture_is_written_and_checked(self):
         with tempfile.TemporaryDirectory() as copy:
             lay_over(SMALL, copy)
-            self.assertEqual(run("architecture", "--check", "--top", copy), (1, "", STALE))
-            self.assertEqual(run("architecture", "--top", copy), (0, "", ""))
+            self.assertEqual(run("pages architecture", "--check", "--top", copy), (1, "", STALE))
+            self.assertEqual(run("pages architecture", "--top", copy), (0, "", ""))
             drawn = read(copy, PICTURE)
             self.assertEqual(drawn, read(TESTS, "architecture/architecture.svg"))
-            self.assertEqual(run("architecture", "--check", "--top", copy), (0, "", ""))
+            self.assertEqual(run("pages architecture", "--check", "--top", copy), (0, "", ""))
             write(drawn + "\n", copy, PICTURE)
-            self.assertEqual(run("architecture", "--check", "--top", copy), (1, "", STALE))
+            self.assertEqual(run("pages architecture", "--check", "--top", copy), (1, "", STALE))
 
     def test_without_crates_it_says_so(self):
         with tempfile.TemporaryDirectory() as copy:
             path = os.path.join(copy, "crates.txt")
-            self.assertEqual(run("architecture", "--top", copy),
+            self.assertEqual(run("pages architecture", "--top", copy),
                              (1, "", f"bench/architecture: [Errno 2] No such file or directory: '{path}'\n"))
 
     def test_the_storeys_are_kept(self):
@@ -40,7 +40,7 @@ class Architecture(Case):
                 lay_over(SMALL, copy)
                 write(whole.replace(old, new), copy, "crates.txt")
                 for words in ((), ("--check",)):
-                    self.assertEqual(run("architecture", *words, "--top", copy),
+                    self.assertEqual(run("pages architecture", *words, "--top", copy),
                                      (1, "", f"bench/architecture: crates.txt: {fault}\n"))
 
     def test_lines_and_folders_are_the_same(self):
@@ -54,7 +54,7 @@ class Architecture(Case):
                 write(text, copy, "crates.txt")
                 if folder:
                     os.mkdir(f"{copy}/crates/{folder}")
-                self.assertEqual(run("architecture", "--check", "--top", copy),
+                self.assertEqual(run("pages architecture", "--check", "--top", copy),
                                  (1, "", f"bench/architecture: crates.txt: {fault}\n"))
 
     def test_a_crate_without_threads_reaches_no_pool(self):

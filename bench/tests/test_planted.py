@@ -21,7 +21,7 @@ class Planted(Case):
         write("".join(f"{line}\n" for line in lines), self.top, "bench/planted.tsv")
         if not os.path.exists(f"{self.top}/bench/edits.tsv"):
             self.put_edits()
-        return run("planted", *words, "--top", self.top)
+        return run("pages planted", *words, "--top", self.top)
 
     def put_edits(self, *lines):
         write("".join(f"{line}\n" for line in (EDITS, *lines)), self.top, "bench/edits.tsv")

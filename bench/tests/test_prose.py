@@ -77,7 +77,8 @@ class Prose(Case):
                 0, "bench/prose: style is missing, so no page was counted: apt-get install diction\n", ""))
 
     def test_arguments(self):
-        self.assertEqual(run("prose", "--chek"), (3, "", "usage: bench/prose [--check | PAGE..]\n"))
+        self.assert_wrong(run("prose", "--chek"), "prose", "unrecognized arguments: --chek")
+        self.assert_wrong(run("prose", "--check", "README.md"), "prose", "--check takes no PAGE")
 
 
 @unittest.skipUnless(shutil.which("style"), "style is missing")

@@ -357,5 +357,6 @@ class Scenarios(Case):
     def test_words(self):
         for words in ((), ("--api",), ("--api", "folder", "hard", "other"), ("folder", "some"), ("a", "1", "2"),
                       ("--again",), ("--again", "/nowhere")):
-            code, out, said = run("real_node", *words)
-            self.assertEqual((code, out, said.count("\n")), (2, "", 1), words)
+            code, out, said = run("try real_node", *words)
+            self.assertEqual((code, out), (2, ""), words)
+            self.assertTrue(said.splitlines()[-1].startswith("bench/try real_node: "), said)

@@ -267,7 +267,7 @@ def is_there(identity):
 
 def interrupted(folder, numbers, **settings):
     """Interrupts a run where it waits; its status and what it said last."""
-    words = [sys.executable, f"{TOP}/bench/real_node", folder]
+    words = [sys.executable, f"{TOP}/bench/try", "real_node", folder]
     process = subprocess.Popen(words, stdout=subprocess.PIPE, stderr=subprocess.PIPE, text=True, env={
         **os.environ, "PATH": f"{os.environ['PATH']}:{folder}/host", "KUBELET_REPLAY": REPLAY, **settings})
     wait_until("what waits", lambda: os.path.exists(f"{folder}/waits"))
@@ -289,7 +289,7 @@ def test_ends():
                                     ("while it builds", [signal.SIGHUP], {"WAITS": "go"})):
         folder = made_folder()
         answer = interrupted(folder, numbers, **settings)
-        expect(f"bench/real_node interrupted {name}", answer, (1, f"real_node: ended by {numbers[0].name}"))
+        expect(f"bench/real_node interrupted {name}", answer, (1, f"bench/try real_node: ended by {numbers[0].name}"))
         started = read(f"{folder}/pids").split()
         expect(f"bench/real_node interrupted {name}: its processes", len(started), 1 if settings else 3)
         expect(f"bench/real_node interrupted {name}: those that are left", list(filter(is_there, started)), [])
