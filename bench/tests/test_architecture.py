@@ -31,10 +31,10 @@ class Architecture(Case):
     def test_the_storeys_are_kept(self):
         whole = read(SMALL, "crates.txt.text")
         for old, new, fault in (
-                ("marks:\n", "marks: event_book\n", "marks stands on event_book, which does not come before it"),
-                ("text: marks\n", "text: marks text\n", "text stands on text, which does not come before it"),
+                ("marks:\n", "marks: event_book\n", "marks uses event_book, which does not come before it"),
+                ("text: marks\n", "text: marks text\n", "text uses text, which does not come before it"),
                 ("## Rules", "## Node", "the storey Threads comes after Node"),
-                ("## Threads", "## Tests", "kubelet_replay stands on event_book, a crate of tests; "
+                ("## Threads", "## Tests", "kubelet_replay uses event_book, a crate of tests; "
                                            "crates.txt: the storey Program comes after Tests")):
             with self.subTest(new), tempfile.TemporaryDirectory() as copy:
                 lay_over(SMALL, copy)

@@ -64,7 +64,7 @@ class Runs(Case):
 
     def test_each_way_has_the_same_database(self):
         status, lines = self.measured()
-        self.assertEqual((status, lines[-1]), (0, "7 of 7 databases are that of 1 process, of 63 bytes"))
+        self.assertEqual((status, lines[-1]), (0, "7 of 7 databases are the same as with 1 process, with 63 bytes"))
         self.assertRegex(lines.pop(3), r"^4 processes, ended in the middle +after [4-7] answers; a database: False$")
         for line, name in zip(lines[:-1], RUNS, strict=True):
             self.assertRegex(line, f"^{name} +status 0 {COST}$")
@@ -72,7 +72,7 @@ class Runs(Case):
     def test_a_database_that_is_another(self):
         with mock.patch.object(fleet_runs, "dask_run", lambda *_, **__: b"other"):
             status, lines = self.measured()
-        self.assertEqual((status, lines[-1]), (1, "3 of 7 databases are that of 1 process, of 63 bytes"))
+        self.assertEqual((status, lines[-1]), (1, "3 of 7 databases are the same as with 1 process, with 63 bytes"))
 
     def test_a_signal_ends_what_was_started(self):
         def popen(*words, **more):

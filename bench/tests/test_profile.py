@@ -17,7 +17,7 @@ serde_json, reading             30.0%        30.0%
 the rest                        16.0%        16.0%
 memory functions                10.0%        10.0%
 
-those of memory, for             both         once
+of memory, by crate              both         once
 serde_json, reading             60.0%        60.0%
 our crates                      40.0%        40.0%
 
@@ -25,7 +25,7 @@ all, of our crates               both         once
 trace                           29.0%        29.0%
 kubelet_replay                  15.0%        15.0%
 
-the dearest functions by themselves, in each trace
+the most expensive functions by themselves, in each trace
   30.0%  30.0%  serde_json::de::from_slice
   20.0%  20.0%  core::fmt::write
   16.0%  16.0%  main
