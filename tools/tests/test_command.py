@@ -350,14 +350,14 @@ def test_command_fails_on():
 
 
 def test_no_room():
-    """Where what is kept for a tool has no place it is said where, and how it can be elsewhere."""
+    """If there is no room for a tool's own files, the fault names the folder, and how to choose another."""
     folder = tempfile.mkdtemp()
     with open(f"{folder}/full", "w", encoding="utf-8") as file:
         file.write("#!/bin/sh\n[ $# = 0 ] && cat >/dev/null\necho 'write failed' >&2\nexit 1\n")
     os.chmod(f"{folder}/full", 0o755)
     settings = {"KUBELET_REPLAY": f"{folder}/full", "TMPDIR": folder}
     expect_refused("story -f, without room", run([COMMAND, "story", "-f", TRACE], **settings), 1,
-                   f"no place in {folder}: it takes no more (TMPDIR names another folder)")
+                   f"can't keep files in {folder}: it takes no more (TMPDIR names another folder)")
     expect_refused("what-if, without room", run([f"{TOOLS}/what-if", "."], read(TRACE), **settings), 1,
                    f"{folder} takes no more (TMPDIR names another folder)")
     expect_refused("what-if, without a folder", run([f"{TOOLS}/what-if", "."], read(TRACE), TMPDIR=f"{folder}/none"), 1,

@@ -269,7 +269,7 @@ def test_fleet_failures():
     connection = sqlite3.connect(f"{folder}/fleet.db")
     rows = connection.execute("SELECT path, fault FROM traces WHERE status = 'failed'").fetchall()
     connection.close()
-    ended = "each process that had it in hand was ended"
+    ended = "each process that replayed it was ended"
     expect("fleet: why traces fail", [(os.path.basename(path), fault) for path, fault in rows],
            [("hour_1.trace", ended), ("hour_2.trace", ended), ("pipe.trace", "can't be read: it is no file")])
     os.remove(f"{folder}/traces/pipe.trace")

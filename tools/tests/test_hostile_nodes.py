@@ -88,7 +88,7 @@ def test_parts_without_a_moment():
             cluster.put(f"recorder-a/{PART}", cluster.part + f'{{"kind":"tick",{tick}}}\n')
             status, told, said = cluster.fetch("n1")
             expect(f"a part with a moment that is none, {name}", (status, told.split(" into")[0], said), (
-                1, "n1: 4 traces copied", f"fetch: n1: {PART} ends with a tick that is none\n"))
+                1, "n1: 4 traces copied", f"fetch: n1: {PART} ends with an invalid tick line\n"))
             expect(f"a part with a moment that is none, {name}: what is left", len(cluster.here()), 4)
             shutil.rmtree(f"{cluster.path}/here")
 

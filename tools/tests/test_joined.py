@@ -172,7 +172,7 @@ def test_joined_belongs():
     again = [line.split("  ")[-1] for line in told.split("\n") if "14:28:00Z)" in line]
     expect("a pod that the rules evicted before a border is there again", again, [
         "phase Running (there again, as on the node, at 14:28:00Z)",
-        "the rules evict it: memory.available hard, grace 0 s (the rules begin anew at 14:28:00Z)"])
+        "the rules evict it: memory.available hard, grace 0 s (the rules begin again at 14:28:00Z)"])
     into.clean()
 
 
@@ -312,7 +312,7 @@ def test_recorder_that_starts_again():
         (31, "b", ["started", "ready", "phase Running", "died with code 2 (by then, in the gap since 00:00:30Z)",
                    "restart (by then, in the gap since 00:00:30Z)", "unready (by then, in the gap since 00:00:30Z)",
                    "started", "ready"]),
-        (31, "c", ["started", "phase Running", "ready", "unready (results counted anew since 00:00:31Z)"]),
+        (31, "c", ["started", "phase Running", "ready", "unready (results counted only since 00:00:31Z)"]),
         (36, "b", ["started", "ready", "phase Running", "started (by then, in the gap since 00:00:30Z)"]),
     ):
         again = Into(restarted_play(shift))
