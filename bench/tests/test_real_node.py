@@ -152,7 +152,7 @@ class Counted(Case):
         self.assertEqual(counts, {
             "starts": (2, 2, 0, 0, 0), "exits with their codes": (1, 0, 0, 1, 1),
             "kills by a liveness probe": (1, 0, 0, 1, 0), "ready": (2, 2, 0, 0, 0), "unready": (2, 2, 0, 0, 0),
-            "evictions by the rules": (1, 1, 0, 0, 0), "evictions told as a fact": (1, 1, 0, 0, 0),
+            "evictions by the rules": (1, 1, 0, 0, 0), "evictions shown as a fact": (1, 1, 0, 0, 0),
             "pods ended as evicted": (1, 1, 0, 0, 0), "pods that went": (1, 1, 0, 0, 0)})
         self.assertEqual(codes, ["00:00:09 shop/b app died 0 137: it was died 0 0"])
         self.assertEqual(rows[1].differences, [

@@ -18,9 +18,9 @@ PAGE = f"{TOP}/docs/import.md"
 LEVELS = (2, 4)
 # each of these is in the trace within two seconds, of so many of a hundred
 WANTED = {2: {"starts": 95, from_log.ANY_CODE: 90, "kills by a liveness probe": 98, "ready": 95, "unready": 95,
-              "evictions told as a fact": 100},
+              "evictions shown as a fact": 100},
           4: {"starts": 99, from_log.ANY_CODE: 98, "exits with their codes": 96, "kills by a liveness probe": 98,
-              "ready": 98, "unready": 95, "evictions told as a fact": 100}}
+              "ready": 98, "unready": 95, "evictions shown as a fact": 100}}
 
 
 def test_import_of_a_real_log():

@@ -112,7 +112,7 @@ def test_real_evictions():
         expect_kept(f"{name}: the counts in docs", f"{before}<!-- the counts of {name} -->\n```\n{table}\n```\n"
                     f"<!-- end of the counts -->\n{after}", PAGE)
         by_name = {row.name: row for row in rows}
-        for kind in ("starts", "exits with their codes", "evictions told as a fact", "pods ended as evicted"):
+        for kind in ("starts", "exits with their codes", "evictions shown as a fact", "pods ended as evicted"):
             row = by_name[kind]
             expect(f"{name}: {kind}", (row.near, row.false), (row.real - LATE.get((name, kind), 0), 0))
 
