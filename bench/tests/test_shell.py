@@ -1,4 +1,4 @@
-"""Tests of the arguments of what is shell behind a front door, and of bench/try version over small folders. What these
+"""Tests of the arguments of the shell scripts of a front door, and of bench/try version over small folders. What these
 scripts compare is compared at each run of ./test."""
 import os
 import subprocess

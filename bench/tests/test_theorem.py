@@ -1,6 +1,6 @@
 """Tests of bench/theorem. theorem/small is a repository with the pages that belong to it; each folder of theorem/faults
-has files that are laid over it, and `said`, what bench/theorem --check then prints on standard error. The names of
-their sources end in `.text`, since the gate accepts a crate's sources only in crates/."""
+has files that are laid over it, and the file `said` with what bench/theorem --check then prints on standard error. The
+names of their sources end in `.text`, since the gate accepts a crate's sources only in crates/."""
 import os
 import re
 import tempfile

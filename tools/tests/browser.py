@@ -379,7 +379,7 @@ return [...canvas.getContext('2d').getImageData(x * scale, y * scale, 1, 1).data
 
 
 def check_said(chromedriver, path):
-    """What the kubelet said stands among the events of a story, and is told where a pointer is."""
+    """What the kubelet reported is among the events of a story, and a pointer shows it."""
     with Page(chromedriver, path) as page:
         page.click(".pod .name", 0)
         told = page.text("#panel")

@@ -1,5 +1,5 @@
-"""The tests of what tools/import makes of a real kubelet's log, next to what that kubelet did. The log is that of a run
-of 305 s at -v=4, cut to a verbosity; docs/import.md has the counts."""
+"""The tests of what tools/import makes of a real kubelet's log, compared with what that kubelet did. The log comes from
+a run of 305 s at -v=4, cut to a verbosity; docs/import.md has the counts."""
 
 import os
 import tempfile
@@ -46,7 +46,7 @@ def test_import_of_a_real_log():
 
 
 def test_tools_over_an_imported_trace():
-    """Each tool takes it; of an eviction the rules have nothing to say, since no journal has what pods use."""
+    """Each tool takes it; the rules can't judge an eviction, since no journal has what pods use."""
     with tempfile.TemporaryDirectory() as folder:
         log = from_log.at_level(import_counts.read_lzma(f"{RECORDING}/kubelet.log.xz"), 2)
         status, trace, _ = run([f"{TOOLS}/import", "--pods", f"{RECORDING}/pods.json", "--year", "2026"], log)
