@@ -138,7 +138,7 @@ class Texts(Case):
     def test_first_faults(self):
         faults, seen = dict(FAULTS), set()
         for text in texts():
-            if text.said and text.name.startswith("fault behind"):
+            if text.said and text.name.startswith("fault after"):
                 number, kind = text.said.removeprefix("line ").split(": ")
                 lines = "".join(text.parts).splitlines()
                 line = lines[int(number) - 1]
@@ -150,7 +150,7 @@ class Texts(Case):
     def test_faults_in_the_last_lines(self):
         for name, behind in (("tick of a pod that has left", 0), ("tick of a pod before its line", 1),
                              ("tick of the container of a pod that left", 0), ("a tick more than 20,000", 0),
-                             ("a stranger behind one of 256 pods in each tenth tick", 0)):
+                             ("a stranger after one of 256 pods in each tenth tick", 0)):
             text = all_texts()[name]
             lines = "".join(text.parts).splitlines()
             self.assertTrue(text.said.startswith(f"line {len(lines) - behind}: "), name)
