@@ -266,12 +266,12 @@ def many_imports(count, seed, jobs):
 def add_to(arguments):
     ways = arguments.add_mutually_exclusive_group()
     ways.add_argument("--shapes", action="store_true",
-                      help="instead run inputs of up to 64 MiB of the worst shapes, one after the other within 8 GiB of "
-                      "address space, and print each answer with its seconds and its peak of memory, which is never "
+                      help="instead run inputs of up to 64 MiB of the worst shapes, one after the other within 8 GiB "
+                      "of address space, and print each answer with its seconds and its peak of memory, which is never "
                       "below this script's own")
     ways.add_argument("--import", action="store_true", dest="imports",
-                      help="instead import COUNT mutated journals, made from the journals of the importer's tests, in its "
-                      "forms. Each import has to end with status 0, 1 or 2 within 20 seconds and 1 GiB of address "
+                      help="instead import COUNT mutated journals, made from the journals of the importer's tests, in "
+                      "its forms. Each import has to end with status 0, 1 or 2 within 20 seconds and 1 GiB of address "
                       "space, without a traceback, and with status 0 to have written a trace. It needs no program")
     arguments.add_argument("--jobs", type=script.whole_number(1), default=1, metavar="N", help="how many at once (1)")
     arguments.add_argument("rest", nargs="*", default=[], metavar="[PROGRAM] [COUNT] [SEED]",
